@@ -15,7 +15,7 @@ use Rattle.q_model.specs.Node.{Node, shape, side_by_side}
 use Rattle.q_model.specs.Pop.{pop}
 use Rattle.q_model.specs.Tally.{counts_in}
 use Rattle.q_model.specs.Work.{Worked, booked}
-use Rattle.q_tree.specs.AskSteps.{IsToldOf, answers, own_of, toll_of}
+use Rattle.q_tree.specs.AskSteps.{IsToldOf, answers, own_of, signals_of}
 use Rattle.q_tree.specs.Kept.{Kept, kept}
 use Rattle.q_tree.specs.NodeCode.{forest_size}
 use Rattle.q_tree.specs.Seen.{children_seen, discipline_seen, places_seen}
@@ -27,7 +27,7 @@ use Rattle.q_tree.proofs.AtHandLemmas.{none-held}
 use Rattle.q_tree.proofs.HereLemmas.{flow-packets}
 use Rattle.q_tree.proofs.Peeks.{asked-in, told-in, each-of, room-of, own-room, items-are, serve-of, holding-after, can-in, enough, told-here}
 use Rattle.q_tree.proofs.PopLemmas.{held-after}
-use Rattle.q_tree.proofs.Quiet.{shown-nothing, toll-nothing}
+use Rattle.q_tree.proofs.Quiet.{shown-nothing, signals-nothing}
 use Rattle.q_tree.proofs.RouteLemmas.{child-size, children-size}
 use Rattle.q_tree.proofs.SendBands.{asked-sent, band-sent, sent-rises}
 use Rattle.q_tree.proofs.SendForms.{asked-sent-in, sent-in, prio-left, fifo-sent, held-answer, held-shows, sent-shown, sent-fits, none-sent, sent-row, sent-queued, one-sent}
@@ -57,7 +57,7 @@ disciplines::prio::send_first-loop-place-init g t c = (
   told-nothing (g.S.Sink.losses c.args.sink.now) (g.S.Sink.room c.args.sink.now),
   g.met.S.Sink.keeps_same c.args.sink.now,
   refl,
-  c.requires.clean ∙ sym (ap toll_of c.at_hand-shown.ensures),
+  c.requires.clean ∙ sym (ap signals_of c.at_hand-shown.ensures),
 )
 
 pub disciplines::prio::send_first-send_band-shown-requires : goal.disciplines::prio::send_first-send_band-shown-requires
@@ -115,7 +115,7 @@ disciplines::prio::send_first-loop-place-preserved g t c =
           (g.S.Sink.room c.args.sink.now) (g.S.Sink.room c.loop-place.sink) (g.S.Sink.room c.send_band-shown.new.sink) c.loop-place.invariant.1 c.send_band-shown.ensures.told)),
       g.met.S.Sink.keeps_on c.args.sink.now c.loop-place.sink c.send_band-shown.new.sink c.loop-place.invariant.2 c.send_band-shown.ensures.kept,
       none.1 ∙ c.loop-place.invariant.3,
-      c.send_band-shown.ensures.toll,
+      c.send_band-shown.ensures.signals,
     )
 
 pub disciplines::prio::send_first-returns-clause-after : goal.disciplines::prio::send_first-returns-clause-after
@@ -144,9 +144,9 @@ node::Discipline::send-returns-in-Fifo-clause-after g t c =
     (c.dequeue_head.ensures.shown ∙ sym (slice_get-map (λ (s : Stamped). s.packet) c.in-Fifo.fifo.packets 0))
     c.dequeue_head.ensures.dropped c.dequeue_head.ensures.marked
 
-pub node::Discipline::send-returns-in-Fifo-clause-toll : goal.node::Discipline::send-returns-in-Fifo-clause-toll
-node::Discipline::send-returns-in-Fifo-clause-toll g t c =
-    c.requires.clean ∙ sym (toll-nothing c.dequeue_head.result c.dequeue_head.ensures.dropped c.dequeue_head.ensures.marked)
+pub node::Discipline::send-returns-in-Fifo-clause-signals : goal.node::Discipline::send-returns-in-Fifo-clause-signals
+node::Discipline::send-returns-in-Fifo-clause-signals g t c =
+    c.requires.clean ∙ sym (signals-nothing c.dequeue_head.result c.dequeue_head.ensures.dropped c.dequeue_head.ensures.marked)
 
 pub node::Discipline::send-send_first-requires : goal.node::Discipline::send-send_first-requires
 node::Discipline::send-send_first-requires g t c κs within =
@@ -284,9 +284,9 @@ node::Node::send-returns-then-not-has_packet-clause-room g t c =
     (told-here c.args.now c.self.inside c.args.self.now c.self.invariant c.self.view_is c.requires.ready c.in_default.is (g.S.Sink.losses c.args.sink.now) (g.S.Sink.losses c.args.sink.now) (g.S.Sink.room c.args.sink.now) (g.S.Sink.room c.args.sink.now)
     (told-in c.args.now c.self.inside.handle c.self.inside.filters c.self.inside.discipline (spec.Fifo c.in-Fifo.fifo.limit c.in-Fifo.fifo.packets) [] (g.S.Sink.losses c.args.sink.now) (g.S.Sink.losses c.args.sink.now) (g.S.Sink.room c.args.sink.now) (g.S.Sink.room c.args.sink.now) (ap discipline_seen c.in-Fifo.is) (ap children_seen c.in-Fifo.is) (told-nothing (g.S.Sink.losses c.args.sink.now) (g.S.Sink.room c.args.sink.now)))).room_taken
 
-pub node::Node::send-returns-then-not-has_packet-clause-toll : goal.node::Node::send-returns-then-not-has_packet-clause-toll
-node::Node::send-returns-then-not-has_packet-clause-toll g t c =
-    c.requires.clean ∙ sym (toll-nothing c.dequeue_head-shown.result c.dequeue_head-shown.ensures.dropped c.dequeue_head-shown.ensures.marked)
+pub node::Node::send-returns-then-not-has_packet-clause-signals : goal.node::Node::send-returns-then-not-has_packet-clause-signals
+node::Node::send-returns-then-not-has_packet-clause-signals g t c =
+    c.requires.clean ∙ sym (signals-nothing c.dequeue_head-shown.result c.dequeue_head-shown.ensures.dropped c.dequeue_head-shown.ensures.marked)
 
 pub node::Node::send-returns-in-Fifo-clause-shown : goal.node::Node::send-returns-in-Fifo-clause-shown
 node::Node::send-returns-in-Fifo-clause-shown g t c =
@@ -304,9 +304,9 @@ node::Node::send-returns-in-Fifo-clause-room g t c =
     (told-here c.args.now c.self.inside c.args.self.now c.self.invariant c.self.view_is c.requires.ready c.in_default.is (g.S.Sink.losses c.args.sink.now) (g.S.Sink.losses c.args.sink.now) (g.S.Sink.room c.args.sink.now) (g.S.Sink.room c.args.sink.now)
     (told-in c.args.now c.self.inside.handle c.self.inside.filters c.self.inside.discipline (spec.Fifo c.in-Fifo.fifo.limit c.in-Fifo.fifo.packets) [] (g.S.Sink.losses c.args.sink.now) (g.S.Sink.losses c.args.sink.now) (g.S.Sink.room c.args.sink.now) (g.S.Sink.room c.args.sink.now) (ap discipline_seen c.in-Fifo.is) (ap children_seen c.in-Fifo.is) (told-nothing (g.S.Sink.losses c.args.sink.now) (g.S.Sink.room c.args.sink.now)))).room_taken
 
-pub node::Node::send-returns-in-Fifo-clause-toll : goal.node::Node::send-returns-in-Fifo-clause-toll
-node::Node::send-returns-in-Fifo-clause-toll g t c =
-    c.requires.clean ∙ sym (toll-nothing c.dequeue_head-shown.result c.dequeue_head-shown.ensures.dropped c.dequeue_head-shown.ensures.marked)
+pub node::Node::send-returns-in-Fifo-clause-signals : goal.node::Node::send-returns-in-Fifo-clause-signals
+node::Node::send-returns-in-Fifo-clause-signals g t c =
+    c.requires.clean ∙ sym (signals-nothing c.dequeue_head-shown.result c.dequeue_head-shown.ensures.dropped c.dequeue_head-shown.ensures.marked)
 
 pub node::Node::send-book_sent-requires-in-Fifo-clause-balanced : goal.node::Node::send-book_sent-requires-in-Fifo-clause-balanced
 node::Node::send-book_sent-requires-in-Fifo-clause-balanced g t c =

@@ -1,6 +1,6 @@
 use Rattle.std.proofs.Common.{◌≡◌, ◌+◌, ◌*◌}
 use Rattle.q_model.specs.Node.{side_by_side}
-use Rattle.q_tree.specs.AskSteps.{IsToldOf, answers, toll_of}
+use Rattle.q_tree.specs.AskSteps.{IsToldOf, answers, signals_of}
 use Rattle.q_tree.specs.NodeCode.{node_size, forest_size}
 use Rattle.q_tree.specs.Seen.{children_seen}
 use Rattle.q_tree.proofs.AskBands.{AreBandsAsked, told_to}
@@ -12,7 +12,7 @@ invariant-disciplines::prio::send_first-loop-place g l =
     × IsToldOf (told_to l.place (answers l.fn.now l.fn.bands)) (g.S.Sink.losses l.fn.sink) (g.S.Sink.losses l.sink) (g.S.Sink.room l.fn.sink) (g.S.Sink.room l.sink)
     × g.S.Sink.keeps l.fn.sink l.sink
     × (l.out ≡ l.fn.out)
-    × (l.toll ≡ toll_of l.shown)
+    × (l.signals ≡ signals_of l.shown)
 
 -- each call goes further down the tree
 abbrev pub decreases-node::Node::send : goal.decreases-node::Node::send

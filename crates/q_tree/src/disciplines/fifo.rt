@@ -11,7 +11,7 @@ ghost use Rattle.q_tree.specs.Changing.{bfifo_answer, pfifo_answer};
 ghost use Rattle.q_tree.specs.Making.{IsNewNode};
 ghost use Rattle.q_tree.specs.Planning.{device_of};
 ghost use Rattle.q_tree.specs.ReadyAt.{of_fifo};
-ghost use Rattle.q_tree.specs.Reshaping.{IsReshaped};
+ghost use Rattle.q_tree.specs.DisciplineChanges.{IsChangedBy};
 ghost use Rattle.q_tree.specs.declared.commands.discipline_change.DisciplineChange.TheVariants.{SetLimit};
 ghost use Rattle.q_tree.specs.declared.node.Discipline.TheVariants as code;
 
@@ -163,7 +163,7 @@ impl Node {
 impl Discipline {
     /// Gives a fifo another limit; its packets stay (tc-pfifo(8)).
     pub(crate) fn set_limit(&mut self, new: Limit)
-        ensures { IsReshaped (SetLimit new) self.old self.new }
+        ensures { IsChangedBy (SetLimit new) self.old self.new }
     {
         if let Discipline::Fifo(fifo) = self {
             fifo.set_limit(new);
