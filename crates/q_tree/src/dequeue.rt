@@ -45,7 +45,7 @@ impl Tree {
         let _ = now.ns();
         self.top.fit();
         let mut signals = NO_SIGNALS;
-        let shown = self.root.send(now, out, &mut signals, sink);
+        let shown = self.root.dequeue(now, out, &mut signals, sink);
         book_shown(&mut self.top, &shown, &signals);
         self.clock = now;
         if !shown.has_packet() {
@@ -62,9 +62,9 @@ impl Node {
     ///
     /// What a tbf, a drr or an fq_codel dequeues goes straight to `out`, and is not held. It takes no memory. `sink` needs room
     /// for what is queued.
-    #[cycle(send)]
+    #[cycle(dequeue)]
     #[inline(always)]
-    pub(crate) fn send<S: Sink>(
+    pub(crate) fn dequeue<S: Sink>(
         &mut self,
         now: Moment,
         out: &mut Packet,
@@ -100,14 +100,14 @@ impl Node {
                 book_sent(&mut self.row, out);
                 return shown;
             }
-            _ => return self.send_further(now, out, signals, sink),
+            _ => return self.dequeue_further(now, out, signals, sink),
         }
     }
 
     // The same of a node that holds no packet, for each discipline.
-    #[cycle(send)]
+    #[cycle(dequeue)]
     #[inline(always)]
-    fn send_further<S: Sink>(
+    fn dequeue_further<S: Sink>(
         &mut self,
         now: Moment,
         out: &mut Packet,
@@ -128,7 +128,7 @@ impl Node {
         ensures kept { S.keeps sink.old sink.new }
     {
         self.row.fit();
-        let shown = self.discipline.send(now, out, signals, sink);
+        let shown = self.discipline.dequeue(now, out, signals, sink);
         book_shown(&mut self.row, &shown, signals);
         if !shown.has_packet() {
             return shown;
@@ -164,9 +164,9 @@ impl Node {
 
 impl Discipline {
     // What a node with this discipline shows that holds no packet, and its packet in `out`.
-    #[cycle(send)]
+    #[cycle(dequeue)]
     #[inline(always)]
-    fn send<S: Sink>(
+    fn dequeue<S: Sink>(
         &mut self,
         now: Moment,
         out: &mut Packet,

@@ -73,7 +73,7 @@ impl Planner<'_> {
 
 /// The packet is queued behind the others, or refused at the limit (tc-pfifo(8)).
 #[inline(always)]
-pub(crate) fn arrive_in_fifo<S: Sink>(
+pub(crate) fn enqueue_in_fifo<S: Sink>(
     fifo: &mut Fifo,
     packet: &Packet,
     now: Moment,

@@ -60,7 +60,7 @@ pub(crate) fn with_options(options: &FqCodelOptions, old: Settings) -> Settings
 }
 
 /// The packet is queued in its flow, and what the fattest flow loses is counted.
-pub(crate) fn arrive_in_flows<S: Sink>(
+pub(crate) fn enqueue_in_flows<S: Sink>(
     queue: &mut FqCodel,
     packet: &Packet,
     now: Moment,
@@ -89,13 +89,13 @@ pub(crate) fn arrive_in_flows<S: Sink>(
         let _ = queue.put_from(packet, now, sink);
         return Ok(Arrived::kept());
     }
-    Ok(arrive_over(queue, packet, now, lost, sink))
+    Ok(enqueue_over(queue, packet, now, lost, sink))
 }
 
 // The same over the limit. A call by itself, so that the usual way makes no place for an outcome.
 #[cold]
 #[inline(never)]
-fn arrive_over<S: Sink>(
+fn enqueue_over<S: Sink>(
     queue: &mut FqCodel,
     packet: &Packet,
     now: Moment,

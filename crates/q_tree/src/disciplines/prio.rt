@@ -70,7 +70,7 @@ pub(crate) fn band(filters: &Filters, priomap: &[u8; 16], packet: &Packet) -> us
 }
 
 /// Sends the packet of the first band that shows one; the bands before it are asked (tc-prio(8)).
-#[cycle(send)]
+#[cycle(dequeue)]
 pub(crate) fn send_first<S: Sink>(
     bands: &mut [Node],
     now: Moment,
@@ -89,7 +89,7 @@ pub(crate) fn send_first<S: Sink>(
 {
     let mut shown = Shown::at_hand(&None);
     for place in 0..bands.len() {
-        shown = send_band(&mut bands[place], shown, now, out, signals, sink);
+        shown = dequeue_band(&mut bands[place], shown, now, out, signals, sink);
         if shown.has_packet() {
             return shown;
         }
@@ -98,9 +98,9 @@ pub(crate) fn send_first<S: Sink>(
 }
 
 // Sends the packet of one more band, if it shows one. What was counted so far is counted on.
-#[cycle(send)]
+#[cycle(dequeue)]
 #[inline(always)]
-fn send_band<S: Sink>(
+fn dequeue_band<S: Sink>(
     band: &mut Node,
     so_far: Shown,
     now: Moment,
@@ -122,16 +122,16 @@ fn send_band<S: Sink>(
 {
     // Mostly nothing was dropped or marked so far, and the place is clean.
     if so_far.is_quiet() {
-        return band.send(now, out, signals, sink);
+        return band.dequeue(now, out, signals, sink);
     }
-    send_band_further(band, so_far, now, out, signals, sink)
+    dequeue_band_further(band, so_far, now, out, signals, sink)
 }
 
 // The same where something was dropped or marked already, which is counted on.
-#[cycle(send)]
+#[cycle(dequeue)]
 #[cold]
 #[inline(never)]
-fn send_band_further<S: Sink>(
+fn dequeue_band_further<S: Sink>(
     band: &mut Node,
     so_far: Shown,
     now: Moment,
@@ -152,7 +152,7 @@ fn send_band_further<S: Sink>(
     ensures kept { S.keeps sink.old sink.new }
 {
     let mut asked = NO_SIGNALS;
-    let next = band.send(now, out, &mut asked, sink);
+    let next = band.dequeue(now, out, &mut asked, sink);
     so_far.then(next, signals, &asked)
 }
 

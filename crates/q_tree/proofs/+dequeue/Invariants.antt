@@ -4,7 +4,7 @@ use Rattle.q_tree.specs.AskSteps.{IsToldOf, answers, signals_of}
 use Rattle.q_tree.specs.NodeCode.{node_size, forest_size}
 use Rattle.q_tree.specs.Seen.{children_seen}
 use Rattle.q_tree.proofs.AskBands.{AreBandsAsked, told_to}
-use Rattle.q_tree.proofs.+send.Given as goal
+use Rattle.q_tree.proofs.+dequeue.Given as goal
 
 abbrev pub invariant-disciplines::prio::send_first-loop-place : goal.invariant-disciplines::prio::send_first-loop-place
 invariant-disciplines::prio::send_first-loop-place g l =
@@ -15,20 +15,20 @@ invariant-disciplines::prio::send_first-loop-place g l =
     × (l.signals ≡ signals_of l.shown)
 
 -- each call goes further down the tree
-abbrev pub decreases-node::Node::send : goal.decreases-node::Node::send
-decreases-node::Node::send g l = 3 * node_size l.self.now + 1
+abbrev pub decreases-node::Node::dequeue : goal.decreases-node::Node::dequeue
+decreases-node::Node::dequeue g l = 3 * node_size l.self.now + 1
 
-abbrev pub decreases-node::Node::send_further : goal.decreases-node::Node::send_further
-decreases-node::Node::send_further g l = 3 * node_size l.self.now
+abbrev pub decreases-node::Node::dequeue_further : goal.decreases-node::Node::dequeue_further
+decreases-node::Node::dequeue_further g l = 3 * node_size l.self.now
 
-abbrev pub decreases-node::Discipline::send : goal.decreases-node::Discipline::send
-decreases-node::Discipline::send g l = 3 * forest_size (side_by_side (children_seen l.self.now)) + 2
+abbrev pub decreases-node::Discipline::dequeue : goal.decreases-node::Discipline::dequeue
+decreases-node::Discipline::dequeue g l = 3 * forest_size (side_by_side (children_seen l.self.now)) + 2
 
 abbrev pub decreases-disciplines::prio::send_first : goal.decreases-disciplines::prio::send_first
 decreases-disciplines::prio::send_first g l = 3 * forest_size (side_by_side l.bands.now) + 1
 
-abbrev pub decreases-disciplines::prio::send_band : goal.decreases-disciplines::prio::send_band
-decreases-disciplines::prio::send_band g l = 3 * node_size l.band.now + 3
+abbrev pub decreases-disciplines::prio::dequeue_band : goal.decreases-disciplines::prio::dequeue_band
+decreases-disciplines::prio::dequeue_band g l = 3 * node_size l.band.now + 3
 
-abbrev pub decreases-disciplines::prio::send_band_further : goal.decreases-disciplines::prio::send_band_further
-decreases-disciplines::prio::send_band_further g l = 3 * node_size l.band.now + 2
+abbrev pub decreases-disciplines::prio::dequeue_band_further : goal.decreases-disciplines::prio::dequeue_band_further
+decreases-disciplines::prio::dequeue_band_further g l = 3 * node_size l.band.now + 2

@@ -1,7 +1,7 @@
 use Rattle.std.proofs.Common.{◌<◌, ◌≤◌, ap, refl, arith}
 use Rattle.q_packet.specs.Descriptor.{Descriptor}
 use Rattle.q_tree.proofs.TreeArrivals.{above-root, above-told, at-root, at-root-told}
-use Rattle.q_tree.proofs.enqueue.arrive_below.Goals as goal
+use Rattle.q_tree.proofs.enqueue.enqueue_below.Goals as goal
 
 pub returns-then-packet-mtu-clause-after : goal.returns-then-packet-mtu-clause-after
 returns-then-packet-mtu-clause-after g c =
