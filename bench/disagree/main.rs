@@ -42,7 +42,7 @@ mod plain {
     pub mod pool;
     pub mod row;
     pub mod setup;
-    pub mod toll;
+    pub mod signals;
     pub mod tree;
     mod winners;
     pub mod words;

@@ -8,7 +8,7 @@ use super::plain::fifo::{Fifo, Limit};
 use super::plain::filter::Filters;
 use super::plain::flows::FqCodel;
 use super::plain::packet::{Cause, Packet};
-use super::plain::toll::Toll;
+use super::plain::signals::Signals;
 use super::plain::tree::{Discipline, Node};
 
 impl Device {
@@ -20,12 +20,12 @@ impl Device {
 
     /// Loses what a node has that was taken from this place.
     pub fn purge(&mut self, node: &mut Node, way: &[usize]) {
-        node.purge(&mut self.toll);
-        if !self.toll.any {
+        node.purge(&mut self.signals);
+        if !self.signals.any {
             return;
         }
-        let sums = self.toll.sums;
-        self.toll.clean();
+        let sums = self.signals.sums;
+        self.signals.clean();
         self.top.book(&sums);
         let mut above = &mut self.root;
         for place in way {
@@ -49,17 +49,17 @@ impl Device {
 }
 
 impl Node {
-    fn purge(&mut self, toll: &mut Toll) {
+    fn purge(&mut self, signals: &mut Signals) {
         if self.holds {
             self.holds = false;
-            toll.drop(&self.held, Cause::Purged);
+            signals.drop(&self.held, Cause::Purged);
         }
         match &mut self.discipline {
-            Discipline::Fifo(fifo) => fifo.purge(toll),
-            Discipline::FqCodel(queue) => queue.purge(toll),
+            Discipline::Fifo(fifo) => fifo.purge(signals),
+            Discipline::FqCodel(queue) => queue.purge(signals),
             _ => {
                 for child in self.children() {
-                    child.purge(toll);
+                    child.purge(signals);
                 }
             }
         }
@@ -76,19 +76,19 @@ impl Node {
 }
 
 impl Fifo {
-    fn purge(&mut self, toll: &mut Toll) {
+    fn purge(&mut self, signals: &mut Signals) {
         let mut out = Packet::NONE;
         while Queue::take_into(self, &mut out) != 0 {
-            toll.drop(&out, Cause::Purged);
+            signals.drop(&out, Cause::Purged);
         }
     }
 }
 
 impl FqCodel {
-    fn purge(&mut self, toll: &mut Toll) {
+    fn purge(&mut self, signals: &mut Signals) {
         for flow in &mut self.table {
             while flow.list.count > 0 {
-                self.pool.drop_head(&mut flow.list, Cause::Purged, toll);
+                self.pool.drop_head(&mut flow.list, Cause::Purged, signals);
             }
         }
     }

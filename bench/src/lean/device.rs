@@ -4,7 +4,7 @@ use super::node::Node;
 use crate::plain::fifo::Limit;
 use crate::plain::packet::{Cause, Lost, Packet, Put};
 use crate::plain::row::Row;
-use crate::plain::toll::Toll;
+use crate::plain::signals::Signals;
 
 #[allow(dead_code, reason = "nothing here reads what was recorded")]
 enum Event {
@@ -25,7 +25,7 @@ pub struct Device {
     pub txqueuelen: u32,
     events: u64,
     pub top: Row,
-    toll: Toll,
+    signals: Signals,
     pub root: Node,
     /// The first events, so many at most.
     recorded: Vec<Event>,
@@ -42,7 +42,7 @@ impl Device {
             txqueuelen,
             events: 0,
             top: Row::default(),
-            toll: Toll::default(),
+            signals: Signals::default(),
             root: Node::fifo(Limit::Packets(txqueuelen.into())),
             recorded: Vec::with_capacity(recorder),
             recorder,
@@ -58,9 +58,9 @@ impl Device {
             return Put::NoMemory;
         }
         let put = if packet.len > self.mtu {
-            self.toll.refuse(packet, Cause::TooLong)
+            self.signals.refuse(packet, Cause::TooLong)
         } else {
-            self.root.put(packet, now, &mut self.toll)
+            self.root.put(packet, now, &mut self.signals)
         };
         if matches!(put, Put::NoMemory) {
             return put;
@@ -76,7 +76,7 @@ impl Device {
     #[inline(never)]
     pub fn poll(&mut self, now: u64, out: &mut Packet) -> Polled {
         let now = self.clock.max(now);
-        let len = self.root.take_into(now, &mut self.toll, out);
+        let len = self.root.take_into(now, &mut self.signals, out);
         self.settle(now);
         if self.recorded.len() < self.recorder {
             self.record_poll(now);
@@ -95,7 +95,7 @@ impl Device {
     #[inline(always)]
     fn reserve(&mut self) -> Option<()> {
         let most = self.top.queued() as usize + 1;
-        let lost = &self.toll.lost;
+        let lost = &self.signals.lost;
         if lost.capacity() - lost.len() >= most {
             return Some(());
         }
@@ -105,15 +105,15 @@ impl Device {
     #[cold]
     #[inline(never)]
     fn reserve_more(&mut self, packets: usize) -> Option<()> {
-        self.toll.lost.try_reserve(packets).ok()
+        self.signals.lost.try_reserve(packets).ok()
     }
 
     /// Books what a call lost and marked.
     #[inline(always)]
     fn settle(&mut self, now: u64) {
-        if self.toll.any {
-            self.top.book(&self.toll.sums);
-            self.toll.clean();
+        if self.signals.any {
+            self.top.book(&self.signals.sums);
+            self.signals.clean();
         }
         self.clock = now;
         self.events = self.events.saturating_add(1);
@@ -134,6 +134,6 @@ impl Device {
     /// The oldest loss that was not handed out yet.
     #[inline(always)]
     pub fn reap(&mut self) -> Option<Lost> {
-        self.toll.lost.pop_front()
+        self.signals.lost.pop_front()
     }
 }

@@ -3,7 +3,7 @@
 use crate::plain::fifo::Limit;
 use crate::plain::packet::{Cause, Packet, Put, Stamped};
 use crate::plain::place::{at, at_mut};
-use crate::plain::toll::Toll;
+use crate::plain::signals::Signals;
 
 pub struct Fifo {
     ring: Vec<Stamped>,
@@ -33,9 +33,9 @@ impl Fifo {
     }
 
     #[inline(always)]
-    pub fn put(&mut self, packet: &Packet, now: u64, toll: &mut Toll) -> Put {
+    pub fn put(&mut self, packet: &Packet, now: u64, signals: &mut Signals) -> Put {
         if !self.fits(packet.len) {
-            return toll.refuse(packet, Cause::OverLimit);
+            return signals.refuse(packet, Cause::OverLimit);
         }
         if self.count == self.ring.len() && self.grow().is_none() {
             return Put::NoMemory;

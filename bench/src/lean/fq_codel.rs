@@ -8,7 +8,7 @@ use crate::plain::gap::gap;
 use crate::plain::head::Ecn;
 use crate::plain::packet::{Cause, Packet, Put};
 use crate::plain::place::{at, at_mut};
-use crate::plain::toll::Toll;
+use crate::plain::signals::Signals;
 
 /// Keeps its tournament tree `ALWAYS`, at each put and take, or only near the limit.
 pub struct FqCodel<const ALWAYS: bool> {
@@ -43,7 +43,7 @@ impl<const ALWAYS: bool> FqCodel<ALWAYS> {
     }
 
     #[inline(never)]
-    pub fn put(&mut self, packet: &Packet, now: u64, toll: &mut Toll) -> Put {
+    pub fn put(&mut self, packet: &Packet, now: u64, signals: &mut Signals) -> Put {
         if self.slab.reserve().is_none() {
             return Put::NoMemory;
         }
@@ -72,17 +72,17 @@ impl<const ALWAYS: bool> FqCodel<ALWAYS> {
             if self.count <= self.settings.limit {
                 return Put::Kept;
             }
-            return self.shed(index, toll);
+            return self.shed(index, signals);
         }
         if self.winners.armed || self.count > self.settings.limit {
-            return self.put_late(index, toll);
+            return self.put_late(index, signals);
         }
         Put::Kept
     }
 
     /// What follows a put into this flow, where the limit is near.
     #[inline(never)]
-    fn put_late(&mut self, index: u32, toll: &mut Toll) -> Put {
+    fn put_late(&mut self, index: u32, signals: &mut Signals) -> Put {
         if self.winners.armed {
             self.winners.renew(index, at(&self.table, index as usize).bytes);
         } else {
@@ -91,17 +91,17 @@ impl<const ALWAYS: bool> FqCodel<ALWAYS> {
         if self.count <= self.settings.limit {
             return Put::Kept;
         }
-        self.shed(index, toll)
+        self.shed(index, signals)
     }
 
     /// The batch that the fat flow loses after a put into this flow.
     #[inline(never)]
-    fn shed(&mut self, index: u32, toll: &mut Toll) -> Put {
+    fn shed(&mut self, index: u32, signals: &mut Signals) -> Put {
         let fat = self.winners.top();
         let held = at(&self.table, fat as usize).count;
         let batch = held.min(self.count - 1).min(self.settings.drop_batch);
         for _ in 0..batch {
-            self.drop_head(fat as usize, Cause::FatFlow, toll);
+            self.drop_head(fat as usize, Cause::FatFlow, signals);
         }
         self.winners.lower(fat, at(&self.table, fat as usize).bytes);
         if fat == index && held <= batch {
@@ -113,7 +113,7 @@ impl<const ALWAYS: bool> FqCodel<ALWAYS> {
 
     /// The length of the packet that is given, 0 for none.
     #[inline(never)]
-    pub fn take_into(&mut self, now: u64, toll: &mut Toll, out: &mut Packet) -> u16 {
+    pub fn take_into(&mut self, now: u64, signals: &mut Signals, out: &mut Packet) -> u16 {
         loop {
             let is_fresh = self.fresh.count > 0;
             let ends = if is_fresh { &mut self.fresh } else { &mut self.stale };
@@ -124,7 +124,7 @@ impl<const ALWAYS: bool> FqCodel<ALWAYS> {
             let flow = at_mut(&mut self.table, index.into());
             let is_spent = flow.credits <= 0;
             if !is_spent && flow.count > 0 {
-                return self.send(index, now, toll, out);
+                return self.send(index, now, signals, out);
             }
             ends.head = flow.next;
             ends.count -= 1;
@@ -144,14 +144,14 @@ impl<const ALWAYS: bool> FqCodel<ALWAYS> {
 
     /// The length of the flow's packet that is given, 0 where all that it has are lost.
     #[inline(always)]
-    fn send(&mut self, index: u16, now: u64, toll: &mut Toll, out: &mut Packet) -> u16 {
+    fn send(&mut self, index: u16, now: u64, signals: &mut Signals, out: &mut Packet) -> u16 {
         let flow = at_mut(&mut self.table, index.into());
         let head = self.slab.at(flow.head);
         let behind = flow.bytes - u64::from(head.packet.len);
         let is_old = now.saturating_sub(head.at) >= self.settings.target;
         let stands = is_old && behind > u64::from(self.settings.mtu);
         if flow.is_late(stands, now) {
-            return self.send_late(index, now, toll, out);
+            return self.send_late(index, now, signals, out);
         }
         flow.dropping = false;
         flow.watch(stands, now, self.settings.interval);
@@ -183,12 +183,12 @@ impl<const ALWAYS: bool> FqCodel<ALWAYS> {
     }
 
     #[inline(always)]
-    fn drop_head(&mut self, index: usize, cause: Cause, toll: &mut Toll) {
+    fn drop_head(&mut self, index: usize, cause: Cause, signals: &mut Signals) {
         let flow = at_mut(&mut self.table, index);
         let place = flow.head;
         let slot = self.slab.at(place);
         let len = slot.packet.len;
-        toll.drop(&slot.packet, cause);
+        signals.drop(&slot.packet, cause);
         flow.head = slot.next;
         flow.count -= 1;
         flow.bytes -= u64::from(len);
@@ -201,11 +201,11 @@ impl<const ALWAYS: bool> FqCodel<ALWAYS> {
 impl<const ALWAYS: bool> FqCodel<ALWAYS> {
     #[cold]
     #[inline(never)]
-    fn send_late(&mut self, index: u16, now: u64, toll: &mut Toll, out: &mut Packet) -> u16 {
+    fn send_late(&mut self, index: u16, now: u64, signals: &mut Signals, out: &mut Packet) -> u16 {
         let is_marked = if self.table[usize::from(index)].dropping {
-            self.go_on(index.into(), now, toll)
+            self.go_on(index.into(), now, signals)
         } else {
-            self.begin(index.into(), now, toll)
+            self.begin(index.into(), now, signals)
         };
         let stands = self.stands(index.into(), now);
         let interval = self.settings.interval;
@@ -220,7 +220,7 @@ impl<const ALWAYS: bool> FqCodel<ALWAYS> {
         let len = self.give(index, out);
         if is_marked {
             out.ecn = Ecn::Ce;
-            toll.mark(len);
+            signals.mark(len);
         }
         len
     }
@@ -242,7 +242,7 @@ impl<const ALWAYS: bool> FqCodel<ALWAYS> {
     }
 
     /// Begins to drop: loses the head, unless it can be marked.
-    fn begin(&mut self, index: usize, now: u64, toll: &mut Toll) -> bool {
+    fn begin(&mut self, index: usize, now: u64, signals: &mut Signals) -> bool {
         let interval = self.settings.interval;
         let flow = &mut self.table[index];
         let more = flow.drops - flow.last_drops;
@@ -254,12 +254,12 @@ impl<const ALWAYS: bool> FqCodel<ALWAYS> {
         if self.is_markable(index) {
             return true;
         }
-        self.drop_head(index, Cause::Codel, toll);
+        self.drop_head(index, Cause::Codel, signals);
         false
     }
 
     /// Loses as many heads as are due, up to one that can be marked.
-    fn go_on(&mut self, index: usize, now: u64, toll: &mut Toll) -> bool {
+    fn go_on(&mut self, index: usize, now: u64, signals: &mut Signals) -> bool {
         let interval = self.settings.interval;
         while self.table[index].drop_next <= now {
             let drops = self.table[index].drops.saturating_add(1);
@@ -268,7 +268,7 @@ impl<const ALWAYS: bool> FqCodel<ALWAYS> {
                 self.table[index].drop_next += gap(interval, drops);
                 return true;
             }
-            self.drop_head(index, Cause::Codel, toll);
+            self.drop_head(index, Cause::Codel, signals);
             let stands = self.stands(index, now);
             if !self.table[index].is_late(stands, now) {
                 self.table[index].dropping = false;

@@ -2,7 +2,7 @@
 //! Rattle with. A packet goes down by reference in one walk, is copied once into its place and once out of it, and the usual
 //! way writes each counter once. What is lost or marked is booked on ways that are cold.
 //!
-//! Packets, rows, tolls, buckets, active lists and the reader of lines are those of `plain`, which have that form as well.
+//! Packets, rows, signals, buckets, active lists and the reader of lines are those of `plain`, which have that form as well.
 
 mod device;
 mod fifo;

@@ -3,7 +3,7 @@
 use super::gap::gap;
 use super::head::Ecn;
 use super::packet::{Packet, Stamped};
-use super::toll::Toll;
+use super::signals::Signals;
 
 /// What CoDel asks of a queue.
 pub trait Queue {
@@ -13,7 +13,7 @@ pub trait Queue {
     fn bytes(&self) -> u64;
 
     /// Loses the head. There is one.
-    fn drop_head(&mut self, toll: &mut Toll);
+    fn drop_head(&mut self, signals: &mut Signals);
 
     /// The length of the head, which is given; 0 for none.
     fn take_into(&mut self, out: &mut Packet) -> u16;
@@ -55,14 +55,14 @@ impl Codel {
 
     /// The length of the packet that is given, 0 for none.
     #[inline(always)]
-    pub fn take_into(&mut self, law: &Law, queue: &mut impl Queue, now: u64, toll: &mut Toll, out: &mut Packet) -> u16 {
+    pub fn take_into(&mut self, law: &Law, queue: &mut impl Queue, now: u64, signals: &mut Signals, out: &mut Packet) -> u16 {
         let Some(head) = queue.head() else {
             self.rest();
             return 0;
         };
         let stands = law.stands(head, queue.bytes(), now);
         if self.is_late(stands, now) {
-            return self.take_late(law, queue, now, toll, out);
+            return self.take_late(law, queue, now, signals, out);
         }
         self.dropping = false;
         self.watch(law, stands, now);
@@ -86,24 +86,24 @@ impl Codel {
 
     #[cold]
     #[inline(never)]
-    fn take_late(&mut self, law: &Law, queue: &mut impl Queue, now: u64, toll: &mut Toll, out: &mut Packet) -> u16 {
+    fn take_late(&mut self, law: &Law, queue: &mut impl Queue, now: u64, signals: &mut Signals, out: &mut Packet) -> u16 {
         let is_marked = if self.dropping {
-            self.go_on(law, queue, now, toll)
+            self.go_on(law, queue, now, signals)
         } else {
-            self.begin(law, queue, now, toll)
+            self.begin(law, queue, now, signals)
         };
         let stands = queue.head().is_some_and(|head| law.stands(head, queue.bytes(), now));
         self.watch(law, stands, now);
         let len = queue.take_into(out);
         if is_marked {
             out.ecn = Ecn::Ce;
-            toll.mark(len);
+            signals.mark(len);
         }
         len
     }
 
     /// Begins to drop: loses the head, unless it can be marked.
-    fn begin(&mut self, law: &Law, queue: &mut impl Queue, now: u64, toll: &mut Toll) -> bool {
+    fn begin(&mut self, law: &Law, queue: &mut impl Queue, now: u64, signals: &mut Signals) -> bool {
         let delta = self.count - self.lastcount;
         let is_recent = now < self.drop_next + 16 * law.interval;
         self.count = if delta > 1 && is_recent { delta } else { 1 };
@@ -113,19 +113,19 @@ impl Codel {
         if is_markable(law, queue) {
             return true;
         }
-        queue.drop_head(toll);
+        queue.drop_head(signals);
         false
     }
 
     /// Loses as many heads as are due, up to one that can be marked.
-    fn go_on(&mut self, law: &Law, queue: &mut impl Queue, now: u64, toll: &mut Toll) -> bool {
+    fn go_on(&mut self, law: &Law, queue: &mut impl Queue, now: u64, signals: &mut Signals) -> bool {
         while self.drop_next <= now {
             self.count = self.count.saturating_add(1);
             if is_markable(law, queue) {
                 self.drop_next += gap(law.interval, self.count);
                 return true;
             }
-            queue.drop_head(toll);
+            queue.drop_head(signals);
             let stands = queue.head().is_some_and(|head| law.stands(head, queue.bytes(), now));
             if !self.is_late(stands, now) {
                 self.dropping = false;

@@ -3,7 +3,7 @@
 use super::fifo::Limit;
 use super::packet::{Cause, Lost, Packet, Put};
 use super::row::Row;
-use super::toll::Toll;
+use super::signals::Signals;
 use super::tree::Node;
 
 #[allow(dead_code, reason = "nothing here reads what was recorded")]
@@ -25,7 +25,7 @@ pub struct Device {
     pub txqueuelen: u32,
     events: u64,
     pub top: Row,
-    pub toll: Toll,
+    pub signals: Signals,
     pub root: Node,
     /// The first events, so many at most.
     recorded: Vec<Event>,
@@ -40,7 +40,7 @@ impl Device {
             txqueuelen,
             events: 0,
             top: Row::default(),
-            toll: Toll::default(),
+            signals: Signals::default(),
             root: Node::fifo(Limit::Packets(txqueuelen.into())),
             recorded: Vec::with_capacity(recorder),
             recorder,
@@ -51,13 +51,13 @@ impl Device {
     #[inline(never)]
     pub fn arrive(&mut self, packet: &Packet, now: u64) -> Put {
         let now = self.clock.max(now);
-        if self.toll.reserve(self.top.queued() as usize + 1).is_none() {
+        if self.signals.reserve(self.top.queued() as usize + 1).is_none() {
             return Put::NoMemory;
         }
         let put = if packet.len > self.mtu {
-            self.toll.refuse(packet, Cause::TooLong)
+            self.signals.refuse(packet, Cause::TooLong)
         } else {
-            self.root.put(packet, now, &mut self.toll)
+            self.root.put(packet, now, &mut self.signals)
         };
         if matches!(put, Put::NoMemory) {
             return put;
@@ -73,7 +73,7 @@ impl Device {
     #[inline(never)]
     pub fn poll(&mut self, now: u64, out: &mut Packet) -> Polled {
         let now = self.clock.max(now);
-        let len = self.root.take_into(now, &mut self.toll, out);
+        let len = self.root.take_into(now, &mut self.signals, out);
         self.settle(now);
         if self.recorded.len() < self.recorder {
             self.recorded.push(Event::Poll(now));
@@ -92,9 +92,9 @@ impl Device {
     /// Books what a call lost and marked.
     #[inline(always)]
     fn settle(&mut self, now: u64) {
-        if self.toll.any {
-            self.top.book(&self.toll.sums);
-            self.toll.clean();
+        if self.signals.any {
+            self.top.book(&self.signals.sums);
+            self.signals.clean();
         }
         self.clock = now;
         self.events = self.events.saturating_add(1);
@@ -103,6 +103,6 @@ impl Device {
     /// The oldest loss that was not handed out yet.
     #[inline(always)]
     pub fn reap(&mut self) -> Option<Lost> {
-        self.toll.lost.pop_front()
+        self.signals.lost.pop_front()
     }
 }

@@ -3,7 +3,7 @@
 use super::codel::Queue;
 use super::packet::{Cause, Packet, Put, Stamped};
 use super::place::{at, at_mut};
-use super::toll::Toll;
+use super::signals::Signals;
 
 pub enum Limit {
     Packets(u64),
@@ -42,9 +42,9 @@ impl Fifo {
     }
 
     #[inline(always)]
-    pub fn put(&mut self, packet: &Packet, now: u64, toll: &mut Toll) -> Put {
+    pub fn put(&mut self, packet: &Packet, now: u64, signals: &mut Signals) -> Put {
         if !self.fits(packet.len) {
-            return toll.refuse(packet, Cause::OverLimit);
+            return signals.refuse(packet, Cause::OverLimit);
         }
         if self.count == self.ring.len() && self.grow().is_none() {
             return Put::NoMemory;
@@ -129,10 +129,10 @@ impl Queue for Fifo {
         self.bytes
     }
 
-    fn drop_head(&mut self, toll: &mut Toll) {
+    fn drop_head(&mut self, signals: &mut Signals) {
         let packet = &self.ring[self.first].packet;
         let len = packet.len;
-        toll.drop(packet, Cause::Codel);
+        signals.drop(packet, Cause::Codel);
         self.step(len);
     }
 

@@ -4,7 +4,7 @@ use super::codel::{Codel, Law};
 use super::packet::{Cause, Packet, Put};
 use super::place::at_mut;
 use super::pool::{FlowQueue, List, Listed, Pool};
-use super::toll::Toll;
+use super::signals::Signals;
 use super::winners::Winners;
 
 #[derive(Clone, Copy)]
@@ -99,7 +99,7 @@ impl FqCodel {
     }
 
     #[inline(never)]
-    pub fn put(&mut self, packet: &Packet, now: u64, toll: &mut Toll) -> Put {
+    pub fn put(&mut self, packet: &Packet, now: u64, signals: &mut Signals) -> Put {
         if self.pool.reserve().is_none() {
             return Put::NoMemory;
         }
@@ -118,13 +118,13 @@ impl FqCodel {
             self.winners.renew(index, bytes);
             return Put::Kept;
         }
-        self.shed(index, bytes, toll)
+        self.shed(index, bytes, signals)
     }
 
     /// Drops a batch of the fat flow's packets, after a put into this flow, which has so many bytes then.
     #[cold]
     #[inline(never)]
-    fn shed(&mut self, flow: u32, bytes: u64, toll: &mut Toll) -> Put {
+    fn shed(&mut self, flow: u32, bytes: u64, signals: &mut Signals) -> Put {
         let fat = self.winners.top_with(flow, bytes);
         if fat != flow {
             self.winners.renew(flow, bytes);
@@ -133,7 +133,7 @@ impl FqCodel {
         let held = list.count;
         let batch = held.min(self.pool.count - 1).min(self.drop_batch);
         for _ in 0..batch {
-            self.pool.drop_head(list, Cause::FatFlow, toll);
+            self.pool.drop_head(list, Cause::FatFlow, signals);
         }
         self.winners.renew(fat, list.bytes);
         if fat == flow && held <= batch {
@@ -145,7 +145,7 @@ impl FqCodel {
 
     /// The length of the packet that is given, 0 for none.
     #[inline(never)]
-    pub fn take_into(&mut self, now: u64, toll: &mut Toll, out: &mut Packet) -> u16 {
+    pub fn take_into(&mut self, now: u64, signals: &mut Signals, out: &mut Packet) -> u16 {
         loop {
             let is_fresh = self.fresh.count > 0;
             let ends = if is_fresh {
@@ -159,7 +159,7 @@ impl FqCodel {
             let flow = at_mut(&mut self.table, index.into());
             let is_spent = flow.credits <= 0;
             if !is_spent && flow.list.count > 0 {
-                return self.send(index, now, toll, out);
+                return self.send(index, now, signals, out);
             }
             ends.head = flow.list.next_flow;
             ends.count -= 1;
@@ -177,13 +177,13 @@ impl FqCodel {
     }
 
     #[inline(always)]
-    fn send(&mut self, index: u16, now: u64, toll: &mut Toll, out: &mut Packet) -> u16 {
+    fn send(&mut self, index: u16, now: u64, signals: &mut Signals, out: &mut Packet) -> u16 {
         let Flow { list, credits, codel } = at_mut(&mut self.table, index.into());
         let mut queue = FlowQueue {
             pool: &mut self.pool,
             list,
         };
-        let len = codel.take_into(&self.law, &mut queue, now, toll, out);
+        let len = codel.take_into(&self.law, &mut queue, now, signals, out);
         *credits -= i64::from(len);
         self.winners.renew(index.into(), list.bytes);
         len

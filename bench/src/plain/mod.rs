@@ -21,7 +21,7 @@ pub mod place;
 pub mod pool;
 pub mod ring;
 pub mod row;
-pub mod toll;
+pub mod signals;
 mod winners;
 pub mod words;
 pub mod work;

@@ -3,7 +3,7 @@
 use super::codel::Queue;
 use super::packet::{Cause, Packet, Stamped};
 use super::place::{at, at_mut};
-use super::toll::Toll;
+use super::signals::Signals;
 
 /// No place.
 const NONE: u32 = u32::MAX;
@@ -97,10 +97,10 @@ impl Pool {
 
     /// Loses the first packet of a list. There is one.
     #[inline(always)]
-    pub fn drop_head(&mut self, list: &mut List, cause: Cause, toll: &mut Toll) {
+    pub fn drop_head(&mut self, list: &mut List, cause: Cause, signals: &mut Signals) {
         let packet = &at(&self.slots, list.head as usize).packet;
         let len = packet.len;
-        toll.drop(packet, cause);
+        signals.drop(packet, cause);
         self.step(list, len);
     }
 
@@ -143,8 +143,8 @@ impl Queue for FlowQueue<'_> {
         self.list.bytes
     }
 
-    fn drop_head(&mut self, toll: &mut Toll) {
-        self.pool.drop_head(self.list, Cause::Codel, toll);
+    fn drop_head(&mut self, signals: &mut Signals) {
+        self.pool.drop_head(self.list, Cause::Codel, signals);
     }
 
     #[inline(always)]

@@ -1,6 +1,6 @@
 //! What a node of the tree counts.
 
-use super::toll::Sums;
+use super::signals::Sums;
 
 #[derive(Clone, Copy, Default, PartialEq, Eq)]
 pub struct Totals {

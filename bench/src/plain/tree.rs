@@ -10,7 +10,7 @@ use super::flows::FqCodel;
 use super::packet::{Cause, Packet, Put};
 use super::place::at_mut;
 use super::row::Row;
-use super::toll::{Sums, Toll};
+use super::signals::{Sums, Signals};
 
 pub struct Node {
     pub row: Row,
@@ -60,49 +60,49 @@ impl Node {
     }
 
     #[inline(always)]
-    pub fn put(&mut self, packet: &Packet, now: u64, toll: &mut Toll) -> Put {
+    pub fn put(&mut self, packet: &Packet, now: u64, signals: &mut Signals) -> Put {
         let put = match &mut self.discipline {
-            Discipline::Fifo(fifo) => fifo.put(packet, now, toll),
-            Discipline::FqCodel(queue) => queue.put(packet, now, toll),
-            _ => self.put_beneath(packet, now, toll),
+            Discipline::Fifo(fifo) => fifo.put(packet, now, signals),
+            Discipline::FqCodel(queue) => queue.put(packet, now, signals),
+            _ => self.put_beneath(packet, now, signals),
         };
         if matches!(put, Put::NoMemory) {
             return put;
         }
         self.row.arrive(packet.len);
-        if toll.any {
-            self.row.book(&toll.sums);
+        if signals.any {
+            self.row.book(&signals.sums);
         }
         put
     }
 
     #[inline(never)]
-    fn put_beneath(&mut self, packet: &Packet, now: u64, toll: &mut Toll) -> Put {
+    fn put_beneath(&mut self, packet: &Packet, now: u64, signals: &mut Signals) -> Put {
         match &mut self.discipline {
             Discipline::Prio { priomap, bands } => {
                 let place = self.filters.place_of(&packet.key);
                 let place = place.unwrap_or_else(|| priomap[usize::from(packet.prio & 15)].into());
                 match bands.get_mut(usize::from(place)) {
-                    Some(band) => band.put(packet, now, toll),
-                    None => toll.refuse(packet, Cause::NoClass),
+                    Some(band) => band.put(packet, now, signals),
+                    None => signals.refuse(packet, Cause::NoClass),
                 }
             }
             Discipline::Tbf { burst, child, .. } => {
                 if u32::from(packet.len) > *burst {
-                    return toll.refuse(packet, Cause::TooLong);
+                    return signals.refuse(packet, Cause::TooLong);
                 }
-                child.put(packet, now, toll)
+                child.put(packet, now, signals)
             }
             Discipline::Drr { active, classes, .. } => {
                 let Some(place) = self.filters.place_of(&packet.key) else {
-                    return toll.refuse(packet, Cause::NoClass);
+                    return signals.refuse(packet, Cause::NoClass);
                 };
                 let class = at_mut(classes, place.into());
-                let put = class.put(packet, now, toll);
+                let put = class.put(packet, now, signals);
                 if matches!(put, Put::NoMemory) {
                     return put;
                 }
-                if toll.any && class.row.queued() == 0 {
+                if signals.any && class.row.queued() == 0 {
                     active.sleep(place);
                 } else {
                     active.wake(place);
@@ -115,49 +115,49 @@ impl Node {
 
     /// The length of the packet that [`Node::take_into`] gives next, 0 for none.
     #[inline(always)]
-    fn peek(&mut self, now: u64, toll: &mut Toll) -> u16 {
+    fn peek(&mut self, now: u64, signals: &mut Signals) -> u16 {
         if let Discipline::Fifo(fifo) = &self.discipline {
             return fifo.head_len();
         }
         if self.holds {
             return self.held.len;
         }
-        self.hold(now, toll)
+        self.hold(now, signals)
     }
 
     /// Asks for the next packet, so that it is at hand: at a prio, in its band.
     #[inline(never)]
-    fn hold(&mut self, now: u64, toll: &mut Toll) -> u16 {
+    fn hold(&mut self, now: u64, signals: &mut Signals) -> u16 {
         let len = match &mut self.discipline {
             Discipline::Prio { bands, .. } => {
                 let mut before = None;
-                let len = first_of(bands, toll, &mut before, |band, toll| band.peek(now, toll));
-                gather(toll, &mut before);
+                let len = first_of(bands, signals, &mut before, |band, signals| band.peek(now, signals));
+                gather(signals, &mut before);
                 len
             }
             discipline => {
-                let len = discipline.take_into(now, toll, &mut self.held);
+                let len = discipline.take_into(now, signals, &mut self.held);
                 self.holds = len != 0;
                 len
             }
         };
-        if toll.any {
-            self.row.book(&toll.sums);
+        if signals.any {
+            self.row.book(&signals.sums);
         }
         len
     }
 
     /// The length of the packet that is given, 0 for none.
     #[inline(always)]
-    pub fn take_into(&mut self, now: u64, toll: &mut Toll, out: &mut Packet) -> u16 {
+    pub fn take_into(&mut self, now: u64, signals: &mut Signals, out: &mut Packet) -> u16 {
         let len = if self.holds {
             self.holds = false;
             *out = self.held;
             self.held.len
         } else {
-            let len = self.discipline.take_into(now, toll, out);
-            if toll.any {
-                self.row.book(&toll.sums);
+            let len = self.discipline.take_into(now, signals, out);
+            if signals.any {
+                self.row.book(&signals.sums);
             }
             len
         };
@@ -170,51 +170,51 @@ impl Node {
 
 impl Discipline {
     #[inline(always)]
-    fn take_into(&mut self, now: u64, toll: &mut Toll, out: &mut Packet) -> u16 {
+    fn take_into(&mut self, now: u64, signals: &mut Signals, out: &mut Packet) -> u16 {
         match self {
             Discipline::Fifo(fifo) => fifo.take_into(out),
-            Discipline::FqCodel(queue) => queue.take_into(now, toll, out),
-            _ => self.take_beneath(now, toll, out),
+            Discipline::FqCodel(queue) => queue.take_into(now, signals, out),
+            _ => self.take_beneath(now, signals, out),
         }
     }
 
     #[inline(never)]
-    fn take_beneath(&mut self, now: u64, toll: &mut Toll, out: &mut Packet) -> u16 {
+    fn take_beneath(&mut self, now: u64, signals: &mut Signals, out: &mut Packet) -> u16 {
         let mut before = None;
         let len = match self {
             Discipline::Prio { bands, .. } => {
-                first_of(bands, toll, &mut before, |band, toll| band.take_into(now, toll, out))
+                first_of(bands, signals, &mut before, |band, signals| band.take_into(now, signals, out))
             }
             Discipline::Tbf { bucket, child, .. } => {
-                let len = child.peek(now, toll);
+                let len = child.peek(now, signals);
                 if len != 0 && bucket.spend(now, len) {
-                    part(toll, &mut before);
-                    child.take_into(now, toll, out)
+                    part(signals, &mut before);
+                    child.take_into(now, signals, out)
                 } else {
                     0
                 }
             }
-            Discipline::Drr { active, classes, .. } => serve(active, classes, now, toll, &mut before, out),
+            Discipline::Drr { active, classes, .. } => serve(active, classes, now, signals, &mut before, out),
             Discipline::Fifo(_) | Discipline::FqCodel(_) => unreachable!(),
         };
-        gather(toll, &mut before);
+        gather(signals, &mut before);
         len
     }
 }
 
 /// Cleans the sums for the next node that is asked.
 #[inline(always)]
-fn part(toll: &mut Toll, before: &mut Option<Sums>) {
-    if toll.any {
-        toll.fold(before);
+fn part(signals: &mut Signals, before: &mut Option<Sums>) {
+    if signals.any {
+        signals.fold(before);
     }
 }
 
 /// The sums of all nodes that were asked.
 #[inline(always)]
-fn gather(toll: &mut Toll, before: &mut Option<Sums>) {
+fn gather(signals: &mut Signals, before: &mut Option<Sums>) {
     if before.is_some() {
-        toll.unfold(before);
+        signals.unfold(before);
     }
 }
 
@@ -222,16 +222,16 @@ fn gather(toll: &mut Toll, before: &mut Option<Sums>) {
 #[inline(always)]
 fn first_of(
     bands: &mut [Node],
-    toll: &mut Toll,
+    signals: &mut Signals,
     before: &mut Option<Sums>,
-    mut ask: impl FnMut(&mut Node, &mut Toll) -> u16,
+    mut ask: impl FnMut(&mut Node, &mut Signals) -> u16,
 ) -> u16 {
     for band in bands {
-        let len = ask(band, toll);
+        let len = ask(band, signals);
         if len != 0 {
             return len;
         }
-        part(toll, before);
+        part(signals, before);
     }
     0
 }
@@ -242,19 +242,19 @@ fn serve(
     active: &mut Active,
     classes: &mut [Node],
     now: u64,
-    toll: &mut Toll,
+    signals: &mut Signals,
     before: &mut Option<Sums>,
     out: &mut Packet,
 ) -> u16 {
     while let Some(place) = active.front() {
         let class = at_mut(classes, place.into());
-        let len = class.peek(now, toll);
+        let len = class.peek(now, signals);
         if len == 0 {
             return 0;
         }
-        part(toll, before);
+        part(signals, before);
         if active.turn(len) == Turn::Send {
-            let len = class.take_into(now, toll, out);
+            let len = class.take_into(now, signals, out);
             if class.row.queued() == 0 {
                 active.sleep(place);
             }

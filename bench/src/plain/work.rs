@@ -8,7 +8,7 @@ use super::flows::{FqCodel, Settings};
 use super::gap;
 use super::head::{Ecn, FlowKey, Head, one_at_a_time, read_head as read};
 use super::packet::{Packet, Put};
-use super::toll::Toll;
+use super::signals::Signals;
 
 /// The latest time, in nanoseconds.
 const LATEST: u64 = 1 << 62;
@@ -105,13 +105,13 @@ pub fn fifo(queued: u32, lens: &[u16], passes: u32) -> u64 {
 
 fn pass_through(queue: &mut Fifo, queued: u32, lens: &[u16], passes: u32) -> Option<u64> {
     let made = sized(lens)?;
-    let mut toll = Toll::default();
-    fill(queue, queued, &made, &mut toll)?;
+    let mut signals = Signals::default();
+    fill(queue, queued, &made, &mut signals)?;
     let mut out = Packet::NONE;
     let mut sum = 1;
     for _ in 0..passes {
         for packet in &made {
-            put(queue, packet, 0, &mut toll)?;
+            put(queue, packet, 0, &mut signals)?;
             if queue.take_into(&mut out) == 0 {
                 return None;
             }
@@ -124,14 +124,14 @@ fn pass_through(queue: &mut Fifo, queued: u32, lens: &[u16], passes: u32) -> Opt
 #[inline(never)]
 pub fn codel(queued: u32, lens: &[u16], moments: &[u64]) -> u64 {
     let mut queue = Fifo::new(Limit::Packets(u64::from(queued) + 1));
-    let mut toll = Toll::default();
-    toll.lost.reserve(queued as usize);
-    take_at(&mut queue, &mut toll, queued, lens, moments).unwrap_or(0)
+    let mut signals = Signals::default();
+    signals.lost.reserve(queued as usize);
+    take_at(&mut queue, &mut signals, queued, lens, moments).unwrap_or(0)
 }
 
-fn take_at(queue: &mut Fifo, toll: &mut Toll, queued: u32, lens: &[u16], moments: &[u64]) -> Option<u64> {
+fn take_at(queue: &mut Fifo, signals: &mut Signals, queued: u32, lens: &[u16], moments: &[u64]) -> Option<u64> {
     let made = sized(lens)?;
-    fill(queue, queued, &made, toll)?;
+    fill(queue, queued, &made, signals)?;
     let law = Law {
         target: 5_000_000,
         interval: 100_000_000,
@@ -143,18 +143,18 @@ fn take_at(queue: &mut Fifo, toll: &mut Toll, queued: u32, lens: &[u16], moments
     let (mut next, mut sum) = (0, 1);
     for moment in moments {
         let now = *moment;
-        if now > LATEST || queue.count() > (toll.lost.capacity() - toll.lost.len()) as u64 {
+        if now > LATEST || queue.count() > (signals.lost.capacity() - signals.lost.len()) as u64 {
             return None;
         }
-        if codel.take_into(&law, queue, now, toll, &mut out) == 0 {
+        if codel.take_into(&law, queue, now, signals, &mut out) == 0 {
             return None;
         }
         sum = with(sum, packet_summary(&out));
         let packet = made.get(next)?;
-        put(queue, packet, now, toll)?;
-        while let Some(lost) = toll.lost.pop_front() {
+        put(queue, packet, now, signals)?;
+        while let Some(lost) = signals.lost.pop_front() {
             sum = with(sum, packet_summary(&lost.packet));
-            put(queue, packet, now, toll)?;
+            put(queue, packet, now, signals)?;
         }
         next = if next + 1 < made.len() { next + 1 } else { 0 };
     }
@@ -162,17 +162,17 @@ fn take_at(queue: &mut Fifo, toll: &mut Toll, queued: u32, lens: &[u16], moments
 }
 
 /// Puts so many packets at time 0, round and round.
-fn fill(queue: &mut Fifo, queued: u32, made: &[Packet], toll: &mut Toll) -> Option<()> {
+fn fill(queue: &mut Fifo, queued: u32, made: &[Packet], signals: &mut Signals) -> Option<()> {
     for (_, packet) in (0..queued).zip(made.iter().cycle()) {
-        put(queue, packet, 0, toll)?;
+        put(queue, packet, 0, signals)?;
     }
     Some(())
 }
 
 /// `None` if an allocation fails or the limit is reached.
 #[inline(always)]
-fn put(queue: &mut Fifo, packet: &Packet, now: u64, toll: &mut Toll) -> Option<()> {
-    match queue.put(packet, now, toll) {
+fn put(queue: &mut Fifo, packet: &Packet, now: u64, signals: &mut Signals) -> Option<()> {
+    match queue.put(packet, now, signals) {
         Put::Kept => Some(()),
         Put::Lost(_) | Put::NoMemory => None,
     }
@@ -250,23 +250,23 @@ pub fn flows(load: &FlowLoad, hashes: &[u32], passes: u32) -> u64 {
 
 fn pass_flows(fq: &mut FqCodel, load: &FlowLoad, hashes: &[u32], passes: u32) -> Option<u64> {
     let made = hashed(hashes)?;
-    let mut toll = Toll::default();
+    let mut signals = Signals::default();
     for (_, packet) in (0..load.queued).zip(made.iter().cycle()) {
-        put_flow(fq, &mut toll, packet, load.drop_batch)?;
+        put_flow(fq, &mut signals, packet, load.drop_batch)?;
     }
     let mut out = Packet::NONE;
     let mut sum = 1;
     for _ in 0..passes {
         for packet in &made {
-            sum = with(sum, put_flow(fq, &mut toll, packet, load.drop_batch)?);
+            sum = with(sum, put_flow(fq, &mut signals, packet, load.drop_batch)?);
             if load.takes {
-                toll.reserve(fq.queued().0 as usize)?;
-                if fq.take_into(0, &mut toll, &mut out) == 0 {
+                signals.reserve(fq.queued().0 as usize)?;
+                if fq.take_into(0, &mut signals, &mut out) == 0 {
                     return None;
                 }
                 sum = with(sum, out.number);
             }
-            while let Some(lost) = toll.lost.pop_front() {
+            while let Some(lost) = signals.lost.pop_front() {
                 sum = with(sum, lost.packet.number);
             }
         }
@@ -277,9 +277,9 @@ fn pass_flows(fq: &mut FqCodel, load: &FlowLoad, hashes: &[u32], passes: u32) ->
 
 /// 1 where the packet that is put is itself lost, else 0.
 #[inline(always)]
-fn put_flow(fq: &mut FqCodel, toll: &mut Toll, packet: &Packet, drop_batch: u32) -> Option<u64> {
-    toll.reserve(drop_batch as usize)?;
-    match fq.put(packet, 0, toll) {
+fn put_flow(fq: &mut FqCodel, signals: &mut Signals, packet: &Packet, drop_batch: u32) -> Option<u64> {
+    signals.reserve(drop_batch as usize)?;
+    match fq.put(packet, 0, signals) {
         Put::Kept => Some(0),
         Put::Lost(_) => Some(1),
         Put::NoMemory => None,

@@ -6,7 +6,7 @@ use Rattle.std.proofs.lemmas.List.Sums.{sum_by-set, sum_by_push}
 use Rattle.std.specs.Prelude.{sum_by}
 use Rattle.std.specs.declared.alloc.Global.{Global}
 use denote.RawPtr.{null_ptr}
-use Rattle.q_ports.specs.declared.countable.Countable.{Countable}
+use Rattle.q_ports.specs.declared.ring_rule.RingRule.{RingRule}
 use Rattle.rtrb.specs.declared.consumer.Consumer.{Consumer}
 use Rattle.rtrb.specs.Ring as ends
 use Rattle.q_packet.specs.Descriptor.{Descriptor}
@@ -101,7 +101,7 @@ seat-known at xs ks h =
 -- ---- a consumer
 
 abbrev pub Ring : Type 0
-Ring = Consumer Descriptor Global Countable
+Ring = Consumer Descriptor Global RingRule
 
 pub seen-looked : (a b : Ring) → ends.ConsumerLooked a b → ring_seen b ≡ with_known (ends.known_items b) (ring_seen a)
 seen-looked a b l =
@@ -120,12 +120,12 @@ seen-popped a b p same all known =
 
 -- the place of a ring is a place of the list that contracts see
 pub place : (items : List Ring) (now : List RingSeen) (at : ℕ) → map ring_seen items ≡ now → at < length now → at < length items
-place items now at is h = omega (arith, h, ap (λ (xs : List RingSeen). length xs) is, length-map items (ring_seen {P = Countable}))
+place items now at is h = omega (arith, h, ap (λ (xs : List RingSeen). length xs) is, length-map items (ring_seen {P = RingRule}))
 
 pub looked-rings : (items : List Ring) (now : List RingSeen) (at : ℕ) (a b : Ring) → map ring_seen items ≡ now → at < length now → a ≡ get_or items at a → ends.ConsumerLooked a b → (d : RingSeen)
     → map ring_seen (set items at b) ≡ set now at (with_known (ends.known_items b) (get_or now at d))
 looked-rings items now at a b is h e l d =
-    let m = map-cell (ring_seen {P = Countable}) items at a b (ring_seen b) d (place items now at is h) e refl in
+    let m = map-cell (ring_seen {P = RingRule}) items at a b (ring_seen b) d (place items now at is h) e refl in
     m.0
     ∙ (ap (λ (r : RingSeen). set (map ring_seen items) at r) (seen-looked a b l)
     ∙ (ap (λ (r : RingSeen). set (map ring_seen items) at (with_known (ends.known_items b) r)) m.1
@@ -135,7 +135,7 @@ pub popped-rings : (items : List Ring) (now : List RingSeen) (at : ℕ) (a b : R
     → ends.SameConsumer a b → ends.received b ≡ ends.received a ++ p ∷ [] → ends.known_items a ≡ p ∷ ends.known_items b → (d : RingSeen)
     → map ring_seen (set items at b) ≡ set now at (popped p (get_or now at d))
 popped-rings items now at a b p is h e same all known d =
-    let m = map-cell (ring_seen {P = Countable}) items at a b (ring_seen b) d (place items now at is h) e refl in
+    let m = map-cell (ring_seen {P = RingRule}) items at a b (ring_seen b) d (place items now at is h) e refl in
     m.0
     ∙ (ap (λ (r : RingSeen). set (map ring_seen items) at r) (seen-popped a b p same all known)
     ∙ (ap (λ (r : RingSeen). set (map ring_seen items) at (popped p r)) m.1
@@ -145,7 +145,7 @@ popped-rings items now at a b p is h e same all known d =
 pub known-there : (items : List Ring) (now : List RingSeen) (at : ℕ) (a : Ring) → map ring_seen items ≡ now → at < length now → a ≡ get_or items at a → (d : RingSeen)
     → (get_or now at d).known ≡ ends.known_items a
 known-there items now at a is h e d =
-    let m = map-cell (ring_seen {P = Countable}) items at a a (ring_seen a) d (place items now at is h) e refl in
+    let m = map-cell (ring_seen {P = RingRule}) items at a a (ring_seen a) d (place items now at is h) e refl in
     sym (ap (λ (r : RingSeen). r.known) m.1 ∙ ap (λ (xs : List RingSeen). (get_or xs at d).known) is)
 
 -- ---- rings that are looked at in turn
@@ -171,5 +171,5 @@ empty-round start xs ys late same early long k d h =
 -- what a contract sees of a ring at its place
 pub seen-there : (items : List Ring) (now : List RingSeen) (at : ℕ) (a : Ring) → map ring_seen items ≡ now → at < length now → a ≡ get_or items at a → (d : RingSeen) → get_or now at d ≡ ring_seen a
 seen-there items now at a is h e d =
-    let m = map-cell (ring_seen {P = Countable}) items at a a (ring_seen a) d (place items now at is h) e refl in
+    let m = map-cell (ring_seen {P = RingRule}) items at a a (ring_seen a) d (place items now at is h) e refl in
     sym (m.1 ∙ ap (λ (xs : List RingSeen). get_or xs at d) is)

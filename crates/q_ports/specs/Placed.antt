@@ -60,8 +60,8 @@ abbrev pub bytes_in : List Descriptor → ℕ
 bytes_in packets = sum_by (λ (p : Descriptor). p.len) packets
 
 -- so many packets, and so many bytes, that 64 bits count them
-abbrev pub IsCountable : List Descriptor → Type 0
-IsCountable packets = (length packets < 2 ^ 64) × (bytes_in packets < 2 ^ 64)
+abbrev pub CanBeCounted : List Descriptor → Type 0
+CanBeCounted packets = (length packets < 2 ^ 64) × (bytes_in packets < 2 ^ 64)
 
 -- packets and bytes over several lists
 abbrev pub share_of : List (List Descriptor) → Totals

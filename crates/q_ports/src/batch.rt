@@ -6,14 +6,14 @@ ghost use Rattle.q_model.specs.Tally.{with_packet};
 ghost use Rattle.q_ports.specs.Placed.{bytes_in, placing, port_seen, PortSeen};
 ghost use Rattle.rtrb.specs.Ring.{known_free, ProducerLooked};
 
-use crate::countable::PacketProducer;
+use crate::ring_rule::PacketProducer;
 use q_device::Totals as Share;
 use q_packet::Packet;
 
 /// What was placed, with a packet more; `None` where a count would overflow.
 pub(crate) fn with_packet(share: &Share, packet: &Packet) -> Option<Share>
     ensures some { IfSome result (λ s. s ≡ with_packet share.now packet.now) }
-    ensures countable { IfSome result (λ s. (share.now.packets + 1 < 2 ^ 64) × (share.now.bytes + packet.now.len < 2 ^ 64)) }
+    ensures counted { IfSome result (λ s. (share.now.packets + 1 < 2 ^ 64) × (share.now.bytes + packet.now.len < 2 ^ 64)) }
     ensures none { IfNone result ((2 ^ 64 ≤ share.now.packets + 1) ⊎ (2 ^ 64 ≤ share.now.bytes + packet.now.len)) }
 {
     Some(Share {

@@ -8,9 +8,9 @@ ghost use Rattle.q_ports.specs.Stopped.{HasNoRoomForNext, Stops, StopsSome};
 ghost use Rattle.q_ports.specs.TakenAt.{TakesAt, TakesKnown};
 
 use crate::booked::Booked;
-use crate::countable::PacketConsumer;
 use crate::laws::booked_has_its_memory;
 use crate::port::Port;
+use crate::ring_rule::PacketConsumer;
 use crate::seat::Seat;
 use crate::settled::Settled;
 use q_packet::Moment;

@@ -5,13 +5,13 @@ ghost use Rattle.q_ports.specs.Placed.{placed_by, port_seen, ring_of_port, HasRi
 ghost use Rattle.q_ports.specs.Rings.{received_from, ring_id, ring_seen};
 ghost use Rattle.q_ports.specs.Rows.{new_gauge, shown_on, GaugeSeen};
 
-use crate::countable::{Countable, PacketConsumer};
 use crate::drain::Drain;
 use crate::gauge::Gauge;
 use crate::intake::Intake;
 use crate::outlet::Outlet;
 use crate::port::Port;
 use crate::publisher::Publisher;
+use crate::ring_rule::{PacketConsumer, RingRule};
 use crate::seat::Seat;
 use rtrb::RingBuffer;
 use std::alloc::{AllocError, Global};
@@ -70,7 +70,7 @@ pub fn open_ring(alloc: Global, index: u32, places: usize) -> Result<(Port, Outl
     ensures places { IfOk result (λ r. HasRing places r.0) }
     ensures outlet { IfOk result (λ r. (r.1.received ≡ []) × (r.1.known ≡ [])) }
 {
-    let (producer, consumer) = RingBuffer::with_protocol::<Global, Countable>(alloc, places)?;
+    let (producer, consumer) = RingBuffer::with_protocol::<Global, RingRule>(alloc, places)?;
     Ok((Port::new(index, producer), Outlet::new(consumer)))
 }
 
@@ -91,7 +91,7 @@ fn make_rings(
     let mut rings = Vec::with_capacity(alloc, count)?;
     let mut ports = Vec::with_capacity(alloc, count)?;
     for index in 0..count {
-        match RingBuffer::with_protocol::<Global, Countable>(alloc, ring) {
+        match RingBuffer::with_protocol::<Global, RingRule>(alloc, ring) {
             Ok((producer, consumer)) => {
                 ports.push_reserved(Port::new(index as u32, producer));
                 rings.push_reserved(consumer);

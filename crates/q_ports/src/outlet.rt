@@ -7,8 +7,8 @@ ghost use Rattle.q_ports.specs.Room.{StaysButForPlaces};
 ghost use Rattle.q_ports.specs.TakenIn.{HasNoRoomForFirst, StopsAtFirst, TakesFirst, TakesIn};
 ghost use Rattle.rtrb.specs.Ring.{received};
 
-use crate::countable::PacketConsumer;
 use crate::port::Port;
+use crate::ring_rule::PacketConsumer;
 use crate::taken_in::TakenIn;
 use q_device::laws::device_has_its_memory;
 use q_device::{Device, Totals as Share};

@@ -8,8 +8,8 @@ ghost use Rattle.q_ports.specs.Placed.{bytes_in, placed_by, placing, port_seen, 
 ghost use Rattle.rtrb.specs.Ring.{known_items, producer_capacity, received, sent, ConsumerLooked};
 
 use crate::batch::{free_places, with_packet, write_batch};
-use crate::countable::{PacketConsumer, PacketProducer};
 use crate::full::Full;
+use crate::ring_rule::{PacketConsumer, PacketProducer};
 use q_device::Totals as Share;
 use q_packet::{Packet, SOME_PACKET};
 use std::marker::Model;

@@ -15,7 +15,7 @@ use Rattle.q_tree.specs.Arrivals.{plus}
 use Rattle.q_tree.specs.Kept.{Kept}
 use Rattle.q_tree.specs.Purging.{purged}
 use Rattle.q_tree.specs.PutSteps.{packets_beneath}
-use Rattle.q_tree.specs.Reshaping.{FitsCounters}
+use Rattle.q_tree.specs.DisciplineChanges.{FitsCounters}
 use Rattle.q_tree.proofs.Rows.{same-totals}
 
 drop-removed : (ns : List (Node Kept)) (i : ℕ) → drop i (remove ns i) ≡ drop (suc i) ns

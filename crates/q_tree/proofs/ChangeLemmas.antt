@@ -1,4 +1,4 @@
--- What the model plans of a change of a qdisc, and that the reshaping of the code is this plan.
+-- What the model plans of a change of a qdisc, and that the change that the code makes is this plan.
 use Rattle.std.proofs.Common.{◌≡◌, ℕ, zero, suc, ◌+◌, ◌-◌, ◌<◌, ◌≤◌, ◌∙◌, min, Bool, true, false, List, [], ◌∷◌, ◌++◌, append-nil, length, map, take, drop, get_or, replicate, refl, sym, ap, ap₂, subst, Option, Some, None, option_map, Result, Ok, Err, inl, inr, arith}
 use Rattle.std.specs.Prelude.{All, IsTrue, is_some, not, nat_lt, unwrap_or, ◌==◌, ◌||◌, if◌then◌else◌}
 use Rattle.std.specs.List.{enumerate_from, flat_map, list_any, sum}
@@ -45,13 +45,13 @@ use Rattle.q_tree.specs.Finding.{reached}
 use Rattle.q_tree.specs.Kept as own_kept
 use Rattle.q_tree.specs.Making.{AreNew, IsNewNode}
 use Rattle.q_tree.specs.PutSteps.{packets_beneath}
-use Rattle.q_tree.specs.Reshaping.{AreReady, IsFresh, TakesMore, bands_going, bands_staying, children_after, discipline_after, leaf_limited, leaves_limited, limited, lost_with, rebucketed, remapped, reoptioned}
+use Rattle.q_tree.specs.DisciplineChanges.{AreReady, IsFresh, TakesMore, bands_going, bands_staying, children_after, discipline_after, leaf_limited, leaves_limited, limited, lost_with, rebucketed, remapped, reoptioned}
 use Rattle.q_tree.specs.declared.commands.edit.Edit.TheVariants.{DisciplineChange}
 use Rattle.q_tree.specs.declared.commands.planned.Planned.{Planned}
 use Rattle.q_tree.specs.declared.commands.discipline_change.DisciplineChange as shapes
 use Rattle.q_tree.specs.declared.commands.discipline_change.DisciplineChange.TheVariants.{Nothing, SetLimit, SetBucket, SetOptions}
 use Rattle.q_tree.proofs.MakingLemmas.{new-counts, nothing-beneath}
-use Rattle.q_tree.proofs.Plans.{all-passed, all-stay, few, remade-planned, reshape-does, same-refusal, shallow}
+use Rattle.q_tree.proofs.Plans.{all-passed, all-stay, few, remade-planned, change-does, same-refusal, shallow}
 use Rattle.q_tree.proofs.TargetLemmas.{reached-at, target-none, target-some}
 
 abbrev Counting : Type 0
@@ -421,5 +421,5 @@ module _ (root : Counting) (bounded : IsBounded root) (d : Device) (now mtu : �
     change-planned memory r h p way edit ranges =
         subst (λ (q : Planned). IsPlannedFor (memory whole) (QdiscChange place handle k) q now d root) (λ i. record p { edit = sym edit i })
         (remade-planned d root (record p { edit = DisciplineChange r }) h.0.ready n (subst (λ x. node_at x root ≡ Some n) (sym way) (reached-at root found_at path n found).there) h.0.own h.0.below h.0.lost_is
-        (reshape-does r n h.0.own h.0.below h.0.own_is h.0.kids_is) (QdiscChange place handle k) ranges now
+        (change-does r n h.0.own h.0.below h.0.own_is h.0.kids_is) (QdiscChange place handle k) ranges now
         (at-node ∙ ap (λ x. change_at x (shape n)) (sym way) ∙ h.0.planned p.path.items) (memory whole) (λ takes. subst memory (sym at-node) (h.1 path takes)))

@@ -36,14 +36,14 @@ use Rattle.q_tree.specs.Commands.{IsBounded, IsPlannedFor, class_add_sized, drr_
 use Rattle.q_tree.specs.Finding.{reached}
 use Rattle.q_tree.specs.Kept.{Kept}
 use Rattle.q_tree.specs.Making.{IsNewNode}
-use Rattle.q_tree.specs.Reshaping.{discipline_after}
+use Rattle.q_tree.specs.DisciplineChanges.{discipline_after}
 use Rattle.q_tree.specs.Showing.{IsNumbered}
 use Rattle.q_tree.specs.declared.commands.edit.Edit.TheVariants.{DisciplineChange}
 use Rattle.q_tree.specs.declared.commands.planned.Planned.{Planned}
 use Rattle.q_tree.specs.declared.commands.discipline_change.DisciplineChange.TheVariants.{AddClass, RemoveClass}
 use Rattle.q_tree.proofs.ClassPlans.{IsPassed, at-class, drr-done, drr-passed, drr-refused, first-passed, kids-joined, kids-left, none-lost, one-lost, one_less, one_more, own-joined, own-left, sized-is, there-known}
 use Rattle.q_tree.proofs.MakingLemmas.{new-counts, nothing-beneath}
-use Rattle.q_tree.proofs.Plans.{few, remade-planned, reshape-does, shallow}
+use Rattle.q_tree.proofs.Plans.{few, remade-planned, change-does, shallow}
 use Rattle.q_tree.proofs.TargetLemmas.{reached-at, target-none, target-some}
 
 -- ---- a class more
@@ -93,7 +93,7 @@ module _ (root : Node Kept) (bounded : IsBounded root) (d : Device) (parent : �
           (record { counts = new-counts leaf (implicit_pfifo d) new; alone = nothing-beneath leaf (implicit_pfifo d) new d.mtu now None (new_leaf d.mtu now None (Packets d.txqueuelen)) })
           n (subst (λ x. node_at x root ≡ Some n) (sym way) (reached-at root (path_of class.major (shape root)) path n found).there) own (one_more n h.own h.is class.minor q leaf d new absent)
           (none-lost n h.own h.is class.minor q leaf d new absent)
-          (reshape-does (AddClass class.minor q leaf) n own (one_more n h.own h.is class.minor q leaf d new absent) own_is (kids-joined n h.own h.is class.minor q leaf d new absent))
+          (change-does (AddClass class.minor q leaf) n own (one_more n h.own h.is class.minor q leaf d new absent) own_is (kids-joined n h.own h.is class.minor q leaf d new absent))
           (ClassAdd parent class quantum) ranges now
           (here ∙ drr-done (add_checks path (shape n)) (adds path (shape n)) n.own.discipline h ∙ ap (λ x. Ok (adds x (shape n) h.own)) (sym way)) takes_memory (λ t. tt)
 
@@ -160,7 +160,7 @@ module _ (root : Node Kept) (bounded : IsBounded root) (d : Device) (parent : Op
       class-del-planned =
           remade-planned d root (record p { edit = DisciplineChange (RemoveClass class.minor) }) tt n (subst (λ x. node_at x root ≡ Some n) (sym way) at) left (one_less n g.own g.is class.minor place child.0 place_is child.1 within)
           (one-lost n g.own g.is class.minor place child.0 place_is child.1 within)
-          (reshape-does (RemoveClass class.minor) n left (one_less n g.own g.is class.minor place child.0 place_is child.1 within)
+          (change-does (RemoveClass class.minor) n left (one_less n g.own g.is class.minor place child.0 place_is child.1 within)
           (own-left n g.own g.is class.minor place child.0 place_is child.1 within) (kids-left n g.own g.is class.minor place child.0 place_is child.1 within))
           (ClassDel parent class) ranges now
           (gets ∙ drr-done (class_del_checks class (shape n)) removes n.own.discipline g ∙ ap (λ x. Ok (without_class place x (shape n) (removed class.minor g.own))) (sym way)) takes_none (λ t. t)

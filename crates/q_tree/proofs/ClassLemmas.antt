@@ -6,7 +6,7 @@ use Rattle.q_model.specs.Node as spec
 use Rattle.q_model.specs.Node.{Node}
 use Rattle.q_invariants.proofs.EditClasses.{class_known, member_at}
 use Rattle.q_tree.specs.Kept.{Kept}
-use Rattle.q_tree.specs.Reshaping.{class_child}
+use Rattle.q_tree.specs.DisciplineChanges.{class_child}
 use Rattle.q_tree.proofs.Puts.{same-child}
 
 pub class-is-there : (class i : ℕ) (s : Schedule) → Some i ≡ place_of class s.classes → has_class class s.classes ≡ true

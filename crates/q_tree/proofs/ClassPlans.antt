@@ -29,7 +29,7 @@ use Rattle.q_invariants.proofs.SizeChecks.{sizes}
 use Rattle.q_tree.specs.Commands.{class_add_sized, drr_answer}
 use Rattle.q_tree.specs.Kept.{Kept, kept}
 use Rattle.q_tree.specs.Making.{IsNewNode}
-use Rattle.q_tree.specs.Reshaping.{can_join, children_after, class_child, discipline_after, lost_with, place_in, requantum, rescheduled}
+use Rattle.q_tree.specs.DisciplineChanges.{can_join, children_after, class_child, discipline_after, lost_with, place_in, requantum, rescheduled}
 use Rattle.q_tree.specs.declared.commands.discipline_change.DisciplineChange.TheVariants.{AddClass, RemoveClass}
 use Rattle.q_tree.proofs.Plans.{all-passed, same-refusal}
 

@@ -31,7 +31,7 @@ use Rattle.q_invariants.proofs.Joined.{joined, weigh-joined-set, weigh-beneath, 
 use Rattle.q_invariants.proofs.Members.{All-at}
 use Rattle.q_invariants.proofs.Weights.{weigh, weigh-count, weigh-nil}
 use Rattle.q_tree.specs.Arrivals.{plus}
-use Rattle.q_tree.specs.Editing.{effect, reshaped, removed, removed_at, notes_of, edited_by, with_dropped, CanDrop, IsReady, IsEditedBeneath}
+use Rattle.q_tree.specs.Editing.{effect, changed_by, removed, removed_at, notes_of, edited_by, with_dropped, CanDrop, IsReady, IsEditedBeneath}
 use Rattle.q_tree.specs.Kept.{Kept, kept}
 use Rattle.q_tree.specs.Places.{Leads}
 use Rattle.q_tree.specs.Purging.{purged}
@@ -42,8 +42,8 @@ use Rattle.q_tree.specs.declared.commands.discipline_change.DisciplineChange as 
 use Rattle.q_tree.specs.declared.node.Discipline.{Discipline}
 use Rattle.q_tree.specs.declared.node.Node.TheInside.{Inside}
 use Rattle.q_tree.proofs.Puts.{same-child}
-use Rattle.q_tree.proofs.ReshapeLemmas.{IsConserved, conserved}
-use Rattle.q_tree.specs.Reshaping.{IsReshaped, children_after, discipline_after, lost_with}
+use Rattle.q_tree.proofs.DisciplineChangeLemmas.{IsConserved, conserved}
+use Rattle.q_tree.specs.DisciplineChanges.{IsChangedBy, children_after, discipline_after, lost_with}
 use Rattle.q_tree.proofs.Rows.{counts_in_row, same-totals, weigh-bytes}
 
 -- the losses of a purge, as they are told
@@ -67,10 +67,10 @@ pub record Loses (lost : List Descriptor) (old new : Node Kept) : Type 0 where
   pub held : (w : Descriptor → ℕ) → weigh w (held_beneath old) ≤ weigh w (held_beneath new) + weigh w lost
   pub arrived : IsCountedWithin new.memory.counts.arrived old.memory.counts.arrived
 
-pub reshaped-loses : (r : shapes.DisciplineChange) (n : Node Kept) → IsConserved n.own.discipline (discipline_after r n.own.discipline (children n)) (children n) (children_after r n.own.discipline (children n)) (lost_with r n.own.discipline (children n))
-    → Loses (lost_with r n.own.discipline (children n)) n (reshaped r n)
-reshaped-loses r n h =
-    let after : Node Kept = reshaped r n in
+pub changed_by-loses : (r : shapes.DisciplineChange) (n : Node Kept) → IsConserved n.own.discipline (discipline_after r n.own.discipline (children n)) (children n) (children_after r n.own.discipline (children n)) (lost_with r n.own.discipline (children n))
+    → Loses (lost_with r n.own.discipline (children n)) n (changed_by r n)
+changed_by-loses r n h =
+    let after : Node Kept = changed_by r n in
     let lost : List Descriptor = lost_with r n.own.discipline (children n) in
     let ms : List (Node Kept) = children_after r n.own.discipline (children n) in
     let counts = ap (λ (k : Kept). k.counts.arrived) (noted-purged n.memory lost) in
@@ -111,7 +111,7 @@ effect-loses (RemoveFilters prio) n h = record { conserved = λ w. omega (arith,
 effect-loses (DisciplineChange r) n h =
     let kept_by : IsConserved n.own.discipline (discipline_after r n.own.discipline (children n)) (children n) (children_after r n.own.discipline (children n)) (lost_with r n.own.discipline (children n)) =
     conserved r n.own.discipline (children n) h in
-    reshaped-loses r n kept_by
+    changed_by-loses r n kept_by
 
 -- a node above one that loses them
 pub loses-above : (lost : List Descriptor) (i : ℕ) (n old new : Node Kept) → slice_get (children n) i ≡ Some old → Loses lost old new → Loses lost n (above kept (losses_of Purged lost) i new n)
@@ -255,7 +255,7 @@ kept-booked a b ps k l booked within among =
       within = subst (λ (x : Row). All (λ (child : Node Kept). IsCountedWithin child.memory.counts.arrived x.arrived) (children_seen b.discipline)) (sym booked) within;
     }
 
--- a node that is reshaped
+-- a node that is changed
 module _ (r : shapes.DisciplineChange) (e : Edit) (is : e ≡ DisciplineChange r) (a : Inside) (n : Node Kept) (view : seen a ≡ n) (k : IsKept a) (ready : IsReady e) where
   abbrev goes : List Descriptor
   goes = lost_with r (discipline_seen a.discipline) (children_seen a.discipline)
@@ -269,18 +269,18 @@ module _ (r : shapes.DisciplineChange) (e : Edit) (is : e ≡ DisciplineChange r
   kept-whole : IsConserved (discipline_seen a.discipline) (discipline_after r (discipline_seen a.discipline) (children (seen a))) (children (seen a)) (children_after r (discipline_seen a.discipline) (children (seen a))) (lost_with r (discipline_seen a.discipline) (children (seen a)))
   kept-whole = conserved r (discipline_seen a.discipline) (children (seen a)) (subst IsReady is ready)
 
-  goes-lost : Loses goes (seen a) (reshaped r (seen a))
-  goes-lost = subst (λ ps. Loses ps (seen a) (reshaped r (seen a))) (ap (lost_with r (discipline_seen a.discipline)) kids) (reshaped-loses r (seen a) kept-whole)
+  goes-lost : Loses goes (seen a) (changed_by r (seen a))
+  goes-lost = subst (λ ps. Loses ps (seen a) (changed_by r (seen a))) (ap (lost_with r (discipline_seen a.discipline)) kids) (changed_by-loses r (seen a) kept-whole)
 
   pub can-lose : a.row.arrived.packets < 2 ^ 64 → a.row.arrived.bytes < 2 ^ 64 → CanDrop (totals_in goes) a.row
-  can-lose packets_fit bytes_fit = can-drop goes (seen a) (reshaped r (seen a)) a.row k.queued goes-lost packets_fit bytes_fit
+  can-lose packets_fit bytes_fit = can-drop goes (seen a) (changed_by r (seen a)) a.row k.queued goes-lost packets_fit bytes_fit
 
   pub goes-room : (room : ℕ) → length (removed e n) ≤ room → length goes ≤ room
   goes-room room le = omega (arith, le, ap (λ (ps : List Descriptor). length ps) goes-is)
 
-  module _ (d : Discipline) (after : IsReshaped r a.discipline d) (row : Row) (booked : row ≡ with_dropped (totals_in goes) a.row) where
-    is-reshaped : seen (record a { row = row; discipline = d }) ≡ reshaped r (seen a)
-    is-reshaped = λ j. record {
+  module _ (d : Discipline) (after : IsChangedBy r a.discipline d) (row : Row) (booked : row ≡ with_dropped (totals_in goes) a.row) where
+    is-changed : seen (record a { row = row; discipline = d }) ≡ changed_by r (seen a)
+    is-changed = λ j. record {
       own = record { handle = a.handle; discipline = (after.discipline ∙ ap (discipline_after r (discipline_seen a.discipline)) (sym kids)) j; held = a.held; filters = a.filters };
       memory = memory j;
       below = ap side_by_side (after.children ∙ ap (children_after r (discipline_seen a.discipline)) (sym kids)) j;
@@ -293,12 +293,12 @@ module _ (r : shapes.DisciplineChange) (e : Edit) (is : e ≡ DisciplineChange r
             ∙ sym (noted-purged (seen a).memory goes)
             ∙ ap (λ ns. noted kept (seen a).memory (losses_of Purged (lost_with r (discipline_seen a.discipline) ns))) (sym kids)
 
-    pub reshaped-effect : seen (record a { row = row; discipline = d }) ≡ effect e n
-    reshaped-effect = is-reshaped ∙ sym (ap (λ x. effect x (seen a)) is) ∙ ap (effect e) view
+    pub changed_by-effect : seen (record a { row = row; discipline = d }) ≡ effect e n
+    changed_by-effect = is-changed ∙ sym (ap (λ x. effect x (seen a)) is) ∙ ap (effect e) view
 
-    pub reshaped-kept : CanDrop (totals_in goes) a.row → IsKept (record a { row = row; discipline = d })
-    reshaped-kept among =
-        kept-booked a (record a { row = row; discipline = d }) goes k (subst (Loses goes (seen a)) (sym is-reshaped) goes-lost) booked
+    pub changed_by-kept : CanDrop (totals_in goes) a.row → IsKept (record a { row = row; discipline = d })
+    changed_by-kept among =
+        kept-booked a (record a { row = row; discipline = d }) goes k (subst (Loses goes (seen a)) (sym is-changed) goes-lost) booked
         (subst (All (λ (child : Node Kept). IsCountedWithin child.memory.counts.arrived a.row.arrived)) (sym after.children)
         ((conserved r (discipline_seen a.discipline) (children_seen a.discipline) (subst IsReady is ready)).within a.row.arrived k.within)) among
 

@@ -39,7 +39,7 @@ pub mod PurgeLemmas
 pub mod Puts
 pub mod Quiet
 pub mod ReadyLemmas
-pub mod ReshapeLemmas
+pub mod DisciplineChangeLemmas
 pub mod RouteLemmas
 pub mod Rows
 pub mod RowsOf

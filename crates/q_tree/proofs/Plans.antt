@@ -37,7 +37,7 @@ use Rattle.q_invariants.proofs.MadeSizes.{count-shape, depth-shape}
 use Rattle.q_tree.specs.Commanding.{WantsMemory}
 use Rattle.q_tree.specs.Commands.{IsAnswered, IsBounded, IsDone, IsPlanned, IsPlannedFor, IsPlanOf, IsRefused, device_edited, plan_of, told}
 use Rattle.q_tree.specs.Editing.{IsReady, LosesNothing, TakesMemory, edited_by, effect, removed, removed_at}
-use Rattle.q_tree.specs.Reshaping.{KeepsAll, children_after, discipline_after, lost_with}
+use Rattle.q_tree.specs.DisciplineChanges.{KeepsAll, children_after, discipline_after, lost_with}
 use Rattle.q_tree.specs.Kept.{Kept, kept}
 use Rattle.q_tree.specs.Planning.{IsLawful, IsPlanBy, device_of, planned_by, root_of}
 use Rattle.q_tree.specs.TreeSeen.{IsKeptDevice, numbers, tree_numbers}
@@ -284,9 +284,9 @@ own-kept r n nothing_lost all = λ i. record {
 }
 
 -- children that are named by what becomes of them
-pub reshape-does : (r : shapes.DisciplineChange) (n : Node Kept) (own : Own) (below : List model.Child) → ◌≡◌ {A = Own} (record n.own { discipline = discipline_after r n.own.discipline (children n) }) own
+pub change-does : (r : shapes.DisciplineChange) (n : Node Kept) (own : Own) (below : List model.Child) → ◌≡◌ {A = Own} (record n.own { discipline = discipline_after r n.own.discipline (children n) }) own
     → children_after r n.own.discipline (children n) ≡ kids kept (children n) below → effect (DisciplineChange r) n ≡ remade kept own below (losses_of Purged (removed (DisciplineChange r) n)) n
-reshape-does r n own below own_is kids_is = λ i. record {
+change-does r n own below own_is kids_is = λ i. record {
   own = own_is i;
   memory = noted kept n.memory (losses_of Purged (lost_with r n.own.discipline (children n)));
   below = side_by_side (kids_is i);

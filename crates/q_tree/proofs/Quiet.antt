@@ -4,9 +4,9 @@ use Rattle.q_model.specs.declared.row.Row.{Row}
 use Rattle.q_model.specs.declared.totals.Totals.{Totals}
 use Rattle.q_model.specs.Tally.{no_totals}
 use Rattle.q_tree.specs.Arrivals.{plus, minus}
-use Rattle.q_tree.specs.AskSteps.{no_toll, toll_of, with_shown}
+use Rattle.q_tree.specs.AskSteps.{no_signals, signals_of, with_shown}
 use Rattle.q_tree.specs.Shown.{Shown}
-use Rattle.q_tree.specs.declared.toll.Toll.{Toll}
+use Rattle.q_tree.specs.declared.signals.Signals.{Signals}
 use Rattle.q_tree.proofs.Rows.{same-totals}
 
 plus-nothing : (t : Totals) → plus t no_totals ≡ t
@@ -22,12 +22,12 @@ shown-nothing s r d m =
     let queued : minus r.queued s.dropped ≡ r.queued = ap (minus r.queued) d ∙ minus-nothing r.queued in
     sym (λ i. record { arrived = r.arrived; sent = r.sent; refused = r.refused; dropped = dropped i; queued = queued i; marked = marked i })
 
-pub toll-nothing : (s : Shown) → s.dropped ≡ no_totals → s.marked ≡ no_totals → toll_of s ≡ no_toll
-toll-nothing s d m = λ i. record { dropped = d i; marked = m i }
+pub signals-nothing : (s : Shown) → s.dropped ≡ no_totals → s.marked ≡ no_totals → signals_of s ≡ no_signals
+signals-nothing s d m = λ i. record { dropped = d i; marked = m i }
 
--- a row in which this toll was booked
-abbrev pub with_toll : Toll → Row → Row
-with_toll t r = record r { dropped = plus r.dropped t.dropped; marked = plus r.marked t.marked; queued = minus r.queued t.dropped }
+-- a row in which this signals was booked
+abbrev pub with_signals : Signals → Row → Row
+with_signals t r = record r { dropped = plus r.dropped t.dropped; marked = plus r.marked t.marked; queued = minus r.queued t.dropped }
 
-pub booked-toll : (t : Toll) (s : Shown) (r : Row) → t ≡ toll_of s → with_toll t r ≡ with_shown s r
-booked-toll t s r told = ap (λ (u : Toll). with_toll u r) told
+pub booked-signals : (t : Signals) (s : Shown) (r : Row) → t ≡ signals_of s → with_signals t r ≡ with_shown s r
+booked-signals t s r told = ap (λ (u : Signals). with_signals u r) told

@@ -27,7 +27,7 @@ use Rattle.q_tree.specs.Editing.{adds_nodes, edited_by, effect}
 use Rattle.q_tree.specs.Index.{Index}
 use Rattle.q_tree.specs.Kept.{Kept, kept}
 use Rattle.q_tree.specs.Places.{unplaced}
-use Rattle.q_tree.specs.Reshaping.{adds_children, bands_staying, children_after, leaves_limited, place_in}
+use Rattle.q_tree.specs.DisciplineChanges.{adds_children, bands_staying, children_after, leaves_limited, place_in}
 use Rattle.q_tree.specs.TreeSeen.{IsIndexedDevice, IsKeptDevice}
 use Rattle.q_tree.specs.declared.commands.edit.Edit.{Edit}
 use Rattle.q_tree.specs.declared.commands.edit.Edit.TheVariants.{Graft, AddFilter, RemoveFilters, DisciplineChange}

@@ -26,7 +26,7 @@ use Rattle.q_tree.specs.PutSteps.{packets_beneath}
 use Rattle.q_tree.specs.Seen.{discipline_seen, children_seen, places_seen, IsCountedWithin}
 use Rattle.q_tree.specs.declared.node.Discipline.{Discipline}
 use Rattle.q_tree.specs.Shown.{Shown}
-use Rattle.q_tree.specs.declared.toll.Toll.{Toll}
+use Rattle.q_tree.specs.declared.signals.Signals.{Signals}
 
 -- a node that can be asked: the tree is lawful at `now`, where no packet is longer than some mtu
 pub record CanAsk (now : ℕ) (n : spec.Node Kept) : Type 0 where
@@ -142,9 +142,9 @@ pub record CanShow (s : Shown) (r : Row) : Type 0 where
   pub marked_bytes : r.marked.bytes + s.marked.bytes < 2 ^ 64
 
 -- nothing was dropped, and nothing was marked
-abbrev pub no_toll : Toll
-no_toll = record { dropped = no_totals; marked = no_totals }
+abbrev pub no_signals : Signals
+no_signals = record { dropped = no_totals; marked = no_totals }
 
 -- what was dropped and marked where nodes were asked
-abbrev pub toll_of : Shown → Toll
-toll_of s = record { dropped = s.dropped; marked = s.marked }
+abbrev pub signals_of : Shown → Signals
+signals_of s = record { dropped = s.dropped; marked = s.marked }

@@ -20,7 +20,7 @@ use Rattle.q_model.specs.Refusals.{done_unless}
 use Rattle.q_invariants.proofs.SizeChecks.{numbers}
 use Rattle.q_tree.specs.Commands.{IsRefused}
 use Rattle.q_tree.specs.Kept.{Kept, kept}
-use Rattle.q_tree.specs.Reshaping.{AreReady, TakesMore, children_after, discipline_after, lost_with}
+use Rattle.q_tree.specs.DisciplineChanges.{AreReady, TakesMore, children_after, discipline_after, lost_with}
 use Rattle.q_tree.specs.declared.commands.discipline_change.DisciplineChange.{DisciplineChange}
 use Rattle.q_tree.specs.declared.commands.discipline_change.DisciplineChange.TheVariants.{Nothing, SetLimit, SetBucket, SetOptions}
 
@@ -99,7 +99,7 @@ NeedsMore (kind.Tbf rate burst limit) plan = ⊥
 NeedsMore kind.Drr plan = ⊥
 NeedsMore (kind.FqCodel options) plan = ⊥
 
--- a reshaping of this node is the remaking that the model plans for it, whichever way leads there
+-- a change of this node is the remaking that the model plans for it, whichever way leads there
 pub record IsRemade (plan : List ℕ → Result model.Edit Refusal) (n : Node Kept) (r : DisciplineChange) : Type 0 where
   pub own : Own
   pub below : List Child
@@ -109,7 +109,7 @@ pub record IsRemade (plan : List ℕ → Result model.Edit Refusal) (n : Node Ke
   pub lost_is : lost_with r n.own.discipline (children n) ≡ beneath_removed below (shape n)
   pub ready : AreReady r
 
--- the reshaping that the model plans, or the refusal; memory last, of a plan that takes some
+-- the change that the model plans, or the refusal; memory last, of a plan that takes some
 abbrev pub IsChange : (Result model.Edit Refusal → Type 0) → (List ℕ → Result model.Edit Refusal) → Node Kept → Result DisciplineChange Refusal → Type 0
 IsChange memory plan n (Ok r) = IsRemade plan n r × ((path : List ℕ) → TakesMore r → memory (plan path))
 IsChange memory plan n (Err refusal) = (path : List ℕ) → IsRefused (memory (plan path)) (plan path) refusal

@@ -17,7 +17,7 @@ use Rattle.q_model.specs.Tally.{Note, noted}
 use Rattle.q_model.specs.Work.{losses_of, settled_in}
 use Rattle.q_tree.specs.Arrivals.{plus, minus}
 use Rattle.q_tree.specs.Kept.{Kept, kept}
-use Rattle.q_tree.specs.Reshaping.{AreReady, IsFresh, KeepsAll, TakesMore, adds_children, children_after, discipline_after, lost_with}
+use Rattle.q_tree.specs.DisciplineChanges.{AreReady, IsFresh, KeepsAll, TakesMore, adds_children, children_after, discipline_after, lost_with}
 use Rattle.q_tree.specs.declared.commands.discipline_change.DisciplineChange as shapes
 use Rattle.q_tree.specs.Seen.{children_seen, discipline_seen, places_seen}
 use Rattle.q_tree.specs.declared.commands.edit.Edit.{Edit}
@@ -28,8 +28,8 @@ abbrev pub with_filters : List Filter → Node Kept → Node Kept
 with_filters filters n = record n { own = record n.own { filters = filters } }
 
 -- the node with another discipline and other children, which counts what went with those that are gone
-abbrev pub reshaped : shapes.DisciplineChange → Node Kept → Node Kept
-reshaped r n = record {
+abbrev pub changed_by : shapes.DisciplineChange → Node Kept → Node Kept
+changed_by r n = record {
   own = record n.own { discipline = discipline_after r n.own.discipline (children n) };
   memory = noted kept n.memory (losses_of Purged (lost_with r n.own.discipline (children n)));
   below = side_by_side (children_after r n.own.discipline (children n));
@@ -40,7 +40,7 @@ abbrev pub effect : Edit → Node Kept → Node Kept
 effect (Graft new) n = new
 effect (AddFilter f) n = with_filters (with_filter f n.own.filters) n
 effect (RemoveFilters prio) n = with_filters (filter (λ (f : Filter). not (f.prio == prio)) n.own.filters) n
-effect (DisciplineChange r) n = reshaped r n
+effect (DisciplineChange r) n = changed_by r n
 
 -- the packets that it loses there
 abbrev pub removed : Edit → Node Kept → List Descriptor

@@ -28,7 +28,7 @@ pub mod PopSteps
 pub mod Purging
 pub mod PutSteps
 pub mod ReadyAt
-pub mod Reshaping
+pub mod DisciplineChanges
 pub mod RouteSeen
 pub mod Seen
 pub mod SendSteps

@@ -2,14 +2,14 @@ ghost use Rattle.std.specs.Prelude.{◌≡◌, ◌<◌, ◌≤◌, ◌+◌, ◌^
 ghost use Rattle.q_model.specs.Conserved.{IsBalanced};
 ghost use Rattle.q_model.specs.Tally.{no_totals, with_packet};
 ghost use Rattle.q_tree.specs.Arrivals.{CanCount, IsLostOf, minus, plus, with_arrival};
-ghost use Rattle.q_tree.specs.AskSteps.{CanShow, toll_of, with_shown};
+ghost use Rattle.q_tree.specs.AskSteps.{CanShow, signals_of, with_shown};
 ghost use Rattle.q_tree.specs.Editing.{CanDrop, with_dropped};
 ghost use Rattle.q_tree.specs.PopSteps.{IsAmong, with_sent};
 
 use crate::counters::Counters;
 use crate::outcome::Outcome;
 use crate::shown::Shown;
-use crate::toll::Toll;
+use crate::signals::Signals;
 use q_model::Totals;
 use q_packet::Packet;
 
@@ -65,37 +65,37 @@ pub(crate) fn book_sent(row: &mut Counters, packet: &Packet)
 
 /// Books what asking the node came to: what CoDel dropped was queued.
 #[inline(always)]
-pub(crate) fn book_shown(row: &mut Counters, shown: &Shown, toll: &Toll)
+pub(crate) fn book_shown(row: &mut Counters, shown: &Shown, signals: &Signals)
     requires balanced { IsBalanced row.old }
     requires room { CanShow shown.now row.old }
-    requires told { toll.now ≡ toll_of shown.now }
+    requires told { signals.now ≡ signals_of shown.now }
     ensures { row.new ≡ with_shown shown.now row.old }
 {
     // Mostly nothing was dropped or marked, and nothing is written then.
     if shown.is_quiet() {
         return;
     }
-    book_toll(row, toll);
+    book_signals(row, signals);
 }
 
 // Books what was dropped and marked.
 #[cold]
 #[inline(never)]
-fn book_toll(row: &mut Counters, toll: &Toll)
-    requires packets { toll.now.dropped.packets ≤ row.old.queued.packets }
-    requires bytes { toll.now.dropped.bytes ≤ row.old.queued.bytes }
-    requires marked_packets { row.old.marked.packets + toll.now.marked.packets < 2 ^ 64 }
-    requires marked_bytes { row.old.marked.bytes + toll.now.marked.bytes < 2 ^ 64 }
-    requires dropped_packets { row.old.dropped.packets + toll.now.dropped.packets < 2 ^ 64 }
-    requires dropped_bytes { row.old.dropped.bytes + toll.now.dropped.bytes < 2 ^ 64 }
-    ensures { row.new ≡ record row.old { dropped = plus row.old.dropped toll.now.dropped; marked = plus row.old.marked toll.now.marked; queued = minus row.old.queued toll.now.dropped } }
+fn book_signals(row: &mut Counters, signals: &Signals)
+    requires packets { signals.now.dropped.packets ≤ row.old.queued.packets }
+    requires bytes { signals.now.dropped.bytes ≤ row.old.queued.bytes }
+    requires marked_packets { row.old.marked.packets + signals.now.marked.packets < 2 ^ 64 }
+    requires marked_bytes { row.old.marked.bytes + signals.now.marked.bytes < 2 ^ 64 }
+    requires dropped_packets { row.old.dropped.packets + signals.now.dropped.packets < 2 ^ 64 }
+    requires dropped_bytes { row.old.dropped.bytes + signals.now.dropped.bytes < 2 ^ 64 }
+    ensures { row.new ≡ record row.old { dropped = plus row.old.dropped signals.now.dropped; marked = plus row.old.marked signals.now.marked; queued = minus row.old.queued signals.now.dropped } }
 {
-    row.dropped_packets += toll.dropped.packets;
-    row.dropped_bytes += toll.dropped.bytes;
-    row.queued_packets -= toll.dropped.packets;
-    row.queued_bytes -= toll.dropped.bytes;
-    row.marked_packets += toll.marked.packets;
-    row.marked_bytes += toll.marked.bytes;
+    row.dropped_packets += signals.dropped.packets;
+    row.dropped_bytes += signals.dropped.bytes;
+    row.queued_packets -= signals.dropped.packets;
+    row.queued_bytes -= signals.dropped.bytes;
+    row.marked_packets += signals.marked.packets;
+    row.marked_bytes += signals.marked.bytes;
 }
 
 /// Books packets that were queued and are dropped.

@@ -7,7 +7,7 @@ ghost use Rattle.q_model.specs.Step.{losses_in};
 ghost use Rattle.q_model.specs.TreeState.{given, noted_by_take, take_packet};
 ghost use Rattle.q_model.specs.Work.{booked};
 ghost use Rattle.q_model.specs.declared.filter.Filter.{Filter};
-ghost use Rattle.q_tree.specs.AskSteps.{CanAsk, CanAskIn, IsShown, IsToldOf, answer_of, no_toll, packets_within, toll_of};
+ghost use Rattle.q_tree.specs.AskSteps.{CanAsk, CanAskIn, IsShown, IsToldOf, answer_of, no_signals, packets_within, signals_of};
 ghost use Rattle.q_tree.specs.Kept.{kept};
 ghost use Rattle.q_tree.specs.PopSteps.{IsPoppedIn, popping_of};
 ghost use Rattle.q_tree.specs.SendSteps.{IsSentIn};
@@ -20,7 +20,7 @@ use crate::disciplines::prio::{ready_band, send_first};
 use crate::disciplines::tbf::dequeue_child;
 use crate::node::{Discipline, Node};
 use crate::shown::Shown;
-use crate::toll::{NO_TOLL, Toll};
+use crate::signals::{NO_SIGNALS, Signals};
 use crate::tree::Tree;
 use q_codel::Sink;
 use q_packet::{Moment, Packet};
@@ -44,9 +44,9 @@ impl Tree {
         // A moment is at most 2^62 nanoseconds.
         let _ = now.ns();
         self.top.fit();
-        let mut toll = NO_TOLL;
-        let shown = self.root.send(now, out, &mut toll, sink);
-        book_shown(&mut self.top, &shown, &toll);
+        let mut signals = NO_SIGNALS;
+        let shown = self.root.dequeue(now, out, &mut signals, sink);
+        book_shown(&mut self.top, &shown, &signals);
         self.clock = now;
         if !shown.has_packet() {
             return false;
@@ -62,25 +62,25 @@ impl Node {
     ///
     /// What a tbf, a drr or an fq_codel dequeues goes straight to `out`, and is not held. It takes no memory. `sink` needs room
     /// for what is queued.
-    #[cycle(send)]
+    #[cycle(dequeue)]
     #[inline(always)]
-    pub(crate) fn send<S: Sink>(
+    pub(crate) fn dequeue<S: Sink>(
         &mut self,
         now: Moment,
         out: &mut Packet,
-        toll: &mut Toll,
+        signals: &mut Signals,
         sink: &mut S,
     ) -> Shown
         requires ready { CanAsk now self.old }
         requires sink { length (beneath self.old) ≤ S.room sink.old }
-        requires clean { toll.old ≡ no_toll }
+        requires clean { signals.old ≡ no_signals }
         ensures after { self.new ≡ booked kept self.old (take_from now (shape self.old)).node }
         ensures arrived { self.new.memory.counts.arrived ≡ self.old.memory.counts.arrived }
         ensures shown { IsShown (ask now (shape self.old)) result }
         ensures packet { out.new ≡ unwrap_or result.packet out.old }
         ensures lost { S.losses sink.new ≡ S.losses sink.old ++ losses_in (ask now (shape self.old)).rises }
         ensures room { S.room sink.new + length (losses_in (ask now (shape self.old)).rises) ≡ S.room sink.old }
-        ensures toll { toll.new ≡ toll_of result }
+        ensures signals { signals.new ≡ signals_of result }
         ensures kept { S.keeps sink.old sink.new }
     {
         self.row.fit();
@@ -88,7 +88,7 @@ impl Node {
             self.held = None;
             book_sent(&mut self.row, &packet);
             *out = packet;
-            return Shown::sending(&packet, &NO_TOLL);
+            return Shown::sending(&packet, &NO_SIGNALS);
         }
         // A fifo is met with no call, and nothing is dropped or marked there.
         match &mut self.discipline {
@@ -100,36 +100,36 @@ impl Node {
                 book_sent(&mut self.row, out);
                 return shown;
             }
-            _ => return self.send_further(now, out, toll, sink),
+            _ => return self.dequeue_further(now, out, signals, sink),
         }
     }
 
     // The same of a node that holds no packet, for each discipline.
-    #[cycle(send)]
+    #[cycle(dequeue)]
     #[inline(always)]
-    fn send_further<S: Sink>(
+    fn dequeue_further<S: Sink>(
         &mut self,
         now: Moment,
         out: &mut Packet,
-        toll: &mut Toll,
+        signals: &mut Signals,
         sink: &mut S,
     ) -> Shown
         requires none { self.old.own.held ≡ None }
         requires ready { CanAsk now self.old }
         requires sink { length (beneath self.old) ≤ S.room sink.old }
-        requires clean { toll.old ≡ no_toll }
+        requires clean { signals.old ≡ no_signals }
         ensures after { self.new ≡ booked kept self.old (take_from now (shape self.old)).node }
         ensures arrived { self.new.memory.counts.arrived ≡ self.old.memory.counts.arrived }
         ensures shown { IsShown (ask now (shape self.old)) result }
         ensures packet { out.new ≡ unwrap_or result.packet out.old }
         ensures lost { S.losses sink.new ≡ S.losses sink.old ++ losses_in (ask now (shape self.old)).rises }
         ensures room { S.room sink.new + length (losses_in (ask now (shape self.old)).rises) ≡ S.room sink.old }
-        ensures toll { toll.new ≡ toll_of result }
+        ensures signals { signals.new ≡ signals_of result }
         ensures kept { S.keeps sink.old sink.new }
     {
         self.row.fit();
-        let shown = self.discipline.send(now, out, toll, sink);
-        book_shown(&mut self.row, &shown, toll);
+        let shown = self.discipline.dequeue(now, out, signals, sink);
+        book_shown(&mut self.row, &shown, signals);
         if !shown.has_packet() {
             return shown;
         }
@@ -164,34 +164,34 @@ impl Node {
 
 impl Discipline {
     // What a node with this discipline shows that holds no packet, and its packet in `out`.
-    #[cycle(send)]
+    #[cycle(dequeue)]
     #[inline(always)]
-    fn send<S: Sink>(
+    fn dequeue<S: Sink>(
         &mut self,
         now: Moment,
         out: &mut Packet,
-        toll: &mut Toll,
+        signals: &mut Signals,
         sink: &mut S,
     ) -> Shown
         requires ready { CanAskIn now self.old }
         requires sink { length (packets_within self.old) ≤ S.room sink.old }
-        requires clean { toll.old ≡ no_toll }
+        requires clean { signals.old ≡ no_signals }
         ensures after { (handle : Option ℕ) (filters : List Filter) → IsSentIn (answer_of now handle filters self.old) self.old self.new result }
         ensures packet { out.new ≡ unwrap_or result.packet out.old }
         ensures told { (handle : Option ℕ) (filters : List Filter) → IsToldOf (answer_of now handle filters self.old).rises (S.losses sink.old) (S.losses sink.new) (S.room sink.old) (S.room sink.new) }
-        ensures toll { toll.new ≡ toll_of result }
+        ensures signals { signals.new ≡ signals_of result }
         ensures kept { S.keeps sink.old sink.new }
     {
         match self {
             Discipline::Fifo(fifo) => return dequeue_head(fifo, out),
-            Discipline::Prio { bands, .. } => return send_first(bands, now, out, toll, sink),
+            Discipline::Prio { bands, .. } => return send_first(bands, now, out, signals, sink),
             Discipline::Tbf { bucket, child, .. } => {
-                return dequeue_child(bucket, child, out, now, toll, sink);
+                return dequeue_child(bucket, child, out, now, signals, sink);
             }
             Discipline::Drr { active, classes } => {
-                return dequeue_class(active, classes, out, now, toll, sink);
+                return dequeue_class(active, classes, out, now, signals, sink);
             }
-            Discipline::FqCodel(queue) => return dequeue_flow(queue, out, now, toll, sink),
+            Discipline::FqCodel(queue) => return dequeue_flow(queue, out, now, signals, sink),
         }
     }
 

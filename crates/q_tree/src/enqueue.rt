@@ -16,8 +16,8 @@ ghost use Rattle.q_tree.specs.TreeSeen.{CanArrive, numbers, tree_numbers};
 
 use crate::arrived::{Arrived, NOTHING_LOST, book_arrival, refuse};
 use crate::disciplines::drr::{class_place, settle};
-use crate::disciplines::fifo::arrive_in_fifo;
-use crate::disciplines::fq_codel::arrive_in_flows;
+use crate::disciplines::fifo::enqueue_in_fifo;
+use crate::disciplines::fq_codel::enqueue_in_flows;
 use crate::disciplines::prio::band;
 use crate::filters::Filters;
 use crate::node::{Discipline, Node};
@@ -101,7 +101,7 @@ impl Tree {
         // A moment is at most 2^62 nanoseconds, and a packet has a byte at least.
         let _ = (now.ns(), packet.len);
         let mut lost = NOTHING_LOST;
-        let outcome = arrive_below(&mut self.root, self.mtu, packet, now, &mut lost, sink)?;
+        let outcome = enqueue_below(&mut self.root, self.mtu, packet, now, &mut lost, sink)?;
         book_arrival(&mut self.top, packet, &outcome, &lost);
         self.clock = now;
         Ok(outcome.fate(&lost))
@@ -111,9 +111,9 @@ impl Tree {
 impl Node {
     /// A packet arrives at the node, and goes down its route: a place is made where it is queued, and it is put there, or lost. It
     /// is booked at each node on the way back, and at none where memory is refused.
-    #[cycle(arrive)]
+    #[cycle(enqueue)]
     #[inline(always)]
-    pub(crate) fn arrive<S: Sink>(
+    pub(crate) fn enqueue<S: Sink>(
         &mut self,
         packet: &Packet,
         now: Moment,
@@ -134,18 +134,18 @@ impl Node {
         // A fifo is met with no call: most packets end in one.
         match &mut self.discipline {
             Discipline::Fifo(fifo) => {
-                let arrived = arrive_in_fifo(fifo, packet, now, lost, sink)?;
+                let arrived = enqueue_in_fifo(fifo, packet, now, lost, sink)?;
                 book_arrival(&mut self.row, packet, &arrived, lost);
                 return Ok(arrived);
             }
-            _ => return self.arrive_further(packet, now, lost, sink),
+            _ => return self.enqueue_further(packet, now, lost, sink),
         }
     }
 
     // The same, by a call.
-    #[cycle(arrive)]
+    #[cycle(enqueue)]
     #[inline(never)]
-    fn arrive_further<S: Sink>(
+    fn enqueue_further<S: Sink>(
         &mut self,
         packet: &Packet,
         now: Moment,
@@ -165,7 +165,7 @@ impl Node {
     {
         let outcome = self
             .discipline
-            .arrive(&self.filters, packet, now, lost, sink)?;
+            .enqueue(&self.filters, packet, now, lost, sink)?;
         book_arrival(&mut self.row, packet, &outcome, lost);
         Ok(outcome)
     }
@@ -173,9 +173,9 @@ impl Node {
 
 impl Discipline {
     // A packet arrives at a node with this discipline and these filters.
-    #[cycle(arrive)]
+    #[cycle(enqueue)]
     #[inline(always)]
-    fn arrive<S: Sink>(
+    fn enqueue<S: Sink>(
         &mut self,
         filters: &Filters,
         packet: &Packet,
@@ -194,8 +194,8 @@ impl Discipline {
         ensures kept { S.keeps sink.old sink.new }
     {
         match self {
-            Discipline::Fifo(fifo) => return arrive_in_fifo(fifo, packet, now, lost, sink),
-            Discipline::FqCodel(queue) => return arrive_in_flows(queue, packet, now, lost, sink),
+            Discipline::Fifo(fifo) => return enqueue_in_fifo(fifo, packet, now, lost, sink),
+            Discipline::FqCodel(queue) => return enqueue_in_flows(queue, packet, now, lost, sink),
             Discipline::Prio { priomap, .. } => {
                 let place = band(filters, priomap, packet);
                 let Discipline::Prio { bands, .. } = self else {
@@ -204,13 +204,13 @@ impl Discipline {
                 if place >= bands.len() {
                     return Ok(refuse(packet, Cause::NoClass, lost, sink));
                 }
-                return bands[place].arrive(packet, now, lost, sink);
+                return bands[place].enqueue(packet, now, lost, sink);
             }
             Discipline::Tbf { bucket, child, .. } => {
                 if u32::from(packet.len) > bucket.burst() {
                     return Ok(refuse(packet, Cause::TooLong, lost, sink));
                 }
-                return child.arrive(packet, now, lost, sink);
+                return child.enqueue(packet, now, lost, sink);
             }
             Discipline::Drr { active, classes } => {
                 let Some(place) = class_place(active, filters, packet) else {
@@ -219,7 +219,7 @@ impl Discipline {
                 if place >= classes.len() {
                     return Ok(refuse(packet, Cause::NoClass, lost, sink));
                 }
-                let outcome = classes[place].arrive(packet, now, lost, sink)?;
+                let outcome = classes[place].enqueue(packet, now, lost, sink)?;
                 settle(active, place, classes[place].is_empty());
                 return Ok(outcome);
             }
@@ -229,7 +229,7 @@ impl Discipline {
 
 // The packet arrives at the root, or is refused above it where it is longer than the mtu.
 #[inline(always)]
-fn arrive_below<S: Sink>(
+fn enqueue_below<S: Sink>(
     root: &mut Node,
     mtu: u16,
     packet: &Packet,
@@ -251,5 +251,5 @@ fn arrive_below<S: Sink>(
     if packet.len > mtu {
         return Ok(refuse(packet, Cause::TooLong, lost, sink));
     }
-    root.arrive(packet, now, lost, sink)
+    root.enqueue(packet, now, lost, sink)
 }

@@ -35,7 +35,7 @@ mod put;
 mod ready_at;
 mod route;
 mod shown;
-mod toll;
+mod signals;
 mod tree;
 mod views;
 mod ways;

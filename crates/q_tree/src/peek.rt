@@ -6,7 +6,7 @@ ghost use Rattle.q_model.specs.Pop.{pop};
 ghost use Rattle.q_model.specs.Step.{losses_in};
 ghost use Rattle.q_model.specs.Work.{booked};
 ghost use Rattle.q_model.specs.declared.filter.Filter.{Filter};
-ghost use Rattle.q_tree.specs.AskSteps.{CanAsk, CanAskIn, IsAskedIn, IsShown, IsToldOf, answer_of, held_in, no_toll, packets_within, toll_of};
+ghost use Rattle.q_tree.specs.AskSteps.{CanAsk, CanAskIn, IsAskedIn, IsShown, IsToldOf, answer_of, held_in, no_signals, packets_within, signals_of};
 ghost use Rattle.q_tree.specs.Kept.{kept};
 ghost use Rattle.q_tree.specs.Seen.{discipline_seen};
 
@@ -18,7 +18,7 @@ use crate::disciplines::prio::{ask_bands, first_at_hand, ready_band};
 use crate::disciplines::tbf::ask_child;
 use crate::node::{Discipline, Node};
 use crate::shown::Shown;
-use crate::toll::Toll;
+use crate::signals::Signals;
 use q_codel::Sink;
 use q_packet::{Moment, Packet};
 
@@ -29,16 +29,21 @@ impl Node {
     /// shows that one, and nobody beneath it is asked. It takes no memory. `sink` needs room for what is queued.
     #[cycle(peek)]
     #[inline(always)]
-    pub(crate) fn peek<S: Sink>(&mut self, now: Moment, toll: &mut Toll, sink: &mut S) -> Shown
+    pub(crate) fn peek<S: Sink>(
+        &mut self,
+        now: Moment,
+        signals: &mut Signals,
+        sink: &mut S,
+    ) -> Shown
         requires ready { CanAsk now self.old }
         requires sink { length (beneath self.old) ≤ S.room sink.old }
-        requires clean { toll.old ≡ no_toll }
+        requires clean { signals.old ≡ no_signals }
         ensures after { self.new ≡ booked kept self.old (ask now (shape self.old)).peeked }
         ensures arrived { self.new.memory.counts.arrived ≡ self.old.memory.counts.arrived }
         ensures shown { IsShown (ask now (shape self.old)) result }
         ensures lost { S.losses sink.new ≡ S.losses sink.old ++ losses_in (ask now (shape self.old)).rises }
         ensures room { S.room sink.new + length (losses_in (ask now (shape self.old)).rises) ≡ S.room sink.old }
-        ensures toll { toll.new ≡ toll_of result }
+        ensures signals { signals.new ≡ signals_of result }
         ensures kept { S.keeps sink.old sink.new }
     {
         self.row.fit();
@@ -49,28 +54,28 @@ impl Node {
         if let Discipline::Fifo(fifo) = &self.discipline {
             return Shown::at_hand(&first_packet(fifo));
         }
-        self.peek_further(now, toll, sink)
+        self.peek_further(now, signals, sink)
     }
 
     // The same of a node that holds no packet, for each discipline.
     #[cycle(peek)]
     #[inline(always)]
-    fn peek_further<S: Sink>(&mut self, now: Moment, toll: &mut Toll, sink: &mut S) -> Shown
+    fn peek_further<S: Sink>(&mut self, now: Moment, signals: &mut Signals, sink: &mut S) -> Shown
         requires none { self.old.own.held ≡ None }
         requires ready { CanAsk now self.old }
         requires sink { length (beneath self.old) ≤ S.room sink.old }
-        requires clean { toll.old ≡ no_toll }
+        requires clean { signals.old ≡ no_signals }
         ensures after { self.new ≡ booked kept self.old (ask now (shape self.old)).peeked }
         ensures arrived { self.new.memory.counts.arrived ≡ self.old.memory.counts.arrived }
         ensures shown { IsShown (ask now (shape self.old)) result }
         ensures lost { S.losses sink.new ≡ S.losses sink.old ++ losses_in (ask now (shape self.old)).rises }
         ensures room { S.room sink.new + length (losses_in (ask now (shape self.old)).rises) ≡ S.room sink.old }
-        ensures toll { toll.new ≡ toll_of result }
+        ensures signals { signals.new ≡ signals_of result }
         ensures kept { S.keeps sink.old sink.new }
     {
         self.row.fit();
-        let shown = self.discipline.ask(&mut self.held, now, toll, sink);
-        book_shown(&mut self.row, &shown, toll);
+        let shown = self.discipline.ask(&mut self.held, now, signals, sink);
+        book_shown(&mut self.row, &shown, signals);
         shown
     }
 
@@ -118,29 +123,29 @@ impl Discipline {
         &mut self,
         held: &mut Option<Packet>,
         now: Moment,
-        toll: &mut Toll,
+        signals: &mut Signals,
         sink: &mut S,
     ) -> Shown
         requires none { held.old ≡ None }
         requires ready { CanAskIn now self.old }
         requires sink { length (packets_within self.old) ≤ S.room sink.old }
-        requires clean { toll.old ≡ no_toll }
+        requires clean { signals.old ≡ no_signals }
         ensures after { (handle : Option ℕ) (filters : List Filter) → IsAskedIn (answer_of now handle filters self.old) self.old self.new result }
         ensures held { held.new ≡ held_in (discipline_seen self.new) result.packet }
         ensures told { (handle : Option ℕ) (filters : List Filter) → IsToldOf (answer_of now handle filters self.old).rises (S.losses sink.old) (S.losses sink.new) (S.room sink.old) (S.room sink.new) }
-        ensures toll { toll.new ≡ toll_of result }
+        ensures signals { signals.new ≡ signals_of result }
         ensures kept { S.keeps sink.old sink.new }
     {
         match self {
             Discipline::Fifo(fifo) => return Shown::at_hand(&first_packet(fifo)),
-            Discipline::Prio { bands, .. } => return ask_bands(bands, now, toll, sink),
+            Discipline::Prio { bands, .. } => return ask_bands(bands, now, signals, sink),
             Discipline::Tbf { bucket, child, .. } => {
-                return ask_child(bucket, child, held, now, toll, sink);
+                return ask_child(bucket, child, held, now, signals, sink);
             }
             Discipline::Drr { active, classes } => {
-                return serve(active, classes, held, now, toll, sink);
+                return serve(active, classes, held, now, signals, sink);
             }
-            Discipline::FqCodel(queue) => return take_from_flows(queue, held, now, toll, sink),
+            Discipline::FqCodel(queue) => return take_from_flows(queue, held, now, signals, sink),
         }
     }
 }

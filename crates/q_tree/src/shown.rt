@@ -1,9 +1,9 @@
 ghost use Rattle.std.specs.Prelude.{◌≡◌, ◌<◌, ◌≤◌, ◌+◌, ◌^◌, IfSome, IsSomeAnd, None, Some, is_some, true};
 ghost use Rattle.q_tree.specs.Arrivals.{plus};
-ghost use Rattle.q_tree.specs.AskSteps.{no_toll, toll_of};
+ghost use Rattle.q_tree.specs.AskSteps.{no_signals, signals_of};
 ghost use Rattle.q_tree.specs.Shown.{length_of};
 
-use crate::toll::{NO_TOLL, Toll};
+use crate::signals::{NO_SIGNALS, Signals};
 use q_packet::Packet;
 use std::marker::Model;
 use std::snapshot::Snapshot;
@@ -19,49 +19,49 @@ pub(crate) struct Shown {
     /// Nothing was dropped, and nothing was marked.
     is_quiet: bool,
     packet: Snapshot<Option<Packet>>,
-    toll: Snapshot<Toll>,
+    signals: Snapshot<Signals>,
 }
 
 impl Model for Shown {
     ghost use Rattle.std.specs.Prelude.{◌≡◌, ◌≤◌, true, IfSome};
     ghost use Rattle.q_packet.specs.Descriptor.{Descriptor};
-    ghost use Rattle.q_tree.specs.AskSteps.{no_toll};
+    ghost use Rattle.q_tree.specs.AskSteps.{no_signals};
     ghost use Rattle.q_tree.specs.Shown as specs;
 
     ghost Value = { specs.Shown };
 
-    ghost view = { λ s. record { packet = s.packet.value; dropped = s.toll.value.dropped; marked = s.toll.value.marked } };
+    ghost view = { λ s. record { packet = s.packet.value; dropped = s.signals.value.dropped; marked = s.signals.value.marked } };
 
     ghost invariant = { λ s.
         (s.len ≡ specs.length_of s.packet.value)
         × (IfSome s.packet.value (λ (p : Descriptor). 1 ≤ p.len))
-        × (s.is_quiet ≡ true → s.toll.value ≡ no_toll) };
+        × (s.is_quiet ≡ true → s.signals.value ≡ no_signals) };
 }
 
 impl Shown {
     /// A node shows this packet, or none, after so much was dropped and marked.
     #[inline(always)]
-    pub(crate) fn new(packet: &Option<Packet>, toll: &Toll) -> Shown
-        ensures { result ≡ record { packet = packet.now; dropped = toll.now.dropped; marked = toll.now.marked } }
+    pub(crate) fn new(packet: &Option<Packet>, signals: &Signals) -> Shown
+        ensures { result ≡ record { packet = packet.now; dropped = signals.now.dropped; marked = signals.now.marked } }
     {
         Shown {
             len: len_of(packet),
-            is_quiet: toll.is_nothing(),
+            is_quiet: signals.is_nothing(),
             packet: Snapshot::of(packet),
-            toll: Snapshot::of(toll),
+            signals: Snapshot::of(signals),
         }
     }
 
     /// A node sends this packet, after so much was dropped and marked.
     #[inline(always)]
-    pub(crate) fn sending(packet: &Packet, toll: &Toll) -> Shown
-        ensures { result ≡ record { packet = Some packet.now; dropped = toll.now.dropped; marked = toll.now.marked } }
+    pub(crate) fn sending(packet: &Packet, signals: &Signals) -> Shown
+        ensures { result ≡ record { packet = Some packet.now; dropped = signals.now.dropped; marked = signals.now.marked } }
     {
         Shown {
             len: packet.len,
-            is_quiet: toll.is_nothing(),
+            is_quiet: signals.is_nothing(),
             packet: Snapshot::of(&Some(*packet)),
-            toll: Snapshot::of(toll),
+            signals: Snapshot::of(signals),
         }
     }
 
@@ -70,35 +70,35 @@ impl Shown {
     pub(crate) fn quiet(packet: &Packet, len: u16) -> Shown
         requires len { len ≡ packet.now.len }
         requires positive { 1 ≤ len }
-        ensures { result ≡ record { packet = Some packet.now; dropped = no_toll.dropped; marked = no_toll.marked } }
+        ensures { result ≡ record { packet = Some packet.now; dropped = no_signals.dropped; marked = no_signals.marked } }
     {
         Shown {
             len,
             is_quiet: true,
             packet: Snapshot::of(&Some(*packet)),
-            toll: Snapshot::of(&NO_TOLL),
+            signals: Snapshot::of(&NO_SIGNALS),
         }
     }
 
     /// A packet that was at hand, or none: nobody was asked.
     #[inline(always)]
     pub(crate) fn at_hand(packet: &Option<Packet>) -> Shown
-        ensures { result ≡ record { packet = packet.now; dropped = no_toll.dropped; marked = no_toll.marked } }
+        ensures { result ≡ record { packet = packet.now; dropped = no_signals.dropped; marked = no_signals.marked } }
     {
-        Shown::new(packet, &NO_TOLL)
+        Shown::new(packet, &NO_SIGNALS)
     }
 
     /// What asking one more node came to: it has the packet. What was dropped and marked so far is counted on.
     #[inline(always)]
-    pub(crate) fn then(self, next: Shown, so_far: &mut Toll, toll: &Toll) -> Shown
-        requires so_far { so_far.old ≡ toll_of self }
-        requires toll { toll.now ≡ toll_of next }
+    pub(crate) fn then(self, next: Shown, so_far: &mut Signals, signals: &Signals) -> Shown
+        requires so_far { so_far.old ≡ signals_of self }
+        requires signals { signals.now ≡ signals_of next }
         requires dropped_packets { self.dropped.packets + next.dropped.packets < 2 ^ 64 }
         requires dropped_bytes { self.dropped.bytes + next.dropped.bytes < 2 ^ 64 }
         requires marked_packets { self.marked.packets + next.marked.packets < 2 ^ 64 }
         requires marked_bytes { self.marked.bytes + next.marked.bytes < 2 ^ 64 }
         ensures asked { result ≡ record { packet = next.packet; dropped = plus self.dropped next.dropped; marked = plus self.marked next.marked } }
-        ensures toll { so_far.new ≡ toll_of result }
+        ensures signals { so_far.new ≡ signals_of result }
     {
         if next.is_quiet {
             return Shown {
@@ -107,12 +107,12 @@ impl Shown {
                 ..self
             };
         }
-        so_far.add(toll);
+        so_far.add(signals);
         Shown {
             len: next.len,
             is_quiet: false,
             packet: next.packet,
-            toll: Snapshot::of(so_far),
+            signals: Snapshot::of(so_far),
         }
     }
 
@@ -151,7 +151,7 @@ impl Shown {
     /// Whether nothing was dropped and nothing was marked.
     #[inline(always)]
     pub(crate) fn is_quiet(&self) -> bool
-        ensures { result ≡ true → toll_of self.now ≡ no_toll }
+        ensures { result ≡ true → signals_of self.now ≡ no_signals }
     {
         self.is_quiet
     }

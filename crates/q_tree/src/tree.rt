@@ -32,7 +32,7 @@ use crate::node::Node;
 use crate::node_route::NodeRoute;
 use crate::outcome::{Outcome, refuse};
 use crate::route::Route;
-use crate::toll::NO_TOLL;
+use crate::signals::NO_SIGNALS;
 use q_codel::{Limit, Sink};
 use q_model::{ClassView, Command, Fate, FilterView, NodeView, Place, Refusal, Row};
 use q_packet::{Cause, Moment, Packet, SOME_PACKET};
@@ -309,9 +309,9 @@ impl Tree {
         // A moment is at most 2^62 nanoseconds.
         let _ = now.ns();
         self.top.fit();
-        let mut toll = NO_TOLL;
-        let shown = self.root.peek(now, &mut toll, sink);
-        book_shown(&mut self.top, &shown, &toll);
+        let mut signals = NO_SIGNALS;
+        let shown = self.root.peek(now, &mut signals, sink);
+        book_shown(&mut self.top, &shown, &signals);
         self.clock = now;
         // The root has at hand what it has shown.
         self.root.at_hand()

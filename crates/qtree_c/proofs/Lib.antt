@@ -6,6 +6,7 @@ pub mod Offering
 pub mod PlaceLemmas
 pub mod PollLemmas
 pub mod Polling
+pub mod RawBoxValues
 pub mod Readying
 pub mod Reaping
 pub mod SentPolling

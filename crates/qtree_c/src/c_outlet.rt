@@ -4,8 +4,8 @@ ghost use Rattle.q_ports.specs.contracts.Outlet.{the_row as outlet_row};
 ghost use Rattle.qtree_c.specs.Holding.{IsClosed, IsClosed-prop};
 
 use crate::held_outlet::HeldOutlet;
+use crate::raw_box::RawBox;
 use q_ports::Outlet;
-use q_raw_box::RawBox;
 use std::alloc::Global;
 use std::mem;
 

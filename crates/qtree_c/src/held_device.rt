@@ -4,8 +4,8 @@ ghost use Rattle.q_device.specs.DeviceSeen.{DeviceSeen};
 ghost use Rattle.q_device.specs.contracts.Device.{the_row as device_row};
 ghost use Rattle.qtree_c.specs.Holding.{held_code, held_owns};
 
+use crate::raw_box::RawBox;
 use q_device::Device;
-use q_raw_box::RawBox;
 use std::alloc::Global;
 use std::marker::Model;
 

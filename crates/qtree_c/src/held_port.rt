@@ -4,8 +4,8 @@ ghost use Rattle.q_ports.specs.Placed.{PortSeen};
 ghost use Rattle.q_ports.specs.contracts.Port.{the_row as port_row};
 ghost use Rattle.qtree_c.specs.Holding.{held_code, held_owns};
 
+use crate::raw_box::RawBox;
 use q_ports::Port;
-use q_raw_box::RawBox;
 use std::alloc::Global;
 use std::marker::Model;
 

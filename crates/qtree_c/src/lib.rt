@@ -37,6 +37,7 @@ mod nodes;
 mod offers;
 mod opening;
 mod polls;
+mod raw_box;
 mod readiness;
 mod recorder;
 mod rings;

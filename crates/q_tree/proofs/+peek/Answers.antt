@@ -13,7 +13,7 @@ use Rattle.q_model.specs.Ask.{ask}
 use Rattle.q_model.specs.Node as spec
 use Rattle.q_model.specs.Node.{Node, shape, side_by_side}
 use Rattle.q_model.specs.Pop.{pop}
-use Rattle.q_tree.specs.AskSteps.{IsGivenBy, IsToldOf, answers, held_in, own_of, toll_of}
+use Rattle.q_tree.specs.AskSteps.{IsGivenBy, IsToldOf, answers, held_in, own_of, signals_of}
 use Rattle.q_tree.specs.Kept.{Kept}
 use Rattle.q_tree.specs.NodeCode.{forest_size}
 use Rattle.q_tree.specs.Seen.{children_seen, discipline_seen, places_seen}
@@ -66,8 +66,8 @@ disciplines::tbf::dequeue_child-returns-in_default-clause-packet g t c = ap (λ 
 pub disciplines::tbf::dequeue_child-returns-then-not-spend-clause-packet : goal.disciplines::tbf::dequeue_child-returns-then-not-spend-clause-packet
 disciplines::tbf::dequeue_child-returns-then-not-spend-clause-packet g t c = ap (λ (s : Shown). unwrap_or s.packet c.args.out.now) (sym c.showing.ensures)
 
-pub disciplines::tbf::dequeue_child-returns-then-not-spend-clause-toll : goal.disciplines::tbf::dequeue_child-returns-then-not-spend-clause-toll
-disciplines::tbf::dequeue_child-returns-then-not-spend-clause-toll g t c = c.peek-shown.ensures.toll ∙ sym (ap toll_of c.showing.ensures)
+pub disciplines::tbf::dequeue_child-returns-then-not-spend-clause-signals : goal.disciplines::tbf::dequeue_child-returns-then-not-spend-clause-signals
+disciplines::tbf::dequeue_child-returns-then-not-spend-clause-signals g t c = c.peek-shown.ensures.signals ∙ sym (ap signals_of c.showing.ensures)
 
 pub disciplines::drr::dequeue_class-loop-place-init : goal.disciplines::drr::dequeue_class-loop-place-init
 disciplines::drr::dequeue_class-loop-place-init g t c = (
@@ -75,7 +75,7 @@ disciplines::drr::dequeue_class-loop-place-init g t c = (
       (record { dropped = ap (λ (s : Shown). s.dropped) c.at_hand-shown.ensures; marked = ap (λ (s : Shown). s.marked) c.at_hand-shown.ensures }),
   g.met.S.Sink.keeps_same c.args.sink.now,
   refl,
-  c.requires.clean ∙ sym (ap toll_of c.at_hand-shown.ensures),
+  c.requires.clean ∙ sym (ap signals_of c.at_hand-shown.ensures),
 )
 
 pub disciplines::drr::dequeue_class-offset_bounds-classes-place : goal.disciplines::drr::dequeue_class-offset_bounds-classes-place
@@ -267,7 +267,7 @@ disciplines::drr::dequeue_class-loop-place-preserved g t c =
           c.ask_class-shown.new.class c.ask_class-shown.result (g.S.Sink.losses c.ask_class-shown.new.sink) (g.S.Sink.room c.ask_class-shown.new.sink) class_shows offer.0 offer.1 short c.saturating_sub-unasked.result c.saturating_sub-unasked.ensures),
       g.met.S.Sink.keeps_on c.args.sink.now c.loop-place.sink c.ask_class-shown.new.sink c.loop-place.invariant.1 c.ask_class-shown.ensures.kept,
       c.loop-place.invariant.2,
-      c.ask_class-shown.ensures.toll,
+      c.ask_class-shown.ensures.signals,
     )
 
 pub disciplines::drr::dequeue_class-returns-clause-active : goal.disciplines::drr::dequeue_class-returns-clause-active
@@ -292,8 +292,8 @@ disciplines::drr::dequeue_class-returns-clause-told g t c =
 pub disciplines::drr::dequeue_class-returns-clause-kept : goal.disciplines::drr::dequeue_class-returns-clause-kept
 disciplines::drr::dequeue_class-returns-clause-kept g t c = c.loop-place.invariant.1
 
-pub disciplines::drr::dequeue_class-returns-clause-toll : goal.disciplines::drr::dequeue_class-returns-clause-toll
-disciplines::drr::dequeue_class-returns-clause-toll g t c = sym (ap toll_of c.at_hand.ensures)
+pub disciplines::drr::dequeue_class-returns-clause-signals : goal.disciplines::drr::dequeue_class-returns-clause-signals
+disciplines::drr::dequeue_class-returns-clause-signals g t c = sym (ap signals_of c.at_hand.ensures)
 
 pub node::Discipline::ask-ask_bands-requires : goal.node::Discipline::ask-ask_bands-requires
 node::Discipline::ask-ask_bands-requires g t c κs within =
@@ -409,9 +409,9 @@ node::Node::peek-returns-in-Fifo-clause-room g t c =
     (told-here c.args.now c.self.inside c.args.self.now c.self.invariant c.self.view_is c.requires.ready (none-held c.self.inside.held c.if-is_some.ensures) (g.S.Sink.losses c.args.sink.now) (g.S.Sink.losses c.args.sink.now) (g.S.Sink.room c.args.sink.now) (g.S.Sink.room c.args.sink.now)
     (told-in c.args.now c.self.inside.handle c.self.inside.filters c.self.inside.discipline (spec.Fifo c.in-Fifo.fifo.limit c.in-Fifo.fifo.packets) [] (g.S.Sink.losses c.args.sink.now) (g.S.Sink.losses c.args.sink.now) (g.S.Sink.room c.args.sink.now) (g.S.Sink.room c.args.sink.now) (ap discipline_seen c.in-Fifo.is) (ap children_seen c.in-Fifo.is) (told-nothing (g.S.Sink.losses c.args.sink.now) (g.S.Sink.room c.args.sink.now)))).room_taken
 
-pub node::Node::peek-returns-in-Fifo-clause-toll : goal.node::Node::peek-returns-in-Fifo-clause-toll
-node::Node::peek-returns-in-Fifo-clause-toll g t c =
-    c.requires.clean ∙ sym (ap toll_of c.at_hand-in-Fifo.ensures)
+pub node::Node::peek-returns-in-Fifo-clause-signals : goal.node::Node::peek-returns-in-Fifo-clause-signals
+node::Node::peek-returns-in-Fifo-clause-signals g t c =
+    c.requires.clean ∙ sym (ap signals_of c.at_hand-in-Fifo.ensures)
 
 pub node::Node::peek_further-ask-shown-requires : goal.node::Node::peek_further-ask-shown-requires
 node::Node::peek_further-ask-shown-requires g t c κs within = (
@@ -467,7 +467,7 @@ disciplines::prio::ask_bands-loop-place-init g t c = (
   bands-start c.args.now c.args.bands.now c.at_hand-shown.result (record { dropped = ap (λ (s : Shown). s.dropped) c.at_hand-shown.ensures; marked = ap (λ (s : Shown). s.marked) c.at_hand-shown.ensures }) (ap (λ (s : Shown). s.packet) c.at_hand-shown.ensures),
   told-nothing (g.S.Sink.losses c.args.sink.now) (g.S.Sink.room c.args.sink.now),
   g.met.S.Sink.keeps_same c.args.sink.now,
-  c.requires.clean ∙ sym (ap toll_of c.at_hand-shown.ensures),
+  c.requires.clean ∙ sym (ap signals_of c.at_hand-shown.ensures),
 )
 
 pub disciplines::prio::ask_bands-peek-next-requires : goal.disciplines::prio::ask_bands-peek-next-requires
@@ -530,7 +530,7 @@ disciplines::prio::ask_bands-loop-place-preserved g t c = (
       (told-then (told_to c.loop-place.place (answers c.args.now c.args.bands.now)) (ask c.args.now (shape (slice_index_or c.loop-place.bands c.loop-place.place c.index-bands-place.result))).rises (g.S.Sink.losses c.args.sink.now) (g.S.Sink.losses c.loop-place.sink) (g.S.Sink.losses c.peek-next.new.sink)
       (g.S.Sink.room c.args.sink.now) (g.S.Sink.room c.loop-place.sink) (g.S.Sink.room c.peek-next.new.sink) c.loop-place.invariant.1 (record { lost = c.peek-next.ensures.lost; room_taken = c.peek-next.ensures.room }))),
   g.met.S.Sink.keeps_on c.args.sink.now c.loop-place.sink c.peek-next.new.sink c.loop-place.invariant.2 c.peek-next.ensures.kept,
-  c.then-shown.ensures.toll,
+  c.then-shown.ensures.signals,
 )
 
 pub disciplines::prio::ask_bands-returns-clause-after : goal.disciplines::prio::ask_bands-returns-clause-after

@@ -3,7 +3,7 @@ use Rattle.std.specs.List.{sum_by}
 use Rattle.q_drr.specs.Schedule.{quantum_of}
 use Rattle.q_drr.specs.Take.{need}
 use Rattle.q_model.specs.Node.{side_by_side}
-use Rattle.q_tree.specs.AskSteps.{IsToldOf, answers, toll_of}
+use Rattle.q_tree.specs.AskSteps.{IsToldOf, answers, signals_of}
 use Rattle.q_tree.specs.NodeCode.{node_size, forest_size}
 use Rattle.q_tree.specs.Seen.{children_seen}
 use Rattle.q_tree.proofs.AskBands.{AreBandsAsked, told_to}
@@ -16,7 +16,7 @@ invariant-disciplines::drr::dequeue_class-loop-place g l =
     (record { losses = g.S.Sink.losses l.fn.sink; losses_now = g.S.Sink.losses l.sink; room = g.S.Sink.room l.fn.sink; room_now = g.S.Sink.room l.sink })
     × g.S.Sink.keeps l.fn.sink l.sink
     × (l.out ≡ l.fn.out)
-    × (l.toll ≡ toll_of l.shown)
+    × (l.signals ≡ signals_of l.shown)
 
 -- each grant lowers one class's need of grants by one
 abbrev pub decreases-disciplines::drr::dequeue_class-loop-place : goal.decreases-disciplines::drr::dequeue_class-loop-place
@@ -27,7 +27,7 @@ invariant-disciplines::prio::ask_bands-loop-place g l =
     AreBandsAsked l.fn.now l.fn.bands l.bands l.place l.shown
     × IsToldOf (told_to l.place (answers l.fn.now l.fn.bands)) (g.S.Sink.losses l.fn.sink) (g.S.Sink.losses l.sink) (g.S.Sink.room l.fn.sink) (g.S.Sink.room l.sink)
     × g.S.Sink.keeps l.fn.sink l.sink
-    × (l.toll ≡ toll_of l.shown)
+    × (l.signals ≡ signals_of l.shown)
 
 -- each call goes further down the tree
 abbrev pub decreases-node::Node::peek : goal.decreases-node::Node::peek

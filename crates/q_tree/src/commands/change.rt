@@ -75,13 +75,13 @@ impl Planner<'_> {
         let Some((path, node)) = self.qdiscs.target(place, handle) else {
             return Err(Refusal::NoQdisc);
         };
-        let reshape = self.reshape_to(node, kind)?;
-        let edit = Edit::DisciplineChange(reshape);
+        let change = self.change_to(node, kind)?;
+        let edit = Edit::DisciplineChange(change);
         Ok(Planned { path, edit })
     }
 
     // What a change to these settings makes of a qdisc, or the first refusal that holds.
-    fn reshape_to(&self, node: &Node, kind: &Kind) -> Result<DisciplineChange, Refusal>
+    fn change_to(&self, node: &Node, kind: &Kind) -> Result<DisciplineChange, Refusal>
         requires within { count_nodes node.now ≤ count_nodes (root_of self.now) }
         requires lawful { IsLawfulRoot self.now.mtu self.now.moment (shape node.now) }
         ensures { IsChange (NeedsMore kind.now) (λ path. change_sized (device_of self.now) self.now.moment (shape (root_of self.now)) (shape node.now) path node.now.own.discipline kind.now) node.now result }

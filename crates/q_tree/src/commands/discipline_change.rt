@@ -1,7 +1,7 @@
 ghost use Rattle.std.specs.Prelude.{◌≡◌, ◌≤◌, ◌+◌, ◌++◌, Ok, OnErr, OnOk, length};
 ghost use Rattle.q_model.specs.Beneath.{totals_in};
 ghost use Rattle.q_tree.specs.Purging.{purged};
-ghost use Rattle.q_tree.specs.Reshaping.{FitsCounters, IsReshaped, IsUnchanged, TakesMore, adds_children, lost_with};
+ghost use Rattle.q_tree.specs.DisciplineChanges.{FitsCounters, IsChangedBy, IsUnchanged, TakesMore, adds_children, lost_with};
 ghost use Rattle.q_tree.specs.Seen.{children_seen, discipline_seen};
 
 use crate::booking::NOTHING;
@@ -51,28 +51,28 @@ impl DisciplineChange {
 }
 
 impl Discipline {
-    /// Reshapes the discipline, and says what was lost with the children that went.
+    /// Changes the discipline, and says what was lost with the children that went.
     ///
     /// # Errors
     ///
     /// `AllocError` where memory is refused; nothing has changed then.
-    pub(crate) fn reshape<S: Sink>(
+    pub(crate) fn change<S: Sink>(
         &mut self,
-        reshape: DisciplineChange,
+        change: DisciplineChange,
         sink: &mut S,
     ) -> Result<Totals, AllocError>
-        requires few { FitsCounters (lost_with reshape (discipline_seen self.old) (children_seen self.old)) }
-        requires sink { length (lost_with reshape (discipline_seen self.old) (children_seen self.old)) ≤ S.room sink.old }
-        ensures after { OnOk result (IsReshaped reshape self.old self.new) }
-        ensures totals { OnOk result (result ≡ Ok (totals_in (lost_with reshape (discipline_seen self.old) (children_seen self.old)))) }
-        ensures lost { OnOk result (S.losses sink.new ≡ S.losses sink.old ++ purged (lost_with reshape (discipline_seen self.old) (children_seen self.old))) }
-        ensures room { OnOk result (S.room sink.new + length (lost_with reshape (discipline_seen self.old) (children_seen self.old)) ≡ S.room sink.old) }
-        ensures memory { OnErr result (TakesMore reshape) }
+        requires few { FitsCounters (lost_with change (discipline_seen self.old) (children_seen self.old)) }
+        requires sink { length (lost_with change (discipline_seen self.old) (children_seen self.old)) ≤ S.room sink.old }
+        ensures after { OnOk result (IsChangedBy change self.old self.new) }
+        ensures totals { OnOk result (result ≡ Ok (totals_in (lost_with change (discipline_seen self.old) (children_seen self.old)))) }
+        ensures lost { OnOk result (S.losses sink.new ≡ S.losses sink.old ++ purged (lost_with change (discipline_seen self.old) (children_seen self.old))) }
+        ensures room { OnOk result (S.room sink.new + length (lost_with change (discipline_seen self.old) (children_seen self.old)) ≡ S.room sink.old) }
+        ensures memory { OnErr result (TakesMore change) }
         ensures same { OnErr result (IsUnchanged self.old self.new) }
         ensures not_lost { OnErr result ((S.losses sink.new ≡ S.losses sink.old) × (S.room sink.new ≡ S.room sink.old)) }
         ensures kept { S.keeps sink.old sink.new }
     {
-        match reshape {
+        match change {
             DisciplineChange::Nothing => (),
             DisciplineChange::SetLimit(limit) => self.set_limit(limit),
             DisciplineChange::SetBands(options, leaves) => return self.set_bands(

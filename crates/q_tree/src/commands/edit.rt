@@ -9,7 +9,7 @@ ghost use Rattle.q_tree.specs.Editing.{IsEditedBeneath, IsReady, TakesMemory, ad
 ghost use Rattle.q_tree.specs.Kept.{Kept};
 ghost use Rattle.q_tree.specs.Places.{Leads};
 ghost use Rattle.q_tree.specs.Purging.{purged};
-ghost use Rattle.q_tree.specs.Reshaping.{IsUnchanged};
+ghost use Rattle.q_tree.specs.DisciplineChanges.{IsUnchanged};
 ghost use Rattle.q_tree.specs.Seen.{children_seen};
 
 use crate::booking::{NOTHING, book_dropped};
@@ -29,7 +29,7 @@ pub(crate) enum Edit {
     AddFilter(Filter),
     /// It has no filters of this priority.
     RemoveFilters(FilterPrio),
-    /// Its discipline and its children are reshaped.
+    /// Its discipline and its children are changed.
     DisciplineChange(DisciplineChange),
 }
 
@@ -41,7 +41,7 @@ impl Edit {
         match self {
             Edit::Graft(node) => return !node.children().is_empty(),
             Edit::AddFilter(_) | Edit::RemoveFilters(_) => return false,
-            Edit::DisciplineChange(reshape) => return reshape.adds_children(),
+            Edit::DisciplineChange(change) => return change.adds_children(),
         }
     }
 }
@@ -108,9 +108,9 @@ impl Node {
                 self.filters.remove(prio);
                 return Ok(NOTHING);
             }
-            Edit::DisciplineChange(reshape) => {
+            Edit::DisciplineChange(change) => {
                 self.row.fit();
-                let lost = self.discipline.reshape(reshape, sink)?;
+                let lost = self.discipline.change(change, sink)?;
                 book_dropped(&mut self.row, lost);
                 return Ok(lost);
             }

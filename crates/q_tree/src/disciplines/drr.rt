@@ -8,13 +8,13 @@ ghost use Rattle.q_model.specs.Node as spec;
 ghost use Rattle.q_model.specs.Node.{Own, shape};
 ghost use Rattle.q_model.specs.Pop.{pop};
 ghost use Rattle.q_model.specs.Work.{settled_class};
-ghost use Rattle.q_tree.specs.AskSteps.{AreAsked, CanAskOnce, CanServe, IsAskedOnce, IsGivenBy, IsToldOf, answers, no_toll, toll_of};
+ghost use Rattle.q_tree.specs.AskSteps.{AreAsked, CanAskOnce, CanServe, IsAskedOnce, IsGivenBy, IsToldOf, answers, no_signals, signals_of};
 ghost use Rattle.q_tree.specs.Changing.{drr_same};
 ghost use Rattle.q_tree.specs.Kept.{Kept};
 ghost use Rattle.q_tree.specs.Purging.{purged};
 ghost use Rattle.q_tree.specs.PutSteps.{packets_beneath};
 ghost use Rattle.q_tree.specs.ReadyAt.{of_class, outlook, paid};
-ghost use Rattle.q_tree.specs.Reshaping.{IsReshaped, IsUnchanged, lost_with, requantum};
+ghost use Rattle.q_tree.specs.DisciplineChanges.{IsChangedBy, IsUnchanged, lost_with, requantum};
 ghost use Rattle.q_tree.specs.Seen.{children_seen, discipline_seen};
 ghost use Rattle.q_tree.specs.declared.commands.discipline_change.DisciplineChange.TheVariants.{AddClass, RemoveClass, SetQuantum};
 
@@ -24,7 +24,7 @@ use crate::filters::Filters;
 use crate::node::{Discipline, Node};
 use crate::ready_at::Outlook;
 use crate::shown::Shown;
-use crate::toll::{NO_TOLL, Toll};
+use crate::signals::{NO_SIGNALS, Signals};
 use q_codel::Sink;
 use q_drr::{Active, Turn};
 use q_model::{Minor, Quantum, Refusal, Totals};
@@ -79,24 +79,24 @@ pub(crate) fn dequeue_class<S: Sink>(
     classes: &mut [Node],
     out: &mut Packet,
     now: Moment,
-    toll: &mut Toll,
+    signals: &mut Signals,
     sink: &mut S,
 ) -> Shown
     requires ready { CanServe now active.old classes.old }
     requires sink { length (packets_beneath classes.old) ≤ S.room sink.old }
-    requires clean { toll.old ≡ no_toll }
+    requires clean { signals.old ≡ no_signals }
     ensures active { (own : Own) → spec.Drr active.new ≡ (ask_drr own (answers now classes.old) active.old).peeked.own.discipline }
     ensures after { (own : Own) → AreAsked (ask_drr own (answers now classes.old) active.old) classes.old classes.new result }
     ensures packet { out.new ≡ unwrap_or result.packet out.old }
     ensures told { (own : Own) → IsToldOf (ask_drr own (answers now classes.old) active.old).rises (S.losses sink.old) (S.losses sink.new) (S.room sink.old) (S.room sink.new) }
-    ensures toll { toll.new ≡ toll_of result }
+    ensures signals { signals.new ≡ signals_of result }
     ensures kept { S.keeps sink.old sink.new }
 {
     let mut shown = Shown::at_hand(&None);
     // In the first round each class is asked once; in a later one it has at hand what it showed.
     let mut unasked = active.active_count();
     while let Some(place) = active.front_place() {
-        shown = ask_class(&mut classes[place], unasked > 0, shown, now, toll, sink);
+        shown = ask_class(&mut classes[place], unasked > 0, shown, now, signals, sink);
         unasked = unasked.saturating_sub(1);
         let Some(len) = shown.packet_len() else {
             return shown;
@@ -111,7 +111,7 @@ pub(crate) fn dequeue_class<S: Sink>(
         }
     }
     // No class was active, so nobody was asked.
-    *toll = NO_TOLL;
+    *signals = NO_SIGNALS;
     Shown::at_hand(&None)
 }
 
@@ -133,22 +133,22 @@ pub(crate) fn serve<S: Sink>(
     classes: &mut [Node],
     held: &mut Option<Packet>,
     now: Moment,
-    toll: &mut Toll,
+    signals: &mut Signals,
     sink: &mut S,
 ) -> Shown
     requires none { held.old ≡ None }
     requires ready { CanServe now active.old classes.old }
     requires sink { length (packets_beneath classes.old) ≤ S.room sink.old }
-    requires clean { toll.old ≡ no_toll }
+    requires clean { signals.old ≡ no_signals }
     ensures active { (own : Own) → spec.Drr active.new ≡ (ask_drr own (answers now classes.old) active.old).peeked.own.discipline }
     ensures after { (own : Own) → AreAsked (ask_drr own (answers now classes.old) active.old) classes.old classes.new result }
     ensures held { held.new ≡ result.packet }
     ensures told { (own : Own) → IsToldOf (ask_drr own (answers now classes.old) active.old).rises (S.losses sink.old) (S.losses sink.new) (S.room sink.old) (S.room sink.new) }
-    ensures toll { toll.new ≡ toll_of result }
+    ensures signals { signals.new ≡ signals_of result }
     ensures kept { S.keeps sink.old sink.new }
 {
     let mut packet = SOME_PACKET;
-    let shown = dequeue_class(active, classes, &mut packet, now, toll, sink);
+    let shown = dequeue_class(active, classes, &mut packet, now, signals, sink);
     if shown.has_packet() {
         *held = Some(packet);
     }
@@ -163,24 +163,24 @@ pub(crate) fn ask_class<S: Sink>(
     is_unasked: bool,
     so_far: Shown,
     now: Moment,
-    toll: &mut Toll,
+    signals: &mut Signals,
     sink: &mut S,
 ) -> Shown
     requires ready { is_unasked ≡ true → CanAskOnce now class.old so_far (S.room sink.old) }
-    requires counted { toll.old ≡ toll_of so_far }
+    requires counted { signals.old ≡ signals_of so_far }
     ensures asked { is_unasked ≡ true → IsAskedOnce now class.old class.new so_far result }
     ensures told { is_unasked ≡ true → IsToldOf (ask now (shape class.old)).rises (S.losses sink.old) (S.losses sink.new) (S.room sink.old) (S.room sink.new) }
     ensures at_hand { is_unasked ≡ false → (class.new ≡ class.old) × (result ≡ record so_far { packet = (pop class.old).shown }) }
     ensures not_lost { is_unasked ≡ false → (S.losses sink.new ≡ S.losses sink.old) × (S.room sink.new ≡ S.room sink.old) }
-    ensures toll { toll.new ≡ toll_of result }
+    ensures signals { signals.new ≡ signals_of result }
     ensures kept { S.keeps sink.old sink.new }
 {
     if is_unasked {
         // Mostly nothing was dropped or marked so far, and the place is clean.
         if so_far.is_quiet() {
-            return class.peek(now, toll, sink);
+            return class.peek(now, signals, sink);
         }
-        return ask_further(class, so_far, now, toll, sink);
+        return ask_further(class, so_far, now, signals, sink);
     }
     show_again(class, so_far)
 }
@@ -193,19 +193,19 @@ fn ask_further<S: Sink>(
     class: &mut Node,
     so_far: Shown,
     now: Moment,
-    toll: &mut Toll,
+    signals: &mut Signals,
     sink: &mut S,
 ) -> Shown
     requires ready { CanAskOnce now class.old so_far (S.room sink.old) }
-    requires counted { toll.old ≡ toll_of so_far }
+    requires counted { signals.old ≡ signals_of so_far }
     ensures asked { IsAskedOnce now class.old class.new so_far result }
     ensures told { IsToldOf (ask now (shape class.old)).rises (S.losses sink.old) (S.losses sink.new) (S.room sink.old) (S.room sink.new) }
-    ensures toll { toll.new ≡ toll_of result }
+    ensures signals { signals.new ≡ signals_of result }
     ensures kept { S.keeps sink.old sink.new }
 {
-    let mut asked = NO_TOLL;
+    let mut asked = NO_SIGNALS;
     let next = class.peek(now, &mut asked, sink);
-    so_far.then(next, toll, &asked)
+    so_far.then(next, signals, &asked)
 }
 
 // What a class shows that was asked already. A call by itself, since it copies the packet.
@@ -278,7 +278,7 @@ impl Discipline {
         quantum: Quantum,
         leaf: Node,
     ) -> Result<(), AllocError>
-        ensures after { OnOk result (IsReshaped (AddClass class quantum leaf) self.old self.new) }
+        ensures after { OnOk result (IsChangedBy (AddClass class quantum leaf) self.old self.new) }
         ensures same { OnErr result (IsUnchanged self.old self.new) }
     {
         let Discipline::Drr { active, classes } = self else {
@@ -295,7 +295,7 @@ impl Discipline {
 
     /// Gives a class of a drr another quantum, where one is given and the class is there (tc-drr(8)).
     pub(crate) fn set_quantum(&mut self, class: Minor, quantum: Option<Quantum>)
-        ensures { IsReshaped (SetQuantum class quantum) self.old self.new }
+        ensures { IsChangedBy (SetQuantum class quantum) self.old self.new }
     {
         if let Discipline::Drr { active, .. } = self {
             set_class_quantum(active, class.number(), quantum);
@@ -305,7 +305,7 @@ impl Discipline {
     /// Removes a class of a drr, with all that is beneath it, and says what was lost (tc-drr(8)).
     pub(crate) fn remove_class<S: Sink>(&mut self, class: Minor, sink: &mut S) -> Totals
         requires sink { length (lost_with (RemoveClass class) (discipline_seen self.old) (children_seen self.old)) ≤ S.room sink.old }
-        ensures after { IsReshaped (RemoveClass class) self.old self.new }
+        ensures after { IsChangedBy (RemoveClass class) self.old self.new }
         ensures totals { result ≡ totals_in (lost_with (RemoveClass class) (discipline_seen self.old) (children_seen self.old)) }
         ensures lost { S.losses sink.new ≡ S.losses sink.old ++ purged (lost_with (RemoveClass class) (discipline_seen self.old) (children_seen self.old)) }
         ensures room { S.room sink.new + length (lost_with (RemoveClass class) (discipline_seen self.old) (children_seen self.old)) ≡ S.room sink.old }

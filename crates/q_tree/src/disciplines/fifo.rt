@@ -11,7 +11,7 @@ ghost use Rattle.q_tree.specs.Changing.{bfifo_answer, pfifo_answer};
 ghost use Rattle.q_tree.specs.Making.{IsNewNode};
 ghost use Rattle.q_tree.specs.Planning.{device_of};
 ghost use Rattle.q_tree.specs.ReadyAt.{of_fifo};
-ghost use Rattle.q_tree.specs.Reshaping.{IsReshaped};
+ghost use Rattle.q_tree.specs.DisciplineChanges.{IsChangedBy};
 ghost use Rattle.q_tree.specs.declared.commands.discipline_change.DisciplineChange.TheVariants.{SetLimit};
 ghost use Rattle.q_tree.specs.declared.node.Discipline.TheVariants as code;
 
@@ -73,7 +73,7 @@ impl Planner<'_> {
 
 /// The packet is queued behind the others, or refused at the limit (tc-pfifo(8)).
 #[inline(always)]
-pub(crate) fn arrive_in_fifo<S: Sink>(
+pub(crate) fn enqueue_in_fifo<S: Sink>(
     fifo: &mut Fifo,
     packet: &Packet,
     now: Moment,
@@ -163,7 +163,7 @@ impl Node {
 impl Discipline {
     /// Gives a fifo another limit; its packets stay (tc-pfifo(8)).
     pub(crate) fn set_limit(&mut self, new: Limit)
-        ensures { IsReshaped (SetLimit new) self.old self.new }
+        ensures { IsChangedBy (SetLimit new) self.old self.new }
     {
         if let Discipline::Fifo(fifo) = self {
             fifo.set_limit(new);

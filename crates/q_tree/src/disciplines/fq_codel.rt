@@ -11,11 +11,11 @@ ghost use Rattle.q_model.specs.Make.{with_options};
 ghost use Rattle.q_model.specs.Node.{Own};
 ghost use Rattle.q_model.specs.Tally.{no_totals, with_packet};
 ghost use Rattle.q_tree.specs.ArriveSteps.{nothing_lost};
-ghost use Rattle.q_tree.specs.AskSteps.{IsShown, no_toll, toll_of};
+ghost use Rattle.q_tree.specs.AskSteps.{IsShown, no_signals, signals_of};
 ghost use Rattle.q_tree.specs.Changing.{fq_codel_answer};
 ghost use Rattle.q_tree.specs.PutSteps.{CanFlow};
 ghost use Rattle.q_tree.specs.ReadyAt.{of_flows};
-ghost use Rattle.q_tree.specs.Reshaping.{IsReshaped};
+ghost use Rattle.q_tree.specs.DisciplineChanges.{IsChangedBy};
 ghost use Rattle.q_tree.specs.declared.commands.discipline_change.DisciplineChange.TheVariants.{SetOptions};
 
 use crate::arrived::Arrived;
@@ -25,7 +25,7 @@ use crate::node::{Discipline, Node};
 use crate::outcome::Outcome;
 use crate::ready_at::Outlook;
 use crate::shown::Shown;
-use crate::toll::{NO_TOLL, Toll};
+use crate::signals::{NO_SIGNALS, Signals};
 use q_codel::Sink;
 use q_fqcodel::{FqCodel, Settings};
 use q_model::{FqCodelOptions, Refusal, Totals};
@@ -60,7 +60,7 @@ pub(crate) fn with_options(options: &FqCodelOptions, old: Settings) -> Settings
 }
 
 /// The packet is queued in its flow, and what the fattest flow loses is counted.
-pub(crate) fn arrive_in_flows<S: Sink>(
+pub(crate) fn enqueue_in_flows<S: Sink>(
     queue: &mut FqCodel,
     packet: &Packet,
     now: Moment,
@@ -89,13 +89,13 @@ pub(crate) fn arrive_in_flows<S: Sink>(
         let _ = queue.put_from(packet, now, sink);
         return Ok(Arrived::kept());
     }
-    Ok(arrive_over(queue, packet, now, lost, sink))
+    Ok(enqueue_over(queue, packet, now, lost, sink))
 }
 
 // The same over the limit. A call by itself, so that the usual way makes no place for an outcome.
 #[cold]
 #[inline(never)]
-fn arrive_over<S: Sink>(
+fn enqueue_over<S: Sink>(
     queue: &mut FqCodel,
     packet: &Packet,
     now: Moment,
@@ -157,18 +157,18 @@ pub(crate) fn dequeue_flow<S: Sink>(
     queue: &mut FqCodel,
     out: &mut Packet,
     now: Moment,
-    toll: &mut Toll,
+    signals: &mut Signals,
     sink: &mut S,
 ) -> Shown
     requires sink { packets_of queue.old.state.flows ≤ S.room sink.old }
-    requires clean { toll.old ≡ no_toll }
+    requires clean { signals.old ≡ no_signals }
     ensures after { queue.new.state ≡ after_sending now (selected queue.old.state) }
     ensures places { queue.new.places ≡ queue.old.places }
     ensures shown { (own : Own) (below : List Asked) → IsShown (ask_fq_codel now own below queue.old.state) result }
     ensures packet { out.new ≡ unwrap_or result.packet out.old }
     ensures lost { S.losses sink.new ≡ S.losses sink.old ++ losses_of Cause.CoDel (dropped_from now (selected queue.old.state)) }
     ensures room { S.room sink.new + length (dropped_from now (selected queue.old.state)) ≡ S.room sink.old }
-    ensures toll { toll.new ≡ toll_of result }
+    ensures signals { signals.new ≡ signals_of result }
     ensures kept { S.keeps sink.old sink.new }
 {
     let (packets, bytes) = queue.queued();
@@ -178,7 +178,7 @@ pub(crate) fn dequeue_flow<S: Sink>(
         return Shown::at_hand(&None);
     }
     if !sent.dropped {
-        return show_marked(sent.marked, out, toll);
+        return show_marked(sent.marked, out, signals);
     }
     let (packets_after, bytes_after) = queue.queued();
     let gone = Totals {
@@ -186,28 +186,28 @@ pub(crate) fn dequeue_flow<S: Sink>(
         bytes: bytes - bytes_after,
     };
     let one = one_packet(out);
-    *toll = Toll {
+    *signals = Signals {
         dropped: difference(gone, one),
         marked: marking(sent.marked, out),
     };
-    Shown::sending(out, toll)
+    Shown::sending(out, signals)
 }
 
 // Shows the packet, where nothing was dropped for it. Mostly it was not marked either, and nothing is written then.
 #[inline(always)]
-fn show_marked(is_marked: bool, out: &Packet, toll: &mut Toll) -> Shown
-    requires { toll.old ≡ no_toll }
+fn show_marked(is_marked: bool, out: &Packet, signals: &mut Signals) -> Shown
+    requires { signals.old ≡ no_signals }
     ensures shown { result ≡ record { packet = Some out.now; dropped = no_totals; marked = if is_marked then with_packet no_totals out.now else no_totals } }
-    ensures toll { toll.new ≡ toll_of result }
+    ensures signals { signals.new ≡ signals_of result }
 {
     if !is_marked {
-        return Shown::sending(out, &NO_TOLL);
+        return Shown::sending(out, &NO_SIGNALS);
     }
-    *toll = Toll {
+    *signals = Signals {
         dropped: NOTHING,
         marked: one_packet(out),
     };
-    Shown::sending(out, toll)
+    Shown::sending(out, signals)
 }
 
 // The packet, where it was marked.
@@ -226,23 +226,23 @@ pub(crate) fn take_from_flows<S: Sink>(
     queue: &mut FqCodel,
     held: &mut Option<Packet>,
     now: Moment,
-    toll: &mut Toll,
+    signals: &mut Signals,
     sink: &mut S,
 ) -> Shown
     requires none { held.old ≡ None }
     requires sink { packets_of queue.old.state.flows ≤ S.room sink.old }
-    requires clean { toll.old ≡ no_toll }
+    requires clean { signals.old ≡ no_signals }
     ensures after { queue.new.state ≡ after_sending now (selected queue.old.state) }
     ensures places { queue.new.places ≡ queue.old.places }
     ensures shown { (own : Own) (below : List Asked) → IsShown (ask_fq_codel now own below queue.old.state) result }
     ensures held { held.new ≡ result.packet }
     ensures lost { S.losses sink.new ≡ S.losses sink.old ++ losses_of Cause.CoDel (dropped_from now (selected queue.old.state)) }
     ensures room { S.room sink.new + length (dropped_from now (selected queue.old.state)) ≡ S.room sink.old }
-    ensures toll { toll.new ≡ toll_of result }
+    ensures signals { signals.new ≡ signals_of result }
     ensures kept { S.keeps sink.old sink.new }
 {
     let mut packet = SOME_PACKET;
-    let shown = dequeue_flow(queue, &mut packet, now, toll, sink);
+    let shown = dequeue_flow(queue, &mut packet, now, signals, sink);
     if shown.has_packet() {
         *held = Some(packet);
     }
@@ -278,7 +278,7 @@ impl Node {
 impl Discipline {
     /// Gives an fq_codel other options, but for the number of flows (tc-fq_codel(8)).
     pub(crate) fn set_options(&mut self, options: &FqCodelOptions)
-        ensures { IsReshaped (SetOptions options.now) self.old self.new }
+        ensures { IsChangedBy (SetOptions options.now) self.old self.new }
     {
         if let Discipline::FqCodel(queue) = self {
             let old = queue.settings();

@@ -16,7 +16,7 @@ ghost use Rattle.q_model.specs.Work.{booked};
 ghost use Rattle.q_model.specs.declared.filter.Filter.{Filter};
 ghost use Rattle.q_model.specs.declared.kind.Kind.TheVariants as kind;
 ghost use Rattle.q_tree.specs.Arrivals.{plus};
-ghost use Rattle.q_tree.specs.AskSteps.{AreAsked, CanAskEach, CanAskOnce, IsToldOf, answers, no_toll, toll_of};
+ghost use Rattle.q_tree.specs.AskSteps.{AreAsked, CanAskEach, CanAskOnce, IsToldOf, answers, no_signals, signals_of};
 ghost use Rattle.q_tree.specs.Changing.{IsChange, MakesChildren, leaves_answer, nodes_from};
 ghost use Rattle.q_tree.specs.Kept.{kept};
 ghost use Rattle.q_tree.specs.Making.{AreNew};
@@ -25,7 +25,7 @@ ghost use Rattle.q_tree.specs.PopSteps.{IsFirstReady};
 ghost use Rattle.q_tree.specs.Purging.{purged};
 ghost use Rattle.q_tree.specs.PutSteps.{packets_beneath};
 ghost use Rattle.q_tree.specs.ReadyAt.{no_packet, outlook, with_band, with_bands};
-ghost use Rattle.q_tree.specs.Reshaping.{FitsCounters, IsReshaped, IsUnchanged, lost_with, remapped};
+ghost use Rattle.q_tree.specs.DisciplineChanges.{FitsCounters, IsChangedBy, IsUnchanged, lost_with, remapped};
 ghost use Rattle.q_tree.specs.Seen.{children_seen, discipline_seen, places_seen};
 ghost use Rattle.q_tree.specs.SendSteps.{AreSent};
 ghost use Rattle.q_tree.specs.declared.commands.discipline_change.DisciplineChange.TheVariants.{SetBands};
@@ -39,7 +39,7 @@ use crate::masked_filter::MaskedFilter;
 use crate::node::{Discipline, Node};
 use crate::ready_at::{Outlook, sooner};
 use crate::shown::Shown;
-use crate::toll::{NO_TOLL, Toll};
+use crate::signals::{NO_SIGNALS, Signals};
 use q_codel::Sink;
 use q_model::{PrioOptions, Refusal, Totals};
 use q_packet::{Moment, Packet};
@@ -70,26 +70,26 @@ pub(crate) fn band(filters: &Filters, priomap: &[u8; 16], packet: &Packet) -> us
 }
 
 /// Sends the packet of the first band that shows one; the bands before it are asked (tc-prio(8)).
-#[cycle(send)]
+#[cycle(dequeue)]
 pub(crate) fn send_first<S: Sink>(
     bands: &mut [Node],
     now: Moment,
     out: &mut Packet,
-    toll: &mut Toll,
+    signals: &mut Signals,
     sink: &mut S,
 ) -> Shown
     requires ready { CanAskEach now bands.old }
     requires sink { length (packets_beneath bands.old) ≤ S.room sink.old }
-    requires clean { toll.old ≡ no_toll }
+    requires clean { signals.old ≡ no_signals }
     ensures after { (own : Own) → AreSent (ask_prio own (answers now bands.old)) bands.old bands.new result }
     ensures packet { out.new ≡ unwrap_or result.packet out.old }
     ensures told { (own : Own) → IsToldOf (ask_prio own (answers now bands.old)).rises (S.losses sink.old) (S.losses sink.new) (S.room sink.old) (S.room sink.new) }
-    ensures toll { toll.new ≡ toll_of result }
+    ensures signals { signals.new ≡ signals_of result }
     ensures kept { S.keeps sink.old sink.new }
 {
     let mut shown = Shown::at_hand(&None);
     for place in 0..bands.len() {
-        shown = send_band(&mut bands[place], shown, now, out, toll, sink);
+        shown = dequeue_band(&mut bands[place], shown, now, out, signals, sink);
         if shown.has_packet() {
             return shown;
         }
@@ -98,18 +98,18 @@ pub(crate) fn send_first<S: Sink>(
 }
 
 // Sends the packet of one more band, if it shows one. What was counted so far is counted on.
-#[cycle(send)]
+#[cycle(dequeue)]
 #[inline(always)]
-fn send_band<S: Sink>(
+fn dequeue_band<S: Sink>(
     band: &mut Node,
     so_far: Shown,
     now: Moment,
     out: &mut Packet,
-    toll: &mut Toll,
+    signals: &mut Signals,
     sink: &mut S,
 ) -> Shown
     requires ready { CanAskOnce now band.old so_far (S.room sink.old) }
-    requires counted { toll.old ≡ toll_of so_far }
+    requires counted { signals.old ≡ signals_of so_far }
     ensures after { band.new ≡ booked kept band.old (take_from now (shape band.old)).node }
     ensures arrived { band.new.memory.counts.arrived ≡ band.old.memory.counts.arrived }
     ensures shown { result.packet ≡ (ask now (shape band.old)).shown }
@@ -117,30 +117,30 @@ fn send_band<S: Sink>(
     ensures marked { result.marked ≡ plus so_far.marked (counts_in (ask now (shape band.old)).rises).marked }
     ensures packet { out.new ≡ unwrap_or result.packet out.old }
     ensures told { IsToldOf (ask now (shape band.old)).rises (S.losses sink.old) (S.losses sink.new) (S.room sink.old) (S.room sink.new) }
-    ensures toll { toll.new ≡ toll_of result }
+    ensures signals { signals.new ≡ signals_of result }
     ensures kept { S.keeps sink.old sink.new }
 {
     // Mostly nothing was dropped or marked so far, and the place is clean.
     if so_far.is_quiet() {
-        return band.send(now, out, toll, sink);
+        return band.dequeue(now, out, signals, sink);
     }
-    send_band_further(band, so_far, now, out, toll, sink)
+    dequeue_band_further(band, so_far, now, out, signals, sink)
 }
 
 // The same where something was dropped or marked already, which is counted on.
-#[cycle(send)]
+#[cycle(dequeue)]
 #[cold]
 #[inline(never)]
-fn send_band_further<S: Sink>(
+fn dequeue_band_further<S: Sink>(
     band: &mut Node,
     so_far: Shown,
     now: Moment,
     out: &mut Packet,
-    toll: &mut Toll,
+    signals: &mut Signals,
     sink: &mut S,
 ) -> Shown
     requires ready { CanAskOnce now band.old so_far (S.room sink.old) }
-    requires counted { toll.old ≡ toll_of so_far }
+    requires counted { signals.old ≡ signals_of so_far }
     ensures after { band.new ≡ booked kept band.old (take_from now (shape band.old)).node }
     ensures arrived { band.new.memory.counts.arrived ≡ band.old.memory.counts.arrived }
     ensures shown { result.packet ≡ (ask now (shape band.old)).shown }
@@ -148,12 +148,12 @@ fn send_band_further<S: Sink>(
     ensures marked { result.marked ≡ plus so_far.marked (counts_in (ask now (shape band.old)).rises).marked }
     ensures packet { out.new ≡ unwrap_or result.packet out.old }
     ensures told { IsToldOf (ask now (shape band.old)).rises (S.losses sink.old) (S.losses sink.new) (S.room sink.old) (S.room sink.new) }
-    ensures toll { toll.new ≡ toll_of result }
+    ensures signals { signals.new ≡ signals_of result }
     ensures kept { S.keeps sink.old sink.new }
 {
-    let mut asked = NO_TOLL;
-    let next = band.send(now, out, &mut asked, sink);
-    so_far.then(next, toll, &asked)
+    let mut asked = NO_SIGNALS;
+    let next = band.dequeue(now, out, &mut asked, sink);
+    so_far.then(next, signals, &asked)
 }
 
 /// The first band that has a packet at hand.
@@ -175,22 +175,22 @@ pub(crate) fn ready_band(bands: &[Node]) -> Option<usize>
 pub(crate) fn ask_bands<S: Sink>(
     bands: &mut [Node],
     now: Moment,
-    toll: &mut Toll,
+    signals: &mut Signals,
     sink: &mut S,
 ) -> Shown
     requires ready { CanAskEach now bands.old }
     requires sink { length (packets_beneath bands.old) ≤ S.room sink.old }
-    requires clean { toll.old ≡ no_toll }
+    requires clean { signals.old ≡ no_signals }
     ensures after { (own : Own) → AreAsked (ask_prio own (answers now bands.old)) bands.old bands.new result }
     ensures told { (own : Own) → IsToldOf (ask_prio own (answers now bands.old)).rises (S.losses sink.old) (S.losses sink.new) (S.room sink.old) (S.room sink.new) }
-    ensures toll { toll.new ≡ toll_of result }
+    ensures signals { signals.new ≡ signals_of result }
     ensures kept { S.keeps sink.old sink.new }
 {
     let mut shown = Shown::at_hand(&None);
     for place in 0..bands.len() {
-        let mut asked = NO_TOLL;
+        let mut asked = NO_SIGNALS;
         let next = bands[place].peek(now, &mut asked, sink);
-        shown = shown.then(next, toll, &asked);
+        shown = shown.then(next, signals, &asked);
         if shown.has_packet() {
             return shown;
         }
@@ -321,7 +321,7 @@ impl Discipline {
     ) -> Result<Totals, AllocError>
         requires few { FitsCounters (lost_with (SetBands options leaves) (discipline_seen self.old) (children_seen self.old)) }
         requires sink { length (lost_with (SetBands options leaves) (discipline_seen self.old) (children_seen self.old)) ≤ S.room sink.old }
-        ensures after { OnOk result (IsReshaped (SetBands options leaves) self.old self.new) }
+        ensures after { OnOk result (IsChangedBy (SetBands options leaves) self.old self.new) }
         ensures totals { OnOk result (result ≡ Ok (totals_in (lost_with (SetBands options leaves) (discipline_seen self.old) (children_seen self.old)))) }
         ensures lost { OnOk result (S.losses sink.new ≡ S.losses sink.old ++ purged (lost_with (SetBands options leaves) (discipline_seen self.old) (children_seen self.old))) }
         ensures room { OnOk result (S.room sink.new + length (lost_with (SetBands options leaves) (discipline_seen self.old) (children_seen self.old)) ≡ S.room sink.old) }

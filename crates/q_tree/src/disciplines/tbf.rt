@@ -5,11 +5,11 @@ ghost use Rattle.q_model.specs.Ask.{ask_tbf};
 ghost use Rattle.q_model.specs.Beneath.{beneath};
 ghost use Rattle.q_model.specs.Make.{limit_bytes};
 ghost use Rattle.q_model.specs.Node.{Own, Tbf, shape};
-ghost use Rattle.q_tree.specs.AskSteps.{AreAsked, CanAsk, IsToldOf, answers, no_toll, toll_of};
+ghost use Rattle.q_tree.specs.AskSteps.{AreAsked, CanAsk, IsToldOf, answers, no_signals, signals_of};
 ghost use Rattle.q_tree.specs.Changing.{tbf_answer};
 ghost use Rattle.q_tree.specs.Making.{IsNewTbf};
 ghost use Rattle.q_tree.specs.ReadyAt.{covers_at, shaped, shaped_after};
-ghost use Rattle.q_tree.specs.Reshaping.{IsReshaped, leaf_limited};
+ghost use Rattle.q_tree.specs.DisciplineChanges.{IsChangedBy, leaf_limited};
 ghost use Rattle.q_tree.specs.declared.commands.discipline_change.DisciplineChange.TheVariants.{SetBucket};
 
 use crate::commands::discipline_change::DisciplineChange;
@@ -17,7 +17,7 @@ use crate::commands::planner::Planner;
 use crate::node::{Discipline, Node};
 use crate::ready_at::{Outlook, is_before, later};
 use crate::shown::Shown;
-use crate::toll::Toll;
+use crate::signals::Signals;
 use q_bucket::Bucket;
 use q_codel::{Limit, Sink};
 use q_model::{Burst, Rate, Refusal, TbfLimit};
@@ -61,21 +61,21 @@ pub(crate) fn dequeue_child<S: Sink>(
     child: &mut Node,
     out: &mut Packet,
     now: Moment,
-    toll: &mut Toll,
+    signals: &mut Signals,
     sink: &mut S,
 ) -> Shown
     requires ready { CanAsk now child.old }
     requires order { bucket.old.last ≤ now }
     requires sink { length (beneath child.old) ≤ S.room sink.old }
-    requires clean { toll.old ≡ no_toll }
+    requires clean { signals.old ≡ no_signals }
     ensures bucket { (own : Own) (limit : ℕ) → own.discipline ≡ Tbf bucket.old limit → Tbf bucket.new limit ≡ (ask_tbf now own (answers now (child.old ∷ [])) bucket.old limit).peeked.own.discipline }
     ensures after { (own : Own) (limit : ℕ) → AreAsked (ask_tbf now own (answers now (child.old ∷ [])) bucket.old limit) (child.old ∷ []) (child.new ∷ []) result }
     ensures told { (own : Own) (limit : ℕ) → IsToldOf (ask_tbf now own (answers now (child.old ∷ [])) bucket.old limit).rises (S.losses sink.old) (S.losses sink.new) (S.room sink.old) (S.room sink.new) }
     ensures packet { out.new ≡ unwrap_or result.packet out.old }
-    ensures toll { toll.new ≡ toll_of result }
+    ensures signals { signals.new ≡ signals_of result }
     ensures kept { S.keeps sink.old sink.new }
 {
-    let shown = child.peek(now, toll, sink);
+    let shown = child.peek(now, signals, sink);
     let Some(len) = shown.packet_len() else {
         return shown;
     };
@@ -95,23 +95,23 @@ pub(crate) fn ask_child<S: Sink>(
     child: &mut Node,
     held: &mut Option<Packet>,
     now: Moment,
-    toll: &mut Toll,
+    signals: &mut Signals,
     sink: &mut S,
 ) -> Shown
     requires ready { CanAsk now child.old }
     requires order { bucket.old.last ≤ now }
     requires none { held.old ≡ None }
     requires sink { length (beneath child.old) ≤ S.room sink.old }
-    requires clean { toll.old ≡ no_toll }
+    requires clean { signals.old ≡ no_signals }
     ensures bucket { (own : Own) (limit : ℕ) → own.discipline ≡ Tbf bucket.old limit → Tbf bucket.new limit ≡ (ask_tbf now own (answers now (child.old ∷ [])) bucket.old limit).peeked.own.discipline }
     ensures after { (own : Own) (limit : ℕ) → AreAsked (ask_tbf now own (answers now (child.old ∷ [])) bucket.old limit) (child.old ∷ []) (child.new ∷ []) result }
     ensures told { (own : Own) (limit : ℕ) → IsToldOf (ask_tbf now own (answers now (child.old ∷ [])) bucket.old limit).rises (S.losses sink.old) (S.losses sink.new) (S.room sink.old) (S.room sink.new) }
     ensures held { held.new ≡ result.packet }
-    ensures toll { toll.new ≡ toll_of result }
+    ensures signals { signals.new ≡ signals_of result }
     ensures kept { S.keeps sink.old sink.new }
 {
     let mut packet = SOME_PACKET;
-    let shown = dequeue_child(bucket, child, &mut packet, now, toll, sink);
+    let shown = dequeue_child(bucket, child, &mut packet, now, signals, sink);
     if shown.has_packet() {
         *held = Some(packet);
     }
@@ -197,7 +197,7 @@ impl Node {
 impl Discipline {
     /// Gives a tbf another bucket and limit, which its implicit leaf has too (tc-tbf(8)).
     pub(crate) fn set_bucket(&mut self, new: Bucket, bytes: u64)
-        ensures { IsReshaped (SetBucket new bytes) self.old self.new }
+        ensures { IsChangedBy (SetBucket new bytes) self.old self.new }
     {
         if let Discipline::Tbf {
             bucket,

@@ -1,7 +1,7 @@
 use Rattle.std.proofs.Common.{◌≡◌, ◌<◌, ◌++◌, ◌∷◌, [], ◌∙◌, sym, ap, subst, arith, length, drop, get_or, map, set, List}
 use Rattle.std.proofs.lemmas.Bool.{false≢true}
 use Rattle.std.proofs.lemmas.List.{length-set, set-get_or}
-use Rattle.q_ports.specs.declared.countable.Countable.{Countable}
+use Rattle.q_ports.specs.declared.ring_rule.RingRule.{RingRule}
 use Rattle.rtrb.specs.Ring as ends
 use Rattle.q_ports.specs.Rings.{RingSeen, ring_seen, seat_for}
 use Rattle.q_ports.specs.Stopped.{HasNoRoomForNext}
@@ -64,7 +64,7 @@ returns-in_default-clause-refused g c =
     let first = c.peek_known-packet.ensures in
     let there : (d : RingSeen) → (get_or now c.args.at d).known ≡ p ∷ first.0 = λ d. known-there items now c.args.at a c.self.view_is c.requires.at c.index_mut-ring.ensures.value d ∙ sym first.1 in
     let back : set items c.args.at a ≡ items = ap (λ (r : Ring). set items c.args.at r) c.index_mut-ring.ensures.value ∙ set-get_or items c.args.at a in
-    let seen : map (ring_seen {P = Countable}) (set items c.args.at a) ≡ now = ap (λ (rs : List Ring). map (ring_seen {P = Countable}) rs) back ∙ c.self.view_is in
+    let seen : map (ring_seen {P = RingRule}) (set items c.args.at a) ≡ now = ap (λ (rs : List Ring). map (ring_seen {P = RingRule}) rs) back ∙ c.self.view_is in
     subst (HasNoRoomForNext c.args.booked.now) (sym seen)
     (record {
       ring = c.args.at;

@@ -11,7 +11,7 @@ use Rattle.q_model.specs.declared.totals.Totals.{Totals}
 use Rattle.q_model.specs.Beneath as beneath
 use Rattle.q_model.specs.Beneath.{totals_in}
 use Rattle.q_tree.specs.Arrivals.{minus}
-use Rattle.q_tree.specs.AskSteps.{toll_of}
+use Rattle.q_tree.specs.AskSteps.{signals_of}
 use Rattle.q_tree.specs.Shown.{Shown}
 use Rattle.q_tree.proofs.Rows.{same-totals}
 use Rattle.q_tree.proofs.GivenInto.{none-dropped, none-there, sent-some, sent-none}
@@ -85,11 +85,11 @@ returns-then-not-sent-clause-shown g c =
 pub returns-then-not-sent-clause-packet : goal.returns-then-not-sent-clause-packet
 returns-then-not-sent-clause-packet g c = ap (λ (s : Shown). unwrap_or s.packet c.args.out.now) (sym c.show_marked.ensures.shown)
 
-pub returns-then-sent-eq0-clause-toll : goal.returns-then-sent-eq0-clause-toll
-returns-then-sent-eq0-clause-toll g c = c.requires.clean ∙ sym (ap toll_of c.at_hand.ensures)
+pub returns-then-sent-eq0-clause-signals : goal.returns-then-sent-eq0-clause-signals
+returns-then-sent-eq0-clause-signals g c = c.requires.clean ∙ sym (ap signals_of c.at_hand.ensures)
 
-pub returns-then-not-sent-clause-toll : goal.returns-then-not-sent-clause-toll
-returns-then-not-sent-clause-toll g c = c.show_marked.ensures.toll
+pub returns-then-not-sent-clause-signals : goal.returns-then-not-sent-clause-signals
+returns-then-not-sent-clause-signals g c = c.show_marked.ensures.signals
 
-pub returns-clause-toll : goal.returns-clause-toll
-returns-clause-toll g c = sym (ap toll_of c.sending.ensures)
+pub returns-clause-signals : goal.returns-clause-signals
+returns-clause-signals g c = sym (ap signals_of c.sending.ensures)

@@ -10,7 +10,7 @@ use Rattle.q_model.specs.Node.{Node}
 use Rattle.q_packet.specs.Descriptor.{Descriptor}
 use Rattle.q_tree.specs.Kept.{Kept}
 use Rattle.q_tree.specs.Purging.{purged}
-use Rattle.q_tree.specs.Reshaping.{rescheduled}
+use Rattle.q_tree.specs.DisciplineChanges.{rescheduled}
 use Rattle.q_tree.specs.Seen.{children_seen, discipline_seen, places_seen}
 use Rattle.q_tree.proofs.ClassLemmas.{class-is-there, found-class, past-class}
 use Rattle.q_tree.proofs.node.Discipline.remove_class.Goals as goal

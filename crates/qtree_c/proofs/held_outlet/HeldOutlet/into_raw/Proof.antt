@@ -25,7 +25,7 @@ use Rattle.std.specs.declared.option.Option.TheVariants.{Some}
 use Rattle.std.specs.Prelude.{IsSome}
 use Rattle.std.specs.contracts.impls.GlobalAllocator.TheImpl.{ghosts}
 use Rattle.q_ports.specs.contracts.Outlet.{the_row as R}
-use Rattle.q_raw_box.proofs.Values.{both, raw_box_good, raw_box_in}
+use Rattle.qtree_c.proofs.RawBoxValues.{both, raw_box_good, raw_box_in}
 use Rattle.qtree_c.proofs.HeldSteps.{single, found, held_out}
 use Rattle.qtree_c.specs.contracts.held_outlet.HeldOutlet.{the_row as HeldOutlet}
 use Rattle.qtree_c.specs.contracts.held_outlet.HeldOutlet.into_raw.{ended, clauses}

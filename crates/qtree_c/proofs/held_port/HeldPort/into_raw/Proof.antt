@@ -25,7 +25,7 @@ use Rattle.std.specs.declared.option.Option.TheVariants.{Some}
 use Rattle.std.specs.Prelude.{IsSome}
 use Rattle.std.specs.contracts.impls.GlobalAllocator.TheImpl.{ghosts}
 use Rattle.q_ports.specs.contracts.Port.{the_row as R}
-use Rattle.q_raw_box.proofs.Values.{both, raw_box_good, raw_box_in}
+use Rattle.qtree_c.proofs.RawBoxValues.{both, raw_box_good, raw_box_in}
 use Rattle.qtree_c.proofs.HeldSteps.{single, found, held_out}
 use Rattle.qtree_c.specs.contracts.held_port.HeldPort.{the_row as HeldPort}
 use Rattle.qtree_c.specs.contracts.held_port.HeldPort.into_raw.{ended, clauses}

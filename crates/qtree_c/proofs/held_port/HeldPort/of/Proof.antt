@@ -23,7 +23,7 @@ use Rattle.std.specs.contracts.alloc.Global.{the_row as Z}
 use Rattle.std.specs.declared.option.Option.TheVariants.{Some}
 use Rattle.std.specs.contracts.impls.GlobalAllocator.TheImpl.{ghosts}
 use Rattle.q_ports.specs.contracts.Port.{the_row as R}
-use Rattle.q_raw_box.proofs.Values.{both, RawBox, raw_box_good, raw_box_out}
+use Rattle.qtree_c.proofs.RawBoxValues.{both, RawBox, raw_box_good, raw_box_out}
 use Rattle.qtree_c.proofs.HeldSteps.{single, held_in}
 use Rattle.qtree_c.specs.contracts.held_port.HeldPort.of.{ended, clauses}
 use Rattle.qtree_c.specs.contracts.held_port.HeldPort.of.Key.{name as #self}

@@ -22,8 +22,8 @@ returns-in_default c =
           (change-nowhere root (bounded-by c.args.self.now) d c.args.self.now.moment d.mtu c.requires.lawful c.args.place c.args.handle k (sym c.target.ensures ∙ ap (option_map (λ x. (x.0.items, x.1.now))) c.in_default.is));
     }
 
-pub reshape_to-requires-clause-within : goal.reshape_to-requires-clause-within
-reshape_to-requires-clause-within c =
+pub change_to-requires-clause-within : goal.change_to-requires-clause-within
+change_to-requires-clause-within c =
     let root = root_of c.args.self.now in
     let d : Device = device_of c.args.self.now in
     omega (
@@ -32,25 +32,25 @@ reshape_to-requires-clause-within c =
           (sym c.target.ensures ∙ ap (option_map (λ x. (x.0.items, x.1.now))) c.in-Some.is),
     )
 
-pub reshape_to-requires-clause-lawful : goal.reshape_to-requires-clause-lawful
-reshape_to-requires-clause-lawful c =
+pub change_to-requires-clause-lawful : goal.change_to-requires-clause-lawful
+change_to-requires-clause-lawful c =
     let root = root_of c.args.self.now in
     let d : Device = device_of c.args.self.now in
     change-lawful root (bounded-by c.args.self.now) d c.args.self.now.moment d.mtu c.requires.lawful c.args.place c.args.handle c.args.kind.now c.in-Some.path.items c.in-Some.node.now
     (sym c.target.ensures ∙ ap (option_map (λ x. (x.0.items, x.1.now))) c.in-Some.is)
 
-pub returns-in_err-reshape : goal.returns-in_err-reshape
-returns-in_err-reshape c =
+pub returns-in_err-change : goal.returns-in_err-change
+returns-in_err-change c =
     let root = root_of c.args.self.now in
     let n = c.in-Some.node.now in
     let d : Device = device_of c.args.self.now in
     let k = c.args.kind.now in
-    let e = c.in_err-reshape.field-0.0 in
+    let e = c.in_err-change.field-0.0 in
     record {
       plan = err-passed c.from_residual.result e (IsPlanBy c.args.self.now (NeedsMore k (planned_by c.args.self.now (QdiscChange c.args.place c.args.handle k))) (QdiscChange c.args.place c.args.handle k)) c.from_residual.ensures.1
           (change-refused root (bounded-by c.args.self.now) d c.args.self.now.moment d.mtu c.requires.lawful c.args.place c.args.handle k c.in-Some.path.items n
           (sym c.target.ensures ∙ ap (option_map (λ x. (x.0.items, x.1.now))) c.in-Some.is) (NeedsMore k) e
-          (subst (IsChange (NeedsMore k) (plans_of d c.args.self.now.moment (shape root) n k n.own.discipline) n) c.in_err-reshape.was c.reshape_to.ensures c.in-Some.path.items));
+          (subst (IsChange (NeedsMore k) (plans_of d c.args.self.now.moment (shape root) n k n.own.discipline) n) c.in_err-change.was c.change_to.ensures c.in-Some.path.items));
     }
 
 pub returns : goal.returns
@@ -61,7 +61,7 @@ returns c =
     let k = c.args.kind.now in
     record {
       plan = change-planned root (bounded-by c.args.self.now) d c.args.self.now.moment d.mtu c.requires.lawful c.args.place c.args.handle k c.in-Some.path.items n
-          (sym c.target.ensures ∙ ap (option_map (λ x. (x.0.items, x.1.now))) c.in-Some.is) (NeedsMore k) c.in_ok-reshape.reshape
-          (subst (IsChange (NeedsMore k) (plans_of d c.args.self.now.moment (shape root) n k n.own.discipline) n) c.in_ok-reshape.was c.reshape_to.ensures)
-          (record { path = c.in-Some.path; edit = DisciplineChange c.in_ok-reshape.reshape }) refl refl c.requires.ranges;
+          (sym c.target.ensures ∙ ap (option_map (λ x. (x.0.items, x.1.now))) c.in-Some.is) (NeedsMore k) c.in_ok-change.change
+          (subst (IsChange (NeedsMore k) (plans_of d c.args.self.now.moment (shape root) n k n.own.discipline) n) c.in_ok-change.was c.change_to.ensures)
+          (record { path = c.in-Some.path; edit = DisciplineChange c.in_ok-change.change }) refl refl c.requires.ranges;
     }

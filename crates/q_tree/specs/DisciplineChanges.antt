@@ -203,8 +203,8 @@ KeepsAll (AddClass class quantum leaf) = Unit {0}
 KeepsAll (SetQuantum class quantum) = Unit {0}
 KeepsAll (RemoveClass class) = ⊥
 
--- a discipline of the code once it is reshaped
-pub record IsReshaped (r : DisciplineChange) (old new : Discipline) : Type 0 where
+-- a discipline of the code once it is changed
+pub record IsChangedBy (r : DisciplineChange) (old new : Discipline) : Type 0 where
   pub discipline : discipline_seen new ≡ discipline_after r (discipline_seen old) (children_seen old)
   pub children : children_seen new ≡ children_after r (discipline_seen old) (children_seen old)
   pub places : places_seen new ≡ places_seen old

@@ -4,17 +4,17 @@ use std::alloc::Global;
 
 /// The rule of a ring: what was placed there can be counted, in packets and in bytes.
 #[derive(Clone, Copy)]
-pub struct Countable;
+pub struct RingRule;
 
-impl Protocol<Packet> for Countable {
+impl Protocol<Packet> for RingRule {
     ghost use Rattle.std.specs.Prelude.{◌++◌, ◌∷◌, []};
-    ghost use Rattle.q_ports.specs.Placed.{IsCountable};
+    ghost use Rattle.q_ports.specs.Placed.{CanBeCounted};
 
-    ghost allows = { λ before packet. IsCountable (before ++ packet ∷ []) };
+    ghost allows = { λ before packet. CanBeCounted (before ++ packet ∷ []) };
 }
 
 /// The end of a ring at which packets are placed.
-pub type PacketProducer = Producer<Packet, Global, Countable>;
+pub type PacketProducer = Producer<Packet, Global, RingRule>;
 
 /// The end of a ring at which packets are taken.
-pub type PacketConsumer = Consumer<Packet, Global, Countable>;
+pub type PacketConsumer = Consumer<Packet, Global, RingRule>;

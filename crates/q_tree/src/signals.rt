@@ -1,28 +1,28 @@
 ghost use Rattle.std.specs.Prelude.{◌≡◌, ◌<◌, ◌+◌, ◌^◌, true};
 ghost use Rattle.q_tree.specs.Arrivals.{plus};
-ghost use Rattle.q_tree.specs.AskSteps.{no_toll};
+ghost use Rattle.q_tree.specs.AskSteps.{no_signals};
 
 use crate::booking::{NOTHING, sum};
 use q_model::Totals;
 
 /// What CoDel dropped and marked while nodes were asked.
 #[derive(Clone, Copy)]
-pub(crate) struct Toll {
+pub(crate) struct Signals {
     pub(crate) dropped: Totals,
     pub(crate) marked: Totals,
 }
 
 /// Nothing was dropped, and nothing was marked.
-pub(crate) const NO_TOLL: Toll = Toll {
+pub(crate) const NO_SIGNALS: Signals = Signals {
     dropped: NOTHING,
     marked: NOTHING,
 };
 
-impl Toll {
+impl Signals {
     /// Whether nothing was dropped and nothing was marked.
     #[inline(always)]
     pub(crate) fn is_nothing(&self) -> bool
-        ensures { result ≡ true → self.now ≡ no_toll }
+        ensures { result ≡ true → self.now ≡ no_signals }
     {
         self.dropped.packets == 0
             && self.dropped.bytes == 0
@@ -33,7 +33,7 @@ impl Toll {
     /// Adds what asking one more node came to.
     #[cold]
     #[inline(never)]
-    pub(crate) fn add(&mut self, next: &Toll)
+    pub(crate) fn add(&mut self, next: &Signals)
         requires dropped_packets { self.old.dropped.packets + next.now.dropped.packets < 2 ^ 64 }
         requires dropped_bytes { self.old.dropped.bytes + next.now.dropped.bytes < 2 ^ 64 }
         requires marked_packets { self.old.marked.packets + next.now.marked.packets < 2 ^ 64 }

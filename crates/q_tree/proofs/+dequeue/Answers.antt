@@ -15,7 +15,7 @@ use Rattle.q_model.specs.Node.{Node, shape, side_by_side}
 use Rattle.q_model.specs.Pop.{pop}
 use Rattle.q_model.specs.Tally.{counts_in}
 use Rattle.q_model.specs.Work.{Worked, booked}
-use Rattle.q_tree.specs.AskSteps.{IsToldOf, answers, own_of, toll_of}
+use Rattle.q_tree.specs.AskSteps.{IsToldOf, answers, own_of, signals_of}
 use Rattle.q_tree.specs.Kept.{Kept, kept}
 use Rattle.q_tree.specs.NodeCode.{forest_size}
 use Rattle.q_tree.specs.Seen.{children_seen, discipline_seen, places_seen}
@@ -27,29 +27,29 @@ use Rattle.q_tree.proofs.AtHandLemmas.{none-held}
 use Rattle.q_tree.proofs.HereLemmas.{flow-packets}
 use Rattle.q_tree.proofs.Peeks.{asked-in, told-in, each-of, room-of, own-room, items-are, serve-of, holding-after, can-in, enough, told-here}
 use Rattle.q_tree.proofs.PopLemmas.{held-after}
-use Rattle.q_tree.proofs.Quiet.{shown-nothing, toll-nothing}
+use Rattle.q_tree.proofs.Quiet.{shown-nothing, signals-nothing}
 use Rattle.q_tree.proofs.RouteLemmas.{child-size, children-size}
 use Rattle.q_tree.proofs.SendBands.{asked-sent, band-sent, sent-rises}
 use Rattle.q_tree.proofs.SendForms.{asked-sent-in, sent-in, prio-left, fifo-sent, held-answer, held-shows, sent-shown, sent-fits, none-sent, sent-row, sent-queued, one-sent}
 use Rattle.q_tree.proofs.SendLemmas.{given-some, given-none, left-some, left-none, gave-asked}
 use Rattle.q_tree.proofs.TakeCounts.{flow-told}
-use Rattle.q_tree.proofs.+send.Goals as goal
+use Rattle.q_tree.proofs.+dequeue.Goals as goal
 
 -- what a band shows and counts
 abbrev next_of : ℕ → Node Kept → Shown
 next_of now band = let a = ask now (shape band) in record { packet = a.shown; dropped = (counts_in a.rises).dropped; marked = (counts_in a.rises).marked }
 
-pub disciplines::prio::send_band_further-then-requires-clause-dropped_packets : goal.disciplines::prio::send_band_further-then-requires-clause-dropped_packets
-disciplines::prio::send_band_further-then-requires-clause-dropped_packets g t c = (fits-beside c.args.now c.args.band.now c.args.so_far c.send-next.result (g.S.Sink.room c.args.sink.now) c.requires.ready c.send-next.ensures.shown).dropped_packets
+pub disciplines::prio::dequeue_band_further-then-requires-clause-dropped_packets : goal.disciplines::prio::dequeue_band_further-then-requires-clause-dropped_packets
+disciplines::prio::dequeue_band_further-then-requires-clause-dropped_packets g t c = (fits-beside c.args.now c.args.band.now c.args.so_far c.dequeue-next.result (g.S.Sink.room c.args.sink.now) c.requires.ready c.dequeue-next.ensures.shown).dropped_packets
 
-pub disciplines::prio::send_band_further-then-requires-clause-dropped_bytes : goal.disciplines::prio::send_band_further-then-requires-clause-dropped_bytes
-disciplines::prio::send_band_further-then-requires-clause-dropped_bytes g t c = (fits-beside c.args.now c.args.band.now c.args.so_far c.send-next.result (g.S.Sink.room c.args.sink.now) c.requires.ready c.send-next.ensures.shown).dropped_bytes
+pub disciplines::prio::dequeue_band_further-then-requires-clause-dropped_bytes : goal.disciplines::prio::dequeue_band_further-then-requires-clause-dropped_bytes
+disciplines::prio::dequeue_band_further-then-requires-clause-dropped_bytes g t c = (fits-beside c.args.now c.args.band.now c.args.so_far c.dequeue-next.result (g.S.Sink.room c.args.sink.now) c.requires.ready c.dequeue-next.ensures.shown).dropped_bytes
 
-pub disciplines::prio::send_band_further-then-requires-clause-marked_packets : goal.disciplines::prio::send_band_further-then-requires-clause-marked_packets
-disciplines::prio::send_band_further-then-requires-clause-marked_packets g t c = (fits-beside c.args.now c.args.band.now c.args.so_far c.send-next.result (g.S.Sink.room c.args.sink.now) c.requires.ready c.send-next.ensures.shown).marked_packets
+pub disciplines::prio::dequeue_band_further-then-requires-clause-marked_packets : goal.disciplines::prio::dequeue_band_further-then-requires-clause-marked_packets
+disciplines::prio::dequeue_band_further-then-requires-clause-marked_packets g t c = (fits-beside c.args.now c.args.band.now c.args.so_far c.dequeue-next.result (g.S.Sink.room c.args.sink.now) c.requires.ready c.dequeue-next.ensures.shown).marked_packets
 
-pub disciplines::prio::send_band_further-then-requires-clause-marked_bytes : goal.disciplines::prio::send_band_further-then-requires-clause-marked_bytes
-disciplines::prio::send_band_further-then-requires-clause-marked_bytes g t c = (fits-beside c.args.now c.args.band.now c.args.so_far c.send-next.result (g.S.Sink.room c.args.sink.now) c.requires.ready c.send-next.ensures.shown).marked_bytes
+pub disciplines::prio::dequeue_band_further-then-requires-clause-marked_bytes : goal.disciplines::prio::dequeue_band_further-then-requires-clause-marked_bytes
+disciplines::prio::dequeue_band_further-then-requires-clause-marked_bytes g t c = (fits-beside c.args.now c.args.band.now c.args.so_far c.dequeue-next.result (g.S.Sink.room c.args.sink.now) c.requires.ready c.dequeue-next.ensures.shown).marked_bytes
 
 pub disciplines::prio::send_first-loop-place-init : goal.disciplines::prio::send_first-loop-place-init
 disciplines::prio::send_first-loop-place-init g t c = (
@@ -57,11 +57,11 @@ disciplines::prio::send_first-loop-place-init g t c = (
   told-nothing (g.S.Sink.losses c.args.sink.now) (g.S.Sink.room c.args.sink.now),
   g.met.S.Sink.keeps_same c.args.sink.now,
   refl,
-  c.requires.clean ∙ sym (ap toll_of c.at_hand-shown.ensures),
+  c.requires.clean ∙ sym (ap signals_of c.at_hand-shown.ensures),
 )
 
-pub disciplines::prio::send_first-send_band-shown-requires : goal.disciplines::prio::send_first-send_band-shown-requires
-disciplines::prio::send_first-send_band-shown-requires g t c κs within =
+pub disciplines::prio::send_first-dequeue_band-shown-requires : goal.disciplines::prio::send_first-dequeue_band-shown-requires
+disciplines::prio::send_first-dequeue_band-shown-requires g t c κs within =
     let band = slice_index_or c.loop-place.bands c.loop-place.place c.index-bands-place.result in
     let at = band-at c.args.now c.args.bands.now c.loop-place.bands c.loop-place.place c.loop-place.shown c.loop-place.invariant.0 c.index-bands-place.result c.loop-place-test.true in
     let once = band-once c.args.now c.args.bands.now c.loop-place.bands c.loop-place.place c.loop-place.shown c.requires.ready c.loop-place.invariant.0 band at (g.S.Sink.losses c.args.sink.now) (g.S.Sink.losses c.loop-place.sink) (g.S.Sink.room c.args.sink.now) (g.S.Sink.room c.loop-place.sink) c.loop-place.invariant.1 c.requires.sink in
@@ -71,51 +71,51 @@ pub disciplines::prio::send_first-returns-then-has_packet-clause-after : goal.di
 disciplines::prio::send_first-returns-then-has_packet-clause-after g t c =
     let band = slice_index_or c.loop-place.bands c.loop-place.place c.index-bands-place.result in
     let at = band-at c.args.now c.args.bands.now c.loop-place.bands c.loop-place.place c.loop-place.shown c.loop-place.invariant.0 c.index-bands-place.result c.loop-place-test.true in
-    let same = c.send_band-shown.ensures.shown in
-    let some = given-some c.send_band-shown.result.packet c.loop-place.out c.send_band-shown.new.out (sym c.if-has_packet.ensures) c.send_band-shown.ensures.packet in
-    let gone = c.send_band-shown.ensures.after ∙ ap (λ (w : Worked). booked kept band w) (left-some c.args.now band c.send_band-shown.new.out (sym same ∙ some)) in
-    band-sent c.args.now c.args.bands.now c.loop-place.bands c.loop-place.place c.loop-place.shown c.requires.ready c.loop-place.invariant.0 band at c.send_band-shown.new.band (next_of c.args.now band) c.send_band-shown.result c.send_band-shown.new.out gone c.send_band-shown.ensures.arrived (record { packet = refl; dropped = refl; marked = refl })
-    c.send_band-shown.ensures.dropped c.send_band-shown.ensures.marked same some
+    let same = c.dequeue_band-shown.ensures.shown in
+    let some = given-some c.dequeue_band-shown.result.packet c.loop-place.out c.dequeue_band-shown.new.out (sym c.if-has_packet.ensures) c.dequeue_band-shown.ensures.packet in
+    let gone = c.dequeue_band-shown.ensures.after ∙ ap (λ (w : Worked). booked kept band w) (left-some c.args.now band c.dequeue_band-shown.new.out (sym same ∙ some)) in
+    band-sent c.args.now c.args.bands.now c.loop-place.bands c.loop-place.place c.loop-place.shown c.requires.ready c.loop-place.invariant.0 band at c.dequeue_band-shown.new.band (next_of c.args.now band) c.dequeue_band-shown.result c.dequeue_band-shown.new.out gone c.dequeue_band-shown.ensures.arrived (record { packet = refl; dropped = refl; marked = refl })
+    c.dequeue_band-shown.ensures.dropped c.dequeue_band-shown.ensures.marked same some
 
 pub disciplines::prio::send_first-returns-then-has_packet-clause-told : goal.disciplines::prio::send_first-returns-then-has_packet-clause-told
 disciplines::prio::send_first-returns-then-has_packet-clause-told g t c =
     let band = slice_index_or c.loop-place.bands c.loop-place.place c.index-bands-place.result in
     let at = band-at c.args.now c.args.bands.now c.loop-place.bands c.loop-place.place c.loop-place.shown c.loop-place.invariant.0 c.index-bands-place.result c.loop-place-test.true in
-    let same = c.send_band-shown.ensures.shown in
-    let some = given-some c.send_band-shown.result.packet c.loop-place.out c.send_band-shown.new.out (sym c.if-has_packet.ensures) c.send_band-shown.ensures.packet in
-    let gone = c.send_band-shown.ensures.after ∙ ap (λ (w : Worked). booked kept band w) (left-some c.args.now band c.send_band-shown.new.out (sym same ∙ some)) in
-    λ own. subst (λ notes. IsToldOf notes (g.S.Sink.losses c.args.sink.now) (g.S.Sink.losses c.send_band-shown.new.sink) (g.S.Sink.room c.args.sink.now) (g.S.Sink.room c.send_band-shown.new.sink))
-    (sent-rises c.args.now c.args.bands.now c.loop-place.bands c.loop-place.place c.loop-place.shown c.requires.ready c.loop-place.invariant.0 band at c.send_band-shown.new.band (next_of c.args.now band) c.send_band-shown.result c.send_band-shown.new.out gone c.send_band-shown.ensures.arrived (record { packet = refl; dropped = refl; marked = refl })
-    c.send_band-shown.ensures.dropped c.send_band-shown.ensures.marked same some own)
-    (told-then (told_to c.loop-place.place (answers c.args.now c.args.bands.now)) (ask c.args.now (shape band)).rises (g.S.Sink.losses c.args.sink.now) (g.S.Sink.losses c.loop-place.sink) (g.S.Sink.losses c.send_band-shown.new.sink)
-    (g.S.Sink.room c.args.sink.now) (g.S.Sink.room c.loop-place.sink) (g.S.Sink.room c.send_band-shown.new.sink) c.loop-place.invariant.1 c.send_band-shown.ensures.told)
+    let same = c.dequeue_band-shown.ensures.shown in
+    let some = given-some c.dequeue_band-shown.result.packet c.loop-place.out c.dequeue_band-shown.new.out (sym c.if-has_packet.ensures) c.dequeue_band-shown.ensures.packet in
+    let gone = c.dequeue_band-shown.ensures.after ∙ ap (λ (w : Worked). booked kept band w) (left-some c.args.now band c.dequeue_band-shown.new.out (sym same ∙ some)) in
+    λ own. subst (λ notes. IsToldOf notes (g.S.Sink.losses c.args.sink.now) (g.S.Sink.losses c.dequeue_band-shown.new.sink) (g.S.Sink.room c.args.sink.now) (g.S.Sink.room c.dequeue_band-shown.new.sink))
+    (sent-rises c.args.now c.args.bands.now c.loop-place.bands c.loop-place.place c.loop-place.shown c.requires.ready c.loop-place.invariant.0 band at c.dequeue_band-shown.new.band (next_of c.args.now band) c.dequeue_band-shown.result c.dequeue_band-shown.new.out gone c.dequeue_band-shown.ensures.arrived (record { packet = refl; dropped = refl; marked = refl })
+    c.dequeue_band-shown.ensures.dropped c.dequeue_band-shown.ensures.marked same some own)
+    (told-then (told_to c.loop-place.place (answers c.args.now c.args.bands.now)) (ask c.args.now (shape band)).rises (g.S.Sink.losses c.args.sink.now) (g.S.Sink.losses c.loop-place.sink) (g.S.Sink.losses c.dequeue_band-shown.new.sink)
+    (g.S.Sink.room c.args.sink.now) (g.S.Sink.room c.loop-place.sink) (g.S.Sink.room c.dequeue_band-shown.new.sink) c.loop-place.invariant.1 c.dequeue_band-shown.ensures.told)
 
 pub disciplines::prio::send_first-returns-then-has_packet-clause-kept : goal.disciplines::prio::send_first-returns-then-has_packet-clause-kept
 disciplines::prio::send_first-returns-then-has_packet-clause-kept g t c =
-    g.met.S.Sink.keeps_on c.args.sink.now c.loop-place.sink c.send_band-shown.new.sink c.loop-place.invariant.2 c.send_band-shown.ensures.kept
+    g.met.S.Sink.keeps_on c.args.sink.now c.loop-place.sink c.dequeue_band-shown.new.sink c.loop-place.invariant.2 c.dequeue_band-shown.ensures.kept
 
 pub disciplines::prio::send_first-returns-then-has_packet-clause-packet : goal.disciplines::prio::send_first-returns-then-has_packet-clause-packet
 disciplines::prio::send_first-returns-then-has_packet-clause-packet g t c =
-    c.send_band-shown.ensures.packet ∙ ap (unwrap_or c.send_band-shown.result.packet) c.loop-place.invariant.3
+    c.dequeue_band-shown.ensures.packet ∙ ap (unwrap_or c.dequeue_band-shown.result.packet) c.loop-place.invariant.3
 
 pub disciplines::prio::send_first-loop-place-preserved : goal.disciplines::prio::send_first-loop-place-preserved
 disciplines::prio::send_first-loop-place-preserved g t c =
     let band = slice_index_or c.loop-place.bands c.loop-place.place c.index-bands-place.result in
     let at = band-at c.args.now c.args.bands.now c.loop-place.bands c.loop-place.place c.loop-place.shown c.loop-place.invariant.0 c.index-bands-place.result c.loop-place-test.true in
-    let same = c.send_band-shown.ensures.shown in
-    let none = given-none c.send_band-shown.result.packet c.loop-place.out c.send_band-shown.new.out (sym c.if-has_packet.ensures) c.send_band-shown.ensures.packet in
-    let stays = c.send_band-shown.ensures.after ∙ ap (λ (w : Worked). booked kept band w) (left-none c.args.now band (sym same ∙ none.0)) in (
-      subst (λ n. AreBandsAsked c.args.now c.args.bands.now (set c.loop-place.bands c.loop-place.place c.send_band-shown.new.band) n c.send_band-shown.result) (sym (add-one c.loop-place.place))
-          (band-passed c.args.now c.args.bands.now c.loop-place.bands c.loop-place.place c.loop-place.shown c.requires.ready c.loop-place.invariant.0 band at c.send_band-shown.new.band (next_of c.args.now band) c.send_band-shown.result stays c.send_band-shown.ensures.arrived (record { packet = refl; dropped = refl; marked = refl })
-          c.send_band-shown.ensures.dropped c.send_band-shown.ensures.marked same (sym c.if-has_packet.ensures)),
-      subst (λ n. IsToldOf (told_to n (answers c.args.now c.args.bands.now)) (g.S.Sink.losses c.args.sink.now) (g.S.Sink.losses c.send_band-shown.new.sink) (g.S.Sink.room c.args.sink.now) (g.S.Sink.room c.send_band-shown.new.sink)) (sym (add-one c.loop-place.place))
-          (subst (λ notes. IsToldOf notes (g.S.Sink.losses c.args.sink.now) (g.S.Sink.losses c.send_band-shown.new.sink) (g.S.Sink.room c.args.sink.now) (g.S.Sink.room c.send_band-shown.new.sink))
+    let same = c.dequeue_band-shown.ensures.shown in
+    let none = given-none c.dequeue_band-shown.result.packet c.loop-place.out c.dequeue_band-shown.new.out (sym c.if-has_packet.ensures) c.dequeue_band-shown.ensures.packet in
+    let stays = c.dequeue_band-shown.ensures.after ∙ ap (λ (w : Worked). booked kept band w) (left-none c.args.now band (sym same ∙ none.0)) in (
+      subst (λ n. AreBandsAsked c.args.now c.args.bands.now (set c.loop-place.bands c.loop-place.place c.dequeue_band-shown.new.band) n c.dequeue_band-shown.result) (sym (add-one c.loop-place.place))
+          (band-passed c.args.now c.args.bands.now c.loop-place.bands c.loop-place.place c.loop-place.shown c.requires.ready c.loop-place.invariant.0 band at c.dequeue_band-shown.new.band (next_of c.args.now band) c.dequeue_band-shown.result stays c.dequeue_band-shown.ensures.arrived (record { packet = refl; dropped = refl; marked = refl })
+          c.dequeue_band-shown.ensures.dropped c.dequeue_band-shown.ensures.marked same (sym c.if-has_packet.ensures)),
+      subst (λ n. IsToldOf (told_to n (answers c.args.now c.args.bands.now)) (g.S.Sink.losses c.args.sink.now) (g.S.Sink.losses c.dequeue_band-shown.new.sink) (g.S.Sink.room c.args.sink.now) (g.S.Sink.room c.dequeue_band-shown.new.sink)) (sym (add-one c.loop-place.place))
+          (subst (λ notes. IsToldOf notes (g.S.Sink.losses c.args.sink.now) (g.S.Sink.losses c.dequeue_band-shown.new.sink) (g.S.Sink.room c.args.sink.now) (g.S.Sink.room c.dequeue_band-shown.new.sink))
           (band-told c.args.now c.args.bands.now c.loop-place.bands c.loop-place.place c.loop-place.shown c.requires.ready c.loop-place.invariant.0 band at)
-          (told-then (told_to c.loop-place.place (answers c.args.now c.args.bands.now)) (ask c.args.now (shape band)).rises (g.S.Sink.losses c.args.sink.now) (g.S.Sink.losses c.loop-place.sink) (g.S.Sink.losses c.send_band-shown.new.sink)
-          (g.S.Sink.room c.args.sink.now) (g.S.Sink.room c.loop-place.sink) (g.S.Sink.room c.send_band-shown.new.sink) c.loop-place.invariant.1 c.send_band-shown.ensures.told)),
-      g.met.S.Sink.keeps_on c.args.sink.now c.loop-place.sink c.send_band-shown.new.sink c.loop-place.invariant.2 c.send_band-shown.ensures.kept,
+          (told-then (told_to c.loop-place.place (answers c.args.now c.args.bands.now)) (ask c.args.now (shape band)).rises (g.S.Sink.losses c.args.sink.now) (g.S.Sink.losses c.loop-place.sink) (g.S.Sink.losses c.dequeue_band-shown.new.sink)
+          (g.S.Sink.room c.args.sink.now) (g.S.Sink.room c.loop-place.sink) (g.S.Sink.room c.dequeue_band-shown.new.sink) c.loop-place.invariant.1 c.dequeue_band-shown.ensures.told)),
+      g.met.S.Sink.keeps_on c.args.sink.now c.loop-place.sink c.dequeue_band-shown.new.sink c.loop-place.invariant.2 c.dequeue_band-shown.ensures.kept,
       none.1 ∙ c.loop-place.invariant.3,
-      c.send_band-shown.ensures.toll,
+      c.dequeue_band-shown.ensures.signals,
     )
 
 pub disciplines::prio::send_first-returns-clause-after : goal.disciplines::prio::send_first-returns-clause-after
@@ -135,8 +135,8 @@ pub disciplines::prio::send_first-returns-clause-packet : goal.disciplines::prio
 disciplines::prio::send_first-returns-clause-packet g t c =
     c.loop-place.invariant.3 ∙ ap (λ o. unwrap_or o c.args.out.now) (sym c.loop-place.invariant.0.nothing)
 
-pub node::Discipline::send-returns-in-Fifo-clause-after : goal.node::Discipline::send-returns-in-Fifo-clause-after
-node::Discipline::send-returns-in-Fifo-clause-after g t c =
+pub node::Discipline::dequeue-returns-in-Fifo-clause-after : goal.node::Discipline::dequeue-returns-in-Fifo-clause-after
+node::Discipline::dequeue-returns-in-Fifo-clause-after g t c =
     λ handle filters.
     let left = c.dequeue_head.ensures.rest in
     fifo-sent c.args.now handle filters c.args.self.now (code.Fifo c.dequeue_head.new.fifo) c.in-Fifo.fifo.limit c.in-Fifo.fifo.packets c.dequeue_head.result (ap discipline_seen c.in-Fifo.is) (ap children_seen c.in-Fifo.is)
@@ -144,17 +144,17 @@ node::Discipline::send-returns-in-Fifo-clause-after g t c =
     (c.dequeue_head.ensures.shown ∙ sym (slice_get-map (λ (s : Stamped). s.packet) c.in-Fifo.fifo.packets 0))
     c.dequeue_head.ensures.dropped c.dequeue_head.ensures.marked
 
-pub node::Discipline::send-returns-in-Fifo-clause-toll : goal.node::Discipline::send-returns-in-Fifo-clause-toll
-node::Discipline::send-returns-in-Fifo-clause-toll g t c =
-    c.requires.clean ∙ sym (toll-nothing c.dequeue_head.result c.dequeue_head.ensures.dropped c.dequeue_head.ensures.marked)
+pub node::Discipline::dequeue-returns-in-Fifo-clause-signals : goal.node::Discipline::dequeue-returns-in-Fifo-clause-signals
+node::Discipline::dequeue-returns-in-Fifo-clause-signals g t c =
+    c.requires.clean ∙ sym (signals-nothing c.dequeue_head.result c.dequeue_head.ensures.dropped c.dequeue_head.ensures.marked)
 
-pub node::Discipline::send-send_first-requires : goal.node::Discipline::send-send_first-requires
-node::Discipline::send-send_first-requires g t c κs within =
+pub node::Discipline::dequeue-send_first-requires : goal.node::Discipline::dequeue-send_first-requires
+node::Discipline::dequeue-send_first-requires g t c κs within =
     let kids = c.deref_mut.ensures.value ∙ sym (ap children_seen c.in-Prio.is) in
     (omega (arith, ap (λ xs. forest_size (side_by_side xs)) kids, c.decreases), (within, (each-of c.args.now c.args.self.now c.deref_mut.result.now c.requires.ready kids, (omega (arith, c.requires.sink, room-of c.args.self.now c.deref_mut.result.now kids), c.requires.clean))))
 
-pub node::Discipline::send-returns-in-Prio-clause-after : goal.node::Discipline::send-returns-in-Prio-clause-after
-node::Discipline::send-returns-in-Prio-clause-after g t c =
+pub node::Discipline::dequeue-returns-in-Prio-clause-after : goal.node::Discipline::dequeue-returns-in-Prio-clause-after
+node::Discipline::dequeue-returns-in-Prio-clause-after g t c =
     λ handle filters.
     let kids = sym (c.deref_mut.ensures.value ∙ sym (ap children_seen c.in-Prio.is)) in
     let bands = c.send_first.ensures.after (own_of handle filters (spec.Prio c.in-Prio.priomap)) in
@@ -162,38 +162,38 @@ node::Discipline::send-returns-in-Prio-clause-after g t c =
     (ap discipline_seen c.in-Prio.is) kids refl (items-are c.in-Prio.bands.items c.send_first.new.bands c.in-Prio.bands.len (sym c.in-Prio.bands.ok.0) (bands.long ∙ ap (λ xs. length xs) c.deref_mut.ensures.value))
     (sym (ap places_seen c.in-Prio.is)) (prio-left c.args.now handle filters (answers c.args.now c.deref_mut.result.now) c.in-Prio.priomap) bands
 
-pub node::Discipline::send-returns-in-Prio-clause-told : goal.node::Discipline::send-returns-in-Prio-clause-told
-node::Discipline::send-returns-in-Prio-clause-told g t c =
+pub node::Discipline::dequeue-returns-in-Prio-clause-told : goal.node::Discipline::dequeue-returns-in-Prio-clause-told
+node::Discipline::dequeue-returns-in-Prio-clause-told g t c =
     λ handle filters.
     let kids = sym (c.deref_mut.ensures.value ∙ sym (ap children_seen c.in-Prio.is)) in
     told-in c.args.now handle filters c.args.self.now (spec.Prio c.in-Prio.priomap) c.deref_mut.result.now (g.S.Sink.losses c.args.sink.now) (g.S.Sink.losses c.send_first.new.sink) (g.S.Sink.room c.args.sink.now) (g.S.Sink.room c.send_first.new.sink)
     (ap discipline_seen c.in-Prio.is) kids (c.send_first.ensures.told (own_of handle filters (spec.Prio c.in-Prio.priomap)))
 
-pub node::Discipline::send-returns-in-Tbf-clause-after :
-    goal.node::Discipline::send-returns-in-Tbf-clause-after
-node::Discipline::send-returns-in-Tbf-clause-after g t c = λ handle filters.
+pub node::Discipline::dequeue-returns-in-Tbf-clause-after :
+    goal.node::Discipline::dequeue-returns-in-Tbf-clause-after
+node::Discipline::dequeue-returns-in-Tbf-clause-after g t c = λ handle filters.
     let own = own_of handle filters (spec.Tbf c.in-Tbf.bucket c.in-Tbf.limit) in
     let kids = ap children_seen c.in-Tbf.is ∙ ap (λ x. x ∷ []) (sym c.deref_mut-in-Tbf.ensures.value) in
     asked-sent-in c.args.now handle filters c.args.self.now (code.Tbf c.dequeue_child.new.bucket c.in-Tbf.limit (with_value c.in-Tbf.child c.dequeue_child.new.child)) c.dequeue_child.result (subst CanHold (sym (ap discipline_seen c.in-Tbf.is)) tt)
     (asked-in c.args.now handle filters c.args.self.now (code.Tbf c.dequeue_child.new.bucket c.in-Tbf.limit (with_value c.in-Tbf.child c.dequeue_child.new.child)) (spec.Tbf c.in-Tbf.bucket c.in-Tbf.limit) (spec.Tbf c.dequeue_child.new.bucket c.in-Tbf.limit) (c.deref_mut-in-Tbf.result.now ∷ []) (c.dequeue_child.new.child ∷ []) c.dequeue_child.result
     (ap discipline_seen c.in-Tbf.is) kids refl refl (sym (ap places_seen c.in-Tbf.is)) (c.dequeue_child.ensures.bucket own c.in-Tbf.limit refl) (c.dequeue_child.ensures.after own c.in-Tbf.limit))
 
-pub node::Discipline::send-returns-in-Tbf-clause-told :
-    goal.node::Discipline::send-returns-in-Tbf-clause-told
-node::Discipline::send-returns-in-Tbf-clause-told g t c = λ handle filters.
+pub node::Discipline::dequeue-returns-in-Tbf-clause-told :
+    goal.node::Discipline::dequeue-returns-in-Tbf-clause-told
+node::Discipline::dequeue-returns-in-Tbf-clause-told g t c = λ handle filters.
     let own = own_of handle filters (spec.Tbf c.in-Tbf.bucket c.in-Tbf.limit) in
     let kids = ap children_seen c.in-Tbf.is ∙ ap (λ x. x ∷ []) (sym c.deref_mut-in-Tbf.ensures.value) in
     told-in c.args.now handle filters c.args.self.now (spec.Tbf c.in-Tbf.bucket c.in-Tbf.limit) (c.deref_mut-in-Tbf.result.now ∷ []) (g.S.Sink.losses c.args.sink.now) (g.S.Sink.losses c.dequeue_child.new.sink) (g.S.Sink.room c.args.sink.now) (g.S.Sink.room c.dequeue_child.new.sink)
     (ap discipline_seen c.in-Tbf.is) kids (c.dequeue_child.ensures.told own c.in-Tbf.limit)
 
-pub node::Discipline::send-dequeue_class-requires : goal.node::Discipline::send-dequeue_class-requires
-node::Discipline::send-dequeue_class-requires g t c =
+pub node::Discipline::dequeue-dequeue_class-requires : goal.node::Discipline::dequeue-dequeue_class-requires
+node::Discipline::dequeue-dequeue_class-requires g t c =
     let kids = c.deref_mut-in-Drr.ensures.value ∙ sym (ap children_seen c.in-Drr.is) in
     (record { ready = serve-of c.args.now c.args.self.now c.in-Drr.active c.deref_mut-in-Drr.result.now c.requires.ready (ap discipline_seen c.in-Drr.is) kids; sink = omega (arith, c.requires.sink, room-of c.args.self.now c.deref_mut-in-Drr.result.now kids); clean = c.requires.clean })
 
-pub node::Discipline::send-returns-in-Drr-clause-after :
-    goal.node::Discipline::send-returns-in-Drr-clause-after
-node::Discipline::send-returns-in-Drr-clause-after g t c = λ handle filters.
+pub node::Discipline::dequeue-returns-in-Drr-clause-after :
+    goal.node::Discipline::dequeue-returns-in-Drr-clause-after
+node::Discipline::dequeue-returns-in-Drr-clause-after g t c = λ handle filters.
     let own = own_of handle filters (spec.Drr c.in-Drr.active) in
     let kids = sym (c.deref_mut-in-Drr.ensures.value ∙ sym (ap children_seen c.in-Drr.is)) in
     asked-sent-in c.args.now handle filters c.args.self.now (code.Drr c.dequeue_class.new.active (with_items c.in-Drr.classes c.dequeue_class.new.classes)) c.dequeue_class.result (subst CanHold (sym (ap discipline_seen c.in-Drr.is)) tt)
@@ -201,22 +201,22 @@ node::Discipline::send-returns-in-Drr-clause-after g t c = λ handle filters.
     (ap discipline_seen c.in-Drr.is) kids refl (items-are c.in-Drr.classes.items c.dequeue_class.new.classes c.in-Drr.classes.len (sym c.in-Drr.classes.ok.0) ((c.dequeue_class.ensures.after own).long ∙ ap (λ xs. length xs) c.deref_mut-in-Drr.ensures.value))
     (sym (ap places_seen c.in-Drr.is)) (c.dequeue_class.ensures.active own) (c.dequeue_class.ensures.after own))
 
-pub node::Discipline::send-returns-in-Drr-clause-told :
-    goal.node::Discipline::send-returns-in-Drr-clause-told
-node::Discipline::send-returns-in-Drr-clause-told g t c = λ handle filters.
+pub node::Discipline::dequeue-returns-in-Drr-clause-told :
+    goal.node::Discipline::dequeue-returns-in-Drr-clause-told
+node::Discipline::dequeue-returns-in-Drr-clause-told g t c = λ handle filters.
     let kids = sym (c.deref_mut-in-Drr.ensures.value ∙ sym (ap children_seen c.in-Drr.is)) in
     told-in c.args.now handle filters c.args.self.now (spec.Drr c.in-Drr.active) c.deref_mut-in-Drr.result.now (g.S.Sink.losses c.args.sink.now) (g.S.Sink.losses c.dequeue_class.new.sink) (g.S.Sink.room c.args.sink.now) (g.S.Sink.room c.dequeue_class.new.sink)
     (ap discipline_seen c.in-Drr.is) kids (c.dequeue_class.ensures.told (own_of handle filters (spec.Drr c.in-Drr.active)))
 
-pub node::Discipline::send-dequeue_flow-requires :
-    goal.node::Discipline::send-dequeue_flow-requires
-node::Discipline::send-dequeue_flow-requires g t c =
+pub node::Discipline::dequeue-dequeue_flow-requires :
+    goal.node::Discipline::dequeue-dequeue_flow-requires
+node::Discipline::dequeue-dequeue_flow-requires g t c =
     let is = ap discipline_seen c.in-FqCodel.is ∙ ap (λ (q : FqView). spec.FqCodel q.state) (sym c.deref_mut-in-FqCodel.ensures.value) in
     record { sink = omega (arith, c.requires.sink, own-room c.args.self.now, flow-packets c.args.self.now c.deref_mut-in-FqCodel.result.now.state is); clean = c.requires.clean }
 
-pub node::Discipline::send-returns-in-FqCodel-clause-after :
-    goal.node::Discipline::send-returns-in-FqCodel-clause-after
-node::Discipline::send-returns-in-FqCodel-clause-after g t c = λ handle filters.
+pub node::Discipline::dequeue-returns-in-FqCodel-clause-after :
+    goal.node::Discipline::dequeue-returns-in-FqCodel-clause-after
+node::Discipline::dequeue-returns-in-FqCodel-clause-after g t c = λ handle filters.
     let e = c.dequeue_flow.ensures in
     let state = c.deref_mut-in-FqCodel.result.now.state in
     let own = own_of handle filters (spec.FqCodel state) in
@@ -227,9 +227,9 @@ node::Discipline::send-returns-in-FqCodel-clause-after g t c = λ handle filters
     is (ap children_seen c.in-FqCodel.is) refl refl places (ap spec.FqCodel e.after)
     (record { long = refl; nodes = refl; within = λ t h. h; shown = e.shown own [] }))
 
-pub node::Discipline::send-returns-in-FqCodel-clause-told :
-    goal.node::Discipline::send-returns-in-FqCodel-clause-told
-node::Discipline::send-returns-in-FqCodel-clause-told g t c = λ handle filters.
+pub node::Discipline::dequeue-returns-in-FqCodel-clause-told :
+    goal.node::Discipline::dequeue-returns-in-FqCodel-clause-told
+node::Discipline::dequeue-returns-in-FqCodel-clause-told g t c = λ handle filters.
     let e = c.dequeue_flow.ensures in
     let state = c.deref_mut-in-FqCodel.result.now.state in
     let own = own_of handle filters (spec.FqCodel state) in
@@ -238,94 +238,94 @@ node::Discipline::send-returns-in-FqCodel-clause-told g t c = λ handle filters.
     is (ap children_seen c.in-FqCodel.is)
     (flow-told c.args.now state own [] (g.S.Sink.losses c.args.sink.now) (g.S.Sink.losses c.dequeue_flow.new.sink) (g.S.Sink.room c.args.sink.now) (g.S.Sink.room c.dequeue_flow.new.sink) e.lost e.room)
 
-pub node::Node::send-returns-in-Some-clause-after : goal.node::Node::send-returns-in-Some-clause-after
-node::Node::send-returns-in-Some-clause-after g t c =
+pub node::Node::dequeue-returns-in-Some-clause-after : goal.node::Node::dequeue-returns-in-Some-clause-after
+node::Node::dequeue-returns-in-Some-clause-after g t c =
     let stays = holding-after c.args.now c.self.inside c.args.self.now c.in-Some.packet c.self.view_is c.in-Some.is in
     held-after c.self.inside c.in-Some.packet c.in-Some.is c.book_sent.new.row c.book_sent.ensures ∙ ap (λ n. booked kept n (pop n).after) c.self.view_is
     ∙ gave-asked c.args.now c.args.self.now c.args.self.now c.in-Some.packet c.requires.ready stays (held-answer c.args.now c.self.inside c.args.self.now c.in-Some.packet c.self.view_is c.in-Some.is).packet
 
-pub node::Node::send-returns-in-Some-clause-shown : goal.node::Node::send-returns-in-Some-clause-shown
-node::Node::send-returns-in-Some-clause-shown g t c =
+pub node::Node::dequeue-returns-in-Some-clause-shown : goal.node::Node::dequeue-returns-in-Some-clause-shown
+node::Node::dequeue-returns-in-Some-clause-shown g t c =
     held-shows c.args.now c.self.inside c.args.self.now c.in-Some.packet c.self.view_is c.in-Some.is c.sending.result c.sending.ensures
 
-pub node::Node::send-returns-in-Some-clause-packet : goal.node::Node::send-returns-in-Some-clause-packet
-node::Node::send-returns-in-Some-clause-packet g t c =
+pub node::Node::dequeue-returns-in-Some-clause-packet : goal.node::Node::dequeue-returns-in-Some-clause-packet
+node::Node::dequeue-returns-in-Some-clause-packet g t c =
     ap (λ (s : Shown). unwrap_or s.packet c.args.out.now) (sym c.sending.ensures)
 
-pub node::Node::send-invariant_of-self-then-not-has_packet : goal.node::Node::send-invariant_of-self-then-not-has_packet
-node::Node::send-invariant_of-self-then-not-has_packet g t c =
+pub node::Node::dequeue-invariant_of-self-then-not-has_packet : goal.node::Node::dequeue-invariant_of-self-then-not-has_packet
+node::Node::dequeue-invariant_of-self-then-not-has_packet g t c =
     (none-sent c.args.now c.self.inside c.args.self.now c.self.invariant c.self.view_is c.requires.ready c.in_default.is (code.Fifo c.dequeue_head-shown.new.fifo) c.dequeue_head-shown.result (fifo-sent c.args.now c.self.inside.handle c.self.inside.filters c.self.inside.discipline (code.Fifo c.dequeue_head-shown.new.fifo) c.in-Fifo.fifo.limit c.in-Fifo.fifo.packets c.dequeue_head-shown.result (ap discipline_seen c.in-Fifo.is) (ap children_seen c.in-Fifo.is)
     (ap (λ (f : FifoState). spec.Fifo f.limit f.packets) c.dequeue_head-shown.ensures.rest) refl (ap (λ (f : FifoState). f.places) c.dequeue_head-shown.ensures.rest ∙ sym (ap places_seen c.in-Fifo.is))
     (c.dequeue_head-shown.ensures.shown ∙ sym (slice_get-map (λ (s : Stamped). s.packet) c.in-Fifo.fifo.packets 0)) c.dequeue_head-shown.ensures.dropped c.dequeue_head-shown.ensures.marked) c.self.inside.row (sent-fits c.args.now c.self.inside c.args.self.now c.self.invariant c.self.view_is c.requires.ready c.in_default.is (code.Fifo c.dequeue_head-shown.new.fifo) c.dequeue_head-shown.result (fifo-sent c.args.now c.self.inside.handle c.self.inside.filters c.self.inside.discipline (code.Fifo c.dequeue_head-shown.new.fifo) c.in-Fifo.fifo.limit c.in-Fifo.fifo.packets c.dequeue_head-shown.result (ap discipline_seen c.in-Fifo.is) (ap children_seen c.in-Fifo.is)
     (ap (λ (f : FifoState). spec.Fifo f.limit f.packets) c.dequeue_head-shown.ensures.rest) refl (ap (λ (f : FifoState). f.places) c.dequeue_head-shown.ensures.rest ∙ sym (ap places_seen c.in-Fifo.is))
     (c.dequeue_head-shown.ensures.shown ∙ sym (slice_get-map (λ (s : Stamped). s.packet) c.in-Fifo.fifo.packets 0)) c.dequeue_head-shown.ensures.dropped c.dequeue_head-shown.ensures.marked) (omega (arith, c.self.ranges, c.fit.ensures.packets, c.fit.ensures.bytes)) (omega (arith, c.self.ranges, c.fit.ensures.packets, c.fit.ensures.bytes))) (shown-nothing c.dequeue_head-shown.result c.self.inside.row c.dequeue_head-shown.ensures.dropped c.dequeue_head-shown.ensures.marked) (none-held c.dequeue_head-shown.result.packet (sym c.if-not-has_packet.true ∙ c.has_packet.ensures))).stays
 
-pub node::Node::send-returns-then-not-has_packet-clause-after : goal.node::Node::send-returns-then-not-has_packet-clause-after
-node::Node::send-returns-then-not-has_packet-clause-after g t c =
+pub node::Node::dequeue-returns-then-not-has_packet-clause-after : goal.node::Node::dequeue-returns-then-not-has_packet-clause-after
+node::Node::dequeue-returns-then-not-has_packet-clause-after g t c =
     (none-sent c.args.now c.self.inside c.args.self.now c.self.invariant c.self.view_is c.requires.ready c.in_default.is (code.Fifo c.dequeue_head-shown.new.fifo) c.dequeue_head-shown.result (fifo-sent c.args.now c.self.inside.handle c.self.inside.filters c.self.inside.discipline (code.Fifo c.dequeue_head-shown.new.fifo) c.in-Fifo.fifo.limit c.in-Fifo.fifo.packets c.dequeue_head-shown.result (ap discipline_seen c.in-Fifo.is) (ap children_seen c.in-Fifo.is)
     (ap (λ (f : FifoState). spec.Fifo f.limit f.packets) c.dequeue_head-shown.ensures.rest) refl (ap (λ (f : FifoState). f.places) c.dequeue_head-shown.ensures.rest ∙ sym (ap places_seen c.in-Fifo.is))
     (c.dequeue_head-shown.ensures.shown ∙ sym (slice_get-map (λ (s : Stamped). s.packet) c.in-Fifo.fifo.packets 0)) c.dequeue_head-shown.ensures.dropped c.dequeue_head-shown.ensures.marked) c.self.inside.row (sent-fits c.args.now c.self.inside c.args.self.now c.self.invariant c.self.view_is c.requires.ready c.in_default.is (code.Fifo c.dequeue_head-shown.new.fifo) c.dequeue_head-shown.result (fifo-sent c.args.now c.self.inside.handle c.self.inside.filters c.self.inside.discipline (code.Fifo c.dequeue_head-shown.new.fifo) c.in-Fifo.fifo.limit c.in-Fifo.fifo.packets c.dequeue_head-shown.result (ap discipline_seen c.in-Fifo.is) (ap children_seen c.in-Fifo.is)
     (ap (λ (f : FifoState). spec.Fifo f.limit f.packets) c.dequeue_head-shown.ensures.rest) refl (ap (λ (f : FifoState). f.places) c.dequeue_head-shown.ensures.rest ∙ sym (ap places_seen c.in-Fifo.is))
     (c.dequeue_head-shown.ensures.shown ∙ sym (slice_get-map (λ (s : Stamped). s.packet) c.in-Fifo.fifo.packets 0)) c.dequeue_head-shown.ensures.dropped c.dequeue_head-shown.ensures.marked) (omega (arith, c.self.ranges, c.fit.ensures.packets, c.fit.ensures.bytes)) (omega (arith, c.self.ranges, c.fit.ensures.packets, c.fit.ensures.bytes))) (shown-nothing c.dequeue_head-shown.result c.self.inside.row c.dequeue_head-shown.ensures.dropped c.dequeue_head-shown.ensures.marked) (none-held c.dequeue_head-shown.result.packet (sym c.if-not-has_packet.true ∙ c.has_packet.ensures))).after
 
-pub node::Node::send-returns-then-not-has_packet-clause-shown : goal.node::Node::send-returns-then-not-has_packet-clause-shown
-node::Node::send-returns-then-not-has_packet-clause-shown g t c =
+pub node::Node::dequeue-returns-then-not-has_packet-clause-shown : goal.node::Node::dequeue-returns-then-not-has_packet-clause-shown
+node::Node::dequeue-returns-then-not-has_packet-clause-shown g t c =
     sent-shown c.args.now c.self.inside c.args.self.now c.self.invariant c.self.view_is c.requires.ready c.in_default.is (code.Fifo c.dequeue_head-shown.new.fifo) c.dequeue_head-shown.result (fifo-sent c.args.now c.self.inside.handle c.self.inside.filters c.self.inside.discipline (code.Fifo c.dequeue_head-shown.new.fifo) c.in-Fifo.fifo.limit c.in-Fifo.fifo.packets c.dequeue_head-shown.result (ap discipline_seen c.in-Fifo.is) (ap children_seen c.in-Fifo.is)
     (ap (λ (f : FifoState). spec.Fifo f.limit f.packets) c.dequeue_head-shown.ensures.rest) refl (ap (λ (f : FifoState). f.places) c.dequeue_head-shown.ensures.rest ∙ sym (ap places_seen c.in-Fifo.is))
     (c.dequeue_head-shown.ensures.shown ∙ sym (slice_get-map (λ (s : Stamped). s.packet) c.in-Fifo.fifo.packets 0)) c.dequeue_head-shown.ensures.dropped c.dequeue_head-shown.ensures.marked)
 
-pub node::Node::send-returns-then-not-has_packet-clause-lost : goal.node::Node::send-returns-then-not-has_packet-clause-lost
-node::Node::send-returns-then-not-has_packet-clause-lost g t c =
+pub node::Node::dequeue-returns-then-not-has_packet-clause-lost : goal.node::Node::dequeue-returns-then-not-has_packet-clause-lost
+node::Node::dequeue-returns-then-not-has_packet-clause-lost g t c =
     (told-here c.args.now c.self.inside c.args.self.now c.self.invariant c.self.view_is c.requires.ready c.in_default.is (g.S.Sink.losses c.args.sink.now) (g.S.Sink.losses c.args.sink.now) (g.S.Sink.room c.args.sink.now) (g.S.Sink.room c.args.sink.now)
     (told-in c.args.now c.self.inside.handle c.self.inside.filters c.self.inside.discipline (spec.Fifo c.in-Fifo.fifo.limit c.in-Fifo.fifo.packets) [] (g.S.Sink.losses c.args.sink.now) (g.S.Sink.losses c.args.sink.now) (g.S.Sink.room c.args.sink.now) (g.S.Sink.room c.args.sink.now) (ap discipline_seen c.in-Fifo.is) (ap children_seen c.in-Fifo.is) (told-nothing (g.S.Sink.losses c.args.sink.now) (g.S.Sink.room c.args.sink.now)))).lost
 
-pub node::Node::send-returns-then-not-has_packet-clause-room : goal.node::Node::send-returns-then-not-has_packet-clause-room
-node::Node::send-returns-then-not-has_packet-clause-room g t c =
+pub node::Node::dequeue-returns-then-not-has_packet-clause-room : goal.node::Node::dequeue-returns-then-not-has_packet-clause-room
+node::Node::dequeue-returns-then-not-has_packet-clause-room g t c =
     (told-here c.args.now c.self.inside c.args.self.now c.self.invariant c.self.view_is c.requires.ready c.in_default.is (g.S.Sink.losses c.args.sink.now) (g.S.Sink.losses c.args.sink.now) (g.S.Sink.room c.args.sink.now) (g.S.Sink.room c.args.sink.now)
     (told-in c.args.now c.self.inside.handle c.self.inside.filters c.self.inside.discipline (spec.Fifo c.in-Fifo.fifo.limit c.in-Fifo.fifo.packets) [] (g.S.Sink.losses c.args.sink.now) (g.S.Sink.losses c.args.sink.now) (g.S.Sink.room c.args.sink.now) (g.S.Sink.room c.args.sink.now) (ap discipline_seen c.in-Fifo.is) (ap children_seen c.in-Fifo.is) (told-nothing (g.S.Sink.losses c.args.sink.now) (g.S.Sink.room c.args.sink.now)))).room_taken
 
-pub node::Node::send-returns-then-not-has_packet-clause-toll : goal.node::Node::send-returns-then-not-has_packet-clause-toll
-node::Node::send-returns-then-not-has_packet-clause-toll g t c =
-    c.requires.clean ∙ sym (toll-nothing c.dequeue_head-shown.result c.dequeue_head-shown.ensures.dropped c.dequeue_head-shown.ensures.marked)
+pub node::Node::dequeue-returns-then-not-has_packet-clause-signals : goal.node::Node::dequeue-returns-then-not-has_packet-clause-signals
+node::Node::dequeue-returns-then-not-has_packet-clause-signals g t c =
+    c.requires.clean ∙ sym (signals-nothing c.dequeue_head-shown.result c.dequeue_head-shown.ensures.dropped c.dequeue_head-shown.ensures.marked)
 
-pub node::Node::send-returns-in-Fifo-clause-shown : goal.node::Node::send-returns-in-Fifo-clause-shown
-node::Node::send-returns-in-Fifo-clause-shown g t c =
+pub node::Node::dequeue-returns-in-Fifo-clause-shown : goal.node::Node::dequeue-returns-in-Fifo-clause-shown
+node::Node::dequeue-returns-in-Fifo-clause-shown g t c =
     sent-shown c.args.now c.self.inside c.args.self.now c.self.invariant c.self.view_is c.requires.ready c.in_default.is (code.Fifo c.dequeue_head-shown.new.fifo) c.dequeue_head-shown.result (fifo-sent c.args.now c.self.inside.handle c.self.inside.filters c.self.inside.discipline (code.Fifo c.dequeue_head-shown.new.fifo) c.in-Fifo.fifo.limit c.in-Fifo.fifo.packets c.dequeue_head-shown.result (ap discipline_seen c.in-Fifo.is) (ap children_seen c.in-Fifo.is)
     (ap (λ (f : FifoState). spec.Fifo f.limit f.packets) c.dequeue_head-shown.ensures.rest) refl (ap (λ (f : FifoState). f.places) c.dequeue_head-shown.ensures.rest ∙ sym (ap places_seen c.in-Fifo.is))
     (c.dequeue_head-shown.ensures.shown ∙ sym (slice_get-map (λ (s : Stamped). s.packet) c.in-Fifo.fifo.packets 0)) c.dequeue_head-shown.ensures.dropped c.dequeue_head-shown.ensures.marked)
 
-pub node::Node::send-returns-in-Fifo-clause-lost : goal.node::Node::send-returns-in-Fifo-clause-lost
-node::Node::send-returns-in-Fifo-clause-lost g t c =
+pub node::Node::dequeue-returns-in-Fifo-clause-lost : goal.node::Node::dequeue-returns-in-Fifo-clause-lost
+node::Node::dequeue-returns-in-Fifo-clause-lost g t c =
     (told-here c.args.now c.self.inside c.args.self.now c.self.invariant c.self.view_is c.requires.ready c.in_default.is (g.S.Sink.losses c.args.sink.now) (g.S.Sink.losses c.args.sink.now) (g.S.Sink.room c.args.sink.now) (g.S.Sink.room c.args.sink.now)
     (told-in c.args.now c.self.inside.handle c.self.inside.filters c.self.inside.discipline (spec.Fifo c.in-Fifo.fifo.limit c.in-Fifo.fifo.packets) [] (g.S.Sink.losses c.args.sink.now) (g.S.Sink.losses c.args.sink.now) (g.S.Sink.room c.args.sink.now) (g.S.Sink.room c.args.sink.now) (ap discipline_seen c.in-Fifo.is) (ap children_seen c.in-Fifo.is) (told-nothing (g.S.Sink.losses c.args.sink.now) (g.S.Sink.room c.args.sink.now)))).lost
 
-pub node::Node::send-returns-in-Fifo-clause-room : goal.node::Node::send-returns-in-Fifo-clause-room
-node::Node::send-returns-in-Fifo-clause-room g t c =
+pub node::Node::dequeue-returns-in-Fifo-clause-room : goal.node::Node::dequeue-returns-in-Fifo-clause-room
+node::Node::dequeue-returns-in-Fifo-clause-room g t c =
     (told-here c.args.now c.self.inside c.args.self.now c.self.invariant c.self.view_is c.requires.ready c.in_default.is (g.S.Sink.losses c.args.sink.now) (g.S.Sink.losses c.args.sink.now) (g.S.Sink.room c.args.sink.now) (g.S.Sink.room c.args.sink.now)
     (told-in c.args.now c.self.inside.handle c.self.inside.filters c.self.inside.discipline (spec.Fifo c.in-Fifo.fifo.limit c.in-Fifo.fifo.packets) [] (g.S.Sink.losses c.args.sink.now) (g.S.Sink.losses c.args.sink.now) (g.S.Sink.room c.args.sink.now) (g.S.Sink.room c.args.sink.now) (ap discipline_seen c.in-Fifo.is) (ap children_seen c.in-Fifo.is) (told-nothing (g.S.Sink.losses c.args.sink.now) (g.S.Sink.room c.args.sink.now)))).room_taken
 
-pub node::Node::send-returns-in-Fifo-clause-toll : goal.node::Node::send-returns-in-Fifo-clause-toll
-node::Node::send-returns-in-Fifo-clause-toll g t c =
-    c.requires.clean ∙ sym (toll-nothing c.dequeue_head-shown.result c.dequeue_head-shown.ensures.dropped c.dequeue_head-shown.ensures.marked)
+pub node::Node::dequeue-returns-in-Fifo-clause-signals : goal.node::Node::dequeue-returns-in-Fifo-clause-signals
+node::Node::dequeue-returns-in-Fifo-clause-signals g t c =
+    c.requires.clean ∙ sym (signals-nothing c.dequeue_head-shown.result c.dequeue_head-shown.ensures.dropped c.dequeue_head-shown.ensures.marked)
 
-pub node::Node::send-book_sent-requires-in-Fifo-clause-balanced : goal.node::Node::send-book_sent-requires-in-Fifo-clause-balanced
-node::Node::send-book_sent-requires-in-Fifo-clause-balanced g t c =
+pub node::Node::dequeue-book_sent-requires-in-Fifo-clause-balanced : goal.node::Node::dequeue-book_sent-requires-in-Fifo-clause-balanced
+node::Node::dequeue-book_sent-requires-in-Fifo-clause-balanced g t c =
     (sent-row c.args.now c.self.inside c.args.self.now c.self.invariant c.self.view_is c.requires.ready c.in_default.is (code.Fifo c.dequeue_head-shown.new.fifo) c.dequeue_head-shown.result (fifo-sent c.args.now c.self.inside.handle c.self.inside.filters c.self.inside.discipline (code.Fifo c.dequeue_head-shown.new.fifo) c.in-Fifo.fifo.limit c.in-Fifo.fifo.packets c.dequeue_head-shown.result (ap discipline_seen c.in-Fifo.is) (ap children_seen c.in-Fifo.is)
     (ap (λ (f : FifoState). spec.Fifo f.limit f.packets) c.dequeue_head-shown.ensures.rest) refl (ap (λ (f : FifoState). f.places) c.dequeue_head-shown.ensures.rest ∙ sym (ap places_seen c.in-Fifo.is))
     (c.dequeue_head-shown.ensures.shown ∙ sym (slice_get-map (λ (s : Stamped). s.packet) c.in-Fifo.fifo.packets 0)) c.dequeue_head-shown.ensures.dropped c.dequeue_head-shown.ensures.marked) c.self.inside.row (sent-fits c.args.now c.self.inside c.args.self.now c.self.invariant c.self.view_is c.requires.ready c.in_default.is (code.Fifo c.dequeue_head-shown.new.fifo) c.dequeue_head-shown.result (fifo-sent c.args.now c.self.inside.handle c.self.inside.filters c.self.inside.discipline (code.Fifo c.dequeue_head-shown.new.fifo) c.in-Fifo.fifo.limit c.in-Fifo.fifo.packets c.dequeue_head-shown.result (ap discipline_seen c.in-Fifo.is) (ap children_seen c.in-Fifo.is)
     (ap (λ (f : FifoState). spec.Fifo f.limit f.packets) c.dequeue_head-shown.ensures.rest) refl (ap (λ (f : FifoState). f.places) c.dequeue_head-shown.ensures.rest ∙ sym (ap places_seen c.in-Fifo.is))
     (c.dequeue_head-shown.ensures.shown ∙ sym (slice_get-map (λ (s : Stamped). s.packet) c.in-Fifo.fifo.packets 0)) c.dequeue_head-shown.ensures.dropped c.dequeue_head-shown.ensures.marked) (omega (arith, c.self.ranges, c.fit.ensures.packets, c.fit.ensures.bytes)) (omega (arith, c.self.ranges, c.fit.ensures.packets, c.fit.ensures.bytes))) (shown-nothing c.dequeue_head-shown.result c.self.inside.row c.dequeue_head-shown.ensures.dropped c.dequeue_head-shown.ensures.marked) c.dequeue_head-shown.new.out (given-some c.dequeue_head-shown.result.packet c.args.out.now c.dequeue_head-shown.new.out (sym c.has_packet.ensures ∙ c.if-not-has_packet.false) c.dequeue_head-shown.ensures.packet)).balanced
 
-pub node::Node::send-book_sent-requires-in-Fifo-clause-among : goal.node::Node::send-book_sent-requires-in-Fifo-clause-among
-node::Node::send-book_sent-requires-in-Fifo-clause-among g t c =
+pub node::Node::dequeue-book_sent-requires-in-Fifo-clause-among : goal.node::Node::dequeue-book_sent-requires-in-Fifo-clause-among
+node::Node::dequeue-book_sent-requires-in-Fifo-clause-among g t c =
     sent-queued c.args.now c.self.inside c.args.self.now c.self.invariant c.self.view_is c.requires.ready c.in_default.is (code.Fifo c.dequeue_head-shown.new.fifo) c.dequeue_head-shown.result (fifo-sent c.args.now c.self.inside.handle c.self.inside.filters c.self.inside.discipline (code.Fifo c.dequeue_head-shown.new.fifo) c.in-Fifo.fifo.limit c.in-Fifo.fifo.packets c.dequeue_head-shown.result (ap discipline_seen c.in-Fifo.is) (ap children_seen c.in-Fifo.is)
     (ap (λ (f : FifoState). spec.Fifo f.limit f.packets) c.dequeue_head-shown.ensures.rest) refl (ap (λ (f : FifoState). f.places) c.dequeue_head-shown.ensures.rest ∙ sym (ap places_seen c.in-Fifo.is))
     (c.dequeue_head-shown.ensures.shown ∙ sym (slice_get-map (λ (s : Stamped). s.packet) c.in-Fifo.fifo.packets 0)) c.dequeue_head-shown.ensures.dropped c.dequeue_head-shown.ensures.marked) c.self.inside.row (sent-fits c.args.now c.self.inside c.args.self.now c.self.invariant c.self.view_is c.requires.ready c.in_default.is (code.Fifo c.dequeue_head-shown.new.fifo) c.dequeue_head-shown.result (fifo-sent c.args.now c.self.inside.handle c.self.inside.filters c.self.inside.discipline (code.Fifo c.dequeue_head-shown.new.fifo) c.in-Fifo.fifo.limit c.in-Fifo.fifo.packets c.dequeue_head-shown.result (ap discipline_seen c.in-Fifo.is) (ap children_seen c.in-Fifo.is)
     (ap (λ (f : FifoState). spec.Fifo f.limit f.packets) c.dequeue_head-shown.ensures.rest) refl (ap (λ (f : FifoState). f.places) c.dequeue_head-shown.ensures.rest ∙ sym (ap places_seen c.in-Fifo.is))
     (c.dequeue_head-shown.ensures.shown ∙ sym (slice_get-map (λ (s : Stamped). s.packet) c.in-Fifo.fifo.packets 0)) c.dequeue_head-shown.ensures.dropped c.dequeue_head-shown.ensures.marked) (omega (arith, c.self.ranges, c.fit.ensures.packets, c.fit.ensures.bytes)) (omega (arith, c.self.ranges, c.fit.ensures.packets, c.fit.ensures.bytes))) (shown-nothing c.dequeue_head-shown.result c.self.inside.row c.dequeue_head-shown.ensures.dropped c.dequeue_head-shown.ensures.marked) c.dequeue_head-shown.new.out (given-some c.dequeue_head-shown.result.packet c.args.out.now c.dequeue_head-shown.new.out (sym c.has_packet.ensures ∙ c.if-not-has_packet.false) c.dequeue_head-shown.ensures.packet)
 
-pub node::Node::send-book_sent-requires-in-Fifo-clause-room : goal.node::Node::send-book_sent-requires-in-Fifo-clause-room
-node::Node::send-book_sent-requires-in-Fifo-clause-room g t c =
+pub node::Node::dequeue-book_sent-requires-in-Fifo-clause-room : goal.node::Node::dequeue-book_sent-requires-in-Fifo-clause-room
+node::Node::dequeue-book_sent-requires-in-Fifo-clause-room g t c =
     let row = sent-row c.args.now c.self.inside c.args.self.now c.self.invariant c.self.view_is c.requires.ready c.in_default.is (code.Fifo c.dequeue_head-shown.new.fifo) c.dequeue_head-shown.result (fifo-sent c.args.now c.self.inside.handle c.self.inside.filters c.self.inside.discipline (code.Fifo c.dequeue_head-shown.new.fifo) c.in-Fifo.fifo.limit c.in-Fifo.fifo.packets c.dequeue_head-shown.result (ap discipline_seen c.in-Fifo.is) (ap children_seen c.in-Fifo.is)
     (ap (λ (f : FifoState). spec.Fifo f.limit f.packets) c.dequeue_head-shown.ensures.rest) refl (ap (λ (f : FifoState). f.places) c.dequeue_head-shown.ensures.rest ∙ sym (ap places_seen c.in-Fifo.is))
     (c.dequeue_head-shown.ensures.shown ∙ sym (slice_get-map (λ (s : Stamped). s.packet) c.in-Fifo.fifo.packets 0)) c.dequeue_head-shown.ensures.dropped c.dequeue_head-shown.ensures.marked) c.self.inside.row (sent-fits c.args.now c.self.inside c.args.self.now c.self.invariant c.self.view_is c.requires.ready c.in_default.is (code.Fifo c.dequeue_head-shown.new.fifo) c.dequeue_head-shown.result (fifo-sent c.args.now c.self.inside.handle c.self.inside.filters c.self.inside.discipline (code.Fifo c.dequeue_head-shown.new.fifo) c.in-Fifo.fifo.limit c.in-Fifo.fifo.packets c.dequeue_head-shown.result (ap discipline_seen c.in-Fifo.is) (ap children_seen c.in-Fifo.is)
@@ -341,24 +341,24 @@ node::Node::send-book_sent-requires-in-Fifo-clause-room g t c =
       bytes = omega (arith, row.balanced.bytes, had.bytes, c.self.ranges, c.fit.ensures.packets, c.fit.ensures.bytes);
     }
 
-pub node::Node::send-invariant_of-self-in-Fifo : goal.node::Node::send-invariant_of-self-in-Fifo
-node::Node::send-invariant_of-self-in-Fifo g t c =
+pub node::Node::dequeue-invariant_of-self-in-Fifo : goal.node::Node::dequeue-invariant_of-self-in-Fifo
+node::Node::dequeue-invariant_of-self-in-Fifo g t c =
     (one-sent c.args.now c.self.inside c.args.self.now c.self.invariant c.self.view_is c.requires.ready c.in_default.is (code.Fifo c.dequeue_head-shown.new.fifo) c.dequeue_head-shown.result (fifo-sent c.args.now c.self.inside.handle c.self.inside.filters c.self.inside.discipline (code.Fifo c.dequeue_head-shown.new.fifo) c.in-Fifo.fifo.limit c.in-Fifo.fifo.packets c.dequeue_head-shown.result (ap discipline_seen c.in-Fifo.is) (ap children_seen c.in-Fifo.is)
     (ap (λ (f : FifoState). spec.Fifo f.limit f.packets) c.dequeue_head-shown.ensures.rest) refl (ap (λ (f : FifoState). f.places) c.dequeue_head-shown.ensures.rest ∙ sym (ap places_seen c.in-Fifo.is))
     (c.dequeue_head-shown.ensures.shown ∙ sym (slice_get-map (λ (s : Stamped). s.packet) c.in-Fifo.fifo.packets 0)) c.dequeue_head-shown.ensures.dropped c.dequeue_head-shown.ensures.marked) c.self.inside.row (sent-fits c.args.now c.self.inside c.args.self.now c.self.invariant c.self.view_is c.requires.ready c.in_default.is (code.Fifo c.dequeue_head-shown.new.fifo) c.dequeue_head-shown.result (fifo-sent c.args.now c.self.inside.handle c.self.inside.filters c.self.inside.discipline (code.Fifo c.dequeue_head-shown.new.fifo) c.in-Fifo.fifo.limit c.in-Fifo.fifo.packets c.dequeue_head-shown.result (ap discipline_seen c.in-Fifo.is) (ap children_seen c.in-Fifo.is)
     (ap (λ (f : FifoState). spec.Fifo f.limit f.packets) c.dequeue_head-shown.ensures.rest) refl (ap (λ (f : FifoState). f.places) c.dequeue_head-shown.ensures.rest ∙ sym (ap places_seen c.in-Fifo.is))
     (c.dequeue_head-shown.ensures.shown ∙ sym (slice_get-map (λ (s : Stamped). s.packet) c.in-Fifo.fifo.packets 0)) c.dequeue_head-shown.ensures.dropped c.dequeue_head-shown.ensures.marked) (omega (arith, c.self.ranges, c.fit.ensures.packets, c.fit.ensures.bytes)) (omega (arith, c.self.ranges, c.fit.ensures.packets, c.fit.ensures.bytes))) (shown-nothing c.dequeue_head-shown.result c.self.inside.row c.dequeue_head-shown.ensures.dropped c.dequeue_head-shown.ensures.marked) c.dequeue_head-shown.new.out (given-some c.dequeue_head-shown.result.packet c.args.out.now c.dequeue_head-shown.new.out (sym c.has_packet.ensures ∙ c.if-not-has_packet.false) c.dequeue_head-shown.ensures.packet) c.book_sent-in-Fifo.new.row c.book_sent-in-Fifo.ensures).stays
 
-pub node::Node::send-returns-in-Fifo-clause-after : goal.node::Node::send-returns-in-Fifo-clause-after
-node::Node::send-returns-in-Fifo-clause-after g t c =
+pub node::Node::dequeue-returns-in-Fifo-clause-after : goal.node::Node::dequeue-returns-in-Fifo-clause-after
+node::Node::dequeue-returns-in-Fifo-clause-after g t c =
     (one-sent c.args.now c.self.inside c.args.self.now c.self.invariant c.self.view_is c.requires.ready c.in_default.is (code.Fifo c.dequeue_head-shown.new.fifo) c.dequeue_head-shown.result (fifo-sent c.args.now c.self.inside.handle c.self.inside.filters c.self.inside.discipline (code.Fifo c.dequeue_head-shown.new.fifo) c.in-Fifo.fifo.limit c.in-Fifo.fifo.packets c.dequeue_head-shown.result (ap discipline_seen c.in-Fifo.is) (ap children_seen c.in-Fifo.is)
     (ap (λ (f : FifoState). spec.Fifo f.limit f.packets) c.dequeue_head-shown.ensures.rest) refl (ap (λ (f : FifoState). f.places) c.dequeue_head-shown.ensures.rest ∙ sym (ap places_seen c.in-Fifo.is))
     (c.dequeue_head-shown.ensures.shown ∙ sym (slice_get-map (λ (s : Stamped). s.packet) c.in-Fifo.fifo.packets 0)) c.dequeue_head-shown.ensures.dropped c.dequeue_head-shown.ensures.marked) c.self.inside.row (sent-fits c.args.now c.self.inside c.args.self.now c.self.invariant c.self.view_is c.requires.ready c.in_default.is (code.Fifo c.dequeue_head-shown.new.fifo) c.dequeue_head-shown.result (fifo-sent c.args.now c.self.inside.handle c.self.inside.filters c.self.inside.discipline (code.Fifo c.dequeue_head-shown.new.fifo) c.in-Fifo.fifo.limit c.in-Fifo.fifo.packets c.dequeue_head-shown.result (ap discipline_seen c.in-Fifo.is) (ap children_seen c.in-Fifo.is)
     (ap (λ (f : FifoState). spec.Fifo f.limit f.packets) c.dequeue_head-shown.ensures.rest) refl (ap (λ (f : FifoState). f.places) c.dequeue_head-shown.ensures.rest ∙ sym (ap places_seen c.in-Fifo.is))
     (c.dequeue_head-shown.ensures.shown ∙ sym (slice_get-map (λ (s : Stamped). s.packet) c.in-Fifo.fifo.packets 0)) c.dequeue_head-shown.ensures.dropped c.dequeue_head-shown.ensures.marked) (omega (arith, c.self.ranges, c.fit.ensures.packets, c.fit.ensures.bytes)) (omega (arith, c.self.ranges, c.fit.ensures.packets, c.fit.ensures.bytes))) (shown-nothing c.dequeue_head-shown.result c.self.inside.row c.dequeue_head-shown.ensures.dropped c.dequeue_head-shown.ensures.marked) c.dequeue_head-shown.new.out (given-some c.dequeue_head-shown.result.packet c.args.out.now c.dequeue_head-shown.new.out (sym c.has_packet.ensures ∙ c.if-not-has_packet.false) c.dequeue_head-shown.ensures.packet) c.book_sent-in-Fifo.new.row c.book_sent-in-Fifo.ensures).after
 
-pub node::Node::send_further-send-shown-requires : goal.node::Node::send_further-send-shown-requires
-node::Node::send_further-send-shown-requires g t c κs within = (
+pub node::Node::dequeue_further-dequeue-shown-requires : goal.node::Node::dequeue_further-dequeue-shown-requires
+node::Node::dequeue_further-dequeue-shown-requires g t c κs within = (
   omega (arith, children-size c.self.inside c.args.self.now (children_seen c.self.inside.discipline) c.self.view_is refl, c.decreases),
   (
     within,
@@ -369,64 +369,64 @@ node::Node::send_further-send-shown-requires g t c κs within = (
   ),
 )
 
-pub node::Node::send_further-book_shown-requires-clause-room : goal.node::Node::send_further-book_shown-requires-clause-room
-node::Node::send_further-book_shown-requires-clause-room g t c =
-    (sent-fits c.args.now c.self.inside c.args.self.now c.self.invariant c.self.view_is c.requires.ready (ap (λ (n : Node Kept). n.own.held) c.self.view_is ∙ c.requires.none) c.send-shown.new.self c.send-shown.result (c.send-shown.ensures.after c.self.inside.handle c.self.inside.filters) (omega (arith, c.self.ranges, c.fit.ensures.packets, c.fit.ensures.bytes)) (omega (arith, c.self.ranges, c.fit.ensures.packets, c.fit.ensures.bytes)))
+pub node::Node::dequeue_further-book_shown-requires-clause-room : goal.node::Node::dequeue_further-book_shown-requires-clause-room
+node::Node::dequeue_further-book_shown-requires-clause-room g t c =
+    (sent-fits c.args.now c.self.inside c.args.self.now c.self.invariant c.self.view_is c.requires.ready (ap (λ (n : Node Kept). n.own.held) c.self.view_is ∙ c.requires.none) c.dequeue-shown.new.self c.dequeue-shown.result (c.dequeue-shown.ensures.after c.self.inside.handle c.self.inside.filters) (omega (arith, c.self.ranges, c.fit.ensures.packets, c.fit.ensures.bytes)) (omega (arith, c.self.ranges, c.fit.ensures.packets, c.fit.ensures.bytes)))
 
-pub node::Node::send_further-invariant_of-self : goal.node::Node::send_further-invariant_of-self
-node::Node::send_further-invariant_of-self g t c =
-    (none-sent c.args.now c.self.inside c.args.self.now c.self.invariant c.self.view_is c.requires.ready (ap (λ (n : Node Kept). n.own.held) c.self.view_is ∙ c.requires.none) c.send-shown.new.self c.send-shown.result (c.send-shown.ensures.after c.self.inside.handle c.self.inside.filters) c.book_shown.new.row (sent-fits c.args.now c.self.inside c.args.self.now c.self.invariant c.self.view_is c.requires.ready (ap (λ (n : Node Kept). n.own.held) c.self.view_is ∙ c.requires.none) c.send-shown.new.self c.send-shown.result (c.send-shown.ensures.after c.self.inside.handle c.self.inside.filters) (omega (arith, c.self.ranges, c.fit.ensures.packets, c.fit.ensures.bytes)) (omega (arith, c.self.ranges, c.fit.ensures.packets, c.fit.ensures.bytes))) c.book_shown.ensures (none-held c.send-shown.result.packet (sym c.if-not-has_packet.true ∙ c.has_packet.ensures))).stays
+pub node::Node::dequeue_further-invariant_of-self : goal.node::Node::dequeue_further-invariant_of-self
+node::Node::dequeue_further-invariant_of-self g t c =
+    (none-sent c.args.now c.self.inside c.args.self.now c.self.invariant c.self.view_is c.requires.ready (ap (λ (n : Node Kept). n.own.held) c.self.view_is ∙ c.requires.none) c.dequeue-shown.new.self c.dequeue-shown.result (c.dequeue-shown.ensures.after c.self.inside.handle c.self.inside.filters) c.book_shown.new.row (sent-fits c.args.now c.self.inside c.args.self.now c.self.invariant c.self.view_is c.requires.ready (ap (λ (n : Node Kept). n.own.held) c.self.view_is ∙ c.requires.none) c.dequeue-shown.new.self c.dequeue-shown.result (c.dequeue-shown.ensures.after c.self.inside.handle c.self.inside.filters) (omega (arith, c.self.ranges, c.fit.ensures.packets, c.fit.ensures.bytes)) (omega (arith, c.self.ranges, c.fit.ensures.packets, c.fit.ensures.bytes))) c.book_shown.ensures (none-held c.dequeue-shown.result.packet (sym c.if-not-has_packet.true ∙ c.has_packet.ensures))).stays
 
-pub node::Node::send_further-returns-then-not-has_packet-clause-after : goal.node::Node::send_further-returns-then-not-has_packet-clause-after
-node::Node::send_further-returns-then-not-has_packet-clause-after g t c =
-    (none-sent c.args.now c.self.inside c.args.self.now c.self.invariant c.self.view_is c.requires.ready (ap (λ (n : Node Kept). n.own.held) c.self.view_is ∙ c.requires.none) c.send-shown.new.self c.send-shown.result (c.send-shown.ensures.after c.self.inside.handle c.self.inside.filters) c.book_shown.new.row (sent-fits c.args.now c.self.inside c.args.self.now c.self.invariant c.self.view_is c.requires.ready (ap (λ (n : Node Kept). n.own.held) c.self.view_is ∙ c.requires.none) c.send-shown.new.self c.send-shown.result (c.send-shown.ensures.after c.self.inside.handle c.self.inside.filters) (omega (arith, c.self.ranges, c.fit.ensures.packets, c.fit.ensures.bytes)) (omega (arith, c.self.ranges, c.fit.ensures.packets, c.fit.ensures.bytes))) c.book_shown.ensures (none-held c.send-shown.result.packet (sym c.if-not-has_packet.true ∙ c.has_packet.ensures))).after
+pub node::Node::dequeue_further-returns-then-not-has_packet-clause-after : goal.node::Node::dequeue_further-returns-then-not-has_packet-clause-after
+node::Node::dequeue_further-returns-then-not-has_packet-clause-after g t c =
+    (none-sent c.args.now c.self.inside c.args.self.now c.self.invariant c.self.view_is c.requires.ready (ap (λ (n : Node Kept). n.own.held) c.self.view_is ∙ c.requires.none) c.dequeue-shown.new.self c.dequeue-shown.result (c.dequeue-shown.ensures.after c.self.inside.handle c.self.inside.filters) c.book_shown.new.row (sent-fits c.args.now c.self.inside c.args.self.now c.self.invariant c.self.view_is c.requires.ready (ap (λ (n : Node Kept). n.own.held) c.self.view_is ∙ c.requires.none) c.dequeue-shown.new.self c.dequeue-shown.result (c.dequeue-shown.ensures.after c.self.inside.handle c.self.inside.filters) (omega (arith, c.self.ranges, c.fit.ensures.packets, c.fit.ensures.bytes)) (omega (arith, c.self.ranges, c.fit.ensures.packets, c.fit.ensures.bytes))) c.book_shown.ensures (none-held c.dequeue-shown.result.packet (sym c.if-not-has_packet.true ∙ c.has_packet.ensures))).after
 
-pub node::Node::send_further-returns-then-not-has_packet-clause-shown : goal.node::Node::send_further-returns-then-not-has_packet-clause-shown
-node::Node::send_further-returns-then-not-has_packet-clause-shown g t c =
-    sent-shown c.args.now c.self.inside c.args.self.now c.self.invariant c.self.view_is c.requires.ready (ap (λ (n : Node Kept). n.own.held) c.self.view_is ∙ c.requires.none) c.send-shown.new.self c.send-shown.result (c.send-shown.ensures.after c.self.inside.handle c.self.inside.filters)
+pub node::Node::dequeue_further-returns-then-not-has_packet-clause-shown : goal.node::Node::dequeue_further-returns-then-not-has_packet-clause-shown
+node::Node::dequeue_further-returns-then-not-has_packet-clause-shown g t c =
+    sent-shown c.args.now c.self.inside c.args.self.now c.self.invariant c.self.view_is c.requires.ready (ap (λ (n : Node Kept). n.own.held) c.self.view_is ∙ c.requires.none) c.dequeue-shown.new.self c.dequeue-shown.result (c.dequeue-shown.ensures.after c.self.inside.handle c.self.inside.filters)
 
-pub node::Node::send_further-returns-clause-shown : goal.node::Node::send_further-returns-clause-shown
-node::Node::send_further-returns-clause-shown g t c =
-    sent-shown c.args.now c.self.inside c.args.self.now c.self.invariant c.self.view_is c.requires.ready (ap (λ (n : Node Kept). n.own.held) c.self.view_is ∙ c.requires.none) c.send-shown.new.self c.send-shown.result (c.send-shown.ensures.after c.self.inside.handle c.self.inside.filters)
+pub node::Node::dequeue_further-returns-clause-shown : goal.node::Node::dequeue_further-returns-clause-shown
+node::Node::dequeue_further-returns-clause-shown g t c =
+    sent-shown c.args.now c.self.inside c.args.self.now c.self.invariant c.self.view_is c.requires.ready (ap (λ (n : Node Kept). n.own.held) c.self.view_is ∙ c.requires.none) c.dequeue-shown.new.self c.dequeue-shown.result (c.dequeue-shown.ensures.after c.self.inside.handle c.self.inside.filters)
 
-pub node::Node::send_further-returns-then-not-has_packet-clause-lost : goal.node::Node::send_further-returns-then-not-has_packet-clause-lost
-node::Node::send_further-returns-then-not-has_packet-clause-lost g t c =
-    (told-here c.args.now c.self.inside c.args.self.now c.self.invariant c.self.view_is c.requires.ready (ap (λ (n : Node Kept). n.own.held) c.self.view_is ∙ c.requires.none) (g.S.Sink.losses c.args.sink.now) (g.S.Sink.losses c.send-shown.new.sink) (g.S.Sink.room c.args.sink.now) (g.S.Sink.room c.send-shown.new.sink) (c.send-shown.ensures.told c.self.inside.handle c.self.inside.filters)).lost
+pub node::Node::dequeue_further-returns-then-not-has_packet-clause-lost : goal.node::Node::dequeue_further-returns-then-not-has_packet-clause-lost
+node::Node::dequeue_further-returns-then-not-has_packet-clause-lost g t c =
+    (told-here c.args.now c.self.inside c.args.self.now c.self.invariant c.self.view_is c.requires.ready (ap (λ (n : Node Kept). n.own.held) c.self.view_is ∙ c.requires.none) (g.S.Sink.losses c.args.sink.now) (g.S.Sink.losses c.dequeue-shown.new.sink) (g.S.Sink.room c.args.sink.now) (g.S.Sink.room c.dequeue-shown.new.sink) (c.dequeue-shown.ensures.told c.self.inside.handle c.self.inside.filters)).lost
 
-pub node::Node::send_further-returns-then-not-has_packet-clause-room : goal.node::Node::send_further-returns-then-not-has_packet-clause-room
-node::Node::send_further-returns-then-not-has_packet-clause-room g t c =
-    (told-here c.args.now c.self.inside c.args.self.now c.self.invariant c.self.view_is c.requires.ready (ap (λ (n : Node Kept). n.own.held) c.self.view_is ∙ c.requires.none) (g.S.Sink.losses c.args.sink.now) (g.S.Sink.losses c.send-shown.new.sink) (g.S.Sink.room c.args.sink.now) (g.S.Sink.room c.send-shown.new.sink) (c.send-shown.ensures.told c.self.inside.handle c.self.inside.filters)).room_taken
+pub node::Node::dequeue_further-returns-then-not-has_packet-clause-room : goal.node::Node::dequeue_further-returns-then-not-has_packet-clause-room
+node::Node::dequeue_further-returns-then-not-has_packet-clause-room g t c =
+    (told-here c.args.now c.self.inside c.args.self.now c.self.invariant c.self.view_is c.requires.ready (ap (λ (n : Node Kept). n.own.held) c.self.view_is ∙ c.requires.none) (g.S.Sink.losses c.args.sink.now) (g.S.Sink.losses c.dequeue-shown.new.sink) (g.S.Sink.room c.args.sink.now) (g.S.Sink.room c.dequeue-shown.new.sink) (c.dequeue-shown.ensures.told c.self.inside.handle c.self.inside.filters)).room_taken
 
-pub node::Node::send_further-returns-clause-lost : goal.node::Node::send_further-returns-clause-lost
-node::Node::send_further-returns-clause-lost g t c =
-    (told-here c.args.now c.self.inside c.args.self.now c.self.invariant c.self.view_is c.requires.ready (ap (λ (n : Node Kept). n.own.held) c.self.view_is ∙ c.requires.none) (g.S.Sink.losses c.args.sink.now) (g.S.Sink.losses c.send-shown.new.sink) (g.S.Sink.room c.args.sink.now) (g.S.Sink.room c.send-shown.new.sink) (c.send-shown.ensures.told c.self.inside.handle c.self.inside.filters)).lost
+pub node::Node::dequeue_further-returns-clause-lost : goal.node::Node::dequeue_further-returns-clause-lost
+node::Node::dequeue_further-returns-clause-lost g t c =
+    (told-here c.args.now c.self.inside c.args.self.now c.self.invariant c.self.view_is c.requires.ready (ap (λ (n : Node Kept). n.own.held) c.self.view_is ∙ c.requires.none) (g.S.Sink.losses c.args.sink.now) (g.S.Sink.losses c.dequeue-shown.new.sink) (g.S.Sink.room c.args.sink.now) (g.S.Sink.room c.dequeue-shown.new.sink) (c.dequeue-shown.ensures.told c.self.inside.handle c.self.inside.filters)).lost
 
-pub node::Node::send_further-returns-clause-room : goal.node::Node::send_further-returns-clause-room
-node::Node::send_further-returns-clause-room g t c =
-    (told-here c.args.now c.self.inside c.args.self.now c.self.invariant c.self.view_is c.requires.ready (ap (λ (n : Node Kept). n.own.held) c.self.view_is ∙ c.requires.none) (g.S.Sink.losses c.args.sink.now) (g.S.Sink.losses c.send-shown.new.sink) (g.S.Sink.room c.args.sink.now) (g.S.Sink.room c.send-shown.new.sink) (c.send-shown.ensures.told c.self.inside.handle c.self.inside.filters)).room_taken
+pub node::Node::dequeue_further-returns-clause-room : goal.node::Node::dequeue_further-returns-clause-room
+node::Node::dequeue_further-returns-clause-room g t c =
+    (told-here c.args.now c.self.inside c.args.self.now c.self.invariant c.self.view_is c.requires.ready (ap (λ (n : Node Kept). n.own.held) c.self.view_is ∙ c.requires.none) (g.S.Sink.losses c.args.sink.now) (g.S.Sink.losses c.dequeue-shown.new.sink) (g.S.Sink.room c.args.sink.now) (g.S.Sink.room c.dequeue-shown.new.sink) (c.dequeue-shown.ensures.told c.self.inside.handle c.self.inside.filters)).room_taken
 
-pub node::Node::send_further-book_sent-requires-clause-balanced : goal.node::Node::send_further-book_sent-requires-clause-balanced
-node::Node::send_further-book_sent-requires-clause-balanced g t c =
-    (sent-row c.args.now c.self.inside c.args.self.now c.self.invariant c.self.view_is c.requires.ready (ap (λ (n : Node Kept). n.own.held) c.self.view_is ∙ c.requires.none) c.send-shown.new.self c.send-shown.result (c.send-shown.ensures.after c.self.inside.handle c.self.inside.filters) c.book_shown.new.row (sent-fits c.args.now c.self.inside c.args.self.now c.self.invariant c.self.view_is c.requires.ready (ap (λ (n : Node Kept). n.own.held) c.self.view_is ∙ c.requires.none) c.send-shown.new.self c.send-shown.result (c.send-shown.ensures.after c.self.inside.handle c.self.inside.filters) (omega (arith, c.self.ranges, c.fit.ensures.packets, c.fit.ensures.bytes)) (omega (arith, c.self.ranges, c.fit.ensures.packets, c.fit.ensures.bytes))) c.book_shown.ensures c.send-shown.new.out (given-some c.send-shown.result.packet c.args.out.now c.send-shown.new.out (sym c.has_packet.ensures ∙ c.if-not-has_packet.false) c.send-shown.ensures.packet)).balanced
+pub node::Node::dequeue_further-book_sent-requires-clause-balanced : goal.node::Node::dequeue_further-book_sent-requires-clause-balanced
+node::Node::dequeue_further-book_sent-requires-clause-balanced g t c =
+    (sent-row c.args.now c.self.inside c.args.self.now c.self.invariant c.self.view_is c.requires.ready (ap (λ (n : Node Kept). n.own.held) c.self.view_is ∙ c.requires.none) c.dequeue-shown.new.self c.dequeue-shown.result (c.dequeue-shown.ensures.after c.self.inside.handle c.self.inside.filters) c.book_shown.new.row (sent-fits c.args.now c.self.inside c.args.self.now c.self.invariant c.self.view_is c.requires.ready (ap (λ (n : Node Kept). n.own.held) c.self.view_is ∙ c.requires.none) c.dequeue-shown.new.self c.dequeue-shown.result (c.dequeue-shown.ensures.after c.self.inside.handle c.self.inside.filters) (omega (arith, c.self.ranges, c.fit.ensures.packets, c.fit.ensures.bytes)) (omega (arith, c.self.ranges, c.fit.ensures.packets, c.fit.ensures.bytes))) c.book_shown.ensures c.dequeue-shown.new.out (given-some c.dequeue-shown.result.packet c.args.out.now c.dequeue-shown.new.out (sym c.has_packet.ensures ∙ c.if-not-has_packet.false) c.dequeue-shown.ensures.packet)).balanced
 
-pub node::Node::send_further-book_sent-requires-clause-among : goal.node::Node::send_further-book_sent-requires-clause-among
-node::Node::send_further-book_sent-requires-clause-among g t c =
-    sent-queued c.args.now c.self.inside c.args.self.now c.self.invariant c.self.view_is c.requires.ready (ap (λ (n : Node Kept). n.own.held) c.self.view_is ∙ c.requires.none) c.send-shown.new.self c.send-shown.result (c.send-shown.ensures.after c.self.inside.handle c.self.inside.filters) c.book_shown.new.row (sent-fits c.args.now c.self.inside c.args.self.now c.self.invariant c.self.view_is c.requires.ready (ap (λ (n : Node Kept). n.own.held) c.self.view_is ∙ c.requires.none) c.send-shown.new.self c.send-shown.result (c.send-shown.ensures.after c.self.inside.handle c.self.inside.filters) (omega (arith, c.self.ranges, c.fit.ensures.packets, c.fit.ensures.bytes)) (omega (arith, c.self.ranges, c.fit.ensures.packets, c.fit.ensures.bytes))) c.book_shown.ensures c.send-shown.new.out (given-some c.send-shown.result.packet c.args.out.now c.send-shown.new.out (sym c.has_packet.ensures ∙ c.if-not-has_packet.false) c.send-shown.ensures.packet)
+pub node::Node::dequeue_further-book_sent-requires-clause-among : goal.node::Node::dequeue_further-book_sent-requires-clause-among
+node::Node::dequeue_further-book_sent-requires-clause-among g t c =
+    sent-queued c.args.now c.self.inside c.args.self.now c.self.invariant c.self.view_is c.requires.ready (ap (λ (n : Node Kept). n.own.held) c.self.view_is ∙ c.requires.none) c.dequeue-shown.new.self c.dequeue-shown.result (c.dequeue-shown.ensures.after c.self.inside.handle c.self.inside.filters) c.book_shown.new.row (sent-fits c.args.now c.self.inside c.args.self.now c.self.invariant c.self.view_is c.requires.ready (ap (λ (n : Node Kept). n.own.held) c.self.view_is ∙ c.requires.none) c.dequeue-shown.new.self c.dequeue-shown.result (c.dequeue-shown.ensures.after c.self.inside.handle c.self.inside.filters) (omega (arith, c.self.ranges, c.fit.ensures.packets, c.fit.ensures.bytes)) (omega (arith, c.self.ranges, c.fit.ensures.packets, c.fit.ensures.bytes))) c.book_shown.ensures c.dequeue-shown.new.out (given-some c.dequeue-shown.result.packet c.args.out.now c.dequeue-shown.new.out (sym c.has_packet.ensures ∙ c.if-not-has_packet.false) c.dequeue-shown.ensures.packet)
 
-pub node::Node::send_further-book_sent-requires-clause-room : goal.node::Node::send_further-book_sent-requires-clause-room
-node::Node::send_further-book_sent-requires-clause-room g t c =
-    let row = sent-row c.args.now c.self.inside c.args.self.now c.self.invariant c.self.view_is c.requires.ready (ap (λ (n : Node Kept). n.own.held) c.self.view_is ∙ c.requires.none) c.send-shown.new.self c.send-shown.result (c.send-shown.ensures.after c.self.inside.handle c.self.inside.filters) c.book_shown.new.row (sent-fits c.args.now c.self.inside c.args.self.now c.self.invariant c.self.view_is c.requires.ready (ap (λ (n : Node Kept). n.own.held) c.self.view_is ∙ c.requires.none) c.send-shown.new.self c.send-shown.result (c.send-shown.ensures.after c.self.inside.handle c.self.inside.filters) (omega (arith, c.self.ranges, c.fit.ensures.packets, c.fit.ensures.bytes)) (omega (arith, c.self.ranges, c.fit.ensures.packets, c.fit.ensures.bytes))) c.book_shown.ensures c.send-shown.new.out (given-some c.send-shown.result.packet c.args.out.now c.send-shown.new.out (sym c.has_packet.ensures ∙ c.if-not-has_packet.false) c.send-shown.ensures.packet) in
-    let had = sent-queued c.args.now c.self.inside c.args.self.now c.self.invariant c.self.view_is c.requires.ready (ap (λ (n : Node Kept). n.own.held) c.self.view_is ∙ c.requires.none) c.send-shown.new.self c.send-shown.result (c.send-shown.ensures.after c.self.inside.handle c.self.inside.filters) c.book_shown.new.row (sent-fits c.args.now c.self.inside c.args.self.now c.self.invariant c.self.view_is c.requires.ready (ap (λ (n : Node Kept). n.own.held) c.self.view_is ∙ c.requires.none) c.send-shown.new.self c.send-shown.result (c.send-shown.ensures.after c.self.inside.handle c.self.inside.filters) (omega (arith, c.self.ranges, c.fit.ensures.packets, c.fit.ensures.bytes)) (omega (arith, c.self.ranges, c.fit.ensures.packets, c.fit.ensures.bytes))) c.book_shown.ensures c.send-shown.new.out (given-some c.send-shown.result.packet c.args.out.now c.send-shown.new.out (sym c.has_packet.ensures ∙ c.if-not-has_packet.false) c.send-shown.ensures.packet) in
+pub node::Node::dequeue_further-book_sent-requires-clause-room : goal.node::Node::dequeue_further-book_sent-requires-clause-room
+node::Node::dequeue_further-book_sent-requires-clause-room g t c =
+    let row = sent-row c.args.now c.self.inside c.args.self.now c.self.invariant c.self.view_is c.requires.ready (ap (λ (n : Node Kept). n.own.held) c.self.view_is ∙ c.requires.none) c.dequeue-shown.new.self c.dequeue-shown.result (c.dequeue-shown.ensures.after c.self.inside.handle c.self.inside.filters) c.book_shown.new.row (sent-fits c.args.now c.self.inside c.args.self.now c.self.invariant c.self.view_is c.requires.ready (ap (λ (n : Node Kept). n.own.held) c.self.view_is ∙ c.requires.none) c.dequeue-shown.new.self c.dequeue-shown.result (c.dequeue-shown.ensures.after c.self.inside.handle c.self.inside.filters) (omega (arith, c.self.ranges, c.fit.ensures.packets, c.fit.ensures.bytes)) (omega (arith, c.self.ranges, c.fit.ensures.packets, c.fit.ensures.bytes))) c.book_shown.ensures c.dequeue-shown.new.out (given-some c.dequeue-shown.result.packet c.args.out.now c.dequeue-shown.new.out (sym c.has_packet.ensures ∙ c.if-not-has_packet.false) c.dequeue-shown.ensures.packet) in
+    let had = sent-queued c.args.now c.self.inside c.args.self.now c.self.invariant c.self.view_is c.requires.ready (ap (λ (n : Node Kept). n.own.held) c.self.view_is ∙ c.requires.none) c.dequeue-shown.new.self c.dequeue-shown.result (c.dequeue-shown.ensures.after c.self.inside.handle c.self.inside.filters) c.book_shown.new.row (sent-fits c.args.now c.self.inside c.args.self.now c.self.invariant c.self.view_is c.requires.ready (ap (λ (n : Node Kept). n.own.held) c.self.view_is ∙ c.requires.none) c.dequeue-shown.new.self c.dequeue-shown.result (c.dequeue-shown.ensures.after c.self.inside.handle c.self.inside.filters) (omega (arith, c.self.ranges, c.fit.ensures.packets, c.fit.ensures.bytes)) (omega (arith, c.self.ranges, c.fit.ensures.packets, c.fit.ensures.bytes))) c.book_shown.ensures c.dequeue-shown.new.out (given-some c.dequeue-shown.result.packet c.args.out.now c.dequeue-shown.new.out (sym c.has_packet.ensures ∙ c.if-not-has_packet.false) c.dequeue-shown.ensures.packet) in
     let same = ap (λ (r : Row). r.arrived) c.book_shown.ensures in
     record {
       packets = omega (arith, row.balanced.packets, had.packets, ap (λ (t : Totals). t.packets) same, c.self.ranges, c.fit.ensures.packets, c.fit.ensures.bytes);
       bytes = omega (arith, row.balanced.bytes, had.bytes, ap (λ (t : Totals). t.bytes) same, c.self.ranges, c.fit.ensures.packets, c.fit.ensures.bytes);
     }
 
-pub node::Node::send_further-invariant_of-self-2 : goal.node::Node::send_further-invariant_of-self-2
-node::Node::send_further-invariant_of-self-2 g t c =
-    (one-sent c.args.now c.self.inside c.args.self.now c.self.invariant c.self.view_is c.requires.ready (ap (λ (n : Node Kept). n.own.held) c.self.view_is ∙ c.requires.none) c.send-shown.new.self c.send-shown.result (c.send-shown.ensures.after c.self.inside.handle c.self.inside.filters) c.book_shown.new.row (sent-fits c.args.now c.self.inside c.args.self.now c.self.invariant c.self.view_is c.requires.ready (ap (λ (n : Node Kept). n.own.held) c.self.view_is ∙ c.requires.none) c.send-shown.new.self c.send-shown.result (c.send-shown.ensures.after c.self.inside.handle c.self.inside.filters) (omega (arith, c.self.ranges, c.fit.ensures.packets, c.fit.ensures.bytes)) (omega (arith, c.self.ranges, c.fit.ensures.packets, c.fit.ensures.bytes))) c.book_shown.ensures c.send-shown.new.out (given-some c.send-shown.result.packet c.args.out.now c.send-shown.new.out (sym c.has_packet.ensures ∙ c.if-not-has_packet.false) c.send-shown.ensures.packet) c.book_sent.new.row c.book_sent.ensures).stays
+pub node::Node::dequeue_further-invariant_of-self-2 : goal.node::Node::dequeue_further-invariant_of-self-2
+node::Node::dequeue_further-invariant_of-self-2 g t c =
+    (one-sent c.args.now c.self.inside c.args.self.now c.self.invariant c.self.view_is c.requires.ready (ap (λ (n : Node Kept). n.own.held) c.self.view_is ∙ c.requires.none) c.dequeue-shown.new.self c.dequeue-shown.result (c.dequeue-shown.ensures.after c.self.inside.handle c.self.inside.filters) c.book_shown.new.row (sent-fits c.args.now c.self.inside c.args.self.now c.self.invariant c.self.view_is c.requires.ready (ap (λ (n : Node Kept). n.own.held) c.self.view_is ∙ c.requires.none) c.dequeue-shown.new.self c.dequeue-shown.result (c.dequeue-shown.ensures.after c.self.inside.handle c.self.inside.filters) (omega (arith, c.self.ranges, c.fit.ensures.packets, c.fit.ensures.bytes)) (omega (arith, c.self.ranges, c.fit.ensures.packets, c.fit.ensures.bytes))) c.book_shown.ensures c.dequeue-shown.new.out (given-some c.dequeue-shown.result.packet c.args.out.now c.dequeue-shown.new.out (sym c.has_packet.ensures ∙ c.if-not-has_packet.false) c.dequeue-shown.ensures.packet) c.book_sent.new.row c.book_sent.ensures).stays
 
-pub node::Node::send_further-returns-clause-after : goal.node::Node::send_further-returns-clause-after
-node::Node::send_further-returns-clause-after g t c =
-    (one-sent c.args.now c.self.inside c.args.self.now c.self.invariant c.self.view_is c.requires.ready (ap (λ (n : Node Kept). n.own.held) c.self.view_is ∙ c.requires.none) c.send-shown.new.self c.send-shown.result (c.send-shown.ensures.after c.self.inside.handle c.self.inside.filters) c.book_shown.new.row (sent-fits c.args.now c.self.inside c.args.self.now c.self.invariant c.self.view_is c.requires.ready (ap (λ (n : Node Kept). n.own.held) c.self.view_is ∙ c.requires.none) c.send-shown.new.self c.send-shown.result (c.send-shown.ensures.after c.self.inside.handle c.self.inside.filters) (omega (arith, c.self.ranges, c.fit.ensures.packets, c.fit.ensures.bytes)) (omega (arith, c.self.ranges, c.fit.ensures.packets, c.fit.ensures.bytes))) c.book_shown.ensures c.send-shown.new.out (given-some c.send-shown.result.packet c.args.out.now c.send-shown.new.out (sym c.has_packet.ensures ∙ c.if-not-has_packet.false) c.send-shown.ensures.packet) c.book_sent.new.row c.book_sent.ensures).after
+pub node::Node::dequeue_further-returns-clause-after : goal.node::Node::dequeue_further-returns-clause-after
+node::Node::dequeue_further-returns-clause-after g t c =
+    (one-sent c.args.now c.self.inside c.args.self.now c.self.invariant c.self.view_is c.requires.ready (ap (λ (n : Node Kept). n.own.held) c.self.view_is ∙ c.requires.none) c.dequeue-shown.new.self c.dequeue-shown.result (c.dequeue-shown.ensures.after c.self.inside.handle c.self.inside.filters) c.book_shown.new.row (sent-fits c.args.now c.self.inside c.args.self.now c.self.invariant c.self.view_is c.requires.ready (ap (λ (n : Node Kept). n.own.held) c.self.view_is ∙ c.requires.none) c.dequeue-shown.new.self c.dequeue-shown.result (c.dequeue-shown.ensures.after c.self.inside.handle c.self.inside.filters) (omega (arith, c.self.ranges, c.fit.ensures.packets, c.fit.ensures.bytes)) (omega (arith, c.self.ranges, c.fit.ensures.packets, c.fit.ensures.bytes))) c.book_shown.ensures c.dequeue-shown.new.out (given-some c.dequeue-shown.result.packet c.args.out.now c.dequeue-shown.new.out (sym c.has_packet.ensures ∙ c.if-not-has_packet.false) c.dequeue-shown.ensures.packet) c.book_sent.new.row c.book_sent.ensures).after

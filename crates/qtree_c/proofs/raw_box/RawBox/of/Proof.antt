@@ -32,13 +32,13 @@ use Rattle.std_alloc.specs.Box.Ownership.{box_owns}
 use Rattle.std_alloc.proofs.BoxSteps.Form as box
 use Rattle.std_alloc.proofs.BoxSteps.Steps.{box_out, box_in}
 use Rattle.std.proofs.raw_atomic.Walks.{proved_at, leaves}
-use Rattle.q_raw_box.proofs.Values.{both, raw_box_good, raw_box_in}
+use Rattle.qtree_c.proofs.RawBoxValues.{both, raw_box_good, raw_box_in}
 use Rattle.std_alloc.specs.contracts.boxed.Box.into_raw_with_allocator as callee
 use Rattle.std_alloc.proofs.boxed.Box.into_raw_with_allocator.Met.{met}
-use Rattle.q_raw_box.specs.contracts.RawBox.of.{ended, clauses}
-use Rattle.q_raw_box.specs.contracts.RawBox.of.Key.{name as #self}
-use Rattle.q_raw_box.proofs.RawBox.of.Statement.{statement}
-use Rattle.q_raw_box.proofs.RawBox.of.Code as code
+use Rattle.qtree_c.specs.contracts.raw_box.RawBox.of.{ended, clauses}
+use Rattle.qtree_c.specs.contracts.raw_box.RawBox.of.Key.{name as #self}
+use Rattle.qtree_c.proofs.raw_box.RawBox.of.Statement.{statement}
+use Rattle.qtree_c.proofs.raw_box.RawBox.of.Code as code
 
 pub of_spec : {M : Type 1} → statement M
 of_spec 𝓤 𝓛 𝓜 𝓡 wired T A L LA g d dx dd allocator glue glued =

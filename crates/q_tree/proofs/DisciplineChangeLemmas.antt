@@ -1,4 +1,4 @@
--- What waits beneath a discipline once it is reshaped: what waited there, without what is lost.
+-- What waits beneath a discipline once it is changed: what waited there, without what is lost.
 use Rattle.std.proofs.Common.{◌≡◌, ℕ, zero, suc, ◌+◌, ◌≤◌, ◌∙◌, Bool, true, false, List, [], ◌∷◌, ◌++◌, map, take, drop, length, refl, sym, ap, subst, Option, Some, None, option_and_then, option_map, arith}
 use Rattle.std.specs.Prelude.{All, is_some, slice_get, if◌then◌else◌}
 use Rattle.std.specs.List.{remove}
@@ -24,7 +24,7 @@ use Rattle.q_invariants.proofs.Joined.{joined, weigh-joined-append, weigh-joined
 use Rattle.q_invariants.proofs.Weights.{weigh, weigh-nil}
 use Rattle.q_tree.specs.Kept.{Kept}
 use Rattle.q_tree.specs.PutSteps.{packets_beneath}
-use Rattle.q_tree.specs.Reshaping.{AreReady, IsFresh, bands_going, bands_staying, can_join, children_after, class_child, discipline_after, leaf_limited, leaves_limited, limited, lost_with, place_in, rebucketed, remapped, reoptioned, requantum, rescheduled, resettled}
+use Rattle.q_tree.specs.DisciplineChanges.{AreReady, IsFresh, bands_going, bands_staying, can_join, children_after, class_child, discipline_after, leaf_limited, leaves_limited, limited, lost_with, place_in, rebucketed, remapped, reoptioned, requantum, rescheduled, resettled}
 use Rattle.q_tree.specs.Seen.{IsCountedWithin}
 use Rattle.q_tree.specs.declared.commands.discipline_change.DisciplineChange.{DisciplineChange}
 use Rattle.q_tree.specs.declared.commands.discipline_change.DisciplineChange.TheVariants.{Nothing, SetLimit, SetBands, SetBucket, SetOptions, AddClass, SetQuantum, RemoveClass}

@@ -6,7 +6,7 @@ use Rattle.q_tree.specs.Changing.{IsChange, NeedsMore}
 use Rattle.q_tree.specs.Commands.{takes_none}
 use Rattle.q_tree.proofs.ChangeLemmas.{bfifo-is, drr-is, fq_codel-is, pfifo-is, plans_of, tbf-is}
 use Rattle.q_tree.specs.Planning.{device_of, root_of}
-use Rattle.q_tree.proofs.commands.planner.Planner.reshape_to.Goals as goal
+use Rattle.q_tree.proofs.commands.planner.Planner.change_to.Goals as goal
 
 pub returns-in-Pfifo : goal.returns-in-Pfifo
 returns-in-Pfifo c =

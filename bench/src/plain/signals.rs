@@ -14,14 +14,14 @@ pub struct Sums {
 /// The losses that wait to be reaped, and the sums of one call at one node. Each node books them on its way back, and finds
 /// them clean when it is asked: who asks several nodes in one call folds the sums away between them.
 #[derive(Default)]
-pub struct Toll {
+pub struct Signals {
     /// Whether the sums are more than zero.
     pub any: bool,
     pub sums: Sums,
     pub lost: VecDeque<Lost>,
 }
 
-impl Toll {
+impl Signals {
     #[cold]
     #[inline(never)]
     pub fn refuse(&mut self, packet: &Packet, cause: Cause) -> Put {

@@ -6,7 +6,7 @@ use Rattle.q_codel.specs.FifoState.{FifoState, takes}
 use Rattle.q_model.specs.Route.{ends, refused}
 use Rattle.q_tree.specs.declared.node.Discipline.TheVariants as code
 use Rattle.q_tree.proofs.Arriving.{fifo-form, queued-in-fifo, refused-in}
-use Rattle.q_tree.proofs.disciplines.fifo.arrive_in_fifo.Goals as goal
+use Rattle.q_tree.proofs.disciplines.fifo.enqueue_in_fifo.Goals as goal
 
 pub returns-then-not-fits-clause-after : goal.returns-then-not-fits-clause-after
 returns-then-not-fits-clause-after g c = λ filters.

@@ -31,13 +31,13 @@ use Rattle.core.proofs.cell.Inside.{Good}
 use Rattle.std_alloc.proofs.BoxSteps.Form as box
 use Rattle.std_alloc.proofs.BoxSteps.Steps.{box_out, box_in}
 use Rattle.std.proofs.raw_atomic.Walks.{proved_at, leaves}
-use Rattle.q_raw_box.proofs.Values.{both, RawBox, raw_box_good, raw_box_out}
+use Rattle.qtree_c.proofs.RawBoxValues.{both, RawBox, raw_box_good, raw_box_out}
 use Rattle.std_alloc.specs.contracts.boxed.Box.from_raw as callee
 use Rattle.std_alloc.proofs.boxed.Box.from_raw.Met.{met}
-use Rattle.q_raw_box.specs.contracts.RawBox.into_box.{ended, clauses}
-use Rattle.q_raw_box.specs.contracts.RawBox.into_box.Key.{name as #self}
-use Rattle.q_raw_box.proofs.RawBox.into_box.Statement.{statement}
-use Rattle.q_raw_box.proofs.RawBox.into_box.Code as code
+use Rattle.qtree_c.specs.contracts.raw_box.RawBox.into_box.{ended, clauses}
+use Rattle.qtree_c.specs.contracts.raw_box.RawBox.into_box.Key.{name as #self}
+use Rattle.qtree_c.proofs.raw_box.RawBox.into_box.Statement.{statement}
+use Rattle.qtree_c.proofs.raw_box.RawBox.into_box.Code as code
 
 pub into_box_spec : {M : Type 1} → statement M
 into_box_spec 𝓤 𝓛 𝓜 𝓡 wired T A L LA g d dx dd allocator glue glued =
