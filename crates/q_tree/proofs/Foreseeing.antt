@@ -34,9 +34,6 @@ pub record Foresees (now t : ℕ) (o : Outlook) (shown : Option Descriptor) : Ty
 
 -- ---- moments
 
-before-lt : (a b : ℕ) → a < b → is_before (Some a) (Some b) ≡ true
-before-lt a b h = lt-ltb a b h
-
 ended : (t : ℕ) (u : Option ℕ) → is_before (Some t) u ≡ false → (x : ℕ) × (u ≡ Some x) × (x ≤ t)
 ended t None h = absurd (false≢true (sym h))
 ended t (Some x) h = (x, refl, ltb-false t x h)

@@ -1,6 +1,6 @@
 -- A packet that a queue gave into the caller's place: what the call answered is what was queued.
-use Rattle.std.proofs.Common.{◌≡◌, ℕ, zero, suc, ◌<◌, List, [], ◌∷◌, Option, Some, None, option_map, option_to_list, length, refl, sym, ap, ap₂, arith}
-use Rattle.std.specs.Prelude.{Bool, false, not, ◌==◌, slice_get}
+use Rattle.std.proofs.Common.{◌≡◌, ℕ, zero, suc, ◌<◌, List, [], ◌∷◌, Option, Some, None, option_to_list, length, refl, sym, ap, ap₂, arith}
+use Rattle.std.specs.Prelude.{Bool, false, not, ◌==◌}
 use Rattle.std.proofs.lemmas.Bool.{eqb-true, not-false}
 use Rattle.std.specs.Option.{option_map_or}
 use Rattle.q_packet.specs.Descriptor.{Descriptor}
@@ -9,17 +9,6 @@ use Rattle.q_codel.specs.declared.taken.Taken.{Taken}
 use Rattle.q_model.specs.Beneath.{packets_of, totals_in}
 use Rattle.q_model.specs.Tally.{no_totals}
 use Rattle.q_tree.proofs.TakeCounts.{packet_of}
-
--- a fifo that gave none is empty
-pub head-none : (xs : List Stamped) (len : ℕ) → len ≡ 0 → (0 < length xs → 0 < len) → option_map (λ (s : Stamped). s.packet) (slice_get xs 0) ≡ None
-head-none [] len none has = refl
-head-none (s ∷ xs) len none has = absurd (omega (arith, none, has (omega arith)))
-
--- and one that gave a packet gave its head
-pub head-some : (xs : List Stamped) (old new : Descriptor) → 0 < length xs → new ≡ option_map_or (λ (s : Stamped). s.packet) (slice_get xs 0) old
-    → option_map (λ (s : Stamped). s.packet) (slice_get xs 0) ≡ Some new
-head-some [] old new some is = absurd (omega (arith, some))
-head-some (s ∷ xs) old new some is = ap Some (sym is)
 
 -- its length is what the call answered
 pub head-len : (o : Option Stamped) (len : ℕ) (old new : Descriptor) → 0 < len → len ≡ option_map_or (λ (s : Stamped). s.packet.len) o 0 → new ≡ option_map_or (λ (s : Stamped). s.packet) o old → len ≡ new.len

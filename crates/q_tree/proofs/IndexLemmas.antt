@@ -2,9 +2,8 @@
 use Rattle.std.proofs.Common.{◌≡◌, ℕ, zero, suc, ◌+◌, ◌-◌, ◌<◌, ◌≤◌, ◌∙◌, List, [], ◌∷◌, ◌++◌, drop, length, map, refl, sym, ap, ap₂, subst, append_assoc, append-nil, eqb, Option, Some, None, option_map, inl, inr, arith}
 use Rattle.std.specs.Prelude.{Bool, true, false, not, nat_eq, ◌==◌, ◌||◌, cond, is_some, if◌then◌else◌, slice_index_or}
 use Rattle.std.specs.List.{enumerate_from, find, flat_map, fold, sum}
-use Rattle.std.specs.Option.{option_eq}
 use Rattle.std.specs.Map.{lookup}
-use Rattle.std.proofs.lemmas.Bool.{cases_Bool, eq-eqb, eqb-true, false≢true, ne_eqb, or_parts}
+use Rattle.std.proofs.lemmas.Bool.{cases_Bool, eq-eqb, eqb-true, ne_eqb, or_parts}
 use Rattle.std.proofs.lemmas.List.{drop_more, drop_all, length-append, length-map, map-append}
 use Rattle.std.proofs.lemmas.List.Sums.{fold-append, sum_by-cons}
 use Rattle.arrayvec.specs.ArrayVec.{ArrayVec}
@@ -47,28 +46,16 @@ has-listed h (e ∷ es) = ap (λ b. is_some (cond b (Some e.1) (lookup (nat_eq h
   by true same = refl
   by false same = same
 
--- the root has it, or another handle, or none
+-- another handle than the root's
 module _ (h : ℕ) (xs : List Address) where
-  pub path-root : (root : Option ℕ) → root ≡ Some h → Some [] ≡ path_among h (own_address [] root ++ xs)
-  path-root root is =
-      sym (ap (λ o. path_among h (own_address [] o ++ xs)) is
-      ∙ ap (λ b. option_map (λ (a : Address). a.path) (cond b (Some (record { handle = h; path = [] })) (find (λ (a : Address). a.handle == h) xs))) (eq-eqb h h refl))
-
   pub path-other : (root : Option ℕ) → (root ≡ Some h → ⊥) → path_among h xs ≡ path_among h (own_address [] root ++ xs)
   path-other None other = refl
   path-other (Some k) other =
       sym (ap (λ b. option_map (λ (a : Address). a.path) (cond b (Some (record { handle = k; path = [] })) (find (λ (a : Address). a.handle == h) xs))) (ne_eqb k h (λ e. other (ap Some e))))
 
-  pub has-root : (root : Option ℕ) → root ≡ Some h → true ≡ has_among h (own_address [] root ++ xs)
-  has-root root is = sym (ap (λ o. has_among h (own_address [] o ++ xs)) is ∙ ap (λ b. b || has_among h xs) (eq-eqb h h refl))
-
   pub has-other : (root : Option ℕ) → (root ≡ Some h → ⊥) → has_among h xs ≡ has_among h (own_address [] root ++ xs)
   has-other None other = refl
   has-other (Some k) other = sym (ap (λ b. b || has_among h xs) (ne_eqb k h (λ e. other (ap Some e))))
-
-pub some-root : (h : ℕ) (o : Option ℕ) → true ≡ option_eq (λ a b. a == b) o (Some h) → o ≡ Some h
-some-root h None e = absurd (false≢true (sym e))
-some-root h (Some k) e = ap Some (eqb-true k h (sym e))
 
 -- ---- the first number that none of them is
 abbrev pub is_free : List Address → ℕ → Bool

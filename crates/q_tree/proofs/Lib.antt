@@ -29,6 +29,7 @@ pub mod IndexLemmas
 pub mod IndexOfFilterLemmas
 pub mod MakingLemmas
 pub mod MatchingLemmas
+pub mod NodesLemmas
 pub mod OtherSubtrees
 pub mod OutlookLemmas
 pub mod Peeks

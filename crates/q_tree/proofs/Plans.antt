@@ -86,9 +86,6 @@ module _ (memory : Type 0) (command : Command) (d : DeviceState Kept) (now : ℕ
   abbrev planned : Result model.Edit Refusal
   planned = plan d.tree.device now command (shape d.tree.root)
 
-  pub tree-refused : (refusal : Refusal) → answer ≡ Err refusal → IsAnswered memory now planned d d (Err refusal)
-  tree-refused refusal is = (subst (IsPlanOf memory command now d.tree.device d.tree.root) is is_plan, refl)
-
   module _ (p : Planned) (is : answer ≡ Ok p) where
     pub tree-planned : IsPlannedFor memory command p now d.tree.device d.tree.root
     tree-planned = subst (IsPlanOf memory command now d.tree.device d.tree.root) is is_plan

@@ -1,5 +1,5 @@
 -- What is lost where a node is removed, part by part.
-use Rattle.std.proofs.Common.{◌≡◌, ◌+◌, ◌<◌, ◌≤◌, ◌∙◌, List, [], ◌∷◌, ◌++◌, length, refl, sym, ap, append_assoc, append-nil, arith}
+use Rattle.std.proofs.Common.{◌≡◌, ◌+◌, ◌<◌, ◌≤◌, ◌∙◌, List, [], ◌∷◌, ◌++◌, length, refl, sym, ap, append_assoc, arith}
 use Rattle.std.specs.List.{flat_map}
 use Rattle.std.specs.Option.{option_to_list}
 use Rattle.std.proofs.lemmas.List.{map-append, length-append}
@@ -51,11 +51,6 @@ then-purged before between after xs ys first second =
 pub queue-purged : (queue : List Stamped) → losses_of Purged queue ≡ purged (bare queue)
 queue-purged [] = refl
 queue-purged (s ∷ queue) = ap (λ ls. record { packet = s.packet; cause = Purged } ∷ ls) (queue-purged queue)
-
--- one node more of those side by side
-pub beneath-more : (ns : List (Node Kept)) (n : Node Kept) → packets_beneath (ns ++ n ∷ []) ≡ packets_beneath ns ++ beneath n
-beneath-more [] n = append-nil (beneath n)
-beneath-more (x ∷ ns) n = ap (λ ps. beneath x ++ ps) (beneath-more ns n) ∙ sym (append_assoc (beneath x) (packets_beneath ns) (beneath n))
 
 pub beneath-split : (xs ys : List (Node Kept)) → packets_beneath (xs ++ ys) ≡ packets_beneath xs ++ packets_beneath ys
 beneath-split [] ys = refl

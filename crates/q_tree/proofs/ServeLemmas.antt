@@ -1,7 +1,7 @@
 -- The classes of a drr that are asked in turn, until one is met that can send its packet, or shows none.
 use Rattle.std.proofs.Common.{◌≡◌, ℕ, zero, suc, ◌-◌, ◌≤◌, ◌<◌, ◌∙◌, List, [], ◌∷◌, ◌++◌, take, set, length, refl, sym, ap, ap₂, subst, inl, inr, ◌||◌, eq-eqb, Option, Some, None, option_and_then, option_map, arith}
 use Rattle.std.specs.Prelude.{true, false, is_some, nat_lt, ◌==◌, slice_get, slice_index_or}
-use Rattle.std.specs.List.{All}
+use Rattle.std.specs.List.{All, sum_by}
 use Rattle.std.specs.Option.{option_map_or}
 use Rattle.std.proofs.lemmas.Bool.{cases_lt, cases_Bool, eqb-true, ltb-true, ltb-false, false≢true}
 use Rattle.std.proofs.lemmas.List.{length-map, length-set, take_all}
@@ -11,10 +11,11 @@ use Rattle.q_packet.specs.Descriptor.{Descriptor}
 use Rattle.q_codel.specs.declared.loss.Loss.{Loss}
 use Rattle.q_drr.specs.Schedule as drr
 use Rattle.q_drr.specs.Schedule.{Entry, Schedule, has_class, place_of, front_of, is_active, quantum_of, turned, turn_answer, IsEntry}
-use Rattle.q_drr.specs.Take.{choice_of, prepared}
+use Rattle.q_drr.specs.Take.{choice_of, need, prepared}
 use Rattle.q_drr.specs.declared.met.Met.{Met}
+use Rattle.q_drr.specs.declared.turn.Turn.TheVariants.{Send, Granted}
 use Rattle.q_drr.proofs.ServingLemmas.{IsServing, IsCome, serving_start, serving_front, serving_granted, serving_ends, serving_nobody}
-use Rattle.q_drr.proofs.TakeLemmas.{Front, come_to, met_at, met_nobody, served_nothing, served_head, served_nobody, prepared_empty}
+use Rattle.q_drr.proofs.TakeLemmas.{Front, come_to, covers, empty_front, falls_short, front_is, front_quantum, measure_falls, met_at, met_nobody, served_nothing, served_head, served_nobody, prepared_empty}
 use Rattle.q_model.specs.declared.totals.Totals.{Totals}
 use Rattle.q_model.specs.Ask.{Asked, ask, ask_drr, head_of, peeked_classes, service_of, place_met, gives_nothing, class_gives, class_serves}
 use Rattle.q_model.specs.Beneath.{beneath_own, is_empty}
@@ -106,20 +107,7 @@ front-known s n law f =
     let is : IsEntry s.max_len s.classes f.first = All-head (IsEntry s.max_len s.classes) f.first f.rest (subst (All (IsEntry s.max_len s.classes)) f.is law.entries) in
     ap (λ m. has_class m s.classes) (sym f.class) ∙ is.there
 
--- the class in front, by its place
-pub record IsFrontAt (s : Schedule) (place : ℕ) : Type 0 where
-  pub class : ℕ
-  pub front : Some class ≡ front_of s
-  pub found : Some place ≡ place_of class s.classes
-
-pub front-at : (s : Schedule) (place : ℕ) → Some place ≡ option_and_then (λ n. place_of n s.classes) (front_of s) → IsFrontAt s place
-front-at s place e = by (front_of s) refl e
-  where
-    by : (o : Option ℕ) → front_of s ≡ o → Some place ≡ option_and_then (λ n. place_of n s.classes) o → IsFrontAt s place
-    by None is at = cc
-    by (Some n) is at = record { class = n; front = sym is; found = at }
-
-pub nobody-at : (s : Schedule) (r : Option ℕ) → r ≡ None → is_some r ≡ is_some (front_of s) → None ≡ front_of s
+nobody-at : (s : Schedule) (r : Option ℕ) → r ≡ None → is_some r ≡ is_some (front_of s) → None ≡ front_of s
 nobody-at s r gone same = by (front_of s) refl (ap is_some (sym gone) ∙ same)
   where
     by : (o : Option ℕ) → front_of s ≡ o → is_some {T = ℕ} None ≡ is_some o → None ≡ front_of s
@@ -137,16 +125,27 @@ module _ (now : ℕ) (first s : Schedule) (ns ms : List (Node Kept)) (unasked : 
   same-place : place_of n s.classes ≡ class_at n first
   same-place = ap (place_of n) h.serving.classes
 
-  pub place-within : (place : ℕ) → IsInFront now first ns n place → place < length ms
-  place-within place p = omega (arith, slice_get_within ns place p.child p.there, h.asking.long)
-
-  -- no call that goes down from it is larger than its children were
-  pub class-size : (place : ℕ) (dummy : Node Kept) → place < length ms → node_size (slice_index_or ms place dummy) < forest_size (side_by_side ns)
-  class-size place dummy within =
-      omega (arith, child-size ms place (slice_index_or ms place dummy) (get-there ms place dummy within), ap (λ xs. forest_size (side_by_side xs)) h.asking.children, ap forest_size (side-all ns (classes_to now first ns h.turns)), size-booked (side_by_side ns) (side_by_side (classes_to now first ns h.turns)))
-
-  pub class-in-front : (place : ℕ) → Some place ≡ place_of n s.classes → IsInFront now first ns n place
+  class-in-front : (place : ℕ) → Some place ≡ place_of n s.classes → IsInFront now first ns n place
   class-in-front place e = subst (IsInFront now first ns n) (same_Some in-front.0 place (sym in-front.1.at_place ∙ sym same-place ∙ sym e)) in-front.1
+
+-- the class in front of a drr in the midst of it, and the place where it is found
+pub record IsMet (now : ℕ) (first s : Schedule) (ns ms : List (Node Kept)) (unasked : ℕ) (so_far : Shown) (k : SinkTold) (place : ℕ) : Type 0 where
+  pub can : CanServe now first ns
+  pub asked : AreClassesAsked now first s ns ms unasked so_far k
+  pub class : ℕ
+  pub lawful : drr.IsLawful s
+  pub front : Front class s
+  pub at : IsInFront now first ns class place
+
+pub front-met : {now : ℕ} {first s : Schedule} {ns ms : List (Node Kept)} {unasked : ℕ} {so_far : Shown} {k : SinkTold} → CanServe now first ns → AreClassesAsked now first s ns ms unasked so_far k → drr.IsLawful s
+    → (place : ℕ) → Some place ≡ option_and_then (λ n. place_of n s.classes) (front_of s) → IsMet now first s ns ms unasked so_far k place
+front-met {now} {first} {s} {ns} {ms} {unasked} {so_far} {k} can h law place e = by (front_of s) refl e
+  where
+    by : (o : Option ℕ) → front_of s ≡ o → Some place ≡ option_and_then (λ n. place_of n s.classes) o → IsMet now first s ns ms unasked so_far k place
+    by None is at = cc
+    by (Some n) is at =
+        let f : Front n s = front_is n s (sym is) in
+        record { can = can; asked = h; class = n; lawful = law; front = f; at = class-in-front now first s ns ms unasked so_far k can h n law f place at }
 
 -- an entry of the list as it began
 active-at : (n : ℕ) (es : List Entry) → is_active n es ≡ true → (k : ℕ) × (e : Entry) × (slice_get es k ≡ Some e) × (e.class ≡ n) × (k < length es)
@@ -177,164 +176,169 @@ set-same [] i x e = cc
 set-same (m ∷ ms) zero x e = ap (λ (y : Node Kept). y ∷ ms) (sym (same_Some m x e))
 set-same (m ∷ ms) (suc i) x e = ap (λ xs. m ∷ xs) (set-same ms i x e)
 
-module _ (now : ℕ) (first s : Schedule) (ns ms : List (Node Kept)) (unasked : ℕ) (so_far : Shown) (k : SinkTold) (can : CanServe now first ns) (h : AreClassesAsked now first s ns ms unasked so_far k) (n : ℕ) (law : drr.IsLawful s) (f : Front n s) (place : ℕ)
-    (p : IsInFront now first ns n place) where
-  answer-there : slice_get (answers now ns) place ≡ Some (ask now (shape p.child))
-  answer-there = slice_get-map (λ (m : Node Kept). ask now (shape m)) ns place ∙ ap (option_map (λ (m : Node Kept). ask now (shape m))) p.there
+-- what is known where this class stands in front
+module _ {now : ℕ} {first s : Schedule} {ns ms : List (Node Kept)} {unasked : ℕ} {so_far : Shown} {k : SinkTold} {place : ℕ} (met : IsMet now first s ns ms unasked so_far k place) where
+  pub place-within : place < length ms
+  place-within = omega (arith, slice_get_within ns place met.at.child met.at.there, met.asked.asking.long)
+
+  -- no call that goes down from it is larger than its children were
+  pub class-size : (dummy : Node Kept) → node_size (slice_index_or ms place dummy) < forest_size (side_by_side ns)
+  class-size dummy =
+      omega (arith, child-size ms place (slice_index_or ms place dummy) (get-there ms place dummy place-within), ap (λ xs. forest_size (side_by_side xs)) met.asked.asking.children, ap forest_size (side-all ns (classes_to now first ns met.asked.turns)), size-booked (side_by_side ns) (side_by_side (classes_to now first ns met.asked.turns)))
+
+  answer-there : slice_get (answers now ns) place ≡ Some (ask now (shape met.at.child))
+  answer-there = slice_get-map (λ (m : Node Kept). ask now (shape m)) ns place ∙ ap (option_map (λ (m : Node Kept). ask now (shape m))) met.at.there
 
   -- one that was not in front yet
-  module _ (early : h.turns < length first.active) where
-    entry : (e : Entry) × (slice_get first.active h.turns ≡ Some e) × (e.class ≡ n)
-    entry = serving_front (heads_of now first ns) first s h.turns n h.serving early f
+  module _ (early : met.asked.turns < length first.active) where
+    entry : (e : Entry) × (slice_get first.active met.asked.turns ≡ Some e) × (e.class ≡ met.class)
+    entry = serving_front (heads_of now first ns) first s met.asked.turns met.class met.asked.serving early met.front
 
     entry-place : class_at entry.0.class first ≡ Some place
-    entry-place = ap (λ m. class_at m first) entry.2 ∙ p.at_place
+    entry-place = ap (λ m. class_at m first) entry.2 ∙ met.at.at_place
 
-    unasked-before : slice_get (classes_to now first ns h.turns) place ≡ Some (ask now (shape p.child)).before
-    unasked-before = before-asked first (answers now ns) h.turns entry.0 place (ask now (shape p.child)) can.schedule entry.1 entry-place answer-there
+    unasked-before : slice_get (classes_to now first ns met.asked.turns) place ≡ Some (ask now (shape met.at.child)).before
+    unasked-before = before-asked first (answers now ns) met.asked.turns entry.0 place (ask now (shape met.at.child)) met.can.schedule entry.1 entry-place answer-there
 
-    pub still-child : slice_get ms place ≡ Some p.child
-    still-child = still-there now ns ms (classes_to now first ns h.turns) (rises_to now first ns h.turns) h.asking place p.child p.there unasked-before
+    pub still-child : slice_get ms place ≡ Some met.at.child
+    still-child = still-there now ns ms (classes_to now first ns met.asked.turns) (rises_to now first ns met.asked.turns) met.asked.asking place met.at.child met.at.there unasked-before
 
-    early-once : (l l2 : List Loss) (r r2 : ℕ) → IsToldOf (rises_to now first ns h.turns) l l2 r r2 → length (packets_beneath ns) ≤ r → CanAskOnce now p.child so_far r2
-    early-once l l2 r r2 told room = can-ask-once now ns ms (classes_to now first ns h.turns) (rises_to now first ns h.turns) can.each h.asking place p.child p.there unasked-before so_far h.counted l l2 r r2 told room
+    early-once : (l l2 : List Loss) (r r2 : ℕ) → IsToldOf (rises_to now first ns met.asked.turns) l l2 r r2 → length (packets_beneath ns) ≤ r → CanAskOnce now met.at.child so_far r2
+    early-once l l2 r r2 told room = can-ask-once now ns ms (classes_to now first ns met.asked.turns) (rises_to now first ns met.asked.turns) met.can.each met.asked.asking place met.at.child met.at.there unasked-before so_far met.asked.counted l l2 r r2 told room
 
-    early-shown : (d : Node Kept) (result : Shown) (l l2 l3 : List Loss) (r r2 r3 : ℕ) → IsToldOf (rises_to now first ns h.turns) l l2 r r2 → IsAskedOnce now p.child d so_far result
-        → IsToldOf (ask now (shape p.child)).rises l2 l3 r2 r3 → IsClassShown now first ns ms h.turns place p.child d result l l3 r r3
+    early-shown : (d : Node Kept) (result : Shown) (l l2 l3 : List Loss) (r r2 r3 : ℕ) → IsToldOf (rises_to now first ns met.asked.turns) l l2 r r2 → IsAskedOnce now met.at.child d so_far result
+        → IsToldOf (ask now (shape met.at.child)).rises l2 l3 r2 r3 → IsClassShown now first ns ms met.asked.turns place met.at.child d result l l3 r r3
     early-shown d result l l2 l3 r r2 r3 before asked told =
-        let a : Asked = ask now (shape p.child) in
-        let rises : List Note = rises_to now first ns h.turns in
-        let more : rises ++ a.rises ≡ rises_to now first ns (suc h.turns) = sym (next-rises first (answers now ns) h.turns entry.0 place a entry.1 entry-place answer-there) in
-        let next : set (classes_to now first ns h.turns) place a.peeked ≡ classes_to now first ns (suc h.turns) = sym (next-asked first (answers now ns) h.turns entry.0 place a can.schedule entry.1 entry-place answer-there) in
+        let a : Asked = ask now (shape met.at.child) in
+        let rises : List Note = rises_to now first ns met.asked.turns in
+        let more : rises ++ a.rises ≡ rises_to now first ns (suc met.asked.turns) = sym (next-rises first (answers now ns) met.asked.turns entry.0 place a entry.1 entry-place answer-there) in
+        let next : set (classes_to now first ns met.asked.turns) place a.peeked ≡ classes_to now first ns (suc met.asked.turns) = sym (next-asked first (answers now ns) met.asked.turns entry.0 place a met.can.schedule entry.1 entry-place answer-there) in
         let shown : Shown = record { packet = a.shown; dropped = (counts_in a.rises).dropped; marked = (counts_in a.rises).marked } in
         record {
-          asking = subst (λ notes. IsAsking ns (set ms place d) (classes_to now first ns (suc h.turns)) notes) more
+          asking = subst (λ notes. IsAsking ns (set ms place d) (classes_to now first ns (suc met.asked.turns)) notes) more
               (subst (λ ws. IsAsking ns (set ms place d) ws (rises ++ a.rises)) next
-              (asking-goes now ns ms (classes_to now first ns h.turns) rises h.asking place p.child p.there unasked-before (can-ask now ns ms (classes_to now first ns h.turns) rises can.each h.asking place p.child p.there unasked-before) d asked.peeked asked.arrived));
-          counted = subst (λ notes. IsCounted notes result) more (counted-then rises a.rises so_far shown result h.counted refl refl asked.dropped asked.marked);
+              (asking-goes now ns ms (classes_to now first ns met.asked.turns) rises met.asked.asking place met.at.child met.at.there unasked-before (can-ask now ns ms (classes_to now first ns met.asked.turns) rises met.can.each met.asked.asking place met.at.child met.at.there unasked-before) d asked.peeked asked.arrived));
+          counted = subst (λ notes. IsCounted notes result) more (counted-then rises a.rises so_far shown result met.asked.counted refl refl asked.dropped asked.marked);
           told = subst (λ notes. IsToldOf notes l l3 r r3) more (told-then rises a.rises l l2 l3 r r2 r3 before told);
           shown = asked.packet;
           peeked = asked.peeked;
-          stored = set-at ms place p.child d still-child;
+          stored = set-at ms place met.at.child d still-child;
         }
 
   -- one that was in front before
-  module _ (late : length first.active ≤ h.turns) where
-    stood : (k : ℕ) × (e : Entry) × (slice_get first.active k ≡ Some e) × (e.class ≡ n) × (k < length first.active)
+  module _ (late : length first.active ≤ met.asked.turns) where
+    stood : (k : ℕ) × (e : Entry) × (slice_get first.active k ≡ Some e) × (e.class ≡ met.class) × (k < length first.active)
     stood =
         let heads = heads_of now first ns in
-        let here : is_active n s.active ≡ true = ap (is_active n) f.is ∙ ap (λ b. b || is_active n f.rest) (eq-eqb n f.first.class (sym f.class)) in
-        let same : is_active n s.active ≡ is_active n first.active =
-        sym (active-brought_up n (λ m. quantum_of m s.classes) (choice_of heads s) s.active)
-        ∙ ap (λ (v : Schedule). is_active n v.active) h.serving.ready
-        ∙ active-brought_up n (λ m. quantum_of m first.classes) (choice_of heads first) first.active in
-        active-at n first.active (sym same ∙ here)
+        let here : is_active met.class s.active ≡ true = ap (is_active met.class) met.front.is ∙ ap (λ b. b || is_active met.class met.front.rest) (eq-eqb met.class met.front.first.class (sym met.front.class)) in
+        let same : is_active met.class s.active ≡ is_active met.class first.active =
+        sym (active-brought_up met.class (λ m. quantum_of m s.classes) (choice_of heads s) s.active)
+        ∙ ap (λ (v : Schedule). is_active met.class v.active) met.asked.serving.ready
+        ∙ active-brought_up met.class (λ m. quantum_of m first.classes) (choice_of heads first) first.active in
+        active-at met.class first.active (sym same ∙ here)
 
-    peeked-there : slice_get (classes_to now first ns h.turns) place ≡ Some (ask now (shape p.child)).peeked
-    peeked-there = was-asked first (answers now ns) h.turns stood.0 stood.1 place (ask now (shape p.child)) (omega (arith, stood.4, late)) stood.2 (ap (λ m. class_at m first) stood.3 ∙ p.at_place) answer-there
+    peeked-there : slice_get (classes_to now first ns met.asked.turns) place ≡ Some (ask now (shape met.at.child)).peeked
+    peeked-there = was-asked first (answers now ns) met.asked.turns stood.0 stood.1 place (ask now (shape met.at.child)) (omega (arith, stood.4, late)) stood.2 (ap (λ m. class_at m first) stood.3 ∙ met.at.at_place) answer-there
 
-    peeked-child : slice_get ms place ≡ Some (booked kept p.child (ask now (shape p.child)).peeked)
-    peeked-child = ap (λ xs. slice_get xs place) h.asking.children ∙ all-at ns (classes_to now first ns h.turns) place p.child (ask now (shape p.child)).peeked p.there peeked-there
+    peeked-child : slice_get ms place ≡ Some (booked kept met.at.child (ask now (shape met.at.child)).peeked)
+    peeked-child = ap (λ xs. slice_get xs place) met.asked.asking.children ∙ all-at ns (classes_to now first ns met.asked.turns) place met.at.child (ask now (shape met.at.child)).peeked met.at.there peeked-there
 
-    all-turns : take h.turns first.active ≡ take (suc h.turns) first.active
-    all-turns = take_all h.turns first.active late ∙ sym (take_all (suc h.turns) first.active (omega (arith, late)))
+    all-turns : take met.asked.turns first.active ≡ take (suc met.asked.turns) first.active
+    all-turns = take_all met.asked.turns first.active late ∙ sym (take_all (suc met.asked.turns) first.active (omega (arith, late)))
 
-    late-shown : CanAsk now p.child → (d : Node Kept) (result : Shown) (l l2 : List Loss) (r r2 : ℕ) → IsToldOf (rises_to now first ns h.turns) l l2 r r2 → d ≡ booked kept p.child (ask now (shape p.child)).peeked
-        → result ≡ record so_far { packet = (pop (booked kept p.child (ask now (shape p.child)).peeked)).shown } → IsClassShown now first ns ms h.turns place p.child d result l l2 r r2
+    late-shown : CanAsk now met.at.child → (d : Node Kept) (result : Shown) (l l2 : List Loss) (r r2 : ℕ) → IsToldOf (rises_to now first ns met.asked.turns) l l2 r r2 → d ≡ booked kept met.at.child (ask now (shape met.at.child)).peeked
+        → result ≡ record so_far { packet = (pop (booked kept met.at.child (ask now (shape met.at.child)).peeked)).shown } → IsClassShown now first ns ms met.asked.turns place met.at.child d result l l2 r r2
     late-shown may d result l l2 r r2 told is result_is =
-        let a : Asked = ask now (shape p.child) in
-        let stays : set ms place d ≡ ms = ap (set ms place) is ∙ set-same ms place (booked kept p.child a.peeked) peeked-child in
+        let a : Asked = ask now (shape met.at.child) in
+        let stays : set ms place d ≡ ms = ap (set ms place) is ∙ set-same ms place (booked kept met.at.child a.peeked) peeked-child in
         record {
           asking = subst (λ (es : List Entry). IsAsking ns (set ms place d) (peeked_classes first es (answers now ns)) (rises_of first es (answers now ns))) all-turns
-              (subst (λ xs. IsAsking ns xs (classes_to now first ns h.turns) (rises_to now first ns h.turns)) (sym stays) h.asking);
+              (subst (λ xs. IsAsking ns xs (classes_to now first ns met.asked.turns) (rises_to now first ns met.asked.turns)) (sym stays) met.asked.asking);
           counted = subst (λ (es : List Entry). IsCounted (rises_of first es (answers now ns)) result) all-turns
-              (record { dropped = ap (λ (x : Shown). x.dropped) result_is ∙ h.counted.dropped; marked = ap (λ (x : Shown). x.marked) result_is ∙ h.counted.marked });
+              (record { dropped = ap (λ (x : Shown). x.dropped) result_is ∙ met.asked.counted.dropped; marked = ap (λ (x : Shown). x.marked) result_is ∙ met.asked.counted.marked });
           told = subst (λ (es : List Entry). IsToldOf (rises_of first es (answers now ns)) l l2 r r2) all-turns told;
-          shown = ap (λ (x : Shown). x.packet) result_is ∙ hand-asked now p.child (booked kept p.child a.peeked) may refl;
+          shown = ap (λ (x : Shown). x.packet) result_is ∙ hand-asked now met.at.child (booked kept met.at.child a.peeked) may refl;
           peeked = is;
-          stored = set-at ms place (booked kept p.child a.peeked) d peeked-child;
+          stored = set-at ms place (booked kept met.at.child a.peeked) d peeked-child;
         }
 
-  abbrev child-can : CanAsk now p.child
-  child-can = record { mtu = can.each.mtu; least = can.each.least; moment = can.each.moment; lawful = lawful-at can.each.mtu now ns place p.child can.each.lawful p.there }
+  abbrev child-can : CanAsk now met.at.child
+  child-can = record { mtu = met.can.each.mtu; least = met.can.each.least; moment = met.can.each.moment; lawful = lawful-at met.can.each.mtu now ns place met.at.child met.can.each.lawful met.at.there }
 
   -- the class as the code has it
   module _ (dummy : Node Kept) where
     pub class-once : nat_lt 0 unasked ≡ true → length (packets_beneath ns) ≤ k.room → CanAskOnce now (slice_index_or ms place dummy) so_far k.room_now
     class-once some room =
-        let early : h.turns < length first.active = omega (arith, ltb-true 0 unasked some, h.remaining) in
-        subst (λ (m : Node Kept). CanAskOnce now m so_far k.room_now) (sym (get_or_from_slice_get ms place p.child dummy (still-child early))) (early-once early k.losses k.losses_now k.room k.room_now h.told room)
+        let early : met.asked.turns < length first.active = omega (arith, ltb-true 0 unasked some, met.asked.remaining) in
+        subst (λ (m : Node Kept). CanAskOnce now m so_far k.room_now) (sym (get_or_from_slice_get ms place met.at.child dummy (still-child early))) (early-once early k.losses k.losses_now k.room k.room_now met.asked.told room)
 
-    pub class-shown : (d : Node Kept) (result : Shown) (l3 : List Loss) (r3 : ℕ)
+    pub class-shown : {d : Node Kept} {result : Shown} {l3 : List Loss} {r3 : ℕ}
         → (nat_lt 0 unasked ≡ true → IsAskedOnce now (slice_index_or ms place dummy) d so_far result)
         → (nat_lt 0 unasked ≡ true → IsToldOf (ask now (shape (slice_index_or ms place dummy))).rises k.losses_now l3 k.room_now r3)
         → (nat_lt 0 unasked ≡ false → (d ≡ slice_index_or ms place dummy) × (result ≡ record so_far { packet = (pop (slice_index_or ms place dummy)).shown }))
-        → (nat_lt 0 unasked ≡ false → (l3 ≡ k.losses_now) × (r3 ≡ k.room_now)) → IsClassShown now first ns ms h.turns place p.child d result k.losses l3 k.room r3
-    class-shown d result l3 r3 asked told hand kept_told = elim (cases_Bool (nat_lt 0 unasked)) [
+        → (nat_lt 0 unasked ≡ false → (l3 ≡ k.losses_now) × (r3 ≡ k.room_now)) → IsClassShown now first ns ms met.asked.turns place met.at.child d result k.losses l3 k.room r3
+    class-shown {d} {result} {l3} {r3} asked told hand kept_told = elim (cases_Bool (nat_lt 0 unasked)) [
       | inl some ↦
-          let early : h.turns < length first.active = omega (arith, ltb-true 0 unasked some, h.remaining) in
-          let is : slice_index_or ms place dummy ≡ p.child = get_or_from_slice_get ms place p.child dummy (still-child early) in
-          early-shown early d result k.losses k.losses_now l3 k.room k.room_now r3 h.told (subst (λ (m : Node Kept). IsAskedOnce now m d so_far result) is (asked some)) (subst (λ (m : Node Kept). IsToldOf (ask now (shape m)).rises k.losses_now l3 k.room_now r3) is (told some))
+          let early : met.asked.turns < length first.active = omega (arith, ltb-true 0 unasked some, met.asked.remaining) in
+          let is : slice_index_or ms place dummy ≡ met.at.child = get_or_from_slice_get ms place met.at.child dummy (still-child early) in
+          early-shown early d result k.losses k.losses_now l3 k.room k.room_now r3 met.asked.told (subst (λ (m : Node Kept). IsAskedOnce now m d so_far result) is (asked some)) (subst (λ (m : Node Kept). IsToldOf (ask now (shape m)).rises k.losses_now l3 k.room_now r3) is (told some))
       | inr asked_all ↦
-          let late : length first.active ≤ h.turns = omega (arith, ltb-false 0 unasked asked_all, h.remaining) in
-          let is : slice_index_or ms place dummy ≡ booked kept p.child (ask now (shape p.child)).peeked = get_or_from_slice_get ms place (booked kept p.child (ask now (shape p.child)).peeked) dummy (peeked-child late) in
+          let late : length first.active ≤ met.asked.turns = omega (arith, ltb-false 0 unasked asked_all, met.asked.remaining) in
+          let is : slice_index_or ms place dummy ≡ booked kept met.at.child (ask now (shape met.at.child)).peeked = get_or_from_slice_get ms place (booked kept met.at.child (ask now (shape met.at.child)).peeked) dummy (peeked-child late) in
           let same = hand asked_all in
           let nothing = kept_told asked_all in
-          late-shown late child-can d result k.losses l3 k.room r3 (subst (λ xs. IsToldOf (rises_to now first ns h.turns) k.losses xs k.room r3) (sym nothing.0) (subst (λ m. IsToldOf (rises_to now first ns h.turns) k.losses k.losses_now k.room m) (sym nothing.1) h.told))
+          late-shown late child-can d result k.losses l3 k.room r3 (subst (λ xs. IsToldOf (rises_to now first ns met.asked.turns) k.losses xs k.room r3) (sym nothing.0) (subst (λ m. IsToldOf (rises_to now first ns met.asked.turns) k.losses k.losses_now k.room m) (sym nothing.1) met.asked.told))
           (same.0 ∙ is) (same.1 ∙ ap (λ (m : Node Kept). record so_far { packet = (pop m).shown }) is)
     ]
 
   -- the head of the class is what was shown
-  shown-head : (o : Option Descriptor) → (ask now (shape p.child)).shown ≡ o → heads_of now first ns n ≡ option_map (λ (x : Descriptor). x.len) o
-  shown-head o e = head-is first (answers now ns) n place (ask now (shape p.child)) p.at_place answer-there ∙ ap (option_map (λ (x : Descriptor). x.len)) e
-
-  pub short-enough : (x : Descriptor) → (ask now (shape p.child)).shown ≡ Some x → x.len ≤ s.max_len
-  short-enough x e = omega (arith, shown-short can.each.mtu now (ask now (shape p.child)) x (answered now p.child child-can) e, can.longest, h.serving.longest)
+  shown-head : (o : Option Descriptor) → (ask now (shape met.at.child)).shown ≡ o → heads_of now first ns met.class ≡ option_map (λ (x : Descriptor). x.len) o
+  shown-head o e = head-is first (answers now ns) met.class place (ask now (shape met.at.child)) met.at.at_place answer-there ∙ ap (option_map (λ (x : Descriptor). x.len)) e
 
   -- what is asked where the take ends here
-  module _ (o : Option Descriptor) (e : (ask now (shape p.child)).shown ≡ o) (covered : (len : ℕ) → option_map (λ (x : Descriptor). x.len) o ≡ Some len → len ≤ f.first.deficit) where
-    come : IsCome (heads_of now first ns) first h.turns
-    come = serving_ends (heads_of now first ns) first s h.turns n h.serving f (option_map (λ (x : Descriptor). x.len) o) (shown-head o e) covered
+  module _ (o : Option Descriptor) (e : (ask now (shape met.at.child)).shown ≡ o) (covered : (len : ℕ) → option_map (λ (x : Descriptor). x.len) o ≡ Some len → len ≤ met.front.first.deficit) where
+    come : IsCome (heads_of now first ns) first met.asked.turns
+    come = serving_ends (heads_of now first ns) first s met.asked.turns met.class met.asked.serving met.front (option_map (λ (x : Descriptor). x.len) o) (shown-head o e) covered
 
-    pub asked-to : asked_entries (choice_of (heads_of now first ns) first) first.active ≡ take (suc h.turns) first.active
-    asked-to = ap (λ x. asked_entries x first.active) come.is ∙ elim (cases_lt h.turns (length first.active)) [
+    pub asked-to : asked_entries (choice_of (heads_of now first ns) first) first.active ≡ take (suc met.asked.turns) first.active
+    asked-to = ap (λ x. asked_entries x first.active) come.is ∙ elim (cases_lt met.asked.turns (length first.active)) [
       | inl early ↦ asked-now come.choice first.active (come.early early).0 ∙ ap (λ k. take (suc k) first.active) (come.early early).1
-      | inr late ↦ asked-all come.choice first.active (come.late late) ∙ sym (take_all (suc h.turns) first.active (omega (arith, late)))
+      | inr late ↦ asked-all come.choice first.active (come.late late) ∙ sym (take_all (suc met.asked.turns) first.active (omega (arith, late)))
     ]
 
     ready : prepared (heads_of now first ns) first ≡ s
-    ready = come_to (heads_of now first ns) first s n f (option_map (λ (x : Descriptor). x.len) o) (shown-head o e) covered law h.serving.ready
+    ready = come_to (heads_of now first ns) first s met.class met.front (option_map (λ (x : Descriptor). x.len) o) (shown-head o e) covered met.lawful met.asked.serving.ready
 
     pub drr-answer : (own : Own) → ask_drr own (answers now ns) first
-        ≡ option_map_or (class_gives own (answers now ns) (service_of first (answers now ns)) place (ask now (shape p.child))) o (gives_nothing own (answers now ns) (service_of first (answers now ns)))
+        ≡ option_map_or (class_gives own (answers now ns) (service_of first (answers now ns)) place (ask now (shape met.at.child))) o (gives_nothing own (answers now ns) (service_of first (answers now ns)))
     drr-answer own =
         let below : List Asked = answers now ns in
         let v = service_of first below in
         let nothing : Asked = gives_nothing own below v in
         let meets : place_met first below ≡ Some place =
-        ap (option_and_then (λ (m : Met). class_at m.class first)) (sym (met_at (heads_of now first ns) first s n f (option_map (λ (x : Descriptor). x.len) o) (shown-head o e) ready)) ∙ p.at_place in
+        ap (option_and_then (λ (m : Met). class_at m.class first)) (sym (met_at (heads_of now first ns) first s met.class met.front (option_map (λ (x : Descriptor). x.len) o) (shown-head o e) ready)) ∙ met.at.at_place in
         ap (λ i. option_map_or (λ i. option_map_or (class_serves own below v i) (slice_get below i) nothing) i nothing) meets
         ∙ ap (λ x. option_map_or (class_serves own below v place) x nothing) answer-there
-        ∙ ap (λ x. option_map_or (class_gives own below v place (ask now (shape p.child))) x nothing) e
+        ∙ ap (λ x. option_map_or (class_gives own below v place (ask now (shape met.at.child))) x nothing) e
 
-    service-below : (service_of first (answers now ns)).below ≡ classes_to now first ns (suc h.turns)
+    service-below : (service_of first (answers now ns)).below ≡ classes_to now first ns (suc met.asked.turns)
     service-below = ap (λ (es : List Entry). peeked_classes first es (answers now ns)) asked-to
 
-    service-rises : (service_of first (answers now ns)).rises ≡ rises_to now first ns (suc h.turns)
+    service-rises : (service_of first (answers now ns)).rises ≡ rises_to now first ns (suc met.asked.turns)
     service-rises = ap (λ (es : List Entry). rises_of first es (answers now ns)) asked-to
 
   -- a class that shows nothing ends it
-  module _ (d : Node Kept) (result : Shown) (l2 : List Loss) (r2 : ℕ) (shows : IsClassShown now first ns ms h.turns place p.child d result k.losses l2 k.room r2) where
+  module _ {d : Node Kept} {result : Shown} {l2 : List Loss} {r2 : ℕ} (shows : IsClassShown now first ns ms met.asked.turns place met.at.child d result k.losses l2 k.room r2) where
     module _ (empty : result.packet ≡ None) where
-      silent : (ask now (shape p.child)).shown ≡ None
+      silent : (ask now (shape met.at.child)).shown ≡ None
       silent = sym shows.shown ∙ empty
 
-      uncovered : (len : ℕ) → option_map (λ (x : Descriptor). x.len) None ≡ Some len → len ≤ f.first.deficit
+      uncovered : (len : ℕ) → option_map (λ (x : Descriptor). x.len) None ≡ Some len → len ≤ met.front.first.deficit
       uncovered len e = cc
 
       pub nothing-schedule : (own : Own) → spec.Drr s ≡ (ask_drr own (answers now ns) first).peeked.own.discipline
       nothing-schedule own =
-          ap spec.Drr (served_nothing (heads_of now first ns) first s n f (shown-head None silent) (ready None silent uncovered))
+          ap spec.Drr (served_nothing (heads_of now first ns) first s met.class met.front (shown-head None silent) (ready None silent uncovered))
           ∙ ap (λ (x : Asked). x.peeked.own.discipline) (sym (drr-answer None silent uncovered own))
 
       pub nothing-told : (own : Own) → IsToldOf (ask_drr own (answers now ns) first).rises k.losses l2 k.room r2
@@ -342,10 +346,10 @@ module _ (now : ℕ) (first s : Schedule) (ns ms : List (Node Kept)) (unasked : 
 
       pub nothing-asked : (own : Own) → AreAsked (ask_drr own (answers now ns) first) ns (set ms place d) result
       nothing-asked own =
-          let rises : (ask_drr own (answers now ns) first).rises ≡ rises_to now first ns (suc h.turns) = ap (λ (x : Asked). x.rises) (drr-answer None silent uncovered own) ∙ service-rises None silent uncovered in
+          let rises : (ask_drr own (answers now ns) first).rises ≡ rises_to now first ns (suc met.asked.turns) = ap (λ (x : Asked). x.rises) (drr-answer None silent uncovered own) ∙ service-rises None silent uncovered in
           record {
             long = shows.asking.long;
-            nodes = ap side_by_side shows.asking.children ∙ side-all ns (classes_to now first ns (suc h.turns))
+            nodes = ap side_by_side shows.asking.children ∙ side-all ns (classes_to now first ns (suc met.asked.turns))
                 ∙ ap (λ ws. each_booked kept (side_by_side ns) (side_by_side ws)) (sym (service-below None silent uncovered))
                 ∙ ap (λ (x : Asked). each_booked kept (side_by_side ns) x.peeked.below) (sym (drr-answer None silent uncovered own));
             within = shows.asking.within;
@@ -358,53 +362,60 @@ module _ (now : ℕ) (first s : Schedule) (ns ms : List (Node Kept)) (unasked : 
 
     -- what it gives is what it showed
     pub given-packet : (pop d).shown ≡ result.packet
-    given-packet = hand-asked now p.child d child-can shows.peeked ∙ sym shows.shown
+    given-packet = hand-asked now met.at.child d child-can shows.peeked ∙ sym shows.shown
 
-    -- one that can send its packet gives it
-    module _ (x : Descriptor) (some : result.packet ≡ Some x) where
-      offers : (ask now (shape p.child)).shown ≡ Some x
-      offers = sym shows.shown ∙ some
+    -- one that shows a packet of this length
+    module _ {len : ℕ} (offer : (x : Descriptor) × (result.packet ≡ Some x) × (x.len ≡ len)) where
+      offers : (ask now (shape met.at.child)).shown ≡ Some offer.0
+      offers = sym shows.shown ∙ offer.1
 
-      pub offered-head : heads_of now first ns n ≡ Some x.len
-      offered-head = shown-head (Some x) offers
+      pub short-enough : len ≤ s.max_len
+      short-enough = omega (arith, shown-short met.can.each.mtu now (ask now (shape met.at.child)) offer.0 (answered now met.at.child child-can) offers, met.can.longest, met.asked.serving.longest, offer.2)
 
-      module _ (pays : x.len ≤ f.first.deficit) (s2 : Schedule) (ms2 : List (Node Kept)) (given : (c : Node Kept) → slice_get (set ms place d) place ≡ Some c → IsGivenBy place c (turned x.len s) s2 (set ms place d) ms2) where
-        covered : (len : ℕ) → option_map (λ (x : Descriptor). x.len) (Some x) ≡ Some len → len ≤ f.first.deficit
-        covered len e = subst (λ m. m ≤ f.first.deficit) (same_Some x.len len e) pays
+      offered-head : heads_of now first ns met.class ≡ Some len
+      offered-head = shown-head (Some offer.0) offers ∙ ap Some offer.2
 
-        gift : IsGivenBy place d (turned x.len s) s2 (set ms place d) ms2
-        gift = given d shows.stored
+      -- gives it where it can send it
+      module _ (send : Send ≡ turn_answer len s.active) {s1 s2 : Schedule} {ms2 : List (Node Kept)} (turn : s1 ≡ turned len s) (given : (c : Node Kept) → slice_get (set ms place d) place ≡ Some c → IsGivenBy place c s1 s2 (set ms place d) ms2) where
+        pays : len ≤ met.front.first.deficit
+        pays = covers s met.class len met.front send
 
-        left : booked kept d (pop d).after ≡ booked kept p.child (ask now (shape p.child)).taken
-        left = (popped-asked now p.child d x child-can shows.peeked offers).left
+        covered : (m : ℕ) → option_map (λ (x : Descriptor). x.len) (Some offer.0) ≡ Some m → m ≤ met.front.first.deficit
+        covered m e = subst (λ m. m ≤ met.front.first.deficit) (sym offer.2 ∙ same_Some offer.0.len m e) pays
 
-        emptied : is_empty (booked kept d (pop d).after) ≡ is_empty (ask now (shape p.child)).taken
+        gift : IsGivenBy place d (turned len s) s2 (set ms place d) ms2
+        gift = subst (λ t. IsGivenBy place d t s2 (set ms place d) ms2) turn (given d shows.stored)
+
+        left : booked kept d (pop d).after ≡ booked kept met.at.child (ask now (shape met.at.child)).taken
+        left = (popped-asked now met.at.child d offer.0 child-can shows.peeked offers).left
+
+        emptied : is_empty (booked kept d (pop d).after) ≡ is_empty (ask now (shape met.at.child)).taken
         emptied =
             ap (λ (m : Node Kept). is_empty m) left
-            ∙ ap (λ (packets : List Descriptor). length packets == 0) (root-booked kept beneath_own p.child (ask now (shape p.child)).taken (taken-told now p.child child-can))
+            ∙ ap (λ (packets : List Descriptor). length packets == 0) (root-booked kept beneath_own met.at.child (ask now (shape met.at.child)).taken (taken-told now met.at.child child-can))
 
-        answer : (own : Own) → ask_drr own (answers now ns) first ≡ class_gives own (answers now ns) (service_of first (answers now ns)) place (ask now (shape p.child)) x
-        answer own = drr-answer (Some x) offers covered own
+        answer : (own : Own) → ask_drr own (answers now ns) first ≡ class_gives own (answers now ns) (service_of first (answers now ns)) place (ask now (shape met.at.child)) offer.0
+        answer own = drr-answer (Some offer.0) offers covered own
 
         pub given-schedule : (own : Own) → spec.Drr s2 ≡ (ask_drr own (answers now ns) first).peeked.own.discipline
         given-schedule own =
-            ap spec.Drr (gift.schedule ∙ ap₂ (λ b t. settled_class place b t) emptied (served_head (heads_of now first ns) first s n x.len f offered-head pays (ready (Some x) offers covered)))
+            ap spec.Drr (gift.schedule ∙ ap₂ (λ b t. settled_class place b t) emptied (served_head (heads_of now first ns) first s met.class len met.front offered-head pays (ready (Some offer.0) offers covered)))
             ∙ ap (λ (y : Asked). y.peeked.own.discipline) (sym (answer own))
 
         pub given-told : (own : Own) → IsToldOf (ask_drr own (answers now ns) first).rises k.losses l2 k.room r2
-        given-told own = subst (λ notes. IsToldOf notes k.losses l2 k.room r2) (sym (ap (λ (y : Asked). y.rises) (answer own) ∙ service-rises (Some x) offers covered)) shows.told
+        given-told own = subst (λ notes. IsToldOf notes k.losses l2 k.room r2) (sym (ap (λ (y : Asked). y.rises) (answer own) ∙ service-rises (Some offer.0) offers covered)) shows.told
 
         pub given-asked : (own : Own) → AreAsked (ask_drr own (answers now ns) first) ns ms2 result
         given-asked own =
-            let a : Asked = ask now (shape p.child) in
-            let ws : List Worked = classes_to now first ns (suc h.turns) in
-            let rises : (ask_drr own (answers now ns) first).rises ≡ rises_to now first ns (suc h.turns) = ap (λ (y : Asked). y.rises) (answer own) ∙ service-rises (Some x) offers covered in
+            let a : Asked = ask now (shape met.at.child) in
+            let ws : List Worked = classes_to now first ns (suc met.asked.turns) in
+            let rises : (ask_drr own (answers now ns) first).rises ≡ rises_to now first ns (suc met.asked.turns) = ap (λ (y : Asked). y.rises) (answer own) ∙ service-rises (Some offer.0) offers covered in
             let is : ms2 ≡ booked_all ns (set ws place a.taken) =
-            gift.classes ∙ ap (set (set ms place d) place) left ∙ ap (λ xs. set xs place (booked kept p.child a.taken)) shows.asking.children ∙ all-set ns ws place p.child a.taken p.there in
+            gift.classes ∙ ap (set (set ms place d) place) left ∙ ap (λ xs. set xs place (booked kept met.at.child a.taken)) shows.asking.children ∙ all-set ns ws place met.at.child a.taken met.at.there in
             record {
               long = ap (λ xs. length xs) gift.classes ∙ length-set (set ms place d) place (booked kept d (pop d).after) ∙ shows.asking.long;
               nodes = ap side_by_side is ∙ side-all ns (set ws place a.taken)
-                  ∙ ap (λ xs. each_booked kept (side_by_side ns) (side_by_side (set xs place a.taken))) (sym (service-below (Some x) offers covered))
+                  ∙ ap (λ xs. each_booked kept (side_by_side ns) (side_by_side (set xs place a.taken))) (sym (service-below (Some offer.0) offers covered))
                   ∙ ap (λ (y : Asked). each_booked kept (side_by_side ns) y.peeked.below) (sym (answer own));
               within = λ t all.
                   let so_fine = shows.asking.within t all in
@@ -412,25 +423,38 @@ module _ (now : ℕ) (first s : Schedule) (ns ms : List (Node Kept)) (unasked : 
                   (All-set (λ (child : Node Kept). IsCountedWithin child.memory.counts.arrived t) (set ms place d) place (booked kept d (pop d).after)
                   (subst (λ (y : Totals). IsCountedWithin y t) (sym gift.arrived) (All-at (λ (child : Node Kept). IsCountedWithin child.memory.counts.arrived t) (set ms place d) place d so_fine shows.stored)) so_fine);
               shown = record {
-                packet = some ∙ ap (λ (y : Asked). y.shown) (sym (answer own));
+                packet = offer.1 ∙ ap (λ (y : Asked). y.shown) (sym (answer own));
                 dropped = shows.counted.dropped ∙ ap (λ notes. (counts_in notes).dropped) (sym rises);
                 marked = shows.counted.marked ∙ ap (λ notes. (counts_in notes).marked) (sym rises);
               };
             }
 
-      -- and one that cannot is granted its quantum
-      pub classes-go-on : f.first.deficit < x.len → (left : ℕ) → left ≡ unasked - 1 → AreClassesAsked now first (turned x.len s) ns (set ms place d) left result (record { losses = k.losses; losses_now = l2; room = k.room; room_now = r2 })
-      classes-go-on short left count = record {
-        turns = suc h.turns;
-        serving = serving_granted (heads_of now first ns) first s h.turns n x.len h.serving law f offered-head short;
-        remaining = omega (arith, count, h.remaining);
-        asking = shows.asking;
-        counted = shows.counted;
-        told = shows.told;
-      }
+      -- and is granted its quantum where it cannot
+      module _ (granted : Granted ≡ turn_answer len s.active) {s1 : Schedule} (turn : s1 ≡ turned len s) where
+        short : met.front.first.deficit < len
+        short = falls_short s met.class len met.front granted
+
+        abbrev needs : Schedule → ℕ
+        needs t = sum_by (need (λ m. quantum_of m t.classes) (heads_of now first ns)) t.active
+
+        pub fewer-grants : needs s1 < needs s
+        fewer-grants = subst (λ t. needs t < needs s) (sym turn) (measure_falls (heads_of now first ns) s met.class len met.front offered-head (front_quantum s met.class met.front met.lawful) short)
+
+        pub classes-go-on : {left : ℕ} → left ≡ unasked - 1 → AreClassesAsked now first s1 ns (set ms place d) left result (record { losses = k.losses; losses_now = l2; room = k.room; room_now = r2 })
+        classes-go-on count = record {
+          turns = suc met.asked.turns;
+          serving = subst (λ t. IsServing (heads_of now first ns) first t (suc met.asked.turns)) (sym turn) (serving_granted (heads_of now first ns) first s met.asked.turns met.class len met.asked.serving met.lawful met.front offered-head short);
+          remaining = omega (arith, count, met.asked.remaining);
+          asking = shows.asking;
+          counted = shows.counted;
+          told = shows.told;
+        }
 
 -- where no class is active, nobody is asked
-module _ (now : ℕ) (first s : Schedule) (ns ms : List (Node Kept)) (unasked : ℕ) (so_far : Shown) (k : SinkTold) (can : CanServe now first ns) (h : AreClassesAsked now first s ns ms unasked so_far k) (law : drr.IsLawful s) (nobody : s.active ≡ []) where
+module _ {now : ℕ} {first s : Schedule} {ns ms : List (Node Kept)} {unasked : ℕ} {so_far : Shown} {k : SinkTold} (can : CanServe now first ns) (h : AreClassesAsked now first s ns ms unasked so_far k) (law : drr.IsLawful s) (r : Option ℕ) (gone : r ≡ None) (same : is_some r ≡ is_some (front_of s)) where
+  nobody : s.active ≡ []
+  nobody = empty_front s (nobody-at s r gone same)
+
   idle : (first.active ≡ []) × (choice_of (heads_of now first ns) first ≡ None) × (h.turns ≡ 0)
   idle = serving_nobody (heads_of now first ns) first s h.turns h.serving nobody
 
@@ -457,8 +481,8 @@ module _ (now : ℕ) (first s : Schedule) (ns ms : List (Node Kept)) (unasked : 
   pub idle-told : (own : Own) → IsToldOf (ask_drr own (answers now ns) first).rises k.losses k.losses_now k.room k.room_now
   idle-told own = subst (λ notes. IsToldOf notes k.losses k.losses_now k.room k.room_now) (sym (idle-rises own)) h.told
 
-  pub idle-asked : (result : Shown) → result.packet ≡ None → IsCounted [] result → (own : Own) → AreAsked (ask_drr own (answers now ns) first) ns ms result
-  idle-asked result empty counted own =
+  pub idle-asked : {result : Shown} → result.packet ≡ None → IsCounted [] result → (own : Own) → AreAsked (ask_drr own (answers now ns) first) ns ms result
+  idle-asked empty counted own =
       let rises : rises_to now first ns h.turns ≡ [] = ap (λ k. rises_to now first ns k) idle.2 in
       record {
         long = h.asking.long;

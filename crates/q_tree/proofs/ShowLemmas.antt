@@ -22,7 +22,7 @@ use Rattle.q_model.specs.Node.{Forest, none, more, Node, children, each, from_be
 use Rattle.q_model.specs.TreeState.{TreeState}
 use Rattle.q_model.specs.declared.node_view.NodeView.{NodeView}
 use Rattle.q_model.specs.Numbers.{IsMinor}
-use Rattle.q_model.specs.Views.{class_ids, class_kind, minors, node, node_view, places_below, qdisc_view, views_in}
+use Rattle.q_model.specs.Views.{class_ids, class_kind, minors, node, node_view, places_below, qdisc_view, views, views_in}
 use Rattle.q_invariants.proofs.Forests.{each-nodes, each-side, nodes-side, side-nodes}
 use Rattle.q_invariants.proofs.Members.{All-at, passes-at}
 use Rattle.q_invariants.proofs.Quiet.{child-lawful}
@@ -83,7 +83,7 @@ module _ (places : List Place) (ns : List (Node Kept)) (i : ℕ) (n : Node Kept)
   abbrev pub here : Place
   here = unwrap_or (slice_get places i) place.Root
 
-  from-here : from places ns i ≡ standing here n ++ from places ns (i + 1)
+  pub from-here : from places ns i ≡ standing here n ++ from places ns (i + 1)
   from-here =
       ap (λ xs. standing_in (drop i places) (side_by_side xs)) (drop_more ns i n inside ∙ ap (λ x. x ∷ drop (i + 1) ns) (sym is))
       ∙ ap (λ o. standing (unwrap_or o place.Root) n ++ standing_in (drop 1 (drop i places)) (side_by_side (drop (i + 1) ns))) (first-dropped places i)
@@ -224,10 +224,12 @@ views-are places (more own m below others) =
     ∙ ap (λ xs. node_view kept (unwrap_or (slice_get places 0) place.Root) (record { own = own; memory = m; below = below }) ∷ xs)
     (sym (map-append (λ (y : Place × Node Kept). node_view kept y.0 y.1) (standing_in (places_below own below) below) (standing_in (drop 1 places) others)))
 
+pub views-standing : (s : TreeState Kept) → map (λ (y : Place × Node Kept). node_view kept y.0 y.1) (standing place.Root s.root) ≡ views kept s
+views-standing s = sym (ap (λ xs. node_view kept place.Root s.root ∷ xs) (views-are (places_below s.root.own s.root.below) s.root.below))
+
 pub node-shown : (s : TreeState Kept) (i : ℕ) → option_map (λ (y : Place × Node Kept). node_view kept y.0 y.1) (slice_get (standing place.Root s.root) i) ≡ node kept i s
 node-shown s i =
-    sym (slice_get-map (λ (y : Place × Node Kept). node_view kept y.0 y.1) (standing place.Root s.root) i)
-    ∙ sym (ap (λ xs. slice_get (node_view kept place.Root s.root ∷ xs) i) (views-are (places_below s.root.own s.root.below) s.root.below))
+    sym (slice_get-map (λ (y : Place × Node Kept). node_view kept y.0 y.1) (standing place.Root s.root) i) ∙ ap (λ vs. slice_get vs i) (views-standing s)
 
 nodes-are : (places : List Place) (x : Forest Kept) → nodes_of x ≡ map (λ (y : Place × Node Kept). y.1) (standing_in places x)
 nodes-are places none = refl
@@ -235,10 +237,11 @@ nodes-are places (more own m below others) =
     ap₂ (λ (xs ys : List (Node Kept)). record { own = own; memory = m; below = below } ∷ xs ++ ys) (nodes-are (places_below own below) below) (nodes-are (drop 1 places) others)
     ∙ ap (λ xs. record { own = own; memory = m; below = below } ∷ xs) (sym (map-append (λ (y : Place × Node Kept). y.1) (standing_in (places_below own below) below) (standing_in (drop 1 places) others)))
 
+pub every-standing : (n : Node Kept) → map (λ (y : Place × Node Kept). y.1) (standing place.Root n) ≡ every_node n
+every-standing n = sym (ap (λ xs. n ∷ xs) (nodes-are (places_below n.own n.below) n.below))
+
 pub every-node : (n : Node Kept) (i : ℕ) → option_map (λ (y : Place × Node Kept). y.1) (slice_get (standing place.Root n) i) ≡ slice_get (every_node n) i
-every-node n i =
-    sym (slice_get-map (λ (y : Place × Node Kept). y.1) (standing place.Root n) i)
-    ∙ sym (ap (λ xs. slice_get (n ∷ xs) i) (nodes-are (places_below n.own n.below) n.below))
+every-node n i = sym (slice_get-map (λ (y : Place × Node Kept). y.1) (standing place.Root n) i) ∙ ap (λ ns. slice_get ns i) (every-standing n)
 
 -- what is found of the node that is looked for
 pub of-node : {A : Type 0} (f : Node Kept → Option A) (n : Node Kept) (i : ℕ) (o : Option (Place × Node Kept)) → o ≡ slice_get (standing place.Root n) i → option_and_then (λ (y : Place × Node Kept). f y.1) o ≡ option_and_then f (slice_get (every_node n) i)

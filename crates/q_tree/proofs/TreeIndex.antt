@@ -191,10 +191,3 @@ renewed-device a i room k same grown = record {
   room = λ more. omega (arith, grown, room more);
 }
 
--- one with more room
-pub roomier-device : (a : Inside) (i : Index) → IsIndexedDevice a → i.addresses ≡ a.handles.addresses → a.handles.room ≤ i.room → IsIndexedDevice (record a { handles = i })
-roomier-device a i k same grown = record {
-  device = beside-index a i k.device;
-  handles = same ∙ k.handles;
-  room = λ more. omega (arith, grown, k.room more);
-}

@@ -62,12 +62,6 @@ named-has classes i name differ e =
     let n = is-named classes i name e in
     sym (ap (λ k. has_class k classes) n.named) ∙ (is-at classes i n.class differ n.there).has
 
--- none is named past the last
-pub no-name : (classes : List Class) (i : ℕ) → i < length classes → name_at i classes ≡ None → ⊥
-no-name [] i inside e = omega (arith, inside)
-no-name (k ∷ classes) zero inside e = none-some k.name (sym e)
-no-name (k ∷ classes) (suc i) inside e = no-name classes i (omega (arith, inside)) e
-
 -- the sum of the quanta with one more
 pub sum-next : (classes : List Class) (i name : ℕ) → ClassesDiffer classes → name_at i classes ≡ Some name
     → sum_by (λ (c : Class). c.quantum) (take (i + 1) classes) ≡ sum_by (λ (c : Class). c.quantum) (take i classes) + quantum_of name classes

@@ -12,6 +12,7 @@ pub mod Editing
 pub mod FilterShapes
 pub mod FiltersSeen
 pub mod Finding
+pub mod Flows
 pub mod Grafting
 pub mod Index
 pub mod IndexOfFilters
@@ -22,6 +23,9 @@ pub mod Making
 pub mod Matching
 pub mod NodeCode
 pub mod NodeFalls
+pub mod Nodes
+pub mod NodesCode
+pub mod NodesSeen
 pub mod Places
 pub mod Planning
 pub mod PopSteps

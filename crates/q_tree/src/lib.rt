@@ -2,8 +2,9 @@
 //!
 //! - [`Tree`] has the qdiscs of a device: packets are routed, put, peeked at and taken.
 //! - [`Command`] is a change of the tree, [`Kind`] a qdisc with its options, [`Place`] where it goes.
-//! - [`Refusal`] is why a change was not made, [`Row`] what a node counted, and [`NodeView`], [`ClassView`] and
-//!   [`FilterView`] are what `show` prints.
+//! - [`Refusal`] is why a change was not made, [`Row`] what a node counted, [`NodeView`], [`ClassView`] and
+//!   [`FilterView`] are what `show` prints, and [`ListedFlows`] how many flows an fq_codel has listed. [`Nodes`] goes over all
+//!   nodes of a tree, each a [`NodeRef`].
 //! - [`laws`] is what is true of every tree, and of every call for a packet.
 //!
 //! What a tree does is defined in the `specs/` of `q_model`. [`Tree::graft`], [`Tree::prune`] and [`Tree::change`] put a qdisc into a
@@ -24,10 +25,13 @@ mod filter_shape;
 mod filters;
 mod find;
 pub mod laws;
+mod listed_flows;
 mod masked_filter;
 mod matching;
 mod node;
+mod node_ref;
 mod node_route;
+mod nodes;
 mod outcome;
 mod peek;
 mod prepare;
@@ -40,6 +44,9 @@ mod tree;
 mod views;
 mod ways;
 
+pub use crate::listed_flows::ListedFlows;
+pub use crate::node_ref::NodeRef;
+pub use crate::nodes::Nodes;
 pub use crate::route::Route;
 pub use crate::tree::Tree;
 pub use crate::ways::{Link, Share, Way};

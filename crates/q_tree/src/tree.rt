@@ -214,7 +214,7 @@ impl Tree {
     }
 
     // A node in the order of show, and where it stands.
-    fn nth(&self, i: usize) -> Option<(Place, &Node)>
+    pub(crate) fn nth(&self, i: usize) -> Option<(Place, &Node)>
         ensures found { option_map (λ x. (x.0, x.1.now)) result ≡ slice_get (standing place.Root self.now.tree.root) i }
         ensures numbered { IfSome result (λ x. IsNumbered x.1.now) }
     {

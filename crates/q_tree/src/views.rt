@@ -122,7 +122,7 @@ impl Node {
     }
 
     // Where the child in this place stands: in its class, if the node has a handle.
-    fn place_beneath(&self, i: usize) -> Place
+    pub(crate) fn place_beneath(&self, i: usize) -> Place
         requires { IsNumbered self.now }
         ensures { result ≡ unwrap_or (slice_get (places_below self.now.own self.now.below) i) place.Root }
     {

@@ -49,6 +49,8 @@ pub enum Call {
     Shown(usize, Spot, u16),
     // How many nodes there are.
     Nodes(usize),
+    // How far on in the order of show, and how many flows are listed there as new and as old, if it is an fq_codel.
+    Flows(usize, Option<(u32, u32)>),
     // How many losses were told.
     Losses(u64),
 }
@@ -338,6 +340,10 @@ impl Bench {
         self.tree.node(count).is_none() && self.tree.node(count.saturating_sub(1)).is_some()
     }
 
+    fn has_flows(&self, i: usize, flows: Option<(u32, u32)>) -> bool {
+        self.tree.flows(i).map(|f| (f.new_flows, f.old_flows)) == flows
+    }
+
     // Whether a command is done, or refused as it has to be.
     fn is_done(&mut self, alloc: Global, call: Call) -> Result<bool, Fail> {
         match call.command() {
@@ -377,6 +383,7 @@ impl Bench {
             Call::Totals => Ok(self.has_totals()),
             Call::Shown(i, spot, major) => self.is_shown(i, spot, major),
             Call::Nodes(count) => Ok(self.has_nodes(count)),
+            Call::Flows(i, flows) => Ok(self.has_flows(i, flows)),
             Call::Losses(count) => Ok(self.losses.count() == count),
             _ => self.is_done(alloc, call),
         }

@@ -1,6 +1,7 @@
 //! What is shown of a tree of one pfifo, and a command that it refuses.
-use crate::bench::{Call, play_small};
-use q_model::{Place, QdiscView, Refusal};
+use crate::bench::{Call, play, play_small};
+use crate::lines::{New, Spot};
+use q_model::{Fate, Place, QdiscView, Refusal};
 use q_tree::Tree;
 use std::alloc::Global;
 use std::test::Fail;
@@ -30,4 +31,28 @@ fn a_pfifo_is_shown_alone(rt: HostRuntime) {
 #[test]
 fn a_pfifo_takes_no_filter(rt: HostRuntime) -> Result<(), Fail> {
     play_small(rt.alloc(), 2, &[Call::Unfilter(1, Some(Refusal::NoQdisc))])
+}
+
+#[test]
+fn a_flow_is_listed_as_new_and_then_as_old(rt: HostRuntime) -> Result<(), Fail> {
+    play(
+        rt.alloc(),
+        &[
+            Call::Graft(Spot::Root, 1, New::Prio(3), None),
+            Call::Graft(Spot::Class(1, 3), 2, New::Fair(300), None),
+            Call::Put(1, 100, 2, Fate::Kept),
+            Call::Put(2, 100, 3, Fate::Kept),
+            Call::Flows(3, Some((2, 0))),
+            Call::Take(1),
+            Call::Flows(3, Some((2, 0))),
+            // The first flow has no packet left, and goes behind the old flows before the second sends.
+            Call::Take(2),
+            Call::Flows(3, Some((1, 1))),
+            Call::Take(0),
+            Call::Flows(3, Some((0, 0))),
+            // Bands have no flows, and there is no fifth node.
+            Call::Flows(2, None),
+            Call::Flows(4, None),
+        ],
+    )
 }

@@ -1,19 +1,15 @@
-use Rattle.std.proofs.Common.{◌∙◌, ◌<◌, ◌≤◌, [], ◌∷◌, set, length, add-one, refl, sym, ap, subst, arith}
+use Rattle.std.proofs.Common.{◌∙◌, [], ◌∷◌, set, length, add-one, refl, sym, ap, subst, arith}
 use Rattle.std.specs.Prelude.{slice_index_or, unwrap_or}
-use Rattle.std.specs.List.{sum_by}
 use Rattle.std.proofs.lemmas.List.{length-set}
 use Rattle.std.specs.Box.{with_value}
 use Rattle.std.specs.Vec.{with_items}
 use Rattle.q_bucket.specs.Level.{allows}
-use Rattle.q_drr.specs.Schedule.{turned, quantum_of}
-use Rattle.q_drr.specs.Take.{need}
-use Rattle.q_drr.proofs.TakeLemmas.{front_is, front_quantum, covers, falls_short, empty_front, measure_falls}
 use Rattle.q_fqcodel.specs.FqState.{FqView}
 use Rattle.q_model.specs.Ask.{ask}
 use Rattle.q_model.specs.Node as spec
 use Rattle.q_model.specs.Node.{Node, shape, side_by_side}
 use Rattle.q_model.specs.Pop.{pop}
-use Rattle.q_tree.specs.AskSteps.{IsGivenBy, IsToldOf, answers, held_in, own_of, signals_of}
+use Rattle.q_tree.specs.AskSteps.{IsToldOf, answers, held_in, own_of, signals_of}
 use Rattle.q_tree.specs.Kept.{Kept}
 use Rattle.q_tree.specs.NodeCode.{forest_size}
 use Rattle.q_tree.specs.Seen.{children_seen, discipline_seen, places_seen}
@@ -24,7 +20,7 @@ use Rattle.q_tree.proofs.AskOnce.{fits-beside, told-nothing, told-then}
 use Rattle.q_tree.proofs.AtHandLemmas.{none-held, some-held, shown-len}
 use Rattle.q_tree.proofs.HereLemmas.{flow-packets}
 use Rattle.q_tree.proofs.Peeks.{asked-in, told-in, each-of, room-of, own-room, items-are, serve-of, holding-after, can-in, enough, can-book, peeked-done, shown-here, told-here, tbf-gave, tbf-none, hand-asked}
-use Rattle.q_tree.proofs.ServeLemmas.{AreClassesAsked, SinkTold, heads_of, classes-start, front-at, nobody-at, class-in-front, place-within, class-size, class-once, class-shown, short-enough, nothing-schedule, nothing-asked, nothing-told, offered-head, given-packet, given-schedule, given-asked, given-told, classes-go-on, idle-schedule, idle-asked, idle-told}
+use Rattle.q_tree.proofs.ServeLemmas.{classes-go-on, classes-start, class-once, class-shown, class-size, fewer-grants, front-met, given-asked, given-packet, given-schedule, given-told, idle-asked, idle-schedule, idle-told, nothing-asked, nothing-schedule, nothing-told, place-within, short-enough}
 use Rattle.q_tree.proofs.Quiet.{shown-nothing}
 use Rattle.q_tree.proofs.RouteLemmas.{child-size, children-size}
 use Rattle.q_tree.proofs.TakeCounts.{flow-told}
@@ -80,154 +76,85 @@ disciplines::drr::dequeue_class-loop-place-init g t c = (
 
 pub disciplines::drr::dequeue_class-offset_bounds-classes-place : goal.disciplines::drr::dequeue_class-offset_bounds-classes-place
 disciplines::drr::dequeue_class-offset_bounds-classes-place g t c =
-    let told : SinkTold = record { losses = g.S.Sink.losses c.args.sink.now; losses_now = g.S.Sink.losses c.loop-place.sink; room = g.S.Sink.room c.args.sink.now; room_now = g.S.Sink.room c.loop-place.sink } in
-    let at = front-at c.loop-place.active c.in-Some.place (sym c.in-Some.is ∙ c.front_place.ensures.place) in
-    let front = front_is at.class c.loop-place.active at.front in
-    let place = class-in-front c.args.now c.args.active.now c.loop-place.active c.args.classes.now c.loop-place.classes c.loop-place.unasked c.loop-place.shown told c.requires.ready c.loop-place.invariant.0 at.class c.front_place.ensures.lawful front c.in-Some.place at.found in
-    omega (arith, place-within c.args.now c.args.active.now c.loop-place.active c.args.classes.now c.loop-place.classes c.loop-place.unasked c.loop-place.shown told c.requires.ready c.loop-place.invariant.0 at.class c.front_place.ensures.lawful front c.in-Some.place place, c.loop-place.auto.classes)
+    let met = front-met c.requires.ready c.loop-place.invariant.0 c.front_place.ensures.lawful c.in-Some.place (sym c.in-Some.is ∙ c.front_place.ensures.place) in
+    omega (arith, place-within met, c.loop-place.auto.classes)
 
 pub disciplines::drr::dequeue_class-bounds-classes-place : goal.disciplines::drr::dequeue_class-bounds-classes-place
 disciplines::drr::dequeue_class-bounds-classes-place g t c =
-    let told : SinkTold = record { losses = g.S.Sink.losses c.args.sink.now; losses_now = g.S.Sink.losses c.loop-place.sink; room = g.S.Sink.room c.args.sink.now; room_now = g.S.Sink.room c.loop-place.sink } in
-    let at = front-at c.loop-place.active c.in-Some.place (sym c.in-Some.is ∙ c.front_place.ensures.place) in
-    let front = front_is at.class c.loop-place.active at.front in
-    let place = class-in-front c.args.now c.args.active.now c.loop-place.active c.args.classes.now c.loop-place.classes c.loop-place.unasked c.loop-place.shown told c.requires.ready c.loop-place.invariant.0 at.class c.front_place.ensures.lawful front c.in-Some.place at.found in
-    place-within c.args.now c.args.active.now c.loop-place.active c.args.classes.now c.loop-place.classes c.loop-place.unasked c.loop-place.shown told c.requires.ready c.loop-place.invariant.0 at.class c.front_place.ensures.lawful front c.in-Some.place place
+    place-within (front-met c.requires.ready c.loop-place.invariant.0 c.front_place.ensures.lawful c.in-Some.place (sym c.in-Some.is ∙ c.front_place.ensures.place))
 
 pub disciplines::drr::dequeue_class-ask_class-shown-requires : goal.disciplines::drr::dequeue_class-ask_class-shown-requires
 disciplines::drr::dequeue_class-ask_class-shown-requires g t c κs within =
-    let told : SinkTold = record { losses = g.S.Sink.losses c.args.sink.now; losses_now = g.S.Sink.losses c.loop-place.sink; room = g.S.Sink.room c.args.sink.now; room_now = g.S.Sink.room c.loop-place.sink } in
-    let at = front-at c.loop-place.active c.in-Some.place (sym c.in-Some.is ∙ c.front_place.ensures.place) in
-    let front = front_is at.class c.loop-place.active at.front in
-    let place = class-in-front c.args.now c.args.active.now c.loop-place.active c.args.classes.now c.loop-place.classes c.loop-place.unasked c.loop-place.shown told c.requires.ready c.loop-place.invariant.0 at.class c.front_place.ensures.lawful front c.in-Some.place at.found in
-    let inside = place-within c.args.now c.args.active.now c.loop-place.active c.args.classes.now c.loop-place.classes c.loop-place.unasked c.loop-place.shown told c.requires.ready c.loop-place.invariant.0 at.class c.front_place.ensures.lawful front c.in-Some.place place in (
-      omega (arith, class-size c.args.now c.args.active.now c.loop-place.active c.args.classes.now c.loop-place.classes c.loop-place.unasked c.loop-place.shown told c.requires.ready c.loop-place.invariant.0 at.class c.front_place.ensures.lawful front c.in-Some.place c.index-classes-place.result inside, c.decreases),
-      (within, ((λ some. class-once c.args.now c.args.active.now c.loop-place.active c.args.classes.now c.loop-place.classes c.loop-place.unasked c.loop-place.shown told c.requires.ready c.loop-place.invariant.0 at.class c.front_place.ensures.lawful front c.in-Some.place place c.index-classes-place.result some c.requires.sink), c.loop-place.invariant.3)),
+    let met = front-met c.requires.ready c.loop-place.invariant.0 c.front_place.ensures.lawful c.in-Some.place (sym c.in-Some.is ∙ c.front_place.ensures.place) in (
+      omega (arith, class-size met c.index-classes-place.result, c.decreases),
+      (within, ((λ some. class-once met c.index-classes-place.result some c.requires.sink), c.loop-place.invariant.3)),
     )
 
 pub disciplines::drr::dequeue_class-returns-in_default-packet_len-clause-active : goal.disciplines::drr::dequeue_class-returns-in_default-packet_len-clause-active
 disciplines::drr::dequeue_class-returns-in_default-packet_len-clause-active g t c =
-    let told : SinkTold = record { losses = g.S.Sink.losses c.args.sink.now; losses_now = g.S.Sink.losses c.loop-place.sink; room = g.S.Sink.room c.args.sink.now; room_now = g.S.Sink.room c.loop-place.sink } in
-    let at = front-at c.loop-place.active c.in-Some.place (sym c.in-Some.is ∙ c.front_place.ensures.place) in
-    let front = front_is at.class c.loop-place.active at.front in
-    let place = class-in-front c.args.now c.args.active.now c.loop-place.active c.args.classes.now c.loop-place.classes c.loop-place.unasked c.loop-place.shown told c.requires.ready c.loop-place.invariant.0 at.class c.front_place.ensures.lawful front c.in-Some.place at.found in
-    let class_shows = class-shown c.args.now c.args.active.now c.loop-place.active c.args.classes.now c.loop-place.classes c.loop-place.unasked c.loop-place.shown told c.requires.ready c.loop-place.invariant.0 at.class c.front_place.ensures.lawful front c.in-Some.place place c.index-classes-place.result c.ask_class-shown.new.class c.ask_class-shown.result (g.S.Sink.losses c.ask_class-shown.new.sink) (g.S.Sink.room c.ask_class-shown.new.sink)
-    c.ask_class-shown.ensures.asked c.ask_class-shown.ensures.told c.ask_class-shown.ensures.at_hand c.ask_class-shown.ensures.not_lost in
-    λ own. nothing-schedule c.args.now c.args.active.now c.loop-place.active c.args.classes.now c.loop-place.classes c.loop-place.unasked c.loop-place.shown told c.requires.ready c.loop-place.invariant.0 at.class c.front_place.ensures.lawful front c.in-Some.place place
-    c.ask_class-shown.new.class c.ask_class-shown.result (g.S.Sink.losses c.ask_class-shown.new.sink) (g.S.Sink.room c.ask_class-shown.new.sink) class_shows (c.packet_len.ensures.none c.in_default-packet_len.is) own
+    let met = front-met c.requires.ready c.loop-place.invariant.0 c.front_place.ensures.lawful c.in-Some.place (sym c.in-Some.is ∙ c.front_place.ensures.place) in
+    let shows = class-shown met c.index-classes-place.result c.ask_class-shown.ensures.asked c.ask_class-shown.ensures.told c.ask_class-shown.ensures.at_hand c.ask_class-shown.ensures.not_lost in
+    nothing-schedule met shows (c.packet_len.ensures.none c.in_default-packet_len.is)
 
 pub disciplines::drr::dequeue_class-returns-in_default-packet_len-clause-after : goal.disciplines::drr::dequeue_class-returns-in_default-packet_len-clause-after
 disciplines::drr::dequeue_class-returns-in_default-packet_len-clause-after g t c =
-    let told : SinkTold = record { losses = g.S.Sink.losses c.args.sink.now; losses_now = g.S.Sink.losses c.loop-place.sink; room = g.S.Sink.room c.args.sink.now; room_now = g.S.Sink.room c.loop-place.sink } in
-    let at = front-at c.loop-place.active c.in-Some.place (sym c.in-Some.is ∙ c.front_place.ensures.place) in
-    let front = front_is at.class c.loop-place.active at.front in
-    let place = class-in-front c.args.now c.args.active.now c.loop-place.active c.args.classes.now c.loop-place.classes c.loop-place.unasked c.loop-place.shown told c.requires.ready c.loop-place.invariant.0 at.class c.front_place.ensures.lawful front c.in-Some.place at.found in
-    let class_shows = class-shown c.args.now c.args.active.now c.loop-place.active c.args.classes.now c.loop-place.classes c.loop-place.unasked c.loop-place.shown told c.requires.ready c.loop-place.invariant.0 at.class c.front_place.ensures.lawful front c.in-Some.place place c.index-classes-place.result c.ask_class-shown.new.class c.ask_class-shown.result (g.S.Sink.losses c.ask_class-shown.new.sink) (g.S.Sink.room c.ask_class-shown.new.sink)
-    c.ask_class-shown.ensures.asked c.ask_class-shown.ensures.told c.ask_class-shown.ensures.at_hand c.ask_class-shown.ensures.not_lost in
-    λ own. nothing-asked c.args.now c.args.active.now c.loop-place.active c.args.classes.now c.loop-place.classes c.loop-place.unasked c.loop-place.shown told c.requires.ready c.loop-place.invariant.0 at.class c.front_place.ensures.lawful front c.in-Some.place place
-    c.ask_class-shown.new.class c.ask_class-shown.result (g.S.Sink.losses c.ask_class-shown.new.sink) (g.S.Sink.room c.ask_class-shown.new.sink) class_shows (c.packet_len.ensures.none c.in_default-packet_len.is) own
+    let met = front-met c.requires.ready c.loop-place.invariant.0 c.front_place.ensures.lawful c.in-Some.place (sym c.in-Some.is ∙ c.front_place.ensures.place) in
+    let shows = class-shown met c.index-classes-place.result c.ask_class-shown.ensures.asked c.ask_class-shown.ensures.told c.ask_class-shown.ensures.at_hand c.ask_class-shown.ensures.not_lost in
+    nothing-asked met shows (c.packet_len.ensures.none c.in_default-packet_len.is)
 
 pub disciplines::drr::dequeue_class-returns-in_default-packet_len-clause-told : goal.disciplines::drr::dequeue_class-returns-in_default-packet_len-clause-told
 disciplines::drr::dequeue_class-returns-in_default-packet_len-clause-told g t c =
-    let told : SinkTold = record { losses = g.S.Sink.losses c.args.sink.now; losses_now = g.S.Sink.losses c.loop-place.sink; room = g.S.Sink.room c.args.sink.now; room_now = g.S.Sink.room c.loop-place.sink } in
-    let at = front-at c.loop-place.active c.in-Some.place (sym c.in-Some.is ∙ c.front_place.ensures.place) in
-    let front = front_is at.class c.loop-place.active at.front in
-    let place = class-in-front c.args.now c.args.active.now c.loop-place.active c.args.classes.now c.loop-place.classes c.loop-place.unasked c.loop-place.shown told c.requires.ready c.loop-place.invariant.0 at.class c.front_place.ensures.lawful front c.in-Some.place at.found in
-    let class_shows = class-shown c.args.now c.args.active.now c.loop-place.active c.args.classes.now c.loop-place.classes c.loop-place.unasked c.loop-place.shown told c.requires.ready c.loop-place.invariant.0 at.class c.front_place.ensures.lawful front c.in-Some.place place c.index-classes-place.result c.ask_class-shown.new.class c.ask_class-shown.result (g.S.Sink.losses c.ask_class-shown.new.sink) (g.S.Sink.room c.ask_class-shown.new.sink)
-    c.ask_class-shown.ensures.asked c.ask_class-shown.ensures.told c.ask_class-shown.ensures.at_hand c.ask_class-shown.ensures.not_lost in
-    λ own. nothing-told c.args.now c.args.active.now c.loop-place.active c.args.classes.now c.loop-place.classes c.loop-place.unasked c.loop-place.shown told c.requires.ready c.loop-place.invariant.0 at.class c.front_place.ensures.lawful front c.in-Some.place place
-    c.ask_class-shown.new.class c.ask_class-shown.result (g.S.Sink.losses c.ask_class-shown.new.sink) (g.S.Sink.room c.ask_class-shown.new.sink) class_shows (c.packet_len.ensures.none c.in_default-packet_len.is) own
+    let met = front-met c.requires.ready c.loop-place.invariant.0 c.front_place.ensures.lawful c.in-Some.place (sym c.in-Some.is ∙ c.front_place.ensures.place) in
+    let shows = class-shown met c.index-classes-place.result c.ask_class-shown.ensures.asked c.ask_class-shown.ensures.told c.ask_class-shown.ensures.at_hand c.ask_class-shown.ensures.not_lost in
+    nothing-told met shows (c.packet_len.ensures.none c.in_default-packet_len.is)
 
 pub disciplines::drr::dequeue_class-returns-in_default-packet_len-clause-kept : goal.disciplines::drr::dequeue_class-returns-in_default-packet_len-clause-kept
 disciplines::drr::dequeue_class-returns-in_default-packet_len-clause-kept g t c =
     g.met.S.Sink.keeps_on c.args.sink.now c.loop-place.sink c.ask_class-shown.new.sink c.loop-place.invariant.1 c.ask_class-shown.ensures.kept
 
-pub disciplines::drr::dequeue_class-turn-requires-clause-in_range : goal.disciplines::drr::dequeue_class-turn-requires-clause-in_range
-disciplines::drr::dequeue_class-turn-requires-clause-in_range g t c =
-    let told : SinkTold = record { losses = g.S.Sink.losses c.args.sink.now; losses_now = g.S.Sink.losses c.loop-place.sink; room = g.S.Sink.room c.args.sink.now; room_now = g.S.Sink.room c.loop-place.sink } in
-    let at = front-at c.loop-place.active c.in-Some.place (sym c.in-Some.is ∙ c.front_place.ensures.place) in
-    let front = front_is at.class c.loop-place.active at.front in
-    let place = class-in-front c.args.now c.args.active.now c.loop-place.active c.args.classes.now c.loop-place.classes c.loop-place.unasked c.loop-place.shown told c.requires.ready c.loop-place.invariant.0 at.class c.front_place.ensures.lawful front c.in-Some.place at.found in
-    let class_shows = class-shown c.args.now c.args.active.now c.loop-place.active c.args.classes.now c.loop-place.classes c.loop-place.unasked c.loop-place.shown told c.requires.ready c.loop-place.invariant.0 at.class c.front_place.ensures.lawful front c.in-Some.place place c.index-classes-place.result c.ask_class-shown.new.class c.ask_class-shown.result (g.S.Sink.losses c.ask_class-shown.new.sink) (g.S.Sink.room c.ask_class-shown.new.sink)
-    c.ask_class-shown.ensures.asked c.ask_class-shown.ensures.told c.ask_class-shown.ensures.at_hand c.ask_class-shown.ensures.not_lost in
-    let offer = shown-len c.ask_class-shown.result.packet c.packet_len.result c.in-Some-packet_len.len c.packet_len.ensures.some c.in-Some-packet_len.is in
-    let len = sym offer.2 in
-    omega (arith, short-enough c.args.now c.args.active.now c.loop-place.active c.args.classes.now c.loop-place.classes c.loop-place.unasked c.loop-place.shown told c.requires.ready c.loop-place.invariant.0 at.class c.front_place.ensures.lawful front c.in-Some.place place offer.0 (sym class_shows.shown ∙ offer.1), len)
-
-pub disciplines::drr::dequeue_class-give_class-requires : goal.disciplines::drr::dequeue_class-give_class-requires
-disciplines::drr::dequeue_class-give_class-requires g t c =
-    let told : SinkTold = record { losses = g.S.Sink.losses c.args.sink.now; losses_now = g.S.Sink.losses c.loop-place.sink; room = g.S.Sink.room c.args.sink.now; room_now = g.S.Sink.room c.loop-place.sink } in
-    let at = front-at c.loop-place.active c.in-Some.place (sym c.in-Some.is ∙ c.front_place.ensures.place) in
-    let front = front_is at.class c.loop-place.active at.front in
-    let place = class-in-front c.args.now c.args.active.now c.loop-place.active c.args.classes.now c.loop-place.classes c.loop-place.unasked c.loop-place.shown told c.requires.ready c.loop-place.invariant.0 at.class c.front_place.ensures.lawful front c.in-Some.place at.found in
-    omega (arith, place-within c.args.now c.args.active.now c.loop-place.active c.args.classes.now c.loop-place.classes c.loop-place.unasked c.loop-place.shown told c.requires.ready c.loop-place.invariant.0 at.class c.front_place.ensures.lawful front c.in-Some.place place, length-set c.loop-place.classes c.in-Some.place c.ask_class-shown.new.class)
-
-pub disciplines::drr::dequeue_class-returns-in-Send-clause-active : goal.disciplines::drr::dequeue_class-returns-in-Send-clause-active
-disciplines::drr::dequeue_class-returns-in-Send-clause-active g t c =
-    let told : SinkTold = record { losses = g.S.Sink.losses c.args.sink.now; losses_now = g.S.Sink.losses c.loop-place.sink; room = g.S.Sink.room c.args.sink.now; room_now = g.S.Sink.room c.loop-place.sink } in
-    let at = front-at c.loop-place.active c.in-Some.place (sym c.in-Some.is ∙ c.front_place.ensures.place) in
-    let front = front_is at.class c.loop-place.active at.front in
-    let place = class-in-front c.args.now c.args.active.now c.loop-place.active c.args.classes.now c.loop-place.classes c.loop-place.unasked c.loop-place.shown told c.requires.ready c.loop-place.invariant.0 at.class c.front_place.ensures.lawful front c.in-Some.place at.found in
-    let class_shows = class-shown c.args.now c.args.active.now c.loop-place.active c.args.classes.now c.loop-place.classes c.loop-place.unasked c.loop-place.shown told c.requires.ready c.loop-place.invariant.0 at.class c.front_place.ensures.lawful front c.in-Some.place place c.index-classes-place.result c.ask_class-shown.new.class c.ask_class-shown.result (g.S.Sink.losses c.ask_class-shown.new.sink) (g.S.Sink.room c.ask_class-shown.new.sink)
-    c.ask_class-shown.ensures.asked c.ask_class-shown.ensures.told c.ask_class-shown.ensures.at_hand c.ask_class-shown.ensures.not_lost in
-    let offer = shown-len c.ask_class-shown.result.packet c.packet_len.result c.in-Some-packet_len.len c.packet_len.ensures.some c.in-Some-packet_len.is in
-    let len = sym offer.2 in
-    let pays = subst (λ m. m ≤ front.first.deficit) len (covers c.loop-place.active at.class c.in-Some-packet_len.len front (sym c.in-Send.is ∙ c.turn.ensures.answer)) in
-    let turn = c.turn.ensures.after ∙ ap (λ m. turned m c.loop-place.active) len in
-    λ own. given-schedule c.args.now c.args.active.now c.loop-place.active c.args.classes.now c.loop-place.classes c.loop-place.unasked c.loop-place.shown told c.requires.ready c.loop-place.invariant.0 at.class c.front_place.ensures.lawful front c.in-Some.place place
-    c.ask_class-shown.new.class c.ask_class-shown.result (g.S.Sink.losses c.ask_class-shown.new.sink) (g.S.Sink.room c.ask_class-shown.new.sink) class_shows offer.0 offer.1 pays c.give_class.new.active c.give_class.new.classes
-    (λ class at. subst (λ s. IsGivenBy c.in-Some.place class s c.give_class.new.active (set c.loop-place.classes c.in-Some.place c.ask_class-shown.new.class) c.give_class.new.classes) turn (c.give_class.ensures.given class at)) own
-
-pub disciplines::drr::dequeue_class-returns-in-Send-clause-after : goal.disciplines::drr::dequeue_class-returns-in-Send-clause-after
-disciplines::drr::dequeue_class-returns-in-Send-clause-after g t c =
-    let told : SinkTold = record { losses = g.S.Sink.losses c.args.sink.now; losses_now = g.S.Sink.losses c.loop-place.sink; room = g.S.Sink.room c.args.sink.now; room_now = g.S.Sink.room c.loop-place.sink } in
-    let at = front-at c.loop-place.active c.in-Some.place (sym c.in-Some.is ∙ c.front_place.ensures.place) in
-    let front = front_is at.class c.loop-place.active at.front in
-    let place = class-in-front c.args.now c.args.active.now c.loop-place.active c.args.classes.now c.loop-place.classes c.loop-place.unasked c.loop-place.shown told c.requires.ready c.loop-place.invariant.0 at.class c.front_place.ensures.lawful front c.in-Some.place at.found in
-    let class_shows = class-shown c.args.now c.args.active.now c.loop-place.active c.args.classes.now c.loop-place.classes c.loop-place.unasked c.loop-place.shown told c.requires.ready c.loop-place.invariant.0 at.class c.front_place.ensures.lawful front c.in-Some.place place c.index-classes-place.result c.ask_class-shown.new.class c.ask_class-shown.result (g.S.Sink.losses c.ask_class-shown.new.sink) (g.S.Sink.room c.ask_class-shown.new.sink)
-    c.ask_class-shown.ensures.asked c.ask_class-shown.ensures.told c.ask_class-shown.ensures.at_hand c.ask_class-shown.ensures.not_lost in
-    let offer = shown-len c.ask_class-shown.result.packet c.packet_len.result c.in-Some-packet_len.len c.packet_len.ensures.some c.in-Some-packet_len.is in
-    let len = sym offer.2 in
-    let pays = subst (λ m. m ≤ front.first.deficit) len (covers c.loop-place.active at.class c.in-Some-packet_len.len front (sym c.in-Send.is ∙ c.turn.ensures.answer)) in
-    let turn = c.turn.ensures.after ∙ ap (λ m. turned m c.loop-place.active) len in
-    λ own. given-asked c.args.now c.args.active.now c.loop-place.active c.args.classes.now c.loop-place.classes c.loop-place.unasked c.loop-place.shown told c.requires.ready c.loop-place.invariant.0 at.class c.front_place.ensures.lawful front c.in-Some.place place
-    c.ask_class-shown.new.class c.ask_class-shown.result (g.S.Sink.losses c.ask_class-shown.new.sink) (g.S.Sink.room c.ask_class-shown.new.sink) class_shows offer.0 offer.1 pays c.give_class.new.active c.give_class.new.classes
-    (λ class at. subst (λ s. IsGivenBy c.in-Some.place class s c.give_class.new.active (set c.loop-place.classes c.in-Some.place c.ask_class-shown.new.class) c.give_class.new.classes) turn (c.give_class.ensures.given class at)) own
-
-pub disciplines::drr::dequeue_class-returns-in-Send-clause-packet : goal.disciplines::drr::dequeue_class-returns-in-Send-clause-packet
-disciplines::drr::dequeue_class-returns-in-Send-clause-packet g t c =
-    let told : SinkTold = record { losses = g.S.Sink.losses c.args.sink.now; losses_now = g.S.Sink.losses c.loop-place.sink; room = g.S.Sink.room c.args.sink.now; room_now = g.S.Sink.room c.loop-place.sink } in
-    let at = front-at c.loop-place.active c.in-Some.place (sym c.in-Some.is ∙ c.front_place.ensures.place) in
-    let front = front_is at.class c.loop-place.active at.front in
-    let place = class-in-front c.args.now c.args.active.now c.loop-place.active c.args.classes.now c.loop-place.classes c.loop-place.unasked c.loop-place.shown told c.requires.ready c.loop-place.invariant.0 at.class c.front_place.ensures.lawful front c.in-Some.place at.found in
-    let class_shows = class-shown c.args.now c.args.active.now c.loop-place.active c.args.classes.now c.loop-place.classes c.loop-place.unasked c.loop-place.shown told c.requires.ready c.loop-place.invariant.0 at.class c.front_place.ensures.lawful front c.in-Some.place place c.index-classes-place.result c.ask_class-shown.new.class c.ask_class-shown.result (g.S.Sink.losses c.ask_class-shown.new.sink) (g.S.Sink.room c.ask_class-shown.new.sink)
-    c.ask_class-shown.ensures.asked c.ask_class-shown.ensures.told c.ask_class-shown.ensures.at_hand c.ask_class-shown.ensures.not_lost in
-    c.give_class.ensures.packet c.ask_class-shown.new.class class_shows.stored
-    ∙ ap (λ o. unwrap_or (pop c.ask_class-shown.new.class).shown o) c.loop-place.invariant.2
-    ∙ ap (λ o. unwrap_or o c.args.out.now) (given-packet c.args.now c.args.active.now c.loop-place.active c.args.classes.now c.loop-place.classes c.loop-place.unasked c.loop-place.shown told c.requires.ready c.loop-place.invariant.0 at.class c.front_place.ensures.lawful front c.in-Some.place place
-    c.ask_class-shown.new.class c.ask_class-shown.result (g.S.Sink.losses c.ask_class-shown.new.sink) (g.S.Sink.room c.ask_class-shown.new.sink) class_shows)
-
 pub disciplines::drr::dequeue_class-returns-in_default-packet_len-clause-packet : goal.disciplines::drr::dequeue_class-returns-in_default-packet_len-clause-packet
 disciplines::drr::dequeue_class-returns-in_default-packet_len-clause-packet g t c = c.loop-place.invariant.2 ∙ ap (λ o. unwrap_or o c.args.out.now) (sym (c.packet_len.ensures.none c.in_default-packet_len.is))
 
-pub disciplines::drr::dequeue_class-returns-clause-packet : goal.disciplines::drr::dequeue_class-returns-clause-packet
-disciplines::drr::dequeue_class-returns-clause-packet g t c = c.loop-place.invariant.2 ∙ ap (λ o. unwrap_or o c.args.out.now) (sym (ap (λ (s : Shown). s.packet) c.at_hand.ensures))
+pub disciplines::drr::dequeue_class-turn-requires-clause-in_range : goal.disciplines::drr::dequeue_class-turn-requires-clause-in_range
+disciplines::drr::dequeue_class-turn-requires-clause-in_range g t c =
+    let met = front-met c.requires.ready c.loop-place.invariant.0 c.front_place.ensures.lawful c.in-Some.place (sym c.in-Some.is ∙ c.front_place.ensures.place) in
+    let shows = class-shown met c.index-classes-place.result c.ask_class-shown.ensures.asked c.ask_class-shown.ensures.told c.ask_class-shown.ensures.at_hand c.ask_class-shown.ensures.not_lost in
+    let offer = shown-len c.ask_class-shown.result.packet c.packet_len.result c.in-Some-packet_len.len c.packet_len.ensures.some c.in-Some-packet_len.is in
+    short-enough met shows offer
+
+pub disciplines::drr::dequeue_class-give_class-requires : goal.disciplines::drr::dequeue_class-give_class-requires
+disciplines::drr::dequeue_class-give_class-requires g t c =
+    let met = front-met c.requires.ready c.loop-place.invariant.0 c.front_place.ensures.lawful c.in-Some.place (sym c.in-Some.is ∙ c.front_place.ensures.place) in
+    omega (arith, place-within met, length-set c.loop-place.classes c.in-Some.place c.ask_class-shown.new.class)
+
+pub disciplines::drr::dequeue_class-returns-in-Send-clause-active : goal.disciplines::drr::dequeue_class-returns-in-Send-clause-active
+disciplines::drr::dequeue_class-returns-in-Send-clause-active g t c =
+    let met = front-met c.requires.ready c.loop-place.invariant.0 c.front_place.ensures.lawful c.in-Some.place (sym c.in-Some.is ∙ c.front_place.ensures.place) in
+    let shows = class-shown met c.index-classes-place.result c.ask_class-shown.ensures.asked c.ask_class-shown.ensures.told c.ask_class-shown.ensures.at_hand c.ask_class-shown.ensures.not_lost in
+    let offer = shown-len c.ask_class-shown.result.packet c.packet_len.result c.in-Some-packet_len.len c.packet_len.ensures.some c.in-Some-packet_len.is in
+    given-schedule met shows offer (sym c.in-Send.is ∙ c.turn.ensures.answer) c.turn.ensures.after c.give_class.ensures.given
+
+pub disciplines::drr::dequeue_class-returns-in-Send-clause-after : goal.disciplines::drr::dequeue_class-returns-in-Send-clause-after
+disciplines::drr::dequeue_class-returns-in-Send-clause-after g t c =
+    let met = front-met c.requires.ready c.loop-place.invariant.0 c.front_place.ensures.lawful c.in-Some.place (sym c.in-Some.is ∙ c.front_place.ensures.place) in
+    let shows = class-shown met c.index-classes-place.result c.ask_class-shown.ensures.asked c.ask_class-shown.ensures.told c.ask_class-shown.ensures.at_hand c.ask_class-shown.ensures.not_lost in
+    let offer = shown-len c.ask_class-shown.result.packet c.packet_len.result c.in-Some-packet_len.len c.packet_len.ensures.some c.in-Some-packet_len.is in
+    given-asked met shows offer (sym c.in-Send.is ∙ c.turn.ensures.answer) c.turn.ensures.after c.give_class.ensures.given
 
 pub disciplines::drr::dequeue_class-returns-in-Send-clause-told : goal.disciplines::drr::dequeue_class-returns-in-Send-clause-told
 disciplines::drr::dequeue_class-returns-in-Send-clause-told g t c =
-    let told : SinkTold = record { losses = g.S.Sink.losses c.args.sink.now; losses_now = g.S.Sink.losses c.loop-place.sink; room = g.S.Sink.room c.args.sink.now; room_now = g.S.Sink.room c.loop-place.sink } in
-    let at = front-at c.loop-place.active c.in-Some.place (sym c.in-Some.is ∙ c.front_place.ensures.place) in
-    let front = front_is at.class c.loop-place.active at.front in
-    let place = class-in-front c.args.now c.args.active.now c.loop-place.active c.args.classes.now c.loop-place.classes c.loop-place.unasked c.loop-place.shown told c.requires.ready c.loop-place.invariant.0 at.class c.front_place.ensures.lawful front c.in-Some.place at.found in
-    let class_shows = class-shown c.args.now c.args.active.now c.loop-place.active c.args.classes.now c.loop-place.classes c.loop-place.unasked c.loop-place.shown told c.requires.ready c.loop-place.invariant.0 at.class c.front_place.ensures.lawful front c.in-Some.place place c.index-classes-place.result c.ask_class-shown.new.class c.ask_class-shown.result (g.S.Sink.losses c.ask_class-shown.new.sink) (g.S.Sink.room c.ask_class-shown.new.sink)
-    c.ask_class-shown.ensures.asked c.ask_class-shown.ensures.told c.ask_class-shown.ensures.at_hand c.ask_class-shown.ensures.not_lost in
+    let met = front-met c.requires.ready c.loop-place.invariant.0 c.front_place.ensures.lawful c.in-Some.place (sym c.in-Some.is ∙ c.front_place.ensures.place) in
+    let shows = class-shown met c.index-classes-place.result c.ask_class-shown.ensures.asked c.ask_class-shown.ensures.told c.ask_class-shown.ensures.at_hand c.ask_class-shown.ensures.not_lost in
     let offer = shown-len c.ask_class-shown.result.packet c.packet_len.result c.in-Some-packet_len.len c.packet_len.ensures.some c.in-Some-packet_len.is in
-    let len = sym offer.2 in
-    let pays = subst (λ m. m ≤ front.first.deficit) len (covers c.loop-place.active at.class c.in-Some-packet_len.len front (sym c.in-Send.is ∙ c.turn.ensures.answer)) in
-    let turn = c.turn.ensures.after ∙ ap (λ m. turned m c.loop-place.active) len in
-    λ own. given-told c.args.now c.args.active.now c.loop-place.active c.args.classes.now c.loop-place.classes c.loop-place.unasked c.loop-place.shown told c.requires.ready c.loop-place.invariant.0 at.class c.front_place.ensures.lawful front c.in-Some.place place
-    c.ask_class-shown.new.class c.ask_class-shown.result (g.S.Sink.losses c.ask_class-shown.new.sink) (g.S.Sink.room c.ask_class-shown.new.sink) class_shows offer.0 offer.1 pays c.give_class.new.active c.give_class.new.classes
-    (λ class at. subst (λ s. IsGivenBy c.in-Some.place class s c.give_class.new.active (set c.loop-place.classes c.in-Some.place c.ask_class-shown.new.class) c.give_class.new.classes) turn (c.give_class.ensures.given class at)) own
+    given-told met shows offer (sym c.in-Send.is ∙ c.turn.ensures.answer) c.turn.ensures.after c.give_class.ensures.given
+
+pub disciplines::drr::dequeue_class-returns-in-Send-clause-packet : goal.disciplines::drr::dequeue_class-returns-in-Send-clause-packet
+disciplines::drr::dequeue_class-returns-in-Send-clause-packet g t c =
+    let met = front-met c.requires.ready c.loop-place.invariant.0 c.front_place.ensures.lawful c.in-Some.place (sym c.in-Some.is ∙ c.front_place.ensures.place) in
+    let shows = class-shown met c.index-classes-place.result c.ask_class-shown.ensures.asked c.ask_class-shown.ensures.told c.ask_class-shown.ensures.at_hand c.ask_class-shown.ensures.not_lost in
+    c.give_class.ensures.packet c.ask_class-shown.new.class shows.stored
+    ∙ ap (λ o. unwrap_or (pop c.ask_class-shown.new.class).shown o) c.loop-place.invariant.2
+    ∙ ap (λ o. unwrap_or o c.args.out.now) (given-packet met shows)
 
 pub disciplines::drr::dequeue_class-returns-in-Send-clause-kept : goal.disciplines::drr::dequeue_class-returns-in-Send-clause-kept
 disciplines::drr::dequeue_class-returns-in-Send-clause-kept g t c =
@@ -235,59 +162,35 @@ disciplines::drr::dequeue_class-returns-in-Send-clause-kept g t c =
 
 pub disciplines::drr::dequeue_class-loop-place-smaller : goal.disciplines::drr::dequeue_class-loop-place-smaller
 disciplines::drr::dequeue_class-loop-place-smaller g t c =
-    let told : SinkTold = record { losses = g.S.Sink.losses c.args.sink.now; losses_now = g.S.Sink.losses c.loop-place.sink; room = g.S.Sink.room c.args.sink.now; room_now = g.S.Sink.room c.loop-place.sink } in
-    let at = front-at c.loop-place.active c.in-Some.place (sym c.in-Some.is ∙ c.front_place.ensures.place) in
-    let front = front_is at.class c.loop-place.active at.front in
-    let place = class-in-front c.args.now c.args.active.now c.loop-place.active c.args.classes.now c.loop-place.classes c.loop-place.unasked c.loop-place.shown told c.requires.ready c.loop-place.invariant.0 at.class c.front_place.ensures.lawful front c.in-Some.place at.found in
-    let class_shows = class-shown c.args.now c.args.active.now c.loop-place.active c.args.classes.now c.loop-place.classes c.loop-place.unasked c.loop-place.shown told c.requires.ready c.loop-place.invariant.0 at.class c.front_place.ensures.lawful front c.in-Some.place place c.index-classes-place.result c.ask_class-shown.new.class c.ask_class-shown.result (g.S.Sink.losses c.ask_class-shown.new.sink) (g.S.Sink.room c.ask_class-shown.new.sink)
-    c.ask_class-shown.ensures.asked c.ask_class-shown.ensures.told c.ask_class-shown.ensures.at_hand c.ask_class-shown.ensures.not_lost in
+    let met = front-met c.requires.ready c.loop-place.invariant.0 c.front_place.ensures.lawful c.in-Some.place (sym c.in-Some.is ∙ c.front_place.ensures.place) in
+    let shows = class-shown met c.index-classes-place.result c.ask_class-shown.ensures.asked c.ask_class-shown.ensures.told c.ask_class-shown.ensures.at_hand c.ask_class-shown.ensures.not_lost in
     let offer = shown-len c.ask_class-shown.result.packet c.packet_len.result c.in-Some-packet_len.len c.packet_len.ensures.some c.in-Some-packet_len.is in
-    let len = sym offer.2 in
-    let short = subst (λ m. front.first.deficit < m) len (falls_short c.loop-place.active at.class c.in-Some-packet_len.len front (sym c.in-Granted.is ∙ c.turn.ensures.answer)) in
-    let turn = c.turn.ensures.after ∙ ap (λ m. turned m c.loop-place.active) len in
-    subst (λ s. sum_by (need (λ m. quantum_of m s.classes) (heads_of c.args.now c.args.active.now c.args.classes.now)) s.active < sum_by (need (λ m. quantum_of m c.loop-place.active.classes) (heads_of c.args.now c.args.active.now c.args.classes.now)) c.loop-place.active.active) (sym turn)
-    (measure_falls (heads_of c.args.now c.args.active.now c.args.classes.now) c.loop-place.active at.class offer.0.len front (offered-head c.args.now c.args.active.now c.loop-place.active c.args.classes.now c.loop-place.classes c.loop-place.unasked c.loop-place.shown told c.requires.ready c.loop-place.invariant.0 at.class c.front_place.ensures.lawful front c.in-Some.place place
-    c.ask_class-shown.new.class c.ask_class-shown.result (g.S.Sink.losses c.ask_class-shown.new.sink) (g.S.Sink.room c.ask_class-shown.new.sink) class_shows offer.0 offer.1) (front_quantum c.loop-place.active at.class front c.front_place.ensures.lawful) short)
+    fewer-grants met shows offer (sym c.in-Granted.is ∙ c.turn.ensures.answer) c.turn.ensures.after
 
 pub disciplines::drr::dequeue_class-loop-place-preserved : goal.disciplines::drr::dequeue_class-loop-place-preserved
 disciplines::drr::dequeue_class-loop-place-preserved g t c =
-    let told : SinkTold = record { losses = g.S.Sink.losses c.args.sink.now; losses_now = g.S.Sink.losses c.loop-place.sink; room = g.S.Sink.room c.args.sink.now; room_now = g.S.Sink.room c.loop-place.sink } in
-    let at = front-at c.loop-place.active c.in-Some.place (sym c.in-Some.is ∙ c.front_place.ensures.place) in
-    let front = front_is at.class c.loop-place.active at.front in
-    let place = class-in-front c.args.now c.args.active.now c.loop-place.active c.args.classes.now c.loop-place.classes c.loop-place.unasked c.loop-place.shown told c.requires.ready c.loop-place.invariant.0 at.class c.front_place.ensures.lawful front c.in-Some.place at.found in
-    let class_shows = class-shown c.args.now c.args.active.now c.loop-place.active c.args.classes.now c.loop-place.classes c.loop-place.unasked c.loop-place.shown told c.requires.ready c.loop-place.invariant.0 at.class c.front_place.ensures.lawful front c.in-Some.place place c.index-classes-place.result c.ask_class-shown.new.class c.ask_class-shown.result (g.S.Sink.losses c.ask_class-shown.new.sink) (g.S.Sink.room c.ask_class-shown.new.sink)
-    c.ask_class-shown.ensures.asked c.ask_class-shown.ensures.told c.ask_class-shown.ensures.at_hand c.ask_class-shown.ensures.not_lost in
-    let offer = shown-len c.ask_class-shown.result.packet c.packet_len.result c.in-Some-packet_len.len c.packet_len.ensures.some c.in-Some-packet_len.is in
-    let len = sym offer.2 in
-    let short = subst (λ m. front.first.deficit < m) len (falls_short c.loop-place.active at.class c.in-Some-packet_len.len front (sym c.in-Granted.is ∙ c.turn.ensures.answer)) in
-    let turn = c.turn.ensures.after ∙ ap (λ m. turned m c.loop-place.active) len in
-    let told_after : SinkTold = record { losses = g.S.Sink.losses c.args.sink.now; losses_now = g.S.Sink.losses c.ask_class-shown.new.sink; room = g.S.Sink.room c.args.sink.now; room_now = g.S.Sink.room c.ask_class-shown.new.sink } in (
-      subst (λ s. AreClassesAsked c.args.now c.args.active.now s c.args.classes.now (set c.loop-place.classes c.in-Some.place c.ask_class-shown.new.class) c.saturating_sub-unasked.result c.ask_class-shown.result told_after) (sym turn)
-          (classes-go-on c.args.now c.args.active.now c.loop-place.active c.args.classes.now c.loop-place.classes c.loop-place.unasked c.loop-place.shown told c.requires.ready c.loop-place.invariant.0 at.class c.front_place.ensures.lawful front c.in-Some.place place
-          c.ask_class-shown.new.class c.ask_class-shown.result (g.S.Sink.losses c.ask_class-shown.new.sink) (g.S.Sink.room c.ask_class-shown.new.sink) class_shows offer.0 offer.1 short c.saturating_sub-unasked.result c.saturating_sub-unasked.ensures),
+    let met = front-met c.requires.ready c.loop-place.invariant.0 c.front_place.ensures.lawful c.in-Some.place (sym c.in-Some.is ∙ c.front_place.ensures.place) in
+    let shows = class-shown met c.index-classes-place.result c.ask_class-shown.ensures.asked c.ask_class-shown.ensures.told c.ask_class-shown.ensures.at_hand c.ask_class-shown.ensures.not_lost in
+    let offer = shown-len c.ask_class-shown.result.packet c.packet_len.result c.in-Some-packet_len.len c.packet_len.ensures.some c.in-Some-packet_len.is in (
+      classes-go-on met shows offer (sym c.in-Granted.is ∙ c.turn.ensures.answer) c.turn.ensures.after c.saturating_sub-unasked.ensures,
       g.met.S.Sink.keeps_on c.args.sink.now c.loop-place.sink c.ask_class-shown.new.sink c.loop-place.invariant.1 c.ask_class-shown.ensures.kept,
       c.loop-place.invariant.2,
       c.ask_class-shown.ensures.signals,
     )
 
 pub disciplines::drr::dequeue_class-returns-clause-active : goal.disciplines::drr::dequeue_class-returns-clause-active
-disciplines::drr::dequeue_class-returns-clause-active g t c =
-    let told : SinkTold = record { losses = g.S.Sink.losses c.args.sink.now; losses_now = g.S.Sink.losses c.loop-place.sink; room = g.S.Sink.room c.args.sink.now; room_now = g.S.Sink.room c.loop-place.sink } in
-    let nobody = empty_front c.loop-place.active (nobody-at c.loop-place.active _ c.in_default.is c.front_place.ensures.found) in
-    λ own. idle-schedule c.args.now c.args.active.now c.loop-place.active c.args.classes.now c.loop-place.classes c.loop-place.unasked c.loop-place.shown told c.requires.ready c.loop-place.invariant.0 c.front_place.ensures.lawful nobody own
+disciplines::drr::dequeue_class-returns-clause-active g t c = idle-schedule c.requires.ready c.loop-place.invariant.0 c.front_place.ensures.lawful _ c.in_default.is c.front_place.ensures.found
 
 pub disciplines::drr::dequeue_class-returns-clause-after : goal.disciplines::drr::dequeue_class-returns-clause-after
 disciplines::drr::dequeue_class-returns-clause-after g t c =
-    let told : SinkTold = record { losses = g.S.Sink.losses c.args.sink.now; losses_now = g.S.Sink.losses c.loop-place.sink; room = g.S.Sink.room c.args.sink.now; room_now = g.S.Sink.room c.loop-place.sink } in
-    let nobody = empty_front c.loop-place.active (nobody-at c.loop-place.active _ c.in_default.is c.front_place.ensures.found) in
-    λ own. idle-asked c.args.now c.args.active.now c.loop-place.active c.args.classes.now c.loop-place.classes c.loop-place.unasked c.loop-place.shown told c.requires.ready c.loop-place.invariant.0 c.front_place.ensures.lawful nobody c.at_hand.result (ap (λ (s : Shown). s.packet) c.at_hand.ensures)
-    (record { dropped = ap (λ (s : Shown). s.dropped) c.at_hand.ensures; marked = ap (λ (s : Shown). s.marked) c.at_hand.ensures }) own
+    idle-asked c.requires.ready c.loop-place.invariant.0 c.front_place.ensures.lawful _ c.in_default.is c.front_place.ensures.found (ap (λ (s : Shown). s.packet) c.at_hand.ensures)
+    (record { dropped = ap (λ (s : Shown). s.dropped) c.at_hand.ensures; marked = ap (λ (s : Shown). s.marked) c.at_hand.ensures })
+
+pub disciplines::drr::dequeue_class-returns-clause-packet : goal.disciplines::drr::dequeue_class-returns-clause-packet
+disciplines::drr::dequeue_class-returns-clause-packet g t c = c.loop-place.invariant.2 ∙ ap (λ o. unwrap_or o c.args.out.now) (sym (ap (λ (s : Shown). s.packet) c.at_hand.ensures))
 
 pub disciplines::drr::dequeue_class-returns-clause-told : goal.disciplines::drr::dequeue_class-returns-clause-told
-disciplines::drr::dequeue_class-returns-clause-told g t c =
-    let told : SinkTold = record { losses = g.S.Sink.losses c.args.sink.now; losses_now = g.S.Sink.losses c.loop-place.sink; room = g.S.Sink.room c.args.sink.now; room_now = g.S.Sink.room c.loop-place.sink } in
-    let nobody = empty_front c.loop-place.active (nobody-at c.loop-place.active _ c.in_default.is c.front_place.ensures.found) in
-    λ own. idle-told c.args.now c.args.active.now c.loop-place.active c.args.classes.now c.loop-place.classes c.loop-place.unasked c.loop-place.shown told c.requires.ready c.loop-place.invariant.0 c.front_place.ensures.lawful nobody own
+disciplines::drr::dequeue_class-returns-clause-told g t c = idle-told c.requires.ready c.loop-place.invariant.0 c.front_place.ensures.lawful _ c.in_default.is c.front_place.ensures.found
 
 pub disciplines::drr::dequeue_class-returns-clause-kept : goal.disciplines::drr::dequeue_class-returns-clause-kept
 disciplines::drr::dequeue_class-returns-clause-kept g t c = c.loop-place.invariant.1

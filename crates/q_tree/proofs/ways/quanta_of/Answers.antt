@@ -1,6 +1,5 @@
-use Rattle.std.proofs.Common.{◌≡◌, ◌+◌, ◌<◌, ◌^◌, ◌∙◌, take, sym, arith, Some}
-use Rattle.std.specs.Prelude.{sum_by}
-use Rattle.q_drr.specs.Schedule.{Class, name_at}
+use Rattle.std.proofs.Common.{◌<◌, ◌^◌, ◌∙◌, sym, arith}
+use Rattle.q_drr.specs.Schedule.{Class}
 use Rattle.q_drr.proofs.DifferLemmas.{differ_from_pairs}
 use Rattle.q_tree.proofs.WayLemmas.{named-has, sum-next}
 use Rattle.q_tree.proofs.ways.quanta_of.Goals as goal

@@ -1,10 +1,9 @@
-use Rattle.std.proofs.Common.{◌≡◌, ◌∙◌, length, sym, ap, arith, Some, option_map, subst, ◌≤◌, ℕ}
-use Rattle.std.specs.Prelude.{IsTrue, sum_by}
+use Rattle.std.proofs.Common.{◌≡◌, ◌∙◌, sym, ap, arith, Some, option_map, ◌≤◌}
+use Rattle.std.specs.Prelude.{sum_by}
 use Rattle.std.proofs.lemmas.Option.{slice_get_within}
 use Rattle.q_drr.specs.Schedule.{Class, quantum_of}
-use Rattle.q_drr.proofs.DifferLemmas.{ClassesDiffer, differ_from_pairs}
+use Rattle.q_drr.proofs.DifferLemmas.{differ_from_pairs}
 use Rattle.q_invariants.proofs.Members.{All-at}
-use Rattle.q_tree.specs.declared.ways.Share.{Share}
 use Rattle.q_tree.specs.Ways.{share_among}
 use Rattle.q_tree.proofs.WayLemmas.{IsAt, IsNamed, is-at, is-named, named-has}
 use Rattle.q_tree.proofs.ways.share_in.Goals as goal

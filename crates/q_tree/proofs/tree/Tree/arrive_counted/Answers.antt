@@ -4,7 +4,6 @@ use Rattle.q_packet.specs.Descriptor.{Descriptor}
 use Rattle.q_model.specs.Beneath.{beneath}
 use Rattle.q_model.specs.Node.{shape}
 use Rattle.q_model.specs.Route.{device_route}
-use Rattle.q_model.specs.declared.totals.Totals.{Totals}
 use Rattle.q_model.specs.Step.{DeviceState, fate_of, losses_in}
 use Rattle.q_model.specs.Tally.{totals}
 use Rattle.q_model.specs.TreeState.{noted_by_put, own_loss, put}
@@ -12,7 +11,6 @@ use Rattle.q_tree.specs.Arrivals.{CanCount}
 use Rattle.q_tree.specs.Kept.{Kept}
 use Rattle.q_tree.specs.Places.{places_at}
 use Rattle.q_tree.specs.RouteSeen.{route_seen}
-use Rattle.q_tree.specs.declared.outcome.Outcome.{Outcome}
 use Rattle.q_tree.specs.TreeSeen.{CanArrive, numbers, tree_numbers, tree_seen}
 use Rattle.q_tree.proofs.Arriving.{on-err}
 use Rattle.q_tree.proofs.TreeArrivals.{can-come, place-there, placed-indexed, placed-keeps, placed-numbers, told-tree, tree-after, tree-indexed, tree-loss, tree-lost, tree-places}

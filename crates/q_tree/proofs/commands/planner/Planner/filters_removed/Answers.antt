@@ -1,4 +1,4 @@
-use Rattle.std.proofs.Common.{◌∙◌, refl, sym, ap, option_map, subst}
+use Rattle.std.proofs.Common.{◌∙◌, refl, sym, ap, option_map}
 use Rattle.q_model.specs.declared.command.Command.TheVariants.{FilterDel}
 use Rattle.q_model.specs.declared.refusal.Refusal.TheVariants.{NoQdisc}
 use Rattle.q_model.specs.Find.{path_of}
@@ -10,7 +10,6 @@ use Rattle.std.specs.Prelude.{◌==◌, not}
 use Rattle.std.specs.List.{filter}
 use Rattle.q_model.specs.declared.filter.Filter.{Filter}
 use Rattle.q_model.specs.FilterCommands.{filter_del_checks, filters_removed, with_filters}
-use Rattle.q_model.specs.Numbers.{IsFilterPrio, IsHandle}
 use Rattle.q_invariants.proofs.SizedPlans.{plan-filter_del}
 use Rattle.q_tree.specs.declared.commands.edit.Edit.TheVariants.{RemoveFilters}
 use Rattle.q_tree.proofs.Plans.{all-passed, bounded-by, err-passed, few, own-planned, refused-plan, same-refusal, shallow}

@@ -1,4 +1,4 @@
-use Rattle.std.proofs.Common.{◌≡◌, ◌<◌, ◌^◌, ◌∙◌, [], Some, refl, sym, ap, subst, Ok, arith}
+use Rattle.std.proofs.Common.{◌≡◌, ◌<◌, ◌^◌, ◌∙◌, [], Some, refl, sym, ap, subst, Ok}
 use Rattle.std.specs.Prelude.{is_some, true, unwrap_or}
 use Rattle.std.specs.Result.{result_map_both}
 use Rattle.q_model.specs.declared.command.Command.TheVariants.{QdiscAdd}

@@ -1,4 +1,4 @@
-use Rattle.std.proofs.Common.{Some, None, refl, arith}
+use Rattle.std.proofs.Common.{Some, None, refl}
 use Rattle.q_model.specs.Make.{Device}
 use Rattle.q_tree.proofs.MakingLemmas.{made-is, made-kept}
 use Rattle.q_tree.specs.Planning.{device_of}

@@ -1,0 +1,74 @@
+ghost use Rattle.std.specs.Prelude.{◌≡◌, slice_get};
+ghost use Rattle.q_model.specs.Views.{class_views, filter_views, node_view};
+ghost use Rattle.q_tree.specs.Flows.{listed_flows};
+ghost use Rattle.q_tree.specs.Kept.{kept};
+ghost use Rattle.q_tree.specs.Showing.{IsNumbered};
+
+use crate::listed_flows::ListedFlows;
+use crate::node::Node;
+use q_model::{ClassView, FilterView, NodeView, Place};
+use std::marker::Model;
+
+/// A node of a tree, as [`crate::Nodes`] gives it: what show prints of it is read without looking for it again.
+///
+/// A contract sees the place where it stands, and the node.
+#[derive(Drop)]
+pub struct NodeRef<'a> {
+    place: Place,
+    node: &'a Node,
+}
+
+impl<'a> Model for NodeRef<'a> {
+    ghost use Rattle.q_model.specs.Node as spec;
+    ghost use Rattle.q_model.specs.declared.place.Place.{Place as Where};
+    ghost use Rattle.q_tree.specs.Kept.{Kept};
+    ghost use Rattle.q_tree.specs.NodesCode.{standing_code};
+
+    ghost Value = { Where × spec.Node Kept };
+
+    ghost coded = { standing_code };
+
+    ghost use Rattle.q_tree.specs.Showing.{IsNumbered};
+
+    ghost view = { λ a. (a.place, a.node.now) };
+
+    ghost invariant = { λ a. IsNumbered a.node.now };
+}
+
+impl<'a> NodeRef<'a> {
+    // The node in this place.
+    pub(crate) fn new(place: Place, node: &'a Node) -> NodeRef<'a>
+        requires { IsNumbered node.now }
+        ensures { result ≡ (place, node.now) }
+    {
+        NodeRef { place, node }
+    }
+
+    /// What `tc -s qdisc show` prints of it.
+    pub fn view(&self) -> NodeView
+        ensures { result ≡ node_view kept self.now.0 self.now.1 }
+    {
+        self.node.view(self.place)
+    }
+
+    /// What `tc class show` prints of its class in this place, in class order; `None` past the last.
+    pub fn class(&self, j: usize) -> Option<ClassView>
+        ensures { result ≡ slice_get (class_views self.now.1) j }
+    {
+        self.node.class_view(j)
+    }
+
+    /// What `tc filter show` prints of its filter in this place, in the order in which filters are tried; `None` past the last.
+    pub fn filter(&self, j: usize) -> Option<FilterView>
+        ensures { result ≡ slice_get (filter_views self.now.1) j }
+    {
+        self.node.filter_view(j)
+    }
+
+    /// How many flows it has listed, if it is an fq_codel.
+    pub fn flows(&self) -> Option<ListedFlows>
+        ensures { result ≡ listed_flows self.now.1.own.discipline }
+    {
+        self.node.listed_flows()
+    }
+}

@@ -1,0 +1,119 @@
+ghost use Rattle.std.specs.Prelude.{◌≡◌, ◌≤◌, ◌+◌, [], ◌∷◌, ◌++◌, IfSome, MatchOption, None, length, map};
+ghost use Rattle.q_model.specs.Conserved.{every_node};
+ghost use Rattle.q_model.specs.Find.{depth};
+ghost use Rattle.q_model.specs.Views.{node_view, views};
+ghost use Rattle.q_model.specs.declared.place.Place.TheVariants as place;
+ghost use Rattle.q_tree.specs.Kept.{kept};
+ghost use Rattle.q_tree.specs.Nodes.{IsNextBehind, behind, children_from};
+ghost use Rattle.q_tree.specs.Showing.{IsNumbered, standing};
+
+use crate::find::Path;
+use crate::node::{Node, child_at};
+use crate::node_ref::NodeRef;
+use crate::tree::Tree;
+use q_model::Place;
+use std::marker::Model;
+
+/// The nodes of a tree that are still to come in the order of show, from [`Tree::nodes`].
+///
+/// It remembers the way to the node that it gave last, so that each step takes as many moves as the tree has levels at most,
+/// however many nodes it has. A contract sees the list of the nodes to come, each with the place where it stands.
+#[derive(Drop)]
+pub struct Nodes<'a> {
+    root: &'a Node,
+    /// The way to the node that was given last; `None` before the first.
+    last: Option<Path>,
+}
+
+impl<'a> Model for Nodes<'a> {
+    ghost use Rattle.std.specs.Prelude.{List};
+    ghost use Rattle.q_model.specs.Node as spec;
+    ghost use Rattle.q_model.specs.declared.place.Place.{Place as Where};
+    ghost use Rattle.q_tree.specs.Kept.{Kept};
+    ghost use Rattle.q_tree.specs.NodesCode.{nodes_code};
+
+    ghost Value = { List (Where × spec.Node Kept) };
+
+    ghost coded = { nodes_code };
+
+    ghost use Rattle.q_tree.specs.NodesSeen.{IsWalk, nodes_seen};
+
+    ghost view = { nodes_seen };
+
+    ghost invariant = { IsWalk };
+}
+
+impl<'a> Nodes<'a> {
+    /// The next node; `None` past the last.
+    pub fn next(&mut self) -> Option<NodeRef<'a>>
+        ensures found { MatchOption result (self.old ≡ []) (λ node. self.old ≡ node ∷ self.new) }
+        ensures end { result ≡ None → self.new ≡ self.old }
+    {
+        let root = self.root;
+        let Some(last) = &self.last else {
+            self.last = Some(Path::new());
+            return Some(NodeRef::new(Place::Root, root));
+        };
+        let mut way = Path::new();
+        let Some((place, node)) = root.next_behind(last, &mut way) else {
+            return None;
+        };
+        self.last = Some(way);
+        Some(NodeRef::new(place, node))
+    }
+}
+
+impl Tree {
+    /// All nodes in the order in which `tc qdisc show` lists them: the k-th is the one of which [`Tree::node`] of `k` tells.
+    pub fn nodes(&self) -> Nodes<'_>
+        ensures standing { result ≡ standing place.Root self.now.tree.root }
+        ensures views { map (λ x. node_view kept x.0 x.1) result ≡ views kept self.now.tree }
+        ensures every { map (λ x. x.1) result ≡ every_node self.now.tree.root }
+    {
+        // That the tree is lawful is known where it is looked into.
+        let _ = &self.mtu;
+        Nodes {
+            root: &self.root,
+            last: None,
+        }
+    }
+}
+
+impl Node {
+    // The node that comes next behind the one at the end of a way, with the place where it stands. The way to it is put behind
+    // the way that leads to this node.
+    fn next_behind(&self, way: &[usize], here: &mut Path) -> Option<(Place, &Node)>
+        requires numbered { IsNumbered self.now }
+        requires levels { length here.old.items + depth self.now ≤ 8 }
+        ensures found { IfSome result (λ x. IsNextBehind way.now self.now here.old.items here.new.items (x.0, x.1.now)) }
+        ensures numbered { IfSome result (λ x. IsNumbered x.1.now) }
+        ensures end { result ≡ None → behind way.now self.now ≡ [] }
+        ensures stays { result ≡ None → here.new.items ≡ here.old.items }
+    {
+        let Some((&i, rest)) = way.split_first() else {
+            return self.child_from(0, here);
+        };
+        let child = child_at(self.children(), i)?;
+        here.push(i);
+        if let Some(found) = child.next_behind(rest, here) {
+            return Some(found);
+        }
+        here.pop();
+        self.child_from(i + 1, here)
+    }
+
+    // The child in this place, with the place where it stands, to which the way goes on then.
+    fn child_from(&self, i: usize, here: &mut Path) -> Option<(Place, &Node)>
+        requires numbered { IsNumbered self.now }
+        requires levels { length here.old.items + depth self.now ≤ 8 }
+        ensures found { IfSome result (λ x. children_from i self.now ≡ (x.0, x.1.now) ∷ behind (i ∷ []) self.now) }
+        ensures way { IfSome result (λ _. here.new.items ≡ here.old.items ++ i ∷ []) }
+        ensures numbered { IfSome result (λ x. IsNumbered x.1.now) }
+        ensures end { result ≡ None → children_from i self.now ≡ [] }
+        ensures stays { result ≡ None → here.new.items ≡ here.old.items }
+    {
+        let child = child_at(self.children(), i)?;
+        here.push(i);
+        Some((self.place_beneath(i), child))
+    }
+}
