@@ -1,6 +1,7 @@
 /* What a packet costs from C, by an arrival and a poll: one at a time, 32 in a crossing, and 32 at a time through a ring.
  *
- *     bench [PACKETS [ROUNDS]]     so many packets for each row, by default 2,000,000, in 5 rounds
+ *     bench [PACKETS [ROUNDS]]     so many packets for each row, by default 1,000,000, in 5 rounds. These span an interval of CoDel: of
+ *                                  more packets it would drop some in the drr of 8 fq_codels, and the row would stop.
  *
  * Packets also arrive by their first bytes, one at a time, by qtree_arrive_frame and qtree_poll_buf, with the hash of the packet; 32 at a
  * time also leave by qtree_poll_bufs, and are placed in the ring by qtree_offer_many. Two rows are for reading a header with a hash and
@@ -273,7 +274,7 @@ static void print_two_devices(uint32_t packets, uint32_t rounds) {
 }
 
 int main(int argc, char **argv) {
-    uint32_t packets = argc > 1 ? (uint32_t)strtoul(argv[1], NULL, 10) : 2000000;
+    uint32_t packets = argc > 1 ? (uint32_t)strtoul(argv[1], NULL, 10) : 1000000;
     uint32_t rounds = argc > 2 ? (uint32_t)strtoul(argv[2], NULL, 10) : 5;
     CHECK(packets >= BATCH && rounds >= 1);
     for (size_t i = 0; i < sizeof rows / sizeof rows[0]; i++) {
