@@ -81,10 +81,8 @@ impl BoardWriter {
     {
         let mut all = Vec::with_capacity(alloc, count)?;
         for _gauge in 0..count {
-            match self.gauge(note) {
-                Ok(gauge) => all.push_reserved(gauge),
-                Err(error) => return Err(error),
-            }
+            let gauge = self.gauge(note)?;
+            all.push_reserved(gauge);
         }
         Ok(all)
     }

@@ -146,10 +146,9 @@ impl<P: Ledger, B: Ledger> Intake<P, B> {
         ensures refused { OnErr result (HasNoRoomForNext booked.old self.new) }
     {
         for at in from..to {
-            match self.take_at(at, booked, now) {
-                Ok(true) => return Ok(Some(at)),
-                Ok(false) => {}
-                Err(error) => return Err(error),
+            let is_taken = self.take_at(at, booked, now)?;
+            if is_taken {
+                return Ok(Some(at));
             }
         }
         Ok(None)
@@ -190,13 +189,9 @@ impl<P: Ledger, B: Ledger> Intake<P, B> {
     {
         let start = self.start();
         let count = self.count();
-        match self.take_within(start, count, booked, now) {
-            Ok(Some(at)) => {
-                self.go_on_after(at);
-                return Ok(Some(at));
-            }
-            Ok(None) => {}
-            Err(error) => return Err(error),
+        if let Some(at) = self.take_within(start, count, booked, now)? {
+            self.go_on_after(at);
+            return Ok(Some(at));
         }
         match self.take_within(0, start, booked, now) {
             Ok(Some(at)) => {
@@ -280,10 +275,7 @@ impl<P: Ledger, B: Ledger> Intake<P, B> {
         ensures stopped { OnErr result (StopsSome now (map received_from self.old) self.new booked.old booked.new) }
     {
         for _left in 0..self.known(at) {
-            match self.take_known(at, booked, now) {
-                Ok(_) => {}
-                Err(error) => return Err(error),
-            }
+            self.take_known(at, booked, now)?;
         }
         Ok(())
     }
@@ -301,10 +293,7 @@ impl<P: Ledger, B: Ledger> Intake<P, B> {
         ensures stopped { OnErr result (StopsSome now (map received_from self.old) self.new booked.old booked.new) }
     {
         for at in 0..self.count() {
-            match self.empty_at(at, booked, now) {
-                Ok(()) => {}
-                Err(error) => return Err(error),
-            }
+            self.empty_at(at, booked, now)?;
         }
         Ok(())
     }

@@ -91,13 +91,9 @@ fn make_rings(
     let mut rings = Vec::with_capacity(alloc, count)?;
     let mut ports = Vec::with_capacity(alloc, count)?;
     for index in 0..count {
-        match RingBuffer::with_protocol::<Global, RingRule>(alloc, ring) {
-            Ok((producer, consumer)) => {
-                ports.push_reserved(Port::new(index as u32, producer));
-                rings.push_reserved(consumer);
-            }
-            Err(error) => return Err(error),
-        }
+        let (producer, consumer) = RingBuffer::with_protocol::<Global, RingRule>(alloc, ring)?;
+        ports.push_reserved(Port::new(index as u32, producer));
+        rings.push_reserved(consumer);
     }
     Ok((rings, ports))
 }

@@ -3,6 +3,7 @@ use Rattle.std.proofs.lemmas.List.{length-map}
 use Rattle.q_packet.specs.Descriptor.{Descriptor}
 use Rattle.q_ports.specs.Collected.{take}
 use Rattle.q_ports.specs.Rings.{RingSeen, received_from}
+use Rattle.q_tree.proofs.Arriving.{on-err}
 use Rattle.q_ports.proofs.CollectLemmas.{collects-more, collects-none, stops-here}
 use Rattle.q_ports.proofs.RingLemmas.{ids-length, receives-all, receives-ids, receives-known, receives-others, receives-received}
 use Rattle.q_ports.proofs.intake.Intake.empty_at.Goals as goal
@@ -27,8 +28,8 @@ pub loop-left-preserved : goal.loop-left-preserved
 loop-left-preserved g c =
     let before = c.loop-left.self in
     let after = c.take_known.new.self in
-    let p = c.in-Ok.ensures.taken.packet in
-    let taken = c.in-Ok.ensures.taken.receives in
+    let p = c.in_ok-take_known.ensures.taken.packet in
+    let taken = c.in_ok-take_known.ensures.taken.receives in
     let inv = c.loop-left.invariant in
     let here : c.args.at < length before = omega (arith, ids-length c.args.self.now before inv.rings, c.requires) in
     record {
@@ -38,15 +39,16 @@ loop-left-preserved g c =
       left = λ d. let one = ap (λ (ks : List Descriptor). length ks) (receives-known c.args.at before after p taken here d) in omega (arith, one, inv.left d);
       collected =
           collects-more c.args.now (map received_from c.args.self.now) (map received_from before) (map received_from after) c.args.booked.now c.loop-left.booked c.take_known.new.booked c.loop-left._left (take c.args.at p)
-          inv.collected (omega (arith, here, length-map before received_from)) (receives-received c.args.at before after p taken here) c.in-Ok.ensures.taken.arrived c.in-Ok.ensures.taken.places;
+          inv.collected (omega (arith, here, length-map before received_from)) (receives-received c.args.at before after p taken here) c.in_ok-take_known.ensures.taken.arrived c.in_ok-take_known.ensures.taken.places;
       same = λ e. absurd (omega (arith, e));
     }
 
-pub returns-in-Err-clause-stopped : goal.returns-in-Err-clause-stopped
-returns-in-Err-clause-stopped g c =
+pub returns-in_err-take_known-clause-stopped : goal.returns-in_err-take_known-clause-stopped
+returns-in_err-take_known-clause-stopped g c =
     let inv = c.loop-left.invariant in
-    let same : map received_from c.take_known.new.self ≡ map received_from c.loop-left.self = ap (λ (xs : List RingSeen). map received_from xs) c.in-Err.ensures.same in (
+    let same : map received_from c.take_known.new.self ≡ map received_from c.loop-left.self = ap (λ (xs : List RingSeen). map received_from xs) c.in_err-take_known.ensures.same in
+    on-err c.from_residual.result (
       c.loop-left._left,
       stops-here c.args.now (map received_from c.args.self.now) c.loop-left.self c.take_known.new.self c.args.booked.now c.loop-left.booked c.take_known.new.booked c.loop-left._left
-          inv.collected inv.same same c.in-Err.ensures.refused c.in-Err.ensures.same_device,
+          inv.collected inv.same same c.in_err-take_known.ensures.refused c.in_err-take_known.ensures.same_device,
     )

@@ -11,9 +11,9 @@ take_at-requires g c = record { at = omega (arith, ids-length c.args.self.now c.
 pub loop-at-preserved : goal.loop-at-preserved
 loop-at-preserved g c =
     let before = c.loop-at.invariant in
-    let none = c.in-Ok-false.ensures.none c.in-Ok-false.field-0-test in
-    let empty = c.in-Ok-false.ensures.empty c.in-Ok-false.field-0-test in
-    let device = c.in-Ok-false.ensures.none_device c.in-Ok-false.field-0-test in
+    let none = c.in_ok-is_taken.ensures.none c.if-is_taken.false in
+    let empty = c.in_ok-is_taken.ensures.empty c.if-is_taken.false in
+    let device = c.in_ok-is_taken.ensures.none_device c.if-is_taken.false in
     record {
       rings = c.take_at.ensures.rings ∙ before.rings;
       others = same-more c.args.to c.loop-at.at c.args.self.now c.loop-at.self c.take_at.new.self c.loop-at-test.true before.others c.take_at.ensures.others;
