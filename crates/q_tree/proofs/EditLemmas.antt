@@ -7,7 +7,6 @@ use Rattle.std.specs.declared.alloc.AllocError.{AllocError}
 use Rattle.std.proofs.lemmas.Bool.{false≢true}
 use Rattle.std.proofs.lemmas.List.Elements.{All-set}
 use Rattle.std.proofs.lemmas.Option.{none-some, same_Some}
-use Rattle.std.proofs.lemmas.List.Sums.{sum_by-cons}
 use Rattle.q_packet.specs.Descriptor.{Descriptor}
 use Rattle.q_packet.specs.declared.cause.Cause.TheVariants.{Purged}
 use Rattle.q_model.specs.declared.filter.Filter.{Filter}
@@ -44,7 +43,7 @@ use Rattle.q_tree.specs.declared.node.Node.TheInside.{Inside}
 use Rattle.q_tree.proofs.Puts.{same-child}
 use Rattle.q_tree.proofs.DisciplineChangeLemmas.{IsConserved, conserved}
 use Rattle.q_tree.specs.DisciplineChanges.{IsChangedBy, children_after, discipline_after, lost_with}
-use Rattle.q_tree.proofs.Rows.{counts_in_row, same-totals, weigh-bytes}
+use Rattle.q_tree.proofs.Rows.{counts_in_row, plus-none, plus-with_packet, same-totals, weigh-bytes}
 
 -- the losses of a purge, as they are told
 pub told-purged : (packets : List Descriptor) → losses_in (losses_of Purged packets) ≡ purged packets
@@ -52,14 +51,11 @@ told-purged [] = refl
 told-purged (p ∷ packets) = ap (λ ls. record { packet = p; cause = Purged } ∷ ls) (told-purged packets)
 
 -- and as they are counted
-dropped-more : (t : Totals) (p : Descriptor) (packets : List Descriptor) → plus (with_packet t p) (totals_in packets) ≡ plus t (totals_in (p ∷ packets))
-dropped-more t p packets = same-totals (plus (with_packet t p) (totals_in packets)) (plus t (totals_in (p ∷ packets))) (omega arith) (omega (arith, sum_by-cons (λ (q : Descriptor). q.len) p packets))
-
 pub noted-purged : (k : Kept) (packets : List Descriptor) → noted kept k (losses_of Purged packets) ≡ record k { counts = record k.counts { dropped = plus k.counts.dropped (totals_in packets) } }
-noted-purged k [] = ap (λ t. record k { counts = record k.counts { dropped = t } }) (same-totals k.counts.dropped (plus k.counts.dropped (totals_in [])) (omega arith) (omega arith))
+noted-purged k [] = ap (λ t. record k { counts = record k.counts { dropped = t } }) (sym (plus-none k.counts.dropped))
 noted-purged k (p ∷ packets) =
     noted-purged (record k { counts = record k.counts { dropped = with_packet k.counts.dropped p } }) packets
-    ∙ ap (λ t. record k { counts = record k.counts { dropped = t } }) (dropped-more k.counts.dropped p packets)
+    ∙ ap (λ t. record k { counts = record k.counts { dropped = t } }) (plus-with_packet k.counts.dropped p packets)
 
 -- between one node and another these packets are lost, and no arrival is counted
 pub record Loses (lost : List Descriptor) (old new : Node Kept) : Type 0 where
@@ -189,18 +185,6 @@ can-drop lost old new r is h packets_fit bytes_fit = record {
 pub on-ok : {A E P Q : Type 0} (r : Result A E) → (P → Q) → OnOk r P → OnOk r Q
 on-ok (Ok a) f h = f h
 on-ok (Err e) f h = tt
-
--- the child through which a way goes on
-pub record IsLed (rest : List ℕ) (i : ℕ) (ns : List (Node Kept)) : Type 0 where
-  pub child : Node Kept
-  pub there : slice_get ns i ≡ Some child
-  pub on : IsSome (node_at rest child)
-
-pub led : (rest : List ℕ) (i : ℕ) (ns : List (Node Kept)) → Leads rest i ns → IsLed rest i ns
-led rest i ns h = by (slice_get ns i) refl h where
-  by : (o : Option (Node Kept)) → slice_get ns i ≡ o → IsSome (option_and_then (node_at rest) o) → IsLed rest i ns
-  by None at h = absurd (false≢true h)
-  by (Some c) at h = record { child = c; there = at; on = h }
 
 pub edited-into : (e : Edit) (rest : List ℕ) (i : ℕ) (before after : Discipline) (ns : List (Node Kept)) (x x2 c : Node Kept) → children_seen before ≡ ns → x ≡ slice_index_or ns i x
     → slice_get (children_seen before) i ≡ Some c → x2 ≡ edited_by e rest x → children_seen after ≡ set ns i x2 → places_seen after ≡ places_seen before

@@ -209,9 +209,9 @@ module _ (now : ℕ) (a : Inside) (n : Node Kept) (k : IsKept a) (view : seen a 
     pub told-here : (l l2 : List Loss) (r r2 : ℕ) → IsToldOf (answer_of now a.handle a.filters a.discipline).rises l l2 r r2 → IsToldOf (ask now (shape n)).rises l l2 r r2
     told-here l l2 r r2 h = subst (λ (m : Node Kept). IsToldOf (ask now (shape m)).rises l l2 r r2) view (subst (λ (x : Asked). IsToldOf x.rises l l2 r r2) (sym (ask-none now a none)) h)
 
-    module _ (d : Discipline) (s : Shown) (q : IsAskedIn (answer_of now a.handle a.filters a.discipline) a.discipline d s) where
-      shown-inside : IsShown (ask now (shape (seen a))) s
-      shown-inside = subst (λ (x : Asked). IsShown x s) (sym (ask-none now a none)) q.children.shown
+    module _ (s : Shown) (shown : IsShown (answer_of now a.handle a.filters a.discipline) s) where
+      pub shown-inside : IsShown (ask now (shape (seen a))) s
+      shown-inside = subst (λ (x : Asked). IsShown x s) (sym (ask-none now a none)) shown
 
       pub shown-here : IsShown (ask now (shape n)) s
       shown-here = subst (λ (m : Node Kept). IsShown (ask now (shape m)) s) view shown-inside
@@ -221,15 +221,17 @@ module _ (now : ℕ) (a : Inside) (n : Node Kept) (k : IsKept a) (view : seen a 
           let x : Asked = ask now (shape (seen a)) in
           can-show (seen a) a.row (row-of a k) (booked kept (seen a) x.peeked) x.rises s (asked-weighs now (seen a) can-here) shown-inside.dropped shown-inside.marked packets_fit bytes_fit
 
+    module _ (d : Discipline) (s : Shown) (q : IsAskedIn (answer_of now a.handle a.filters a.discipline) a.discipline d s) where
       pub peeked-done : (r : Row) (held : Option Descriptor) → CanShow s a.row → r ≡ with_shown s a.row → held ≡ held_in (discipline_seen d) s.packet → IsPeekedAs now n (record a { held = held; row = r; discipline = d })
       peeked-done r held fit row holds =
           let x : Asked = ask now (shape (seen a)) in
           let w = asked-weighs now (seen a) can-here in
+          let inside = shown-inside s q.children.shown in
           let m : Node Kept = booked kept (seen a) x.peeked in
           let value = peeked-is now a d r s held none q (subst (λ (y : Asked). IsQuiet y.rises) (ask-none now a none) w.quiet) row holds in
           record {
             stays = kept-of (record a { held = held; row = r; discipline = d })
-                (subst (IsRowOf r) (sym value) (subst (λ (y : Row). IsRowOf y m) (sym row) (row-shown (seen a) a.row (row-of a k) m x.rises s w shown-inside.dropped shown-inside.marked fit)))
+                (subst (IsRowOf r) (sym value) (subst (λ (y : Row). IsRowOf y m) (sym row) (row-shown (seen a) a.row (row-of a k) m x.rises s w inside.dropped inside.marked fit)))
                 (subst (λ (y : Row). All (λ (child : Node Kept). IsCountedWithin child.memory.counts.arrived y.arrived) (children_seen d)) (sym row) (q.children.within a.row.arrived k.within));
             after = value ∙ ap (λ (m : Node Kept). booked kept m (ask now (shape m)).peeked) view;
           }

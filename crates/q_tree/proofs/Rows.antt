@@ -1,5 +1,6 @@
 -- A row in which an arrival is booked has what the model counts of it.
-use Rattle.std.proofs.Common.{◌≡◌, ℕ, ◌+◌, List, ◌∷◌, length, refl, ap, arith}
+use Rattle.std.proofs.Common.{◌≡◌, ℕ, ◌+◌, List, [], ◌∷◌, length, refl, ap, arith}
+use Rattle.std.proofs.lemmas.List.Sums.{sum_by-cons}
 use Rattle.std.specs.Prelude.{Option}
 use Rattle.std.specs.List.{fold}
 use Rattle.q_packet.specs.Descriptor.{Descriptor}
@@ -27,6 +28,13 @@ pub record AreLosses (notes : List Note) : Type 0 where
 
 pub same-totals : (t u : Totals) → t.packets ≡ u.packets → t.bytes ≡ u.bytes → t ≡ u
 same-totals t u p b = λ i. record { packets = p i; bytes = b i }
+
+-- one packet more, and none
+pub plus-with_packet : (t : Totals) (p : Descriptor) (others : List Descriptor) → plus (with_packet t p) (totals_in others) ≡ plus t (totals_in (p ∷ others))
+plus-with_packet t p others = same-totals (plus (with_packet t p) (totals_in others)) (plus t (totals_in (p ∷ others))) (omega arith) (omega (arith, sum_by-cons (λ (q : Descriptor). q.len) p others))
+
+pub plus-none : (t : Totals) → plus t (totals_in []) ≡ t
+plus-none t = same-totals (plus t (totals_in [])) t (omega arith) (omega arith)
 
 pub same-counts : (c d : Counts) → c.arrived ≡ d.arrived → c.sent ≡ d.sent → c.refused ≡ d.refused → c.dropped ≡ d.dropped → c.marked ≡ d.marked → c ≡ d
 same-counts c d a s r l m = λ i. record { arrived = a i; sent = s i; refused = r i; dropped = l i; marked = m i }

@@ -1,5 +1,5 @@
 -- A node that is asked and gives its packet in one walk: what is left of its discipline, and what the node is then.
-use Rattle.std.proofs.Common.{◌≡◌, ℕ, ◌<◌, ◌^◌, ◌∙◌, List, [], ◌∷◌, ◌++◌, map, drop, refl, sym, ap, subst, Option, Some, None, option_to_list}
+use Rattle.std.proofs.Common.{◌≡◌, ℕ, ◌∙◌, List, [], ◌∷◌, ◌++◌, map, drop, refl, sym, ap, subst, Option, Some, None, option_to_list}
 use Rattle.std.specs.Prelude.{Bool, true, false, is_some, slice_get, if◌then◌else◌}
 use Rattle.std.specs.List.{All}
 use Rattle.std.specs.Option.{option_map_or}
@@ -39,9 +39,9 @@ use Rattle.q_tree.proofs.AskForms.{ask-none, ask-holding}
 use Rattle.q_tree.proofs.AskRows.{counted-shown}
 use Rattle.q_tree.proofs.Asking.{asked-weighs}
 use Rattle.q_tree.proofs.Forms.{noted-kept}
-use Rattle.q_tree.proofs.Peeks.{answer-is, peeked-done, popped-asked}
+use Rattle.q_tree.proofs.Peeks.{answer-is, peeked-done, popped-asked, shown-here, shown-inside}
 use Rattle.q_tree.proofs.Rows.{counts_in_row}
-use Rattle.q_tree.proofs.RowsOf.{IsRowOf, row-of, kept-of, can-show, row-shown, row-popped, among}
+use Rattle.q_tree.proofs.RowsOf.{IsRowOf, row-of, kept-of, row-shown, row-popped, among}
 use Rattle.q_tree.proofs.SendLemmas.{left-some, left-none}
 use Rattle.q_tree.proofs.TreeLemmas.{noted-push}
 
@@ -211,16 +211,8 @@ module _ (now : ℕ) (a : Inside) (n : Node Kept) (k : IsKept a) (view : seen a 
   here : CanAsk now (seen a)
   here = subst (CanAsk now) (sym view) can
 
-  shown-inside : IsShown (ask now (shape (seen a))) s
-  shown-inside = subst (λ (x : Asked). IsShown x s) (sym (ask-none now a none)) q.children.shown
-
-  pub sent-shown : IsShown (ask now (shape n)) s
-  sent-shown = subst (λ (m : Node Kept). IsShown (ask now (shape m)) s) view shown-inside
-
-  pub sent-fits : a.row.arrived.packets < 2 ^ 64 → a.row.arrived.bytes < 2 ^ 64 → CanShow s a.row
-  sent-fits packets_fit bytes_fit =
-      let x : Asked = ask now (shape (seen a)) in
-      can-show (seen a) a.row (row-of a k) (booked kept (seen a) x.peeked) x.rises s (asked-weighs now (seen a) here) shown-inside.dropped shown-inside.marked packets_fit bytes_fit
+  inside : IsShown (ask now (shape (seen a))) s
+  inside = shown-inside now a n k view can none s q.children.shown
 
   module _ (r : Row) (fit : CanShow s a.row) (row : r ≡ with_shown s a.row) where
     -- where it shows nothing
@@ -240,7 +232,7 @@ module _ (now : ℕ) (a : Inside) (n : Node Kept) (k : IsKept a) (view : seen a 
           places = q.places;
         } in
         let done = peeked-done now a n k view can none d s asked r a.held fit row (none ∙ sym (held-nothing (discipline_seen d)) ∙ ap (held_in (discipline_seen d)) (sym empty)) in
-        record { stays = done.stays; after = done.after ∙ ap (λ (w : Worked). booked kept n w) (sym (left-none now n (sym sent-shown.packet ∙ empty))) }
+        record { stays = done.stays; after = done.after ∙ ap (λ (w : Worked). booked kept n w) (sym (left-none now n (sym (shown-here now a n k view can none s q.children.shown).packet ∙ empty))) }
 
     -- where it sends a packet: first that was at hand
     module _ (p : Descriptor) (some : s.packet ≡ Some p) where
@@ -250,10 +242,10 @@ module _ (now : ℕ) (a : Inside) (n : Node Kept) (k : IsKept a) (view : seen a 
       pub sent-row : IsRowOf r asked
       sent-row =
           let x : Asked = ask now (shape (seen a)) in
-          subst (λ (y : Row). IsRowOf y asked) (sym row) (row-shown (seen a) a.row (row-of a k) asked x.rises s (asked-weighs now (seen a) here) shown-inside.dropped shown-inside.marked fit)
+          subst (λ (y : Row). IsRowOf y asked) (sym row) (row-shown (seen a) a.row (row-of a k) asked x.rises s (asked-weighs now (seen a) here) inside.dropped inside.marked fit)
 
       offered : (ask now (shape (seen a))).shown ≡ Some p
-      offered = sym shown-inside.packet ∙ some
+      offered = sym inside.packet ∙ some
 
       hand : (pop asked).shown ≡ Some p
       hand = (popped-asked now (seen a) asked p here refl offered).at_hand

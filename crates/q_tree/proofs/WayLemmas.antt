@@ -1,9 +1,8 @@
 -- The classes of a drr by their places, and the tbfs of a tree, for the ways to classes.
-use Rattle.std.proofs.Common.{◌≡◌, ℕ, zero, suc, ◌+◌, ◌<◌, ◌≤◌, ◌∙◌, eqb, Bool, List, [], ◌∷◌, take, drop, map, length, refl, sym, ap, Option, Some, None, option_map, eq-eqb, true, false, ◌||◌, arith}
-use Rattle.std.specs.Prelude.{◌==◌, IsTrue, slice_get, slice_index_or, sum_by}
+use Rattle.std.proofs.Common.{◌≡◌, ℕ, zero, suc, ◌+◌, ◌≤◌, ◌∙◌, eqb, Bool, List, [], ◌∷◌, take, drop, map, refl, sym, ap, Option, Some, None, option_map, eq-eqb, true, false, ◌||◌, arith}
+use Rattle.std.specs.Prelude.{◌==◌, IsTrue, slice_get, sum_by}
 use Rattle.std.specs.List.{list_any, position}
 use Rattle.std.proofs.lemmas.Bool.{ne_eqb, false≢true}
-use Rattle.std.proofs.lemmas.List.{drop_more, drop_all}
 use Rattle.std.proofs.lemmas.List.Sums.{sum_by-cons, sum_by_more}
 use Rattle.std.proofs.lemmas.Option.{none-some, same_Some, get_or_from_slice_get, slice_get_within}
 use Rattle.q_drr.specs.Schedule.{Class, has_class, name_at, quantum_of}
@@ -84,10 +83,3 @@ pub tbf-all : (n : Node Kept) (ns : List (Node Kept)) → ns ≡ children n → 
 tbf-all n ns is other =
     ap (λ xs. list_any (λ b. b) (map has_tbf xs)) is
     ∙ sym (ap (λ b. b || list_any (λ x. x) (each tbf_here n.below)) other ∙ ap (list_any (λ b. b)) (each-nodes tbf_here n.below))
-
-module _ (ns : List (Node Kept)) (i : ℕ) where
-  pub tbf-next : (n : Node Kept) → i < length ns → n ≡ slice_index_or ns i n → tbf_ahead i ns ≡ (has_tbf n || tbf_ahead (i + 1) ns)
-  tbf-next n inside is = ap (λ xs. list_any (λ b. b) (map has_tbf xs)) (drop_more ns i n inside ∙ ap (λ x. x ∷ drop (i + 1) ns) (sym is))
-
-  pub tbf-end : length ns ≤ i → tbf_ahead i ns ≡ false
-  tbf-end past = ap (λ xs. list_any (λ b. b) (map has_tbf xs)) (drop_all i ns past)

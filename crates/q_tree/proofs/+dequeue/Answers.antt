@@ -25,12 +25,12 @@ use Rattle.q_tree.proofs.AskBands.{AreBandsAsked, told_to, band-at, band-once, b
 use Rattle.q_tree.proofs.AskOnce.{fits-beside, told-nothing, told-then}
 use Rattle.q_tree.proofs.AtHandLemmas.{none-held}
 use Rattle.q_tree.proofs.HereLemmas.{flow-packets}
-use Rattle.q_tree.proofs.Peeks.{asked-in, told-in, each-of, room-of, own-room, items-are, serve-of, holding-after, can-in, enough, told-here}
+use Rattle.q_tree.proofs.Peeks.{asked-in, told-in, each-of, room-of, own-room, items-are, serve-of, holding-after, can-book, can-in, enough, shown-here, told-here}
 use Rattle.q_tree.proofs.PopLemmas.{held-after}
 use Rattle.q_tree.proofs.Quiet.{shown-nothing, signals-nothing}
 use Rattle.q_tree.proofs.RouteLemmas.{child-size, children-size}
 use Rattle.q_tree.proofs.SendBands.{asked-sent, band-sent, sent-rises}
-use Rattle.q_tree.proofs.SendForms.{asked-sent-in, sent-in, prio-left, fifo-sent, held-answer, held-shows, sent-shown, sent-fits, none-sent, sent-row, sent-queued, one-sent}
+use Rattle.q_tree.proofs.SendForms.{asked-sent-in, sent-in, prio-left, fifo-sent, held-answer, held-shows, none-sent, sent-row, sent-queued, one-sent}
 use Rattle.q_tree.proofs.SendLemmas.{given-some, given-none, left-some, left-none, gave-asked}
 use Rattle.q_tree.proofs.TakeCounts.{flow-told}
 use Rattle.q_tree.proofs.+dequeue.Goals as goal
@@ -256,23 +256,23 @@ pub node::Node::dequeue-invariant_of-self-then-not-has_packet : goal.node::Node:
 node::Node::dequeue-invariant_of-self-then-not-has_packet g t c =
     (none-sent c.args.now c.self.inside c.args.self.now c.self.invariant c.self.view_is c.requires.ready c.in_default.is (code.Fifo c.dequeue_head-shown.new.fifo) c.dequeue_head-shown.result (fifo-sent c.args.now c.self.inside.handle c.self.inside.filters c.self.inside.discipline (code.Fifo c.dequeue_head-shown.new.fifo) c.in-Fifo.fifo.limit c.in-Fifo.fifo.packets c.dequeue_head-shown.result (ap discipline_seen c.in-Fifo.is) (ap children_seen c.in-Fifo.is)
     (ap (λ (f : FifoState). spec.Fifo f.limit f.packets) c.dequeue_head-shown.ensures.rest) refl (ap (λ (f : FifoState). f.places) c.dequeue_head-shown.ensures.rest ∙ sym (ap places_seen c.in-Fifo.is))
-    (c.dequeue_head-shown.ensures.shown ∙ sym (slice_get-map (λ (s : Stamped). s.packet) c.in-Fifo.fifo.packets 0)) c.dequeue_head-shown.ensures.dropped c.dequeue_head-shown.ensures.marked) c.self.inside.row (sent-fits c.args.now c.self.inside c.args.self.now c.self.invariant c.self.view_is c.requires.ready c.in_default.is (code.Fifo c.dequeue_head-shown.new.fifo) c.dequeue_head-shown.result (fifo-sent c.args.now c.self.inside.handle c.self.inside.filters c.self.inside.discipline (code.Fifo c.dequeue_head-shown.new.fifo) c.in-Fifo.fifo.limit c.in-Fifo.fifo.packets c.dequeue_head-shown.result (ap discipline_seen c.in-Fifo.is) (ap children_seen c.in-Fifo.is)
+    (c.dequeue_head-shown.ensures.shown ∙ sym (slice_get-map (λ (s : Stamped). s.packet) c.in-Fifo.fifo.packets 0)) c.dequeue_head-shown.ensures.dropped c.dequeue_head-shown.ensures.marked) c.self.inside.row (can-book c.args.now c.self.inside c.args.self.now c.self.invariant c.self.view_is c.requires.ready c.in_default.is c.dequeue_head-shown.result (fifo-sent c.args.now c.self.inside.handle c.self.inside.filters c.self.inside.discipline (code.Fifo c.dequeue_head-shown.new.fifo) c.in-Fifo.fifo.limit c.in-Fifo.fifo.packets c.dequeue_head-shown.result (ap discipline_seen c.in-Fifo.is) (ap children_seen c.in-Fifo.is)
     (ap (λ (f : FifoState). spec.Fifo f.limit f.packets) c.dequeue_head-shown.ensures.rest) refl (ap (λ (f : FifoState). f.places) c.dequeue_head-shown.ensures.rest ∙ sym (ap places_seen c.in-Fifo.is))
-    (c.dequeue_head-shown.ensures.shown ∙ sym (slice_get-map (λ (s : Stamped). s.packet) c.in-Fifo.fifo.packets 0)) c.dequeue_head-shown.ensures.dropped c.dequeue_head-shown.ensures.marked) (omega (arith, c.self.ranges, c.fit.ensures.packets, c.fit.ensures.bytes)) (omega (arith, c.self.ranges, c.fit.ensures.packets, c.fit.ensures.bytes))) (shown-nothing c.dequeue_head-shown.result c.self.inside.row c.dequeue_head-shown.ensures.dropped c.dequeue_head-shown.ensures.marked) (none-held c.dequeue_head-shown.result.packet (sym c.if-not-has_packet.true ∙ c.has_packet.ensures))).stays
+    (c.dequeue_head-shown.ensures.shown ∙ sym (slice_get-map (λ (s : Stamped). s.packet) c.in-Fifo.fifo.packets 0)) c.dequeue_head-shown.ensures.dropped c.dequeue_head-shown.ensures.marked).children.shown (omega (arith, c.self.ranges, c.fit.ensures.packets, c.fit.ensures.bytes)) (omega (arith, c.self.ranges, c.fit.ensures.packets, c.fit.ensures.bytes))) (shown-nothing c.dequeue_head-shown.result c.self.inside.row c.dequeue_head-shown.ensures.dropped c.dequeue_head-shown.ensures.marked) (none-held c.dequeue_head-shown.result.packet (sym c.if-not-has_packet.true ∙ c.has_packet.ensures))).stays
 
 pub node::Node::dequeue-returns-then-not-has_packet-clause-after : goal.node::Node::dequeue-returns-then-not-has_packet-clause-after
 node::Node::dequeue-returns-then-not-has_packet-clause-after g t c =
     (none-sent c.args.now c.self.inside c.args.self.now c.self.invariant c.self.view_is c.requires.ready c.in_default.is (code.Fifo c.dequeue_head-shown.new.fifo) c.dequeue_head-shown.result (fifo-sent c.args.now c.self.inside.handle c.self.inside.filters c.self.inside.discipline (code.Fifo c.dequeue_head-shown.new.fifo) c.in-Fifo.fifo.limit c.in-Fifo.fifo.packets c.dequeue_head-shown.result (ap discipline_seen c.in-Fifo.is) (ap children_seen c.in-Fifo.is)
     (ap (λ (f : FifoState). spec.Fifo f.limit f.packets) c.dequeue_head-shown.ensures.rest) refl (ap (λ (f : FifoState). f.places) c.dequeue_head-shown.ensures.rest ∙ sym (ap places_seen c.in-Fifo.is))
-    (c.dequeue_head-shown.ensures.shown ∙ sym (slice_get-map (λ (s : Stamped). s.packet) c.in-Fifo.fifo.packets 0)) c.dequeue_head-shown.ensures.dropped c.dequeue_head-shown.ensures.marked) c.self.inside.row (sent-fits c.args.now c.self.inside c.args.self.now c.self.invariant c.self.view_is c.requires.ready c.in_default.is (code.Fifo c.dequeue_head-shown.new.fifo) c.dequeue_head-shown.result (fifo-sent c.args.now c.self.inside.handle c.self.inside.filters c.self.inside.discipline (code.Fifo c.dequeue_head-shown.new.fifo) c.in-Fifo.fifo.limit c.in-Fifo.fifo.packets c.dequeue_head-shown.result (ap discipline_seen c.in-Fifo.is) (ap children_seen c.in-Fifo.is)
+    (c.dequeue_head-shown.ensures.shown ∙ sym (slice_get-map (λ (s : Stamped). s.packet) c.in-Fifo.fifo.packets 0)) c.dequeue_head-shown.ensures.dropped c.dequeue_head-shown.ensures.marked) c.self.inside.row (can-book c.args.now c.self.inside c.args.self.now c.self.invariant c.self.view_is c.requires.ready c.in_default.is c.dequeue_head-shown.result (fifo-sent c.args.now c.self.inside.handle c.self.inside.filters c.self.inside.discipline (code.Fifo c.dequeue_head-shown.new.fifo) c.in-Fifo.fifo.limit c.in-Fifo.fifo.packets c.dequeue_head-shown.result (ap discipline_seen c.in-Fifo.is) (ap children_seen c.in-Fifo.is)
     (ap (λ (f : FifoState). spec.Fifo f.limit f.packets) c.dequeue_head-shown.ensures.rest) refl (ap (λ (f : FifoState). f.places) c.dequeue_head-shown.ensures.rest ∙ sym (ap places_seen c.in-Fifo.is))
-    (c.dequeue_head-shown.ensures.shown ∙ sym (slice_get-map (λ (s : Stamped). s.packet) c.in-Fifo.fifo.packets 0)) c.dequeue_head-shown.ensures.dropped c.dequeue_head-shown.ensures.marked) (omega (arith, c.self.ranges, c.fit.ensures.packets, c.fit.ensures.bytes)) (omega (arith, c.self.ranges, c.fit.ensures.packets, c.fit.ensures.bytes))) (shown-nothing c.dequeue_head-shown.result c.self.inside.row c.dequeue_head-shown.ensures.dropped c.dequeue_head-shown.ensures.marked) (none-held c.dequeue_head-shown.result.packet (sym c.if-not-has_packet.true ∙ c.has_packet.ensures))).after
+    (c.dequeue_head-shown.ensures.shown ∙ sym (slice_get-map (λ (s : Stamped). s.packet) c.in-Fifo.fifo.packets 0)) c.dequeue_head-shown.ensures.dropped c.dequeue_head-shown.ensures.marked).children.shown (omega (arith, c.self.ranges, c.fit.ensures.packets, c.fit.ensures.bytes)) (omega (arith, c.self.ranges, c.fit.ensures.packets, c.fit.ensures.bytes))) (shown-nothing c.dequeue_head-shown.result c.self.inside.row c.dequeue_head-shown.ensures.dropped c.dequeue_head-shown.ensures.marked) (none-held c.dequeue_head-shown.result.packet (sym c.if-not-has_packet.true ∙ c.has_packet.ensures))).after
 
 pub node::Node::dequeue-returns-then-not-has_packet-clause-shown : goal.node::Node::dequeue-returns-then-not-has_packet-clause-shown
 node::Node::dequeue-returns-then-not-has_packet-clause-shown g t c =
-    sent-shown c.args.now c.self.inside c.args.self.now c.self.invariant c.self.view_is c.requires.ready c.in_default.is (code.Fifo c.dequeue_head-shown.new.fifo) c.dequeue_head-shown.result (fifo-sent c.args.now c.self.inside.handle c.self.inside.filters c.self.inside.discipline (code.Fifo c.dequeue_head-shown.new.fifo) c.in-Fifo.fifo.limit c.in-Fifo.fifo.packets c.dequeue_head-shown.result (ap discipline_seen c.in-Fifo.is) (ap children_seen c.in-Fifo.is)
+    shown-here c.args.now c.self.inside c.args.self.now c.self.invariant c.self.view_is c.requires.ready c.in_default.is c.dequeue_head-shown.result (fifo-sent c.args.now c.self.inside.handle c.self.inside.filters c.self.inside.discipline (code.Fifo c.dequeue_head-shown.new.fifo) c.in-Fifo.fifo.limit c.in-Fifo.fifo.packets c.dequeue_head-shown.result (ap discipline_seen c.in-Fifo.is) (ap children_seen c.in-Fifo.is)
     (ap (λ (f : FifoState). spec.Fifo f.limit f.packets) c.dequeue_head-shown.ensures.rest) refl (ap (λ (f : FifoState). f.places) c.dequeue_head-shown.ensures.rest ∙ sym (ap places_seen c.in-Fifo.is))
-    (c.dequeue_head-shown.ensures.shown ∙ sym (slice_get-map (λ (s : Stamped). s.packet) c.in-Fifo.fifo.packets 0)) c.dequeue_head-shown.ensures.dropped c.dequeue_head-shown.ensures.marked)
+    (c.dequeue_head-shown.ensures.shown ∙ sym (slice_get-map (λ (s : Stamped). s.packet) c.in-Fifo.fifo.packets 0)) c.dequeue_head-shown.ensures.dropped c.dequeue_head-shown.ensures.marked).children.shown
 
 pub node::Node::dequeue-returns-then-not-has_packet-clause-lost : goal.node::Node::dequeue-returns-then-not-has_packet-clause-lost
 node::Node::dequeue-returns-then-not-has_packet-clause-lost g t c =
@@ -290,9 +290,9 @@ node::Node::dequeue-returns-then-not-has_packet-clause-signals g t c =
 
 pub node::Node::dequeue-returns-in-Fifo-clause-shown : goal.node::Node::dequeue-returns-in-Fifo-clause-shown
 node::Node::dequeue-returns-in-Fifo-clause-shown g t c =
-    sent-shown c.args.now c.self.inside c.args.self.now c.self.invariant c.self.view_is c.requires.ready c.in_default.is (code.Fifo c.dequeue_head-shown.new.fifo) c.dequeue_head-shown.result (fifo-sent c.args.now c.self.inside.handle c.self.inside.filters c.self.inside.discipline (code.Fifo c.dequeue_head-shown.new.fifo) c.in-Fifo.fifo.limit c.in-Fifo.fifo.packets c.dequeue_head-shown.result (ap discipline_seen c.in-Fifo.is) (ap children_seen c.in-Fifo.is)
+    shown-here c.args.now c.self.inside c.args.self.now c.self.invariant c.self.view_is c.requires.ready c.in_default.is c.dequeue_head-shown.result (fifo-sent c.args.now c.self.inside.handle c.self.inside.filters c.self.inside.discipline (code.Fifo c.dequeue_head-shown.new.fifo) c.in-Fifo.fifo.limit c.in-Fifo.fifo.packets c.dequeue_head-shown.result (ap discipline_seen c.in-Fifo.is) (ap children_seen c.in-Fifo.is)
     (ap (λ (f : FifoState). spec.Fifo f.limit f.packets) c.dequeue_head-shown.ensures.rest) refl (ap (λ (f : FifoState). f.places) c.dequeue_head-shown.ensures.rest ∙ sym (ap places_seen c.in-Fifo.is))
-    (c.dequeue_head-shown.ensures.shown ∙ sym (slice_get-map (λ (s : Stamped). s.packet) c.in-Fifo.fifo.packets 0)) c.dequeue_head-shown.ensures.dropped c.dequeue_head-shown.ensures.marked)
+    (c.dequeue_head-shown.ensures.shown ∙ sym (slice_get-map (λ (s : Stamped). s.packet) c.in-Fifo.fifo.packets 0)) c.dequeue_head-shown.ensures.dropped c.dequeue_head-shown.ensures.marked).children.shown
 
 pub node::Node::dequeue-returns-in-Fifo-clause-lost : goal.node::Node::dequeue-returns-in-Fifo-clause-lost
 node::Node::dequeue-returns-in-Fifo-clause-lost g t c =
@@ -312,30 +312,30 @@ pub node::Node::dequeue-book_sent-requires-in-Fifo-clause-balanced : goal.node::
 node::Node::dequeue-book_sent-requires-in-Fifo-clause-balanced g t c =
     (sent-row c.args.now c.self.inside c.args.self.now c.self.invariant c.self.view_is c.requires.ready c.in_default.is (code.Fifo c.dequeue_head-shown.new.fifo) c.dequeue_head-shown.result (fifo-sent c.args.now c.self.inside.handle c.self.inside.filters c.self.inside.discipline (code.Fifo c.dequeue_head-shown.new.fifo) c.in-Fifo.fifo.limit c.in-Fifo.fifo.packets c.dequeue_head-shown.result (ap discipline_seen c.in-Fifo.is) (ap children_seen c.in-Fifo.is)
     (ap (λ (f : FifoState). spec.Fifo f.limit f.packets) c.dequeue_head-shown.ensures.rest) refl (ap (λ (f : FifoState). f.places) c.dequeue_head-shown.ensures.rest ∙ sym (ap places_seen c.in-Fifo.is))
-    (c.dequeue_head-shown.ensures.shown ∙ sym (slice_get-map (λ (s : Stamped). s.packet) c.in-Fifo.fifo.packets 0)) c.dequeue_head-shown.ensures.dropped c.dequeue_head-shown.ensures.marked) c.self.inside.row (sent-fits c.args.now c.self.inside c.args.self.now c.self.invariant c.self.view_is c.requires.ready c.in_default.is (code.Fifo c.dequeue_head-shown.new.fifo) c.dequeue_head-shown.result (fifo-sent c.args.now c.self.inside.handle c.self.inside.filters c.self.inside.discipline (code.Fifo c.dequeue_head-shown.new.fifo) c.in-Fifo.fifo.limit c.in-Fifo.fifo.packets c.dequeue_head-shown.result (ap discipline_seen c.in-Fifo.is) (ap children_seen c.in-Fifo.is)
+    (c.dequeue_head-shown.ensures.shown ∙ sym (slice_get-map (λ (s : Stamped). s.packet) c.in-Fifo.fifo.packets 0)) c.dequeue_head-shown.ensures.dropped c.dequeue_head-shown.ensures.marked) c.self.inside.row (can-book c.args.now c.self.inside c.args.self.now c.self.invariant c.self.view_is c.requires.ready c.in_default.is c.dequeue_head-shown.result (fifo-sent c.args.now c.self.inside.handle c.self.inside.filters c.self.inside.discipline (code.Fifo c.dequeue_head-shown.new.fifo) c.in-Fifo.fifo.limit c.in-Fifo.fifo.packets c.dequeue_head-shown.result (ap discipline_seen c.in-Fifo.is) (ap children_seen c.in-Fifo.is)
     (ap (λ (f : FifoState). spec.Fifo f.limit f.packets) c.dequeue_head-shown.ensures.rest) refl (ap (λ (f : FifoState). f.places) c.dequeue_head-shown.ensures.rest ∙ sym (ap places_seen c.in-Fifo.is))
-    (c.dequeue_head-shown.ensures.shown ∙ sym (slice_get-map (λ (s : Stamped). s.packet) c.in-Fifo.fifo.packets 0)) c.dequeue_head-shown.ensures.dropped c.dequeue_head-shown.ensures.marked) (omega (arith, c.self.ranges, c.fit.ensures.packets, c.fit.ensures.bytes)) (omega (arith, c.self.ranges, c.fit.ensures.packets, c.fit.ensures.bytes))) (shown-nothing c.dequeue_head-shown.result c.self.inside.row c.dequeue_head-shown.ensures.dropped c.dequeue_head-shown.ensures.marked) c.dequeue_head-shown.new.out (given-some c.dequeue_head-shown.result.packet c.args.out.now c.dequeue_head-shown.new.out (sym c.has_packet.ensures ∙ c.if-not-has_packet.false) c.dequeue_head-shown.ensures.packet)).balanced
+    (c.dequeue_head-shown.ensures.shown ∙ sym (slice_get-map (λ (s : Stamped). s.packet) c.in-Fifo.fifo.packets 0)) c.dequeue_head-shown.ensures.dropped c.dequeue_head-shown.ensures.marked).children.shown (omega (arith, c.self.ranges, c.fit.ensures.packets, c.fit.ensures.bytes)) (omega (arith, c.self.ranges, c.fit.ensures.packets, c.fit.ensures.bytes))) (shown-nothing c.dequeue_head-shown.result c.self.inside.row c.dequeue_head-shown.ensures.dropped c.dequeue_head-shown.ensures.marked) c.dequeue_head-shown.new.out (given-some c.dequeue_head-shown.result.packet c.args.out.now c.dequeue_head-shown.new.out (sym c.has_packet.ensures ∙ c.if-not-has_packet.false) c.dequeue_head-shown.ensures.packet)).balanced
 
 pub node::Node::dequeue-book_sent-requires-in-Fifo-clause-among : goal.node::Node::dequeue-book_sent-requires-in-Fifo-clause-among
 node::Node::dequeue-book_sent-requires-in-Fifo-clause-among g t c =
     sent-queued c.args.now c.self.inside c.args.self.now c.self.invariant c.self.view_is c.requires.ready c.in_default.is (code.Fifo c.dequeue_head-shown.new.fifo) c.dequeue_head-shown.result (fifo-sent c.args.now c.self.inside.handle c.self.inside.filters c.self.inside.discipline (code.Fifo c.dequeue_head-shown.new.fifo) c.in-Fifo.fifo.limit c.in-Fifo.fifo.packets c.dequeue_head-shown.result (ap discipline_seen c.in-Fifo.is) (ap children_seen c.in-Fifo.is)
     (ap (λ (f : FifoState). spec.Fifo f.limit f.packets) c.dequeue_head-shown.ensures.rest) refl (ap (λ (f : FifoState). f.places) c.dequeue_head-shown.ensures.rest ∙ sym (ap places_seen c.in-Fifo.is))
-    (c.dequeue_head-shown.ensures.shown ∙ sym (slice_get-map (λ (s : Stamped). s.packet) c.in-Fifo.fifo.packets 0)) c.dequeue_head-shown.ensures.dropped c.dequeue_head-shown.ensures.marked) c.self.inside.row (sent-fits c.args.now c.self.inside c.args.self.now c.self.invariant c.self.view_is c.requires.ready c.in_default.is (code.Fifo c.dequeue_head-shown.new.fifo) c.dequeue_head-shown.result (fifo-sent c.args.now c.self.inside.handle c.self.inside.filters c.self.inside.discipline (code.Fifo c.dequeue_head-shown.new.fifo) c.in-Fifo.fifo.limit c.in-Fifo.fifo.packets c.dequeue_head-shown.result (ap discipline_seen c.in-Fifo.is) (ap children_seen c.in-Fifo.is)
+    (c.dequeue_head-shown.ensures.shown ∙ sym (slice_get-map (λ (s : Stamped). s.packet) c.in-Fifo.fifo.packets 0)) c.dequeue_head-shown.ensures.dropped c.dequeue_head-shown.ensures.marked) c.self.inside.row (can-book c.args.now c.self.inside c.args.self.now c.self.invariant c.self.view_is c.requires.ready c.in_default.is c.dequeue_head-shown.result (fifo-sent c.args.now c.self.inside.handle c.self.inside.filters c.self.inside.discipline (code.Fifo c.dequeue_head-shown.new.fifo) c.in-Fifo.fifo.limit c.in-Fifo.fifo.packets c.dequeue_head-shown.result (ap discipline_seen c.in-Fifo.is) (ap children_seen c.in-Fifo.is)
     (ap (λ (f : FifoState). spec.Fifo f.limit f.packets) c.dequeue_head-shown.ensures.rest) refl (ap (λ (f : FifoState). f.places) c.dequeue_head-shown.ensures.rest ∙ sym (ap places_seen c.in-Fifo.is))
-    (c.dequeue_head-shown.ensures.shown ∙ sym (slice_get-map (λ (s : Stamped). s.packet) c.in-Fifo.fifo.packets 0)) c.dequeue_head-shown.ensures.dropped c.dequeue_head-shown.ensures.marked) (omega (arith, c.self.ranges, c.fit.ensures.packets, c.fit.ensures.bytes)) (omega (arith, c.self.ranges, c.fit.ensures.packets, c.fit.ensures.bytes))) (shown-nothing c.dequeue_head-shown.result c.self.inside.row c.dequeue_head-shown.ensures.dropped c.dequeue_head-shown.ensures.marked) c.dequeue_head-shown.new.out (given-some c.dequeue_head-shown.result.packet c.args.out.now c.dequeue_head-shown.new.out (sym c.has_packet.ensures ∙ c.if-not-has_packet.false) c.dequeue_head-shown.ensures.packet)
+    (c.dequeue_head-shown.ensures.shown ∙ sym (slice_get-map (λ (s : Stamped). s.packet) c.in-Fifo.fifo.packets 0)) c.dequeue_head-shown.ensures.dropped c.dequeue_head-shown.ensures.marked).children.shown (omega (arith, c.self.ranges, c.fit.ensures.packets, c.fit.ensures.bytes)) (omega (arith, c.self.ranges, c.fit.ensures.packets, c.fit.ensures.bytes))) (shown-nothing c.dequeue_head-shown.result c.self.inside.row c.dequeue_head-shown.ensures.dropped c.dequeue_head-shown.ensures.marked) c.dequeue_head-shown.new.out (given-some c.dequeue_head-shown.result.packet c.args.out.now c.dequeue_head-shown.new.out (sym c.has_packet.ensures ∙ c.if-not-has_packet.false) c.dequeue_head-shown.ensures.packet)
 
 pub node::Node::dequeue-book_sent-requires-in-Fifo-clause-room : goal.node::Node::dequeue-book_sent-requires-in-Fifo-clause-room
 node::Node::dequeue-book_sent-requires-in-Fifo-clause-room g t c =
     let row = sent-row c.args.now c.self.inside c.args.self.now c.self.invariant c.self.view_is c.requires.ready c.in_default.is (code.Fifo c.dequeue_head-shown.new.fifo) c.dequeue_head-shown.result (fifo-sent c.args.now c.self.inside.handle c.self.inside.filters c.self.inside.discipline (code.Fifo c.dequeue_head-shown.new.fifo) c.in-Fifo.fifo.limit c.in-Fifo.fifo.packets c.dequeue_head-shown.result (ap discipline_seen c.in-Fifo.is) (ap children_seen c.in-Fifo.is)
     (ap (λ (f : FifoState). spec.Fifo f.limit f.packets) c.dequeue_head-shown.ensures.rest) refl (ap (λ (f : FifoState). f.places) c.dequeue_head-shown.ensures.rest ∙ sym (ap places_seen c.in-Fifo.is))
-    (c.dequeue_head-shown.ensures.shown ∙ sym (slice_get-map (λ (s : Stamped). s.packet) c.in-Fifo.fifo.packets 0)) c.dequeue_head-shown.ensures.dropped c.dequeue_head-shown.ensures.marked) c.self.inside.row (sent-fits c.args.now c.self.inside c.args.self.now c.self.invariant c.self.view_is c.requires.ready c.in_default.is (code.Fifo c.dequeue_head-shown.new.fifo) c.dequeue_head-shown.result (fifo-sent c.args.now c.self.inside.handle c.self.inside.filters c.self.inside.discipline (code.Fifo c.dequeue_head-shown.new.fifo) c.in-Fifo.fifo.limit c.in-Fifo.fifo.packets c.dequeue_head-shown.result (ap discipline_seen c.in-Fifo.is) (ap children_seen c.in-Fifo.is)
+    (c.dequeue_head-shown.ensures.shown ∙ sym (slice_get-map (λ (s : Stamped). s.packet) c.in-Fifo.fifo.packets 0)) c.dequeue_head-shown.ensures.dropped c.dequeue_head-shown.ensures.marked) c.self.inside.row (can-book c.args.now c.self.inside c.args.self.now c.self.invariant c.self.view_is c.requires.ready c.in_default.is c.dequeue_head-shown.result (fifo-sent c.args.now c.self.inside.handle c.self.inside.filters c.self.inside.discipline (code.Fifo c.dequeue_head-shown.new.fifo) c.in-Fifo.fifo.limit c.in-Fifo.fifo.packets c.dequeue_head-shown.result (ap discipline_seen c.in-Fifo.is) (ap children_seen c.in-Fifo.is)
     (ap (λ (f : FifoState). spec.Fifo f.limit f.packets) c.dequeue_head-shown.ensures.rest) refl (ap (λ (f : FifoState). f.places) c.dequeue_head-shown.ensures.rest ∙ sym (ap places_seen c.in-Fifo.is))
-    (c.dequeue_head-shown.ensures.shown ∙ sym (slice_get-map (λ (s : Stamped). s.packet) c.in-Fifo.fifo.packets 0)) c.dequeue_head-shown.ensures.dropped c.dequeue_head-shown.ensures.marked) (omega (arith, c.self.ranges, c.fit.ensures.packets, c.fit.ensures.bytes)) (omega (arith, c.self.ranges, c.fit.ensures.packets, c.fit.ensures.bytes))) (shown-nothing c.dequeue_head-shown.result c.self.inside.row c.dequeue_head-shown.ensures.dropped c.dequeue_head-shown.ensures.marked) c.dequeue_head-shown.new.out (given-some c.dequeue_head-shown.result.packet c.args.out.now c.dequeue_head-shown.new.out (sym c.has_packet.ensures ∙ c.if-not-has_packet.false) c.dequeue_head-shown.ensures.packet) in
+    (c.dequeue_head-shown.ensures.shown ∙ sym (slice_get-map (λ (s : Stamped). s.packet) c.in-Fifo.fifo.packets 0)) c.dequeue_head-shown.ensures.dropped c.dequeue_head-shown.ensures.marked).children.shown (omega (arith, c.self.ranges, c.fit.ensures.packets, c.fit.ensures.bytes)) (omega (arith, c.self.ranges, c.fit.ensures.packets, c.fit.ensures.bytes))) (shown-nothing c.dequeue_head-shown.result c.self.inside.row c.dequeue_head-shown.ensures.dropped c.dequeue_head-shown.ensures.marked) c.dequeue_head-shown.new.out (given-some c.dequeue_head-shown.result.packet c.args.out.now c.dequeue_head-shown.new.out (sym c.has_packet.ensures ∙ c.if-not-has_packet.false) c.dequeue_head-shown.ensures.packet) in
     let had = sent-queued c.args.now c.self.inside c.args.self.now c.self.invariant c.self.view_is c.requires.ready c.in_default.is (code.Fifo c.dequeue_head-shown.new.fifo) c.dequeue_head-shown.result (fifo-sent c.args.now c.self.inside.handle c.self.inside.filters c.self.inside.discipline (code.Fifo c.dequeue_head-shown.new.fifo) c.in-Fifo.fifo.limit c.in-Fifo.fifo.packets c.dequeue_head-shown.result (ap discipline_seen c.in-Fifo.is) (ap children_seen c.in-Fifo.is)
     (ap (λ (f : FifoState). spec.Fifo f.limit f.packets) c.dequeue_head-shown.ensures.rest) refl (ap (λ (f : FifoState). f.places) c.dequeue_head-shown.ensures.rest ∙ sym (ap places_seen c.in-Fifo.is))
-    (c.dequeue_head-shown.ensures.shown ∙ sym (slice_get-map (λ (s : Stamped). s.packet) c.in-Fifo.fifo.packets 0)) c.dequeue_head-shown.ensures.dropped c.dequeue_head-shown.ensures.marked) c.self.inside.row (sent-fits c.args.now c.self.inside c.args.self.now c.self.invariant c.self.view_is c.requires.ready c.in_default.is (code.Fifo c.dequeue_head-shown.new.fifo) c.dequeue_head-shown.result (fifo-sent c.args.now c.self.inside.handle c.self.inside.filters c.self.inside.discipline (code.Fifo c.dequeue_head-shown.new.fifo) c.in-Fifo.fifo.limit c.in-Fifo.fifo.packets c.dequeue_head-shown.result (ap discipline_seen c.in-Fifo.is) (ap children_seen c.in-Fifo.is)
+    (c.dequeue_head-shown.ensures.shown ∙ sym (slice_get-map (λ (s : Stamped). s.packet) c.in-Fifo.fifo.packets 0)) c.dequeue_head-shown.ensures.dropped c.dequeue_head-shown.ensures.marked) c.self.inside.row (can-book c.args.now c.self.inside c.args.self.now c.self.invariant c.self.view_is c.requires.ready c.in_default.is c.dequeue_head-shown.result (fifo-sent c.args.now c.self.inside.handle c.self.inside.filters c.self.inside.discipline (code.Fifo c.dequeue_head-shown.new.fifo) c.in-Fifo.fifo.limit c.in-Fifo.fifo.packets c.dequeue_head-shown.result (ap discipline_seen c.in-Fifo.is) (ap children_seen c.in-Fifo.is)
     (ap (λ (f : FifoState). spec.Fifo f.limit f.packets) c.dequeue_head-shown.ensures.rest) refl (ap (λ (f : FifoState). f.places) c.dequeue_head-shown.ensures.rest ∙ sym (ap places_seen c.in-Fifo.is))
-    (c.dequeue_head-shown.ensures.shown ∙ sym (slice_get-map (λ (s : Stamped). s.packet) c.in-Fifo.fifo.packets 0)) c.dequeue_head-shown.ensures.dropped c.dequeue_head-shown.ensures.marked) (omega (arith, c.self.ranges, c.fit.ensures.packets, c.fit.ensures.bytes)) (omega (arith, c.self.ranges, c.fit.ensures.packets, c.fit.ensures.bytes))) (shown-nothing c.dequeue_head-shown.result c.self.inside.row c.dequeue_head-shown.ensures.dropped c.dequeue_head-shown.ensures.marked) c.dequeue_head-shown.new.out (given-some c.dequeue_head-shown.result.packet c.args.out.now c.dequeue_head-shown.new.out (sym c.has_packet.ensures ∙ c.if-not-has_packet.false) c.dequeue_head-shown.ensures.packet) in
+    (c.dequeue_head-shown.ensures.shown ∙ sym (slice_get-map (λ (s : Stamped). s.packet) c.in-Fifo.fifo.packets 0)) c.dequeue_head-shown.ensures.dropped c.dequeue_head-shown.ensures.marked).children.shown (omega (arith, c.self.ranges, c.fit.ensures.packets, c.fit.ensures.bytes)) (omega (arith, c.self.ranges, c.fit.ensures.packets, c.fit.ensures.bytes))) (shown-nothing c.dequeue_head-shown.result c.self.inside.row c.dequeue_head-shown.ensures.dropped c.dequeue_head-shown.ensures.marked) c.dequeue_head-shown.new.out (given-some c.dequeue_head-shown.result.packet c.args.out.now c.dequeue_head-shown.new.out (sym c.has_packet.ensures ∙ c.if-not-has_packet.false) c.dequeue_head-shown.ensures.packet) in
     record {
       packets = omega (arith, row.balanced.packets, had.packets, c.self.ranges, c.fit.ensures.packets, c.fit.ensures.bytes);
       bytes = omega (arith, row.balanced.bytes, had.bytes, c.self.ranges, c.fit.ensures.packets, c.fit.ensures.bytes);
@@ -345,17 +345,17 @@ pub node::Node::dequeue-invariant_of-self-in-Fifo : goal.node::Node::dequeue-inv
 node::Node::dequeue-invariant_of-self-in-Fifo g t c =
     (one-sent c.args.now c.self.inside c.args.self.now c.self.invariant c.self.view_is c.requires.ready c.in_default.is (code.Fifo c.dequeue_head-shown.new.fifo) c.dequeue_head-shown.result (fifo-sent c.args.now c.self.inside.handle c.self.inside.filters c.self.inside.discipline (code.Fifo c.dequeue_head-shown.new.fifo) c.in-Fifo.fifo.limit c.in-Fifo.fifo.packets c.dequeue_head-shown.result (ap discipline_seen c.in-Fifo.is) (ap children_seen c.in-Fifo.is)
     (ap (λ (f : FifoState). spec.Fifo f.limit f.packets) c.dequeue_head-shown.ensures.rest) refl (ap (λ (f : FifoState). f.places) c.dequeue_head-shown.ensures.rest ∙ sym (ap places_seen c.in-Fifo.is))
-    (c.dequeue_head-shown.ensures.shown ∙ sym (slice_get-map (λ (s : Stamped). s.packet) c.in-Fifo.fifo.packets 0)) c.dequeue_head-shown.ensures.dropped c.dequeue_head-shown.ensures.marked) c.self.inside.row (sent-fits c.args.now c.self.inside c.args.self.now c.self.invariant c.self.view_is c.requires.ready c.in_default.is (code.Fifo c.dequeue_head-shown.new.fifo) c.dequeue_head-shown.result (fifo-sent c.args.now c.self.inside.handle c.self.inside.filters c.self.inside.discipline (code.Fifo c.dequeue_head-shown.new.fifo) c.in-Fifo.fifo.limit c.in-Fifo.fifo.packets c.dequeue_head-shown.result (ap discipline_seen c.in-Fifo.is) (ap children_seen c.in-Fifo.is)
+    (c.dequeue_head-shown.ensures.shown ∙ sym (slice_get-map (λ (s : Stamped). s.packet) c.in-Fifo.fifo.packets 0)) c.dequeue_head-shown.ensures.dropped c.dequeue_head-shown.ensures.marked) c.self.inside.row (can-book c.args.now c.self.inside c.args.self.now c.self.invariant c.self.view_is c.requires.ready c.in_default.is c.dequeue_head-shown.result (fifo-sent c.args.now c.self.inside.handle c.self.inside.filters c.self.inside.discipline (code.Fifo c.dequeue_head-shown.new.fifo) c.in-Fifo.fifo.limit c.in-Fifo.fifo.packets c.dequeue_head-shown.result (ap discipline_seen c.in-Fifo.is) (ap children_seen c.in-Fifo.is)
     (ap (λ (f : FifoState). spec.Fifo f.limit f.packets) c.dequeue_head-shown.ensures.rest) refl (ap (λ (f : FifoState). f.places) c.dequeue_head-shown.ensures.rest ∙ sym (ap places_seen c.in-Fifo.is))
-    (c.dequeue_head-shown.ensures.shown ∙ sym (slice_get-map (λ (s : Stamped). s.packet) c.in-Fifo.fifo.packets 0)) c.dequeue_head-shown.ensures.dropped c.dequeue_head-shown.ensures.marked) (omega (arith, c.self.ranges, c.fit.ensures.packets, c.fit.ensures.bytes)) (omega (arith, c.self.ranges, c.fit.ensures.packets, c.fit.ensures.bytes))) (shown-nothing c.dequeue_head-shown.result c.self.inside.row c.dequeue_head-shown.ensures.dropped c.dequeue_head-shown.ensures.marked) c.dequeue_head-shown.new.out (given-some c.dequeue_head-shown.result.packet c.args.out.now c.dequeue_head-shown.new.out (sym c.has_packet.ensures ∙ c.if-not-has_packet.false) c.dequeue_head-shown.ensures.packet) c.book_sent-in-Fifo.new.row c.book_sent-in-Fifo.ensures).stays
+    (c.dequeue_head-shown.ensures.shown ∙ sym (slice_get-map (λ (s : Stamped). s.packet) c.in-Fifo.fifo.packets 0)) c.dequeue_head-shown.ensures.dropped c.dequeue_head-shown.ensures.marked).children.shown (omega (arith, c.self.ranges, c.fit.ensures.packets, c.fit.ensures.bytes)) (omega (arith, c.self.ranges, c.fit.ensures.packets, c.fit.ensures.bytes))) (shown-nothing c.dequeue_head-shown.result c.self.inside.row c.dequeue_head-shown.ensures.dropped c.dequeue_head-shown.ensures.marked) c.dequeue_head-shown.new.out (given-some c.dequeue_head-shown.result.packet c.args.out.now c.dequeue_head-shown.new.out (sym c.has_packet.ensures ∙ c.if-not-has_packet.false) c.dequeue_head-shown.ensures.packet) c.book_sent-in-Fifo.new.row c.book_sent-in-Fifo.ensures).stays
 
 pub node::Node::dequeue-returns-in-Fifo-clause-after : goal.node::Node::dequeue-returns-in-Fifo-clause-after
 node::Node::dequeue-returns-in-Fifo-clause-after g t c =
     (one-sent c.args.now c.self.inside c.args.self.now c.self.invariant c.self.view_is c.requires.ready c.in_default.is (code.Fifo c.dequeue_head-shown.new.fifo) c.dequeue_head-shown.result (fifo-sent c.args.now c.self.inside.handle c.self.inside.filters c.self.inside.discipline (code.Fifo c.dequeue_head-shown.new.fifo) c.in-Fifo.fifo.limit c.in-Fifo.fifo.packets c.dequeue_head-shown.result (ap discipline_seen c.in-Fifo.is) (ap children_seen c.in-Fifo.is)
     (ap (λ (f : FifoState). spec.Fifo f.limit f.packets) c.dequeue_head-shown.ensures.rest) refl (ap (λ (f : FifoState). f.places) c.dequeue_head-shown.ensures.rest ∙ sym (ap places_seen c.in-Fifo.is))
-    (c.dequeue_head-shown.ensures.shown ∙ sym (slice_get-map (λ (s : Stamped). s.packet) c.in-Fifo.fifo.packets 0)) c.dequeue_head-shown.ensures.dropped c.dequeue_head-shown.ensures.marked) c.self.inside.row (sent-fits c.args.now c.self.inside c.args.self.now c.self.invariant c.self.view_is c.requires.ready c.in_default.is (code.Fifo c.dequeue_head-shown.new.fifo) c.dequeue_head-shown.result (fifo-sent c.args.now c.self.inside.handle c.self.inside.filters c.self.inside.discipline (code.Fifo c.dequeue_head-shown.new.fifo) c.in-Fifo.fifo.limit c.in-Fifo.fifo.packets c.dequeue_head-shown.result (ap discipline_seen c.in-Fifo.is) (ap children_seen c.in-Fifo.is)
+    (c.dequeue_head-shown.ensures.shown ∙ sym (slice_get-map (λ (s : Stamped). s.packet) c.in-Fifo.fifo.packets 0)) c.dequeue_head-shown.ensures.dropped c.dequeue_head-shown.ensures.marked) c.self.inside.row (can-book c.args.now c.self.inside c.args.self.now c.self.invariant c.self.view_is c.requires.ready c.in_default.is c.dequeue_head-shown.result (fifo-sent c.args.now c.self.inside.handle c.self.inside.filters c.self.inside.discipline (code.Fifo c.dequeue_head-shown.new.fifo) c.in-Fifo.fifo.limit c.in-Fifo.fifo.packets c.dequeue_head-shown.result (ap discipline_seen c.in-Fifo.is) (ap children_seen c.in-Fifo.is)
     (ap (λ (f : FifoState). spec.Fifo f.limit f.packets) c.dequeue_head-shown.ensures.rest) refl (ap (λ (f : FifoState). f.places) c.dequeue_head-shown.ensures.rest ∙ sym (ap places_seen c.in-Fifo.is))
-    (c.dequeue_head-shown.ensures.shown ∙ sym (slice_get-map (λ (s : Stamped). s.packet) c.in-Fifo.fifo.packets 0)) c.dequeue_head-shown.ensures.dropped c.dequeue_head-shown.ensures.marked) (omega (arith, c.self.ranges, c.fit.ensures.packets, c.fit.ensures.bytes)) (omega (arith, c.self.ranges, c.fit.ensures.packets, c.fit.ensures.bytes))) (shown-nothing c.dequeue_head-shown.result c.self.inside.row c.dequeue_head-shown.ensures.dropped c.dequeue_head-shown.ensures.marked) c.dequeue_head-shown.new.out (given-some c.dequeue_head-shown.result.packet c.args.out.now c.dequeue_head-shown.new.out (sym c.has_packet.ensures ∙ c.if-not-has_packet.false) c.dequeue_head-shown.ensures.packet) c.book_sent-in-Fifo.new.row c.book_sent-in-Fifo.ensures).after
+    (c.dequeue_head-shown.ensures.shown ∙ sym (slice_get-map (λ (s : Stamped). s.packet) c.in-Fifo.fifo.packets 0)) c.dequeue_head-shown.ensures.dropped c.dequeue_head-shown.ensures.marked).children.shown (omega (arith, c.self.ranges, c.fit.ensures.packets, c.fit.ensures.bytes)) (omega (arith, c.self.ranges, c.fit.ensures.packets, c.fit.ensures.bytes))) (shown-nothing c.dequeue_head-shown.result c.self.inside.row c.dequeue_head-shown.ensures.dropped c.dequeue_head-shown.ensures.marked) c.dequeue_head-shown.new.out (given-some c.dequeue_head-shown.result.packet c.args.out.now c.dequeue_head-shown.new.out (sym c.has_packet.ensures ∙ c.if-not-has_packet.false) c.dequeue_head-shown.ensures.packet) c.book_sent-in-Fifo.new.row c.book_sent-in-Fifo.ensures).after
 
 pub node::Node::dequeue_further-dequeue-shown-requires : goal.node::Node::dequeue_further-dequeue-shown-requires
 node::Node::dequeue_further-dequeue-shown-requires g t c κs within = (
@@ -371,23 +371,23 @@ node::Node::dequeue_further-dequeue-shown-requires g t c κs within = (
 
 pub node::Node::dequeue_further-book_shown-requires-clause-room : goal.node::Node::dequeue_further-book_shown-requires-clause-room
 node::Node::dequeue_further-book_shown-requires-clause-room g t c =
-    (sent-fits c.args.now c.self.inside c.args.self.now c.self.invariant c.self.view_is c.requires.ready (ap (λ (n : Node Kept). n.own.held) c.self.view_is ∙ c.requires.none) c.dequeue-shown.new.self c.dequeue-shown.result (c.dequeue-shown.ensures.after c.self.inside.handle c.self.inside.filters) (omega (arith, c.self.ranges, c.fit.ensures.packets, c.fit.ensures.bytes)) (omega (arith, c.self.ranges, c.fit.ensures.packets, c.fit.ensures.bytes)))
+    (can-book c.args.now c.self.inside c.args.self.now c.self.invariant c.self.view_is c.requires.ready (ap (λ (n : Node Kept). n.own.held) c.self.view_is ∙ c.requires.none) c.dequeue-shown.result (c.dequeue-shown.ensures.after c.self.inside.handle c.self.inside.filters).children.shown (omega (arith, c.self.ranges, c.fit.ensures.packets, c.fit.ensures.bytes)) (omega (arith, c.self.ranges, c.fit.ensures.packets, c.fit.ensures.bytes)))
 
 pub node::Node::dequeue_further-invariant_of-self : goal.node::Node::dequeue_further-invariant_of-self
 node::Node::dequeue_further-invariant_of-self g t c =
-    (none-sent c.args.now c.self.inside c.args.self.now c.self.invariant c.self.view_is c.requires.ready (ap (λ (n : Node Kept). n.own.held) c.self.view_is ∙ c.requires.none) c.dequeue-shown.new.self c.dequeue-shown.result (c.dequeue-shown.ensures.after c.self.inside.handle c.self.inside.filters) c.book_shown.new.row (sent-fits c.args.now c.self.inside c.args.self.now c.self.invariant c.self.view_is c.requires.ready (ap (λ (n : Node Kept). n.own.held) c.self.view_is ∙ c.requires.none) c.dequeue-shown.new.self c.dequeue-shown.result (c.dequeue-shown.ensures.after c.self.inside.handle c.self.inside.filters) (omega (arith, c.self.ranges, c.fit.ensures.packets, c.fit.ensures.bytes)) (omega (arith, c.self.ranges, c.fit.ensures.packets, c.fit.ensures.bytes))) c.book_shown.ensures (none-held c.dequeue-shown.result.packet (sym c.if-not-has_packet.true ∙ c.has_packet.ensures))).stays
+    (none-sent c.args.now c.self.inside c.args.self.now c.self.invariant c.self.view_is c.requires.ready (ap (λ (n : Node Kept). n.own.held) c.self.view_is ∙ c.requires.none) c.dequeue-shown.new.self c.dequeue-shown.result (c.dequeue-shown.ensures.after c.self.inside.handle c.self.inside.filters) c.book_shown.new.row (can-book c.args.now c.self.inside c.args.self.now c.self.invariant c.self.view_is c.requires.ready (ap (λ (n : Node Kept). n.own.held) c.self.view_is ∙ c.requires.none) c.dequeue-shown.result (c.dequeue-shown.ensures.after c.self.inside.handle c.self.inside.filters).children.shown (omega (arith, c.self.ranges, c.fit.ensures.packets, c.fit.ensures.bytes)) (omega (arith, c.self.ranges, c.fit.ensures.packets, c.fit.ensures.bytes))) c.book_shown.ensures (none-held c.dequeue-shown.result.packet (sym c.if-not-has_packet.true ∙ c.has_packet.ensures))).stays
 
 pub node::Node::dequeue_further-returns-then-not-has_packet-clause-after : goal.node::Node::dequeue_further-returns-then-not-has_packet-clause-after
 node::Node::dequeue_further-returns-then-not-has_packet-clause-after g t c =
-    (none-sent c.args.now c.self.inside c.args.self.now c.self.invariant c.self.view_is c.requires.ready (ap (λ (n : Node Kept). n.own.held) c.self.view_is ∙ c.requires.none) c.dequeue-shown.new.self c.dequeue-shown.result (c.dequeue-shown.ensures.after c.self.inside.handle c.self.inside.filters) c.book_shown.new.row (sent-fits c.args.now c.self.inside c.args.self.now c.self.invariant c.self.view_is c.requires.ready (ap (λ (n : Node Kept). n.own.held) c.self.view_is ∙ c.requires.none) c.dequeue-shown.new.self c.dequeue-shown.result (c.dequeue-shown.ensures.after c.self.inside.handle c.self.inside.filters) (omega (arith, c.self.ranges, c.fit.ensures.packets, c.fit.ensures.bytes)) (omega (arith, c.self.ranges, c.fit.ensures.packets, c.fit.ensures.bytes))) c.book_shown.ensures (none-held c.dequeue-shown.result.packet (sym c.if-not-has_packet.true ∙ c.has_packet.ensures))).after
+    (none-sent c.args.now c.self.inside c.args.self.now c.self.invariant c.self.view_is c.requires.ready (ap (λ (n : Node Kept). n.own.held) c.self.view_is ∙ c.requires.none) c.dequeue-shown.new.self c.dequeue-shown.result (c.dequeue-shown.ensures.after c.self.inside.handle c.self.inside.filters) c.book_shown.new.row (can-book c.args.now c.self.inside c.args.self.now c.self.invariant c.self.view_is c.requires.ready (ap (λ (n : Node Kept). n.own.held) c.self.view_is ∙ c.requires.none) c.dequeue-shown.result (c.dequeue-shown.ensures.after c.self.inside.handle c.self.inside.filters).children.shown (omega (arith, c.self.ranges, c.fit.ensures.packets, c.fit.ensures.bytes)) (omega (arith, c.self.ranges, c.fit.ensures.packets, c.fit.ensures.bytes))) c.book_shown.ensures (none-held c.dequeue-shown.result.packet (sym c.if-not-has_packet.true ∙ c.has_packet.ensures))).after
 
 pub node::Node::dequeue_further-returns-then-not-has_packet-clause-shown : goal.node::Node::dequeue_further-returns-then-not-has_packet-clause-shown
 node::Node::dequeue_further-returns-then-not-has_packet-clause-shown g t c =
-    sent-shown c.args.now c.self.inside c.args.self.now c.self.invariant c.self.view_is c.requires.ready (ap (λ (n : Node Kept). n.own.held) c.self.view_is ∙ c.requires.none) c.dequeue-shown.new.self c.dequeue-shown.result (c.dequeue-shown.ensures.after c.self.inside.handle c.self.inside.filters)
+    shown-here c.args.now c.self.inside c.args.self.now c.self.invariant c.self.view_is c.requires.ready (ap (λ (n : Node Kept). n.own.held) c.self.view_is ∙ c.requires.none) c.dequeue-shown.result (c.dequeue-shown.ensures.after c.self.inside.handle c.self.inside.filters).children.shown
 
 pub node::Node::dequeue_further-returns-clause-shown : goal.node::Node::dequeue_further-returns-clause-shown
 node::Node::dequeue_further-returns-clause-shown g t c =
-    sent-shown c.args.now c.self.inside c.args.self.now c.self.invariant c.self.view_is c.requires.ready (ap (λ (n : Node Kept). n.own.held) c.self.view_is ∙ c.requires.none) c.dequeue-shown.new.self c.dequeue-shown.result (c.dequeue-shown.ensures.after c.self.inside.handle c.self.inside.filters)
+    shown-here c.args.now c.self.inside c.args.self.now c.self.invariant c.self.view_is c.requires.ready (ap (λ (n : Node Kept). n.own.held) c.self.view_is ∙ c.requires.none) c.dequeue-shown.result (c.dequeue-shown.ensures.after c.self.inside.handle c.self.inside.filters).children.shown
 
 pub node::Node::dequeue_further-returns-then-not-has_packet-clause-lost : goal.node::Node::dequeue_further-returns-then-not-has_packet-clause-lost
 node::Node::dequeue_further-returns-then-not-has_packet-clause-lost g t c =
@@ -407,16 +407,16 @@ node::Node::dequeue_further-returns-clause-room g t c =
 
 pub node::Node::dequeue_further-book_sent-requires-clause-balanced : goal.node::Node::dequeue_further-book_sent-requires-clause-balanced
 node::Node::dequeue_further-book_sent-requires-clause-balanced g t c =
-    (sent-row c.args.now c.self.inside c.args.self.now c.self.invariant c.self.view_is c.requires.ready (ap (λ (n : Node Kept). n.own.held) c.self.view_is ∙ c.requires.none) c.dequeue-shown.new.self c.dequeue-shown.result (c.dequeue-shown.ensures.after c.self.inside.handle c.self.inside.filters) c.book_shown.new.row (sent-fits c.args.now c.self.inside c.args.self.now c.self.invariant c.self.view_is c.requires.ready (ap (λ (n : Node Kept). n.own.held) c.self.view_is ∙ c.requires.none) c.dequeue-shown.new.self c.dequeue-shown.result (c.dequeue-shown.ensures.after c.self.inside.handle c.self.inside.filters) (omega (arith, c.self.ranges, c.fit.ensures.packets, c.fit.ensures.bytes)) (omega (arith, c.self.ranges, c.fit.ensures.packets, c.fit.ensures.bytes))) c.book_shown.ensures c.dequeue-shown.new.out (given-some c.dequeue-shown.result.packet c.args.out.now c.dequeue-shown.new.out (sym c.has_packet.ensures ∙ c.if-not-has_packet.false) c.dequeue-shown.ensures.packet)).balanced
+    (sent-row c.args.now c.self.inside c.args.self.now c.self.invariant c.self.view_is c.requires.ready (ap (λ (n : Node Kept). n.own.held) c.self.view_is ∙ c.requires.none) c.dequeue-shown.new.self c.dequeue-shown.result (c.dequeue-shown.ensures.after c.self.inside.handle c.self.inside.filters) c.book_shown.new.row (can-book c.args.now c.self.inside c.args.self.now c.self.invariant c.self.view_is c.requires.ready (ap (λ (n : Node Kept). n.own.held) c.self.view_is ∙ c.requires.none) c.dequeue-shown.result (c.dequeue-shown.ensures.after c.self.inside.handle c.self.inside.filters).children.shown (omega (arith, c.self.ranges, c.fit.ensures.packets, c.fit.ensures.bytes)) (omega (arith, c.self.ranges, c.fit.ensures.packets, c.fit.ensures.bytes))) c.book_shown.ensures c.dequeue-shown.new.out (given-some c.dequeue-shown.result.packet c.args.out.now c.dequeue-shown.new.out (sym c.has_packet.ensures ∙ c.if-not-has_packet.false) c.dequeue-shown.ensures.packet)).balanced
 
 pub node::Node::dequeue_further-book_sent-requires-clause-among : goal.node::Node::dequeue_further-book_sent-requires-clause-among
 node::Node::dequeue_further-book_sent-requires-clause-among g t c =
-    sent-queued c.args.now c.self.inside c.args.self.now c.self.invariant c.self.view_is c.requires.ready (ap (λ (n : Node Kept). n.own.held) c.self.view_is ∙ c.requires.none) c.dequeue-shown.new.self c.dequeue-shown.result (c.dequeue-shown.ensures.after c.self.inside.handle c.self.inside.filters) c.book_shown.new.row (sent-fits c.args.now c.self.inside c.args.self.now c.self.invariant c.self.view_is c.requires.ready (ap (λ (n : Node Kept). n.own.held) c.self.view_is ∙ c.requires.none) c.dequeue-shown.new.self c.dequeue-shown.result (c.dequeue-shown.ensures.after c.self.inside.handle c.self.inside.filters) (omega (arith, c.self.ranges, c.fit.ensures.packets, c.fit.ensures.bytes)) (omega (arith, c.self.ranges, c.fit.ensures.packets, c.fit.ensures.bytes))) c.book_shown.ensures c.dequeue-shown.new.out (given-some c.dequeue-shown.result.packet c.args.out.now c.dequeue-shown.new.out (sym c.has_packet.ensures ∙ c.if-not-has_packet.false) c.dequeue-shown.ensures.packet)
+    sent-queued c.args.now c.self.inside c.args.self.now c.self.invariant c.self.view_is c.requires.ready (ap (λ (n : Node Kept). n.own.held) c.self.view_is ∙ c.requires.none) c.dequeue-shown.new.self c.dequeue-shown.result (c.dequeue-shown.ensures.after c.self.inside.handle c.self.inside.filters) c.book_shown.new.row (can-book c.args.now c.self.inside c.args.self.now c.self.invariant c.self.view_is c.requires.ready (ap (λ (n : Node Kept). n.own.held) c.self.view_is ∙ c.requires.none) c.dequeue-shown.result (c.dequeue-shown.ensures.after c.self.inside.handle c.self.inside.filters).children.shown (omega (arith, c.self.ranges, c.fit.ensures.packets, c.fit.ensures.bytes)) (omega (arith, c.self.ranges, c.fit.ensures.packets, c.fit.ensures.bytes))) c.book_shown.ensures c.dequeue-shown.new.out (given-some c.dequeue-shown.result.packet c.args.out.now c.dequeue-shown.new.out (sym c.has_packet.ensures ∙ c.if-not-has_packet.false) c.dequeue-shown.ensures.packet)
 
 pub node::Node::dequeue_further-book_sent-requires-clause-room : goal.node::Node::dequeue_further-book_sent-requires-clause-room
 node::Node::dequeue_further-book_sent-requires-clause-room g t c =
-    let row = sent-row c.args.now c.self.inside c.args.self.now c.self.invariant c.self.view_is c.requires.ready (ap (λ (n : Node Kept). n.own.held) c.self.view_is ∙ c.requires.none) c.dequeue-shown.new.self c.dequeue-shown.result (c.dequeue-shown.ensures.after c.self.inside.handle c.self.inside.filters) c.book_shown.new.row (sent-fits c.args.now c.self.inside c.args.self.now c.self.invariant c.self.view_is c.requires.ready (ap (λ (n : Node Kept). n.own.held) c.self.view_is ∙ c.requires.none) c.dequeue-shown.new.self c.dequeue-shown.result (c.dequeue-shown.ensures.after c.self.inside.handle c.self.inside.filters) (omega (arith, c.self.ranges, c.fit.ensures.packets, c.fit.ensures.bytes)) (omega (arith, c.self.ranges, c.fit.ensures.packets, c.fit.ensures.bytes))) c.book_shown.ensures c.dequeue-shown.new.out (given-some c.dequeue-shown.result.packet c.args.out.now c.dequeue-shown.new.out (sym c.has_packet.ensures ∙ c.if-not-has_packet.false) c.dequeue-shown.ensures.packet) in
-    let had = sent-queued c.args.now c.self.inside c.args.self.now c.self.invariant c.self.view_is c.requires.ready (ap (λ (n : Node Kept). n.own.held) c.self.view_is ∙ c.requires.none) c.dequeue-shown.new.self c.dequeue-shown.result (c.dequeue-shown.ensures.after c.self.inside.handle c.self.inside.filters) c.book_shown.new.row (sent-fits c.args.now c.self.inside c.args.self.now c.self.invariant c.self.view_is c.requires.ready (ap (λ (n : Node Kept). n.own.held) c.self.view_is ∙ c.requires.none) c.dequeue-shown.new.self c.dequeue-shown.result (c.dequeue-shown.ensures.after c.self.inside.handle c.self.inside.filters) (omega (arith, c.self.ranges, c.fit.ensures.packets, c.fit.ensures.bytes)) (omega (arith, c.self.ranges, c.fit.ensures.packets, c.fit.ensures.bytes))) c.book_shown.ensures c.dequeue-shown.new.out (given-some c.dequeue-shown.result.packet c.args.out.now c.dequeue-shown.new.out (sym c.has_packet.ensures ∙ c.if-not-has_packet.false) c.dequeue-shown.ensures.packet) in
+    let row = sent-row c.args.now c.self.inside c.args.self.now c.self.invariant c.self.view_is c.requires.ready (ap (λ (n : Node Kept). n.own.held) c.self.view_is ∙ c.requires.none) c.dequeue-shown.new.self c.dequeue-shown.result (c.dequeue-shown.ensures.after c.self.inside.handle c.self.inside.filters) c.book_shown.new.row (can-book c.args.now c.self.inside c.args.self.now c.self.invariant c.self.view_is c.requires.ready (ap (λ (n : Node Kept). n.own.held) c.self.view_is ∙ c.requires.none) c.dequeue-shown.result (c.dequeue-shown.ensures.after c.self.inside.handle c.self.inside.filters).children.shown (omega (arith, c.self.ranges, c.fit.ensures.packets, c.fit.ensures.bytes)) (omega (arith, c.self.ranges, c.fit.ensures.packets, c.fit.ensures.bytes))) c.book_shown.ensures c.dequeue-shown.new.out (given-some c.dequeue-shown.result.packet c.args.out.now c.dequeue-shown.new.out (sym c.has_packet.ensures ∙ c.if-not-has_packet.false) c.dequeue-shown.ensures.packet) in
+    let had = sent-queued c.args.now c.self.inside c.args.self.now c.self.invariant c.self.view_is c.requires.ready (ap (λ (n : Node Kept). n.own.held) c.self.view_is ∙ c.requires.none) c.dequeue-shown.new.self c.dequeue-shown.result (c.dequeue-shown.ensures.after c.self.inside.handle c.self.inside.filters) c.book_shown.new.row (can-book c.args.now c.self.inside c.args.self.now c.self.invariant c.self.view_is c.requires.ready (ap (λ (n : Node Kept). n.own.held) c.self.view_is ∙ c.requires.none) c.dequeue-shown.result (c.dequeue-shown.ensures.after c.self.inside.handle c.self.inside.filters).children.shown (omega (arith, c.self.ranges, c.fit.ensures.packets, c.fit.ensures.bytes)) (omega (arith, c.self.ranges, c.fit.ensures.packets, c.fit.ensures.bytes))) c.book_shown.ensures c.dequeue-shown.new.out (given-some c.dequeue-shown.result.packet c.args.out.now c.dequeue-shown.new.out (sym c.has_packet.ensures ∙ c.if-not-has_packet.false) c.dequeue-shown.ensures.packet) in
     let same = ap (λ (r : Row). r.arrived) c.book_shown.ensures in
     record {
       packets = omega (arith, row.balanced.packets, had.packets, ap (λ (t : Totals). t.packets) same, c.self.ranges, c.fit.ensures.packets, c.fit.ensures.bytes);
@@ -425,8 +425,8 @@ node::Node::dequeue_further-book_sent-requires-clause-room g t c =
 
 pub node::Node::dequeue_further-invariant_of-self-2 : goal.node::Node::dequeue_further-invariant_of-self-2
 node::Node::dequeue_further-invariant_of-self-2 g t c =
-    (one-sent c.args.now c.self.inside c.args.self.now c.self.invariant c.self.view_is c.requires.ready (ap (λ (n : Node Kept). n.own.held) c.self.view_is ∙ c.requires.none) c.dequeue-shown.new.self c.dequeue-shown.result (c.dequeue-shown.ensures.after c.self.inside.handle c.self.inside.filters) c.book_shown.new.row (sent-fits c.args.now c.self.inside c.args.self.now c.self.invariant c.self.view_is c.requires.ready (ap (λ (n : Node Kept). n.own.held) c.self.view_is ∙ c.requires.none) c.dequeue-shown.new.self c.dequeue-shown.result (c.dequeue-shown.ensures.after c.self.inside.handle c.self.inside.filters) (omega (arith, c.self.ranges, c.fit.ensures.packets, c.fit.ensures.bytes)) (omega (arith, c.self.ranges, c.fit.ensures.packets, c.fit.ensures.bytes))) c.book_shown.ensures c.dequeue-shown.new.out (given-some c.dequeue-shown.result.packet c.args.out.now c.dequeue-shown.new.out (sym c.has_packet.ensures ∙ c.if-not-has_packet.false) c.dequeue-shown.ensures.packet) c.book_sent.new.row c.book_sent.ensures).stays
+    (one-sent c.args.now c.self.inside c.args.self.now c.self.invariant c.self.view_is c.requires.ready (ap (λ (n : Node Kept). n.own.held) c.self.view_is ∙ c.requires.none) c.dequeue-shown.new.self c.dequeue-shown.result (c.dequeue-shown.ensures.after c.self.inside.handle c.self.inside.filters) c.book_shown.new.row (can-book c.args.now c.self.inside c.args.self.now c.self.invariant c.self.view_is c.requires.ready (ap (λ (n : Node Kept). n.own.held) c.self.view_is ∙ c.requires.none) c.dequeue-shown.result (c.dequeue-shown.ensures.after c.self.inside.handle c.self.inside.filters).children.shown (omega (arith, c.self.ranges, c.fit.ensures.packets, c.fit.ensures.bytes)) (omega (arith, c.self.ranges, c.fit.ensures.packets, c.fit.ensures.bytes))) c.book_shown.ensures c.dequeue-shown.new.out (given-some c.dequeue-shown.result.packet c.args.out.now c.dequeue-shown.new.out (sym c.has_packet.ensures ∙ c.if-not-has_packet.false) c.dequeue-shown.ensures.packet) c.book_sent.new.row c.book_sent.ensures).stays
 
 pub node::Node::dequeue_further-returns-clause-after : goal.node::Node::dequeue_further-returns-clause-after
 node::Node::dequeue_further-returns-clause-after g t c =
-    (one-sent c.args.now c.self.inside c.args.self.now c.self.invariant c.self.view_is c.requires.ready (ap (λ (n : Node Kept). n.own.held) c.self.view_is ∙ c.requires.none) c.dequeue-shown.new.self c.dequeue-shown.result (c.dequeue-shown.ensures.after c.self.inside.handle c.self.inside.filters) c.book_shown.new.row (sent-fits c.args.now c.self.inside c.args.self.now c.self.invariant c.self.view_is c.requires.ready (ap (λ (n : Node Kept). n.own.held) c.self.view_is ∙ c.requires.none) c.dequeue-shown.new.self c.dequeue-shown.result (c.dequeue-shown.ensures.after c.self.inside.handle c.self.inside.filters) (omega (arith, c.self.ranges, c.fit.ensures.packets, c.fit.ensures.bytes)) (omega (arith, c.self.ranges, c.fit.ensures.packets, c.fit.ensures.bytes))) c.book_shown.ensures c.dequeue-shown.new.out (given-some c.dequeue-shown.result.packet c.args.out.now c.dequeue-shown.new.out (sym c.has_packet.ensures ∙ c.if-not-has_packet.false) c.dequeue-shown.ensures.packet) c.book_sent.new.row c.book_sent.ensures).after
+    (one-sent c.args.now c.self.inside c.args.self.now c.self.invariant c.self.view_is c.requires.ready (ap (λ (n : Node Kept). n.own.held) c.self.view_is ∙ c.requires.none) c.dequeue-shown.new.self c.dequeue-shown.result (c.dequeue-shown.ensures.after c.self.inside.handle c.self.inside.filters) c.book_shown.new.row (can-book c.args.now c.self.inside c.args.self.now c.self.invariant c.self.view_is c.requires.ready (ap (λ (n : Node Kept). n.own.held) c.self.view_is ∙ c.requires.none) c.dequeue-shown.result (c.dequeue-shown.ensures.after c.self.inside.handle c.self.inside.filters).children.shown (omega (arith, c.self.ranges, c.fit.ensures.packets, c.fit.ensures.bytes)) (omega (arith, c.self.ranges, c.fit.ensures.packets, c.fit.ensures.bytes))) c.book_shown.ensures c.dequeue-shown.new.out (given-some c.dequeue-shown.result.packet c.args.out.now c.dequeue-shown.new.out (sym c.has_packet.ensures ∙ c.if-not-has_packet.false) c.dequeue-shown.ensures.packet) c.book_sent.new.row c.book_sent.ensures).after

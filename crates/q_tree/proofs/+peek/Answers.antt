@@ -292,15 +292,15 @@ pub node::Node::peek-returns-in-Fifo-clause-after : goal.node::Node::peek-return
 node::Node::peek-returns-in-Fifo-clause-after g t c =
     sym c.self.view_is ∙ (peeked-done c.args.now c.self.inside c.args.self.now c.self.invariant c.self.view_is c.requires.ready (none-held c.self.inside.held c.if-is_some.ensures) c.self.inside.discipline c.at_hand-in-Fifo.result (asked-in c.args.now c.self.inside.handle c.self.inside.filters c.self.inside.discipline c.self.inside.discipline (spec.Fifo c.in-Fifo.fifo.limit c.in-Fifo.fifo.packets) (spec.Fifo c.in-Fifo.fifo.limit c.in-Fifo.fifo.packets) [] [] c.at_hand-in-Fifo.result
     (ap discipline_seen c.in-Fifo.is) (ap children_seen c.in-Fifo.is) (ap discipline_seen c.in-Fifo.is) (ap children_seen c.in-Fifo.is) refl refl
-    (record { long = refl; nodes = refl; within = λ t h. h; shown = record { packet = ap (λ (s : Shown). s.packet) c.at_hand-in-Fifo.ensures ∙ c.first_packet.ensures; dropped = ap (λ (s : Shown). s.dropped) c.at_hand-in-Fifo.ensures; marked = ap (λ (s : Shown). s.marked) c.at_hand-in-Fifo.ensures } })) c.self.inside.row c.self.inside.held (can-book c.args.now c.self.inside c.args.self.now c.self.invariant c.self.view_is c.requires.ready (none-held c.self.inside.held c.if-is_some.ensures) c.self.inside.discipline c.at_hand-in-Fifo.result (asked-in c.args.now c.self.inside.handle c.self.inside.filters c.self.inside.discipline c.self.inside.discipline (spec.Fifo c.in-Fifo.fifo.limit c.in-Fifo.fifo.packets) (spec.Fifo c.in-Fifo.fifo.limit c.in-Fifo.fifo.packets) [] [] c.at_hand-in-Fifo.result
+    (record { long = refl; nodes = refl; within = λ t h. h; shown = record { packet = ap (λ (s : Shown). s.packet) c.at_hand-in-Fifo.ensures ∙ c.first_packet.ensures; dropped = ap (λ (s : Shown). s.dropped) c.at_hand-in-Fifo.ensures; marked = ap (λ (s : Shown). s.marked) c.at_hand-in-Fifo.ensures } })) c.self.inside.row c.self.inside.held (can-book c.args.now c.self.inside c.args.self.now c.self.invariant c.self.view_is c.requires.ready (none-held c.self.inside.held c.if-is_some.ensures) c.at_hand-in-Fifo.result (asked-in c.args.now c.self.inside.handle c.self.inside.filters c.self.inside.discipline c.self.inside.discipline (spec.Fifo c.in-Fifo.fifo.limit c.in-Fifo.fifo.packets) (spec.Fifo c.in-Fifo.fifo.limit c.in-Fifo.fifo.packets) [] [] c.at_hand-in-Fifo.result
     (ap discipline_seen c.in-Fifo.is) (ap children_seen c.in-Fifo.is) (ap discipline_seen c.in-Fifo.is) (ap children_seen c.in-Fifo.is) refl refl
-    (record { long = refl; nodes = refl; within = λ t h. h; shown = record { packet = ap (λ (s : Shown). s.packet) c.at_hand-in-Fifo.ensures ∙ c.first_packet.ensures; dropped = ap (λ (s : Shown). s.dropped) c.at_hand-in-Fifo.ensures; marked = ap (λ (s : Shown). s.marked) c.at_hand-in-Fifo.ensures } })) (omega (arith, c.self.ranges, c.fit.ensures.packets, c.fit.ensures.bytes)) (omega (arith, c.self.ranges, c.fit.ensures.packets, c.fit.ensures.bytes))) (shown-nothing c.at_hand-in-Fifo.result c.self.inside.row (ap (λ (s : Shown). s.dropped) c.at_hand-in-Fifo.ensures) (ap (λ (s : Shown). s.marked) c.at_hand-in-Fifo.ensures)) (none-held c.self.inside.held c.if-is_some.ensures ∙ sym (ap (λ k. held_in k c.at_hand-in-Fifo.result.packet) (ap discipline_seen c.in-Fifo.is)))).after
+    (record { long = refl; nodes = refl; within = λ t h. h; shown = record { packet = ap (λ (s : Shown). s.packet) c.at_hand-in-Fifo.ensures ∙ c.first_packet.ensures; dropped = ap (λ (s : Shown). s.dropped) c.at_hand-in-Fifo.ensures; marked = ap (λ (s : Shown). s.marked) c.at_hand-in-Fifo.ensures } })).children.shown (omega (arith, c.self.ranges, c.fit.ensures.packets, c.fit.ensures.bytes)) (omega (arith, c.self.ranges, c.fit.ensures.packets, c.fit.ensures.bytes))) (shown-nothing c.at_hand-in-Fifo.result c.self.inside.row (ap (λ (s : Shown). s.dropped) c.at_hand-in-Fifo.ensures) (ap (λ (s : Shown). s.marked) c.at_hand-in-Fifo.ensures)) (none-held c.self.inside.held c.if-is_some.ensures ∙ sym (ap (λ k. held_in k c.at_hand-in-Fifo.result.packet) (ap discipline_seen c.in-Fifo.is)))).after
 
 pub node::Node::peek-returns-in-Fifo-clause-shown : goal.node::Node::peek-returns-in-Fifo-clause-shown
 node::Node::peek-returns-in-Fifo-clause-shown g t c =
-    shown-here c.args.now c.self.inside c.args.self.now c.self.invariant c.self.view_is c.requires.ready (none-held c.self.inside.held c.if-is_some.ensures) c.self.inside.discipline c.at_hand-in-Fifo.result (asked-in c.args.now c.self.inside.handle c.self.inside.filters c.self.inside.discipline c.self.inside.discipline (spec.Fifo c.in-Fifo.fifo.limit c.in-Fifo.fifo.packets) (spec.Fifo c.in-Fifo.fifo.limit c.in-Fifo.fifo.packets) [] [] c.at_hand-in-Fifo.result
+    shown-here c.args.now c.self.inside c.args.self.now c.self.invariant c.self.view_is c.requires.ready (none-held c.self.inside.held c.if-is_some.ensures) c.at_hand-in-Fifo.result (asked-in c.args.now c.self.inside.handle c.self.inside.filters c.self.inside.discipline c.self.inside.discipline (spec.Fifo c.in-Fifo.fifo.limit c.in-Fifo.fifo.packets) (spec.Fifo c.in-Fifo.fifo.limit c.in-Fifo.fifo.packets) [] [] c.at_hand-in-Fifo.result
     (ap discipline_seen c.in-Fifo.is) (ap children_seen c.in-Fifo.is) (ap discipline_seen c.in-Fifo.is) (ap children_seen c.in-Fifo.is) refl refl
-    (record { long = refl; nodes = refl; within = λ t h. h; shown = record { packet = ap (λ (s : Shown). s.packet) c.at_hand-in-Fifo.ensures ∙ c.first_packet.ensures; dropped = ap (λ (s : Shown). s.dropped) c.at_hand-in-Fifo.ensures; marked = ap (λ (s : Shown). s.marked) c.at_hand-in-Fifo.ensures } }))
+    (record { long = refl; nodes = refl; within = λ t h. h; shown = record { packet = ap (λ (s : Shown). s.packet) c.at_hand-in-Fifo.ensures ∙ c.first_packet.ensures; dropped = ap (λ (s : Shown). s.dropped) c.at_hand-in-Fifo.ensures; marked = ap (λ (s : Shown). s.marked) c.at_hand-in-Fifo.ensures } })).children.shown
 
 pub node::Node::peek-returns-in-Fifo-clause-lost : goal.node::Node::peek-returns-in-Fifo-clause-lost
 node::Node::peek-returns-in-Fifo-clause-lost g t c =
@@ -334,26 +334,26 @@ node::Node::peek_further-ask-shown-requires g t c κs within = (
 pub node::Node::peek_further-book_shown-requires-clause-room :
     goal.node::Node::peek_further-book_shown-requires-clause-room
 node::Node::peek_further-book_shown-requires-clause-room g t c =
-    can-book c.args.now c.self.inside c.args.self.now c.self.invariant c.self.view_is c.requires.ready (ap (λ (n : Node Kept). n.own.held) c.self.view_is ∙ c.requires.none) c.ask-shown.new.self c.ask-shown.result (c.ask-shown.ensures.after c.self.inside.handle c.self.inside.filters) (omega (arith, c.self.ranges, c.fit.ensures.packets, c.fit.ensures.bytes)) (omega (arith, c.self.ranges, c.fit.ensures.packets, c.fit.ensures.bytes))
+    can-book c.args.now c.self.inside c.args.self.now c.self.invariant c.self.view_is c.requires.ready (ap (λ (n : Node Kept). n.own.held) c.self.view_is ∙ c.requires.none) c.ask-shown.result (c.ask-shown.ensures.after c.self.inside.handle c.self.inside.filters).children.shown (omega (arith, c.self.ranges, c.fit.ensures.packets, c.fit.ensures.bytes)) (omega (arith, c.self.ranges, c.fit.ensures.packets, c.fit.ensures.bytes))
 
 pub node::Node::peek_further-invariant_of-self :
     goal.node::Node::peek_further-invariant_of-self
 node::Node::peek_further-invariant_of-self g t c =
     (peeked-done c.args.now c.self.inside c.args.self.now c.self.invariant c.self.view_is c.requires.ready (ap (λ (n : Node Kept). n.own.held) c.self.view_is ∙ c.requires.none) c.ask-shown.new.self c.ask-shown.result (c.ask-shown.ensures.after c.self.inside.handle c.self.inside.filters) c.book_shown.new.row c.ask-shown.new.held
-    (can-book c.args.now c.self.inside c.args.self.now c.self.invariant c.self.view_is c.requires.ready (ap (λ (n : Node Kept). n.own.held) c.self.view_is ∙ c.requires.none) c.ask-shown.new.self c.ask-shown.result (c.ask-shown.ensures.after c.self.inside.handle c.self.inside.filters) (omega (arith, c.self.ranges, c.fit.ensures.packets, c.fit.ensures.bytes)) (omega (arith, c.self.ranges, c.fit.ensures.packets, c.fit.ensures.bytes)))
+    (can-book c.args.now c.self.inside c.args.self.now c.self.invariant c.self.view_is c.requires.ready (ap (λ (n : Node Kept). n.own.held) c.self.view_is ∙ c.requires.none) c.ask-shown.result (c.ask-shown.ensures.after c.self.inside.handle c.self.inside.filters).children.shown (omega (arith, c.self.ranges, c.fit.ensures.packets, c.fit.ensures.bytes)) (omega (arith, c.self.ranges, c.fit.ensures.packets, c.fit.ensures.bytes)))
     c.book_shown.ensures c.ask-shown.ensures.held).stays
 
 pub node::Node::peek_further-returns-clause-after :
     goal.node::Node::peek_further-returns-clause-after
 node::Node::peek_further-returns-clause-after g t c =
     (peeked-done c.args.now c.self.inside c.args.self.now c.self.invariant c.self.view_is c.requires.ready (ap (λ (n : Node Kept). n.own.held) c.self.view_is ∙ c.requires.none) c.ask-shown.new.self c.ask-shown.result (c.ask-shown.ensures.after c.self.inside.handle c.self.inside.filters) c.book_shown.new.row c.ask-shown.new.held
-    (can-book c.args.now c.self.inside c.args.self.now c.self.invariant c.self.view_is c.requires.ready (ap (λ (n : Node Kept). n.own.held) c.self.view_is ∙ c.requires.none) c.ask-shown.new.self c.ask-shown.result (c.ask-shown.ensures.after c.self.inside.handle c.self.inside.filters) (omega (arith, c.self.ranges, c.fit.ensures.packets, c.fit.ensures.bytes)) (omega (arith, c.self.ranges, c.fit.ensures.packets, c.fit.ensures.bytes)))
+    (can-book c.args.now c.self.inside c.args.self.now c.self.invariant c.self.view_is c.requires.ready (ap (λ (n : Node Kept). n.own.held) c.self.view_is ∙ c.requires.none) c.ask-shown.result (c.ask-shown.ensures.after c.self.inside.handle c.self.inside.filters).children.shown (omega (arith, c.self.ranges, c.fit.ensures.packets, c.fit.ensures.bytes)) (omega (arith, c.self.ranges, c.fit.ensures.packets, c.fit.ensures.bytes)))
     c.book_shown.ensures c.ask-shown.ensures.held).after
 
 pub node::Node::peek_further-returns-clause-shown :
     goal.node::Node::peek_further-returns-clause-shown
 node::Node::peek_further-returns-clause-shown g t c =
-    shown-here c.args.now c.self.inside c.args.self.now c.self.invariant c.self.view_is c.requires.ready (ap (λ (n : Node Kept). n.own.held) c.self.view_is ∙ c.requires.none) c.ask-shown.new.self c.ask-shown.result (c.ask-shown.ensures.after c.self.inside.handle c.self.inside.filters)
+    shown-here c.args.now c.self.inside c.args.self.now c.self.invariant c.self.view_is c.requires.ready (ap (λ (n : Node Kept). n.own.held) c.self.view_is ∙ c.requires.none) c.ask-shown.result (c.ask-shown.ensures.after c.self.inside.handle c.self.inside.filters).children.shown
 
 pub node::Node::peek_further-returns-clause-lost :
     goal.node::Node::peek_further-returns-clause-lost

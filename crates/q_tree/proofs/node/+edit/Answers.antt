@@ -14,7 +14,8 @@ use Rattle.q_tree.specs.Kept.{Kept}
 use Rattle.q_tree.specs.Purging.{purged}
 use Rattle.q_tree.specs.Seen.{children_seen, discipline_seen, places_seen}
 use Rattle.q_tree.specs.declared.node.Discipline.TheVariants as code
-use Rattle.q_tree.proofs.EditLemmas.{IsAnswer, on-ok, led, edited-into, only-edited, leads, lost-there, room, stays, after, of-child}
+use Rattle.q_tree.proofs.EditLemmas.{IsAnswer, on-ok, edited-into, only-edited, leads, lost-there, room, stays, after, of-child}
+use Rattle.q_tree.proofs.PlacesLemmas.{led}
 use Rattle.q_tree.proofs.Puts.{same-child}
 use Rattle.q_tree.proofs.node.+edit.Goals as goal
 
