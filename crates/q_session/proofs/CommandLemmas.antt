@@ -1,5 +1,5 @@
 -- What a command does to a session, by the device's answer.
-use Rattle.std.proofs.Common.{◌≡◌, ℕ, Bool, true, false, Result, Ok, Err, refl, sym, ap, subst}
+use Rattle.std.proofs.Common.{◌≡◌, ℕ, Bool, true, false, Result, Ok, Err, sym, ap}
 use Rattle.q_model.specs.declared.command.Command.{Command}
 use Rattle.q_model.specs.declared.event.Event.TheVariants as event
 use Rattle.q_model.specs.declared.refusal.Refusal.{Refusal}
@@ -11,7 +11,7 @@ use Rattle.q_model.specs.Step.{answered, counts_at, step}
 use Rattle.q_model.specs.Tally.{Counts, totals}
 use Rattle.q_model.specs.TreeState.{plan}
 use Rattle.q_device.specs.DeviceSeen.{IsRefusal}
-use Rattle.q_script_semantics.specs.Report.{SessionState, after, commanded, planned, refusing, silent}
+use Rattle.q_script_semantics.specs.Report.{SessionState, commanded, planned, refusing}
 use Rattle.q_script_semantics.specs.Text.{refused_line}
 
 abbrev IsDone : Reply → Type 0

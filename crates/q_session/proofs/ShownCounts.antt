@@ -1,6 +1,6 @@
 -- How many qdiscs, classes and filters a lawful tree has: 256 of each at a node at most, so that they can be counted.
 use Rattle.std.proofs.Common.{◌≡◌, ℕ, suc, ◌≤◌, List, [], ◌∷◌, ◌++◌, All, length, sum, Option, Some, None, refl, ap, arith, length-append}
-use Rattle.std.specs.Prelude.{drop, option_map}
+use Rattle.std.specs.Prelude.{option_map}
 use Rattle.std.specs.List.{cons_option, filter_map}
 use Rattle.std.proofs.lemmas.List.{length-map}
 use Rattle.std.proofs.lemmas.List.Elements.{All-append, All-cons, All-nil}
@@ -13,13 +13,11 @@ use Rattle.q_model.specs.Find.{count_nodes}
 use Rattle.q_model.specs.Lawful.{IsLawfulDiscipline, IsLawfulNode}
 use Rattle.q_model.specs.Node.{Discipline, Fifo, Prio, Tbf, Drr, FqCodel, Own, Forest, none, more, Node, nodes_in, children, each, from_below}
 use Rattle.q_model.specs.Tally.{Tally}
-use Rattle.q_model.specs.TreeState.{TreeState}
 use Rattle.q_model.specs.declared.class_id.ClassId.{ClassId}
 use Rattle.q_model.specs.declared.class_view.ClassView.{ClassView}
 use Rattle.q_model.specs.declared.filter.Filter.{Filter}
 use Rattle.q_model.specs.declared.filter_view.FilterView.{FilterView}
-use Rattle.q_model.specs.Views.{class_ids, class_kind, class_views, filter_views, minors, places_below, views, views_in}
-use Rattle.q_model.specs.declared.place.Place.{Place}
+use Rattle.q_model.specs.Views.{class_ids, class_kind, class_views, filter_views, minors}
 use Rattle.q_invariants.proofs.EditSizes.{sum-cons}
 use Rattle.q_invariants.proofs.Forests.{each-nodes}
 
@@ -33,17 +31,6 @@ counted (more own m below others) =
 
 pub count-is : {M : Type 0} (n : Node M) → length (every_node n) ≡ count_nodes n
 count-is n = ap suc (counted n.below)
-
--- each has a view
-views_in-count : {M : Type 0} (t : Tally M) (places : List Place) (x : Forest M) → length (views_in t places x) ≡ length (nodes_of x)
-views_in-count t places none = refl
-views_in-count t places (more own m below others) =
-    let b = views_in-count t (places_below own below) below in
-    let o = views_in-count t (drop 1 places) others in
-    omega (arith, length-append (nodes_of below) (nodes_of others), length-append (views_in t (places_below own below) below) (views_in t (drop 1 places) others), b, o)
-
-pub views-count : {M : Type 0} (t : Tally M) (s : TreeState M) → length (views t s) ≡ length (every_node s.root)
-views-count t s = ap suc (views_in-count t (places_below s.root.own s.root.below) s.root.below)
 
 -- a node has no more children than there are nodes
 side-count : {M : Type 0} (x : Forest M) → length (nodes_in x) ≤ length (nodes_of x)

@@ -1,5 +1,5 @@
 -- A text on its way to the writer: what is written or buffered of it so far, and what is left.
-use Rattle.std.proofs.Common.{◌≡◌, ◌∙◌, ℕ, List, [], ◌++◌, Option, refl, sym, ap, subst, append_assoc, append-nil}
+use Rattle.std.proofs.Common.{◌≡◌, ◌∙◌, ℕ, List, [], ◌++◌, Option, sym, ap, subst, append_assoc, append-nil}
 use Rattle.std.proofs.KnownBytes.{Appends-nil}
 use Rattle.q_show.specs.Written.{AppendsFront, IsBuffered}
 use Rattle.q_script.proofs.WrittenLemmas.{buffered-trans, buffered-more, front-of, front-longer}
@@ -9,8 +9,8 @@ pub record Writing (held holds : Option (List ℕ)) (before buffered whole left 
   pub rest : whole ≡ produced ++ left
   pub written : IsBuffered held holds buffered (before ++ produced)
 
-pub writing-start : (held : Option (List ℕ)) (before whole : List ℕ) → Writing held held before before whole whole
-writing-start held before whole = record { produced = []; rest = refl; written = ([], Appends-nil held, append-nil before) }
+pub writing-start : (held : Option (List ℕ)) (before whole left : List ℕ) → whole ≡ left → Writing held held before before whole left
+writing-start held before whole left all = record { produced = []; rest = all; written = ([], Appends-nil held, append-nil before) }
 
 -- a bit more of it, for which room was made
 pub writing-next : (held a b : Option (List ℕ)) (before buffered roomy out whole left text rest : List ℕ)

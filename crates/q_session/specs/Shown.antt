@@ -1,10 +1,9 @@
 -- What show lists of a tree, node by node: its classes or its filters.
-use Rattle.std.specs.Prelude.{ℕ, List, [], slice_get}
+use Rattle.std.specs.Prelude.{◌≡◌, ℕ, List, Some, slice_get}
 use Rattle.std.specs.List.{flat_map}
-use Rattle.std.specs.Option.{option_map_or}
 use Rattle.q_model.specs.Conserved.{every_node}
 use Rattle.q_model.specs.Lawful.{IsLawfulTree}
-use Rattle.q_model.specs.Node.{Node}
+use Rattle.q_model.specs.Node.{Node, with_memory}
 use Rattle.q_model.specs.Tally.{Counts, totals}
 use Rattle.q_model.specs.TreeState.{TreeState}
 use Rattle.q_tree.specs.Kept.{Kept}
@@ -14,9 +13,13 @@ use Rattle.q_tree.specs.TreeSeen.{tree_numbers}
 abbrev pub IsLawfulSeen : TreeState Kept → Type 0
 IsLawfulSeen s = (clock : ℕ) × IsLawfulTree totals clock (tree_numbers s)
 
--- what is listed of the i-th node, where this is listed of a node
-abbrev pub listed_at : {A : Type 0} → (Node Counts → List A) → ℕ → TreeState Counts → List A
-listed_at of_node i s = option_map_or of_node (slice_get (every_node s.root) i) []
+-- a node of a lawful tree
+abbrev pub IsOfLawful : Node Kept → Type 0
+IsOfLawful n = (s : TreeState Kept) × IsLawfulSeen s × (i : ℕ) × (slice_get (every_node s.root) i ≡ Some n)
+
+-- a node without its places, which show does not print
+abbrev pub counted : Node Kept → Node Counts
+counted n = with_memory (λ (k : Kept). k.counts) n
 
 -- the text of all that is listed, from the root down
 abbrev pub listed_text : {A : Type 0} → (A → List ℕ) → (Node Counts → List A) → TreeState Counts → List ℕ

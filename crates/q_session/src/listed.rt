@@ -4,12 +4,11 @@ ghost use Rattle.q_model.specs.Node.{Node};
 ghost use Rattle.q_model.specs.Tally.{Counts};
 ghost use Rattle.q_model.specs.Views.{class_views, filter_views};
 ghost use Rattle.q_script_semantics.specs.Text.{class_line, filter_line};
-ghost use Rattle.q_session.specs.Shown.{IsLawfulSeen, listed_at};
-ghost use Rattle.q_tree.specs.TreeSeen.{tree_numbers};
+ghost use Rattle.q_session.specs.Shown.{IsOfLawful, counted};
 
 use q_model::{ClassView, FilterView};
 use q_show::{Text, class_text, filter_text};
-use q_tree::Tree;
+use q_tree::NodeRef;
 
 /// One of those that show lists of a node.
 pub trait Listed: Copy {
@@ -19,10 +18,10 @@ pub trait Listed: Copy {
     /// What is printed of one.
     ghost line: { Self → List ℕ };
 
-    /// The `j`-th of the `i`-th node.
-    fn find(tree: &Tree, i: usize, j: usize) -> Option<Self>
-        ensures found { result ≡ slice_get (listed_at of_node i (tree_numbers tree.now.tree)) j }
-        ensures few { IsLawfulSeen tree.now.tree → length (listed_at of_node i (tree_numbers tree.now.tree)) ≤ 256 };
+    /// The `j`-th of them.
+    fn find(node: &NodeRef<'_>, j: usize) -> Option<Self>
+        ensures found { result ≡ slice_get (of_node (counted node.now.1)) j }
+        ensures few { IsOfLawful node.now.1 → length (of_node (counted node.now.1)) ≤ 256 };
 
     /// What is printed of it.
     fn text(&self) -> Text
@@ -34,8 +33,8 @@ impl Listed for ClassView {
 
     ghost line = { class_line };
 
-    fn find(tree: &Tree, i: usize, j: usize) -> Option<ClassView> {
-        tree.class(i, j)
+    fn find(node: &NodeRef<'_>, j: usize) -> Option<ClassView> {
+        node.class(j)
     }
 
     fn text(&self) -> Text {
@@ -48,8 +47,8 @@ impl Listed for FilterView {
 
     ghost line = { filter_line };
 
-    fn find(tree: &Tree, i: usize, j: usize) -> Option<FilterView> {
-        tree.filter(i, j)
+    fn find(node: &NodeRef<'_>, j: usize) -> Option<FilterView> {
+        node.filter(j)
     }
 
     fn text(&self) -> Text {

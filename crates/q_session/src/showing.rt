@@ -5,7 +5,7 @@ ghost use Rattle.q_model.specs.Tally.{totals};
 ghost use Rattle.q_model.specs.Views.{views};
 ghost use Rattle.q_script_semantics.specs.Report.{show_text};
 ghost use Rattle.q_script_semantics.specs.Text.{qdisc_text};
-ghost use Rattle.q_session.specs.Shown.{IsLawfulSeen, listed_at, listed_text};
+ghost use Rattle.q_session.specs.Shown.{IsLawfulSeen, IsOfLawful, counted, listed_text};
 ghost use Rattle.q_show.specs.Writes.{MayWrite, WriteFailed};
 ghost use Rattle.q_show.specs.Written.{AppendsFront, IsBuffered};
 ghost use Rattle.q_tree.specs.TreeSeen.{numbers, tree_numbers};
@@ -15,8 +15,8 @@ use q_line::{Object, Show};
 use q_model::{ClassView, FilterView};
 use q_script::Output;
 use q_show::{Target, WriteFault, qdisc_text};
-use q_tree::Tree;
 use q_tree::laws::tree_is_lawful;
+use q_tree::{NodeRef, Tree};
 use std::io::Write;
 
 /// What a show line asks for, from the root down.
@@ -60,11 +60,10 @@ fn put_qdiscs<W: Write>(
     ensures going { OnOk result (MayWrite target.new.writes) }
     ensures failed { IfErr result (λ fault. WriteFailed target.new.writes fault.kind) }
 {
-    let mut i = 0;
-    while let Some(node) = tree.node(i) {
+    let mut nodes = tree.nodes();
+    while let Some(node) = nodes.next() {
         output.make_room(target)?;
-        output.put(qdisc_text(&node, counters).as_bytes());
-        i += 1;
+        output.put(qdisc_text(&node.view(), counters).as_bytes());
     }
     Ok(())
 }
@@ -85,33 +84,31 @@ fn put_listed<L: Listed, W: Write>(
     ensures going { OnOk result (MayWrite target.new.writes) }
     ensures failed { IfErr result (λ fault. WriteFailed target.new.writes fault.kind) }
 {
-    let mut i = 0;
-    while tree.node(i).is_some() {
-        put_listed_at::<L, W>(tree, i, output, target)?;
-        i += 1;
+    let mut nodes = tree.nodes();
+    while let Some(node) = nodes.next() {
+        put_listed_at::<L, W>(&node, output, target)?;
     }
     Ok(())
 }
 
 /// Those of one node.
 fn put_listed_at<L: Listed, W: Write>(
-    tree: &Tree,
-    i: usize,
+    node: &NodeRef<'_>,
     output: &mut Output,
     target: &mut Target<'_, W>,
 ) -> Result<(), WriteFault>
-    requires lawful { IsLawfulSeen tree.now.tree }
+    requires lawful { IsOfLawful node.now.1 }
     requires going { MayWrite target.old.writes }
     ensures same_writer { target.new.writer.ghost_name ≡ target.old.writer.ghost_name }
     ensures ok { OnOk result (IsBuffered (W.contents target.old.writer.now) (W.contents target.new.writer.now) output.new
-        (output.old ++ flat_map L.line (listed_at L.of_node i (tree_numbers tree.now.tree)))) }
+        (output.old ++ flat_map L.line (L.of_node (counted node.now.1)))) }
     ensures err { OnErr result (AppendsFront (W.contents target.old.writer.now) (W.contents target.new.writer.now)
-        (output.old ++ flat_map L.line (listed_at L.of_node i (tree_numbers tree.now.tree)))) }
+        (output.old ++ flat_map L.line (L.of_node (counted node.now.1)))) }
     ensures going { OnOk result (MayWrite target.new.writes) }
     ensures failed { IfErr result (λ fault. WriteFailed target.new.writes fault.kind) }
 {
     let mut j = 0;
-    while let Some(listed) = L::find(tree, i, j) {
+    while let Some(listed) = L::find(node, j) {
         output.make_room(target)?;
         output.put(listed.text().as_bytes());
         j += 1;

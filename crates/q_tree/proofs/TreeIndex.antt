@@ -190,4 +190,3 @@ renewed-device a i room k same grown = record {
   handles = same;
   room = λ more. omega (arith, grown, room more);
 }
-

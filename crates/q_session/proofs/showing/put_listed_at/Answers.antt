@@ -3,8 +3,7 @@ use Rattle.std.specs.Prelude.{drop}
 use Rattle.std.specs.List.{flat_map}
 use Rattle.std.proofs.lemmas.Option.{slice_get_within}
 use Rattle.q_script.proofs.OnErr.{on_err}
-use Rattle.q_tree.specs.TreeSeen.{tree_numbers}
-use Rattle.q_session.specs.Shown.{listed_at}
+use Rattle.q_session.specs.Shown.{counted}
 use Rattle.q_session.proofs.ListedLemmas.{text-first, text-none}
 use Rattle.q_session.proofs.Writing.{writing-end, writing-fails, writing-next, writing-start}
 use Rattle.q_session.proofs.showing.put_listed_at.Goals as goal
@@ -12,7 +11,7 @@ use Rattle.q_session.proofs.showing.put_listed_at.Goals as goal
 pub loop-listed-init : goal.loop-listed-init
 loop-listed-init g c = record {
   same_writer = refl;
-  text = writing-start _ c.args.output.now (flat_map g.L.Listed.line (listed_at g.L.Listed.of_node c.args.i (tree_numbers c.args.tree.now.tree)));
+  text = writing-start _ c.args.output.now (flat_map g.L.Listed.line (g.L.Listed.of_node (counted c.args.node.now.1))) _ refl;
   going = c.requires.going;
 }
 
@@ -22,18 +21,18 @@ returns-in_err-make_room-clause-err g c =
 
 pub overflow_add-j : goal.overflow_add-j
 overflow_add-j g c =
-    let within = slice_get_within (listed_at g.L.Listed.of_node c.args.i (tree_numbers c.args.tree.now.tree)) c.loop-listed.j c.in-Some.listed (sym c.find.ensures.found ∙ c.in-Some.is) in
+    let within = slice_get_within (g.L.Listed.of_node (counted c.args.node.now.1)) c.loop-listed.j c.in-Some.listed (sym c.find.ensures.found ∙ c.in-Some.is) in
     omega (arith, within, c.find.ensures.few c.requires.lawful)
 
 pub loop-listed-smaller : goal.loop-listed-smaller
 loop-listed-smaller g c =
-    let within = slice_get_within (listed_at g.L.Listed.of_node c.args.i (tree_numbers c.args.tree.now.tree)) c.loop-listed.j c.in-Some.listed (sym c.find.ensures.found ∙ c.in-Some.is) in
+    let within = slice_get_within (g.L.Listed.of_node (counted c.args.node.now.1)) c.loop-listed.j c.in-Some.listed (sym c.find.ensures.found ∙ c.in-Some.is) in
     omega (arith, within)
 
 pub loop-listed-preserved : goal.loop-listed-preserved
 loop-listed-preserved g c =
     let line = g.L.Listed.line in
-    let all = listed_at g.L.Listed.of_node c.args.i (tree_numbers c.args.tree.now.tree) in
+    let all = g.L.Listed.of_node (counted c.args.node.now.1) in
     let first = text-first line all c.loop-listed.j c.in-Some.listed (sym c.find.ensures.found ∙ c.in-Some.is) in
     let put = c.put.ensures.text ∙ ap (λ l. c.make_room.new.self ++ l) (c.as_bytes.ensures.bytes ∙ c.text.ensures) in
     record {
@@ -46,6 +45,6 @@ loop-listed-preserved g c =
 pub returns-clause-ok : goal.returns-clause-ok
 returns-clause-ok g c =
     let line = g.L.Listed.line in
-    let all = listed_at g.L.Listed.of_node c.args.i (tree_numbers c.args.tree.now.tree) in
+    let all = g.L.Listed.of_node (counted c.args.node.now.1) in
     writing-end _ _ c.args.output.now c.loop-listed.output (flat_map line all) (flat_map line (drop c.loop-listed.j all)) c.loop-listed.invariant.text
     (text-none line all c.loop-listed.j (sym c.find.ensures.found ∙ c.in_default.is))

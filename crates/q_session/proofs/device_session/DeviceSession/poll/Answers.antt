@@ -1,4 +1,4 @@
-use Rattle.std.proofs.Common.{◌≡◌, ◌∙◌, ℕ, ◌-◌, ◌+◌, List, sym, ap, ap₂, subst, arith, refl}
+use Rattle.std.proofs.Common.{◌≡◌, ◌∙◌, ℕ, ◌-◌, ◌+◌, sym, ap, ap₂, arith, refl}
 use Rattle.q_device.specs.DeviceSeen.{DeviceSeen}
 use Rattle.q_model.specs.Tally.{totals}
 use Rattle.q_script_semantics.specs.Report.{polls}
@@ -7,7 +7,7 @@ use Rattle.q_script.proofs.OnErr.{on_err}
 use Rattle.q_session.specs.Session.{SessionSeen}
 use Rattle.q_session.specs.Seen.{session_seen}
 use Rattle.q_session.proofs.PollLemmas.{poll-session, poll-text}
-use Rattle.q_session.proofs.Writing.{Writing, writing-fails, writing-next, writing-start}
+use Rattle.q_session.proofs.Writing.{writing-fails, writing-next, writing-start}
 use Rattle.q_session.proofs.device_session.DeviceSession.poll.Goals as goal
 
 pub loop-init : goal.loop-init
@@ -19,10 +19,8 @@ loop-init g c =
     record {
       same_writer = refl;
       going = c.requires;
-      text =
-          subst (λ (left : List ℕ). Writing held held c.args.output.now c.args.output.now (polls totals count c.args.self.now.state).text left)
-          (ap₂ (λ (n : ℕ) (x : SessionSeen). (polls totals n x.state).text) all (sym c.self.view_is))
-          (writing-start held c.args.output.now (polls totals count c.args.self.now.state).text);
+      text = writing-start held c.args.output.now (polls totals count c.args.self.now.state).text _
+          (ap₂ (λ (n : ℕ) (x : SessionSeen). (polls totals n x.state).text) all (sym c.self.view_is));
       state = ap₂ (λ (n : ℕ) (x : SessionSeen). (polls totals n x.state).session) all (sym c.self.view_is);
       settings = ap (λ (x : SessionSeen). x.settings) c.self.view_is;
       seed = ap (λ (x : SessionSeen). x.seed) c.self.view_is;
