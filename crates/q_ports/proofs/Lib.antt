@@ -4,6 +4,7 @@ pub mod Boards
 pub mod CollectLemmas
 pub mod DriveLemmas
 pub mod DriveTurnLemmas
+pub mod NotedLemmas
 pub mod OfferLemmas
 pub mod Prefixes
 pub mod RingLemmas

@@ -2,6 +2,7 @@ pub mod Collected
 pub mod Driven
 pub mod DriveTurns
 pub mod Held
+pub mod NotedIn
 pub mod Offered
 pub mod Opened
 pub mod Placed

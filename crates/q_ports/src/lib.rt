@@ -45,6 +45,7 @@ mod note;
 mod open;
 mod opened_ports;
 mod outlet;
+mod outlet_noting;
 mod port;
 mod port_counts;
 mod port_task;

@@ -1,6 +1,7 @@
-ghost use Rattle.std.specs.Prelude.{◌≡◌, ◌≤◌, ◌<◌, ◌++◌, [], true, false, length, OnOk, OnErr};
+ghost use Rattle.std.specs.Prelude.{◌≡◌, ◌≤◌, ◌<◌, ◌∷◌, ◌++◌, [], true, false, drop, length, OnOk, OnErr};
 ghost use mathlib.Core.List.{IsPrefix};
 ghost use Rattle.q_model.specs.Beneath.{totals_in};
+ghost use Rattle.q_model.specs.Step.{counts_at};
 ghost use Rattle.q_ports.specs.Placed.{placed_by, ring_of_port};
 ghost use Rattle.q_ports.specs.Rings.{ring_seen, with_known};
 ghost use Rattle.q_ports.specs.Room.{StaysButForPlaces};
@@ -12,7 +13,7 @@ use crate::ring_rule::PacketConsumer;
 use crate::taken_in::TakenIn;
 use q_device::laws::device_has_its_memory;
 use q_device::{Device, Totals as Share};
-use q_packet::Moment;
+use q_packet::{Moment, Packet};
 use std::alloc::AllocError;
 use std::marker::Model;
 
@@ -106,8 +107,8 @@ impl Outlet {
         self.ring.cached_slots()
     }
 
-    // Whether nothing waits in the ring.
-    fn is_empty(&mut self) -> bool
+    /// Whether nothing waits in the ring.
+    pub(crate) fn is_empty(&mut self) -> bool
         ensures looked { self.new ≡ with_known self.new.known self.old }
         ensures longer { IsPrefix self.old.known self.new.known }
         ensures empty { result ≡ true → self.new.known ≡ [] }
@@ -116,13 +117,22 @@ impl Outlet {
         self.ring.is_empty()
     }
 
-    // Lets the first packet that is known to wait arrive, and only then takes it out of the ring.
-    fn take_first(&mut self, device: &mut Device, now: Moment) -> Result<(), AllocError>
+    /// The first packet that is known to wait.
+    pub(crate) fn first(&self) -> Packet
+        requires { 0 < length self.now.known }
+        ensures { self.now.known ≡ result ∷ drop 1 self.now.known }
+    {
+        *self.ring.peek_known()
+    }
+
+    /// Lets the first packet that is known to wait arrive, and only then takes it out of the ring.
+    pub(crate) fn take_first(&mut self, device: &mut Device, now: Moment) -> Result<(), AllocError>
         requires { 0 < length self.old.known }
         ensures taken { OnOk result (TakesFirst now self.old self.new device.old device.new) }
         ensures same { OnErr result (self.new ≡ self.old) }
         ensures same_device { OnErr result (StaysButForPlaces device.old device.new) }
         ensures refused { OnErr result (HasNoRoomForFirst device.old self.old) }
+        ensures clock { OnOk result (device.new.device.clock ≡ counts_at now device.old.device) }
     {
         let packet = self.ring.peek_known();
         let len = u64::from(packet.len);
