@@ -148,6 +148,7 @@ impl ControlState {
 
     /// Does what [`ControlState::take_into`] does, where [`ControlState::passed`] found the head late, which is not judged again:
     /// `front` is what CoDel reads of it. Returns whether the packet was marked.
+    #[inline(always)]
     pub fn take_late_into<Q: Queue, S: Sink>(
         &mut self,
         parameters: &Parameters,
@@ -172,7 +173,7 @@ impl ControlState {
         ensures kept { Q.keeps queue.old queue.new }
         ensures sink_kept { S.keeps sink.old sink.new }
     {
-        let marked = self.choose_late(parameters, front, queue, now, sink);
+        let marked = self.drop_or_mark(parameters, front, queue, now, sink);
         give_head(queue, marked, out);
         marked
     }
@@ -270,6 +271,33 @@ impl ControlState {
         ensures kept { Q.keeps queue.old queue.new }
         ensures sink_kept { S.keeps sink.old sink.new }
     {
+        self.drop_or_mark(parameters, front, queue, now, sink)
+    }
+
+    // The same with no call of its own, for a caller that is itself off the common way.
+    #[inline(always)]
+    fn drop_or_mark<Q: Queue, S: Sink>(
+        &mut self,
+        parameters: &Parameters,
+        front: Front,
+        queue: &mut Q,
+        now: Moment,
+        sink: &mut S,
+    ) -> bool
+        requires front { IsFront front (Q.packets queue.old) }
+        requires room { count (Q.packets queue.old) ≤ S.room sink.old }
+        requires late { is_late (joined parameters.now self.old) now (Q.packets queue.old) ≡ true }
+        ensures chosen { (head : Stamped) (rest : List Stamped) → Q.packets queue.new ≡ head ∷ rest
+            → Chooses (joined parameters.now self.old) now (Q.packets queue.old) head result rest (joined parameters.now self.new) }
+        ensures some { 0 < count (Q.packets queue.new) }
+        ensures lost { let all = Q.packets queue.old in
+            S.losses sink.new ≡ S.losses sink.old
+            ++ losses_of Cause.CoDel (take (drops (joined parameters.now self.old) now all) all) }
+        ensures room { S.room sink.new + drops (joined parameters.now self.old) now (Q.packets queue.old)
+            ≡ S.room sink.old }
+        ensures kept { Q.keeps queue.old queue.new }
+        ensures sink_kept { S.keeps sink.old sink.new }
+    {
         if self.dropping {
             return self.go_on(parameters, front, queue, now, sink);
         }
@@ -287,6 +315,7 @@ impl ControlState {
     }
 
     // While dropping, with a late head: drops heads, or marks one, each at its moment, until one is to be sent.
+    #[inline(always)]
     fn go_on<Q: Queue, S: Sink>(
         &mut self,
         parameters: &Parameters,
@@ -407,7 +436,6 @@ fn drop_head<Q: Queue, S: Sink>(queue: &mut Q, sink: &mut S) -> Front
     ensures kept { Q.keeps queue.old queue.new }
     ensures sink_kept { S.keeps sink.old sink.new }
 {
-    let head = queue.take().unwrap();
-    sink.lost(head.packet, Cause::CoDel);
+    queue.lose(Cause::CoDel, sink);
     queue.front().unwrap()
 }

@@ -1,10 +1,12 @@
-ghost use Rattle.std.specs.Prelude.{◌≡◌, ◌<◌, List, Some, option_map, slice_get, drop};
+ghost use Rattle.std.specs.Prelude.{◌≡◌, ◌<◌, ◌≤◌, ◌+◌, ◌++◌, List, Some, option_map, slice_get, drop, take};
 ghost use Rattle.q_packet.specs.Totals.{count, size};
 ghost use Rattle.q_packet.specs.declared.stamped.Stamped.{Stamped};
 ghost use Rattle.q_codel.specs.Front.{front_of};
+ghost use Rattle.q_codel.specs.Losses.{losses_of};
 
 use crate::front::Front;
-use q_packet::{Packet, Stamped};
+use crate::sink::Sink;
+use q_packet::{Cause, Packet, Stamped};
 
 /// A queue that CoDel takes from: a list of stamped packets, front first.
 ///
@@ -48,6 +50,22 @@ pub trait Queue {
             unreachable!()
         };
         *out = stamped.packet;
+    }
+
+    /// Loses the packet in front, which is there: `sink` gets it, with this cause.
+    fn lose<S: Sink>(&mut self, cause: Cause, sink: &mut S)
+        requires some { 0 < count (packets self.old) }
+        requires room { 1 ≤ S.room sink.old }
+        ensures rest { packets self.new ≡ drop 1 (packets self.old) }
+        ensures lost { S.losses sink.new ≡ S.losses sink.old ++ losses_of cause (take 1 (packets self.old)) }
+        ensures room { S.room sink.new + 1 ≡ S.room sink.old }
+        ensures kept { keeps self.old self.new }
+        ensures sink_kept { S.keeps sink.old sink.new }
+    {
+        let Some(stamped) = self.take() else {
+            unreachable!()
+        };
+        sink.lost(stamped.packet, cause);
     }
 
     /// The bytes of all its packets.

@@ -1,8 +1,9 @@
 -- One packet leaves and another joins: that is as if the second had joined first, where the first was there.
-use Rattle.std.proofs.Common.{◌≡◌, ◌≢◌, ℕ, ◌<◌, List, [], ◌∷◌, ◌++◌, length, get_or, set, take, drop, sym, refl, ap, ap₂, ◌∙◌, arith, ⊎_elim}
+use Rattle.std.proofs.Common.{◌≡◌, ◌≢◌, ℕ, ◌<◌, ◌≤◌, List, [], ◌∷◌, ◌++◌, length, get_or, set, take, drop, sym, refl, ap, ap₂, ◌∙◌, arith, ⊎_elim}
 use Rattle.std.proofs.lemmas.Bool.{cases_eq}
 use Rattle.std.proofs.lemmas.List.{length-set, set-set, set_comm, get_or-set_same, get_or-set_other}
 use Rattle.q_packet.specs.Totals.{count, size}
+use Rattle.q_packet.proofs.TotalsLemmas.{size-cons, size_push}
 use Rattle.q_packet.specs.declared.stamped.Stamped.{Stamped}
 use Rattle.q_fqcodel.specs.Pool.{moved, sizes}
 use Rattle.q_fqcodel.proofs.PooledLemmas.{flow_with, sizes-set}
@@ -14,6 +15,10 @@ drop_first (x ∷ q) s h = refl
 first_same : (q : List Stamped) (s : Stamped) → 0 < count q → take 1 (q ++ s ∷ []) ≡ take 1 q
 first_same [] s h = absurd (omega (arith, h))
 first_same (x ∷ q) s h = refl
+
+size_rest : (q : List Stamped) → size (drop 1 q) ≤ size q
+size_rest [] = omega arith
+size_rest (x ∷ q) = omega (arith, size-cons x q)
 
 module _ (qs : List (List Stamped)) (from flow : ℕ) (s : Stamped) (some : 0 < count (get_or qs from [])) (within : flow < length qs) where
   -- the queues once the packet has joined
@@ -79,6 +84,19 @@ module _ (qs : List (List Stamped)) (from flow : ℕ) (s : Stamped) (some : 0 < 
     new_sizes : sizes new ≡ set (set (sizes qs) from (size rest)) flow (size own)
     new_sizes = ap sizes is ∙ sizes-set (set qs from rest) flow own ∙ ap (λ (l : List ℕ). set l flow (size own)) (sizes-set qs from rest)
 
+    new_from : from ≢ flow → get_or new from [] ≡ rest
+    new_from ne =
+        ap (λ (l : List (List Stamped)). get_or l from []) is
+        ∙ get_or-set_other (set qs from rest) flow from own [] ne
+        ∙ get_or-set_same qs from rest [] from_within
+
+    -- the one has grown, and the other has not
+    pub grown : (held : ℕ) → held ≡ size (get_or new flow []) → from ≢ flow → size (get_or qs flow []) ≤ held
+    grown held read ne = omega (arith, read, ap size new_own, ap size (own_other ne), size_push (get_or qs flow []) s)
+
+    pub fallen : (left : ℕ) → left ≡ size (get_or new from []) → from ≢ flow → left ≤ size (get_or qs from [])
+    fallen left read ne = omega (arith, read, ap size (new_from ne), size_rest (get_or qs from []))
+
     module _ (ws : List ℕ) (held : ℕ) (told : ws ≡ set (sizes qs) flow held) (read : held ≡ size (get_or new flow [])) where
       is_told : ws ≡ set (sizes qs) flow (size own)
       is_told = told ∙ ap (set (sizes qs) flow) (read ∙ ap size new_own)
@@ -92,11 +110,7 @@ module _ (qs : List (List Stamped)) (from flow : ℕ) (s : Stamped) (some : 0 < 
 
       pub both_told : (ws2 : List ℕ) (left : ℕ) → ws2 ≡ set ws from left → left ≡ size (get_or new from []) → from ≢ flow → ws2 ≡ sizes new
       both_told ws2 left told2 read2 ne =
-          let gone : get_or new from [] ≡ rest =
-          ap (λ (l : List (List Stamped)). get_or l from []) is
-          ∙ get_or-set_other (set qs from rest) flow from own [] ne
-          ∙ get_or-set_same qs from rest [] from_within in
           told2
-          ∙ ap₂ (λ (l : List ℕ) (n : ℕ). set l from n) is_told (read2 ∙ ap size gone)
+          ∙ ap₂ (λ (l : List ℕ) (n : ℕ). set l from n) is_told (read2 ∙ ap size (new_from ne))
           ∙ sym (set_comm (sizes qs) from flow (size rest) (size own) ne)
           ∙ sym new_sizes

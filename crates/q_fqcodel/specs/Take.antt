@@ -1,9 +1,9 @@
 -- What an fq_codel sends next, what CoDel drops before it, and the state after.
 -- RFC 8290, section 4.2, with CoDel as RFC 8289, section 5, has it.
-use Rattle.std.specs.Prelude.{ℕ, Bool, pos, ◌-ℤ◌, List, [], ◌∷◌, ◌++◌, take, Option, Some, None, option_map, option_and_then, slice_get, unwrap_or}
+use Rattle.std.specs.Prelude.{ℕ, Bool, pos, ◌-ℤ◌, List, [], ◌∷◌, ◌++◌, take, Option, Some, None, option_map, option_and_then, slice_get, unwrap_or, IsSomeAnd, ◌≡◌, true}
 use Rattle.q_packet.specs.Descriptor.{Descriptor}
 use Rattle.q_packet.specs.declared.stamped.Stamped.{Stamped}
-use Rattle.q_codel.specs.Codel.{drops, taken, left, after}
+use Rattle.q_codel.specs.Codel.{drops, taken, left, after, is_late}
 use Rattle.q_codel.specs.declared.taken.Taken.{Taken}
 use Rattle.q_fqcodel.specs.Cleared.{adjust, clear}
 use Rattle.q_fqcodel.specs.Selection.{arranged}
@@ -37,6 +37,10 @@ front s = slice_get (s.new_flows ++ s.old_flows) 0
 -- the flow of that entry
 unfoldable pub sender : FqState → Option Flow
 sender s = option_and_then (λ (e : Entry). slice_get s.flows e.flow) (front s)
+
+-- CoDel finds the head of the flow in front late: it has to drop or mark
+abbrev pub IsFrontLate : ℕ → FqState → Type 0
+IsFrontLate now s = IsSomeAnd (sender s) (λ (f : Flow). is_late f.codel now f.queue ≡ true)
 
 -- the packet that the flow in front sends, and those that CoDel drops before it
 unfoldable pub sent_from : ℕ → FqState → Option Taken

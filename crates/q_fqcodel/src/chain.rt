@@ -90,12 +90,7 @@ pub(crate) fn take_head_into(nodes: &mut Nodes, list: FlowList, out: &mut Packet
     ensures len { nodes.new.count + 1 ≡ nodes.old.count }
     ensures capacity { nodes.new.slab.capacity ≡ nodes.old.slab.capacity }
 {
-    let node = nodes.at(list.head);
-    let packet = &node.packet;
-    let len = packet.len;
-    let next = node.next;
-    *out = *packet;
-    nodes.vacate(list.head);
+    let (next, len) = nodes.release_into(list.head, out);
     FlowList {
         head: next,
         tail: list.tail,

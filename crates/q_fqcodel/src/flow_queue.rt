@@ -41,6 +41,10 @@ impl<'a> Queue for FlowQueue<'a> {
         self.pool.front_of(self.flow)
     }
 
+    fn lose<S: Sink>(&mut self, cause: Cause, sink: &mut S) {
+        self.pool.lose_head(self.flow, cause, sink);
+    }
+
     fn take_into(&mut self, out: &mut Packet) {
         self.pool.take_of_into(self.flow, out);
     }
@@ -60,6 +64,7 @@ impl<'a> Queue for FlowQueue<'a> {
 
 /// Lets a flow whose head was found late send by CoDel's law into `out`, and says whether the packet was marked. `front` is what CoDel
 /// looks at of the head, which is not judged again.
+#[inline(always)]
 pub(crate) fn send_late_from<S: Sink>(
     pool: &mut Pool,
     codel: &mut ControlState,

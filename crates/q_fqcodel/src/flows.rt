@@ -1,4 +1,4 @@
-ghost use Rattle.std.specs.Prelude.{◌≡◌, ◌+◌, ◌<◌, ◌≤◌, ◌%◌, ◌^◌, [], ◌++◌, ◌&&◌, ◌==◌, not, true, nat_le, length, map, replicate, take, drop, set, slice_get, get_or, ◌↔◌, IsSome, IfSome, IsOk, IfOk, OnOk, OnErr};
+ghost use Rattle.std.specs.Prelude.{◌≡◌, ◌+◌, ◌<◌, ◌≤◌, ◌%◌, ◌^◌, [], ◌++◌, ◌&&◌, ◌==◌, not, true, false, nat_le, length, map, replicate, take, drop, set, slice_get, get_or, ◌↔◌, IsSome, IfSome, IsOk, IfOk, OnOk, OnErr};
 ghost use Rattle.q_packet.specs.Totals.{count};
 ghost use Rattle.q_packet.specs.declared.stamped.Stamped.{Stamped};
 ghost use Rattle.q_codel.specs.Codel.{is_late};
@@ -12,11 +12,12 @@ ghost use Rattle.q_fqcodel.specs.Pool.{stamp, cleared};
 
 use crate::course::Course;
 use crate::flow_queue::send_late_from;
+use crate::late::Late;
 use crate::pool::Pool;
 use crate::sent::Sent;
 use crate::settings::Settings;
 use crate::winners::Winners;
-use q_codel::{ControlState, Front, Parameters, Sink};
+use q_codel::{ControlState, Parameters, Sink};
 use q_packet::{Cause, Moment, Packet};
 use std::alloc::{AllocError, Global};
 use std::marker::Model;
@@ -133,9 +134,45 @@ impl Flows {
         self.states[flow as usize].rest();
     }
 
-    /// Lets a flow, which has a packet, send by CoDel's law into `out`.
+    /// Sends the head of a flow, which has one, into `out` as it is, and returns its length in bytes.
+    ///
+    /// # Errors
+    ///
+    /// [`Late`] where CoDel finds the head late, so that [`Flows::send_late_into`] has to drop or mark it; nothing has changed then.
     #[inline(always)]
-    pub(crate) fn send_into<S: Sink>(
+    pub(crate) fn pass_into(
+        &mut self,
+        flow: u32,
+        now: Moment,
+        out: &mut Packet,
+    ) -> Result<u16, Late>
+        requires in_range { flow < length self.old.flows }
+        requires some { 0 < count (queue_of self.old.flows flow) }
+        ensures sent { OnOk result (IfSome (slice_get self.old.flows flow) (λ f. taken_as out.new false ≡ packet_sent now f)) }
+        ensures len { IfOk result (λ len. len ≡ out.new.len) }
+        ensures some { IfOk result (λ len. 0 < len) }
+        ensures dropped { OnOk result (IfSome (slice_get self.old.flows flow) (λ f. packets_dropped now f ≡ [])) }
+        ensures flows { OnOk result (self.new.flows ≡ adjust (flow_after now) flow self.old.flows) }
+        ensures places { self.new.places ≡ self.old.places }
+        ensures late { OnErr result (IfSome (slice_get self.old.flows flow) (λ f. is_late f.codel now f.queue ≡ true)) }
+        ensures stays { OnErr result (self.new.flows ≡ self.old.flows) }
+        ensures unwritten { OnErr result (out.new ≡ out.old) }
+    {
+        let (front, bytes) = self.pool.peek(flow);
+        let behind = bytes - front.len as u64;
+        let codel = &self.states[flow as usize];
+        let Some(after) = codel.passed(&self.parameters, &front, behind, now) else {
+            return Err(Late);
+        };
+        self.pool.take_of_into(flow, out);
+        self.states[flow as usize].pass(after);
+        self.winners.renew(flow, behind, Course::Fell);
+        Ok(front.len)
+    }
+
+    /// Lets a flow whose head CoDel found late send by its law into `out`. The head is not judged again.
+    #[inline(always)]
+    pub(crate) fn send_late_into<S: Sink>(
         &mut self,
         flow: u32,
         now: Moment,
@@ -144,54 +181,6 @@ impl Flows {
     ) -> Sent
         requires in_range { flow < length self.old.flows }
         requires some { 0 < count (queue_of self.old.flows flow) }
-        requires room { count (queue_of self.old.flows flow) ≤ S.room sink.old }
-        ensures sent { IfSome (slice_get self.old.flows flow) (λ f. taken_as out.new result.marked ≡ packet_sent now f) }
-        ensures len { result.len ≡ out.new.len }
-        ensures some { 0 < result.len }
-        ensures dropped { IfSome (slice_get self.old.flows flow) (λ f. result.dropped ≡ not (count (packets_dropped now f) == 0)) }
-        ensures flows { self.new.flows ≡ adjust (flow_after now) flow self.old.flows }
-        ensures places { self.new.places ≡ self.old.places }
-        ensures lost { IfSome (slice_get self.old.flows flow)
-            (λ f. S.losses sink.new ≡ S.losses sink.old ++ losses_of Cause.CoDel (packets_dropped now f)) }
-        ensures room { IfSome (slice_get self.old.flows flow)
-            (λ f. S.room sink.new + count (packets_dropped now f) ≡ S.room sink.old) }
-        ensures kept { S.keeps sink.old sink.new }
-    {
-        let (front, bytes) = self.pool.peek(flow);
-        let behind = bytes - front.len as u64;
-        let codel = &self.states[flow as usize];
-        let Some(after) = codel.passed(&self.parameters, &front, behind, now) else {
-            let late = self.send_late_into(flow, front, now, out, sink);
-            // Field by field: as a whole it would be read where two narrower numbers were just written.
-            return Sent {
-                len: late.len,
-                marked: late.marked,
-                dropped: late.dropped,
-            };
-        };
-        self.pool.take_of_into(flow, out);
-        self.states[flow as usize].pass(after);
-        self.winners.renew(flow, behind, Course::Fell);
-        Sent {
-            len: front.len,
-            marked: false,
-            dropped: false,
-        }
-    }
-
-    // The same where the head is late: a function of its own, so that the common way saves no registers for it.
-    #[cold]
-    #[inline(never)]
-    fn send_late_into<S: Sink>(
-        &mut self,
-        flow: u32,
-        front: Front,
-        now: Moment,
-        out: &mut Packet,
-        sink: &mut S,
-    ) -> Sent
-        requires in_range { flow < length self.old.flows }
-        requires front { IsFront front (queue_of self.old.flows flow) }
         requires late { IfSome (slice_get self.old.flows flow) (λ f. is_late f.codel now f.queue ≡ true) }
         requires room { count (queue_of self.old.flows flow) ≤ S.room sink.old }
         ensures sent { IfSome (slice_get self.old.flows flow) (λ f. taken_as out.new result.marked ≡ packet_sent now f) }
@@ -206,7 +195,8 @@ impl Flows {
             (λ f. S.room sink.new + count (packets_dropped now f) ≡ S.room sink.old) }
         ensures kept { S.keeps sink.old sink.new }
     {
-        let held = self.pool.count_of(flow);
+        let (front, _) = self.pool.peek(flow);
+        let held = self.pool.count_at(flow);
         let codel = &mut self.states[flow as usize];
         let marked = send_late_from(
             &mut self.pool,
@@ -218,8 +208,8 @@ impl Flows {
             out,
             sink,
         );
-        let rest = self.pool.count_of(flow);
-        let bytes = self.pool.bytes_of(flow);
+        let rest = self.pool.count_at(flow);
+        let bytes = self.pool.bytes_at(flow);
         self.winners.renew(flow, bytes, Course::Either);
         Sent {
             len: out.len,
@@ -237,7 +227,7 @@ impl Flows {
         ensures some { (s : Stamped) → s.packet.len ≡ len → 0 < count (queue_of (adjust (joined s) flow self.now.flows) result) }
     {
         self.pool.each_has_bytes();
-        let held = self.pool.bytes_of(flow) + len as u64;
+        let held = self.pool.bytes_at(flow) + len as u64;
         self.winners.top_with(flow, held)
     }
 
@@ -328,17 +318,18 @@ impl Flows {
         ensures kept { S.keeps sink.old sink.new }
     {
         let own = self.pool.replace(fat, flow, packet, now, sink);
-        self.winners.renew(flow, own, Course::Either);
         if fat == flow {
+            self.winners.renew(flow, own, Course::Either);
             return;
         }
-        let rest = self.pool.bytes_of(fat);
-        self.winners.renew(fat, rest, Course::Either);
+        self.winners.renew(flow, own, Course::Rose);
+        let rest = self.pool.bytes_at(fat);
+        self.winners.renew(fat, rest, Course::Fell);
     }
 
     /// Appends a packet to a flow where the limit is passed with it: the fat flow then loses packets from its front. Says
     /// whether the packet that was put is itself among them.
-    #[inline(never)]
+    #[inline(always)]
     pub(crate) fn push_over<S: Sink>(
         &mut self,
         flow: u32,

@@ -1,4 +1,4 @@
-ghost use Rattle.std.specs.Prelude.{ℕ, ◌≡◌, ◌+◌, ◌%◌, ◌<◌, nat_lt, ◌≤◌, ◌↔◌, ◌==◌, [], ◌∷◌, ◌++◌, length, set, slice_get, pos, true, false, if◌then◌else◌, IsSome, IsNone, IsOk, IfOk, OnOk, OnErr};
+ghost use Rattle.std.specs.Prelude.{ℕ, ◌≡◌, ◌+◌, ◌%◌, ◌<◌, nat_lt, ◌≤◌, ◌↔◌, ◌==◌, [], ◌∷◌, ◌++◌, length, set, slice_get, option_map, pos, true, false, if◌then◌else◌, IsSome, IfSome, IsNone, IsOk, IfOk, OnOk, OnErr};
 ghost use Rattle.std.specs.Option.{option_map_or};
 ghost use Rattle.q_packet.specs.Totals.{count, size};
 ghost use Rattle.q_packet.specs.Descriptor.{Descriptor};
@@ -10,6 +10,7 @@ use crate::dropped::Dropped;
 use crate::entry::Entry;
 use crate::flow_list::FlowList;
 use crate::flows::Flows;
+use crate::late::Late;
 use crate::link::Link;
 use crate::sent::Sent;
 use crate::settings::Settings;
@@ -56,7 +57,7 @@ impl FqCodel {
     ghost use Rattle.std.specs.Prelude.{min};
     ghost use Rattle.q_fqcodel.specs.FqState.{packets_of, bytes_of, all_packets, first_state, after_change};
     ghost use Rattle.q_fqcodel.specs.Put.{after_put, lost_by_put, is_lost_itself};
-    ghost use Rattle.q_fqcodel.specs.Take.{selected, front, sent_from, dropped_from, after_sending};
+    ghost use Rattle.q_fqcodel.specs.Take.{selected, front, sent_from, dropped_from, after_sending, IsFrontLate};
     ghost use Rattle.q_fqcodel.specs.Lawful.{IsLawful};
     ghost use Rattle.q_fqcodel.specs.Turns.{GoesOn, IsSettled};
 
@@ -103,8 +104,75 @@ impl FqCodel {
         ensures room { S.room sink.new + count (dropped_from now (selected self.old.state)) ≡ S.room sink.old }
         ensures kept { S.keeps sink.old sink.new }
     {
+        match self.pass_into(now, out) {
+            Ok(None) => {
+                return Sent {
+                    len: 0,
+                    marked: false,
+                    dropped: false,
+                };
+            }
+            Ok(Some(len)) => {
+                return Sent {
+                    len,
+                    marked: false,
+                    dropped: false,
+                };
+            }
+            Err(_) => return self.take_late_into(now, out, sink),
+        }
+    }
+
+    /// Does what [`FqCodel::take_into`] does where the packet in front goes as it is, and returns its length in bytes; `None` where no
+    /// flow has a packet. So the usual take has no sink, and is not told of drops and marks.
+    ///
+    /// # Errors
+    ///
+    /// [`Late`] where CoDel finds that packet late, so that it has to drop or mark: the flow that sends is in front then, and
+    /// [`FqCodel::take_late_into`] goes on.
+    #[inline(always)]
+    pub fn pass_into(&mut self, now: Moment, out: &mut Packet) -> Result<Option<u16>, Late>
+        ensures len { IfOk result (λ len. len ≡ option_map (λ (t : Taken). t.packet.len) (sent_from now (selected self.old.state))) }
+        ensures some { IfOk result (λ len. IsSome len ↔ (0 < packets_of self.old.state.flows)) }
+        ensures positive { IfOk result (λ len. IfSome len (λ n. 0 < n)) }
+        ensures packet { OnOk result (out.new ≡ option_map_or (λ (t : Taken). t.packet) (sent_from now (selected self.old.state)) out.old) }
+        ensures marked { OnOk result (option_map_or (λ (t : Taken). t.marked) (sent_from now (selected self.old.state)) false ≡ false) }
+        ensures dropped { OnOk result (dropped_from now (selected self.old.state) ≡ []) }
+        ensures after { OnOk result (self.new.state ≡ after_sending now (selected self.old.state)) }
+        ensures places { self.new.places ≡ self.old.places }
+        ensures late { OnErr result (IsFrontLate now self.new.state) }
+        ensures settled { OnErr result (IsSettled self.new.state) }
+        ensures selected { OnErr result (self.new.state ≡ selected self.old.state) }
+        ensures packets { OnErr result (packets_of self.new.state.flows ≡ packets_of self.old.state.flows) }
+        ensures unwritten { OnErr result (out.new ≡ out.old) }
+    {
         let first = self.select();
-        self.send_front_into(first, now, out, sink)
+        self.pass_front_into(first, now, out)
+    }
+
+    /// Does what [`FqCodel::take_into`] does, once [`FqCodel::pass_into`] has found the packet in front late.
+    #[inline(always)]
+    pub fn take_late_into<S: Sink>(&mut self, now: Moment, out: &mut Packet, sink: &mut S) -> Sent
+        requires settled { IsSettled self.old.state }
+        requires late { IsFrontLate now self.old.state }
+        requires room { packets_of self.old.state.flows ≤ S.room sink.old }
+        ensures len { result.len ≡ option_map_or (λ (t : Taken). t.packet.len) (sent_from now self.old.state) 0 }
+        ensures sends { 0 < result.len }
+        ensures some { (0 < result.len) ↔ (0 < packets_of self.old.state.flows) }
+        ensures packet { out.new ≡ option_map_or (λ (t : Taken). t.packet) (sent_from now self.old.state) out.old }
+        ensures marked { result.marked ≡ option_map_or (λ (t : Taken). t.marked) (sent_from now self.old.state) false }
+        ensures dropped { result.dropped ≡ not (count (dropped_from now self.old.state) == 0) }
+        ensures after { self.new.state ≡ after_sending now self.old.state }
+        ensures places { self.new.places ≡ self.old.places }
+        ensures lost { S.losses sink.new ≡ S.losses sink.old ++ losses_of Cause.CoDel (dropped_from now self.old.state) }
+        ensures room { S.room sink.new + count (dropped_from now self.old.state) ≡ S.room sink.old }
+        ensures kept { S.keeps sink.old sink.new }
+    {
+        let front = self.first().unwrap();
+        let sent = self.flows.send_late_into(front.flow, now, out, sink);
+        // CoDel's drops cost the flow nothing: only what is sent does.
+        self.lists.write_front(front.charged(sent.len));
+        sent
     }
 
     /// Puts a packet at the end of its flow, at the time `now`: the flow with the index `hash mod flows`.
@@ -356,42 +424,46 @@ impl FqCodel {
         Some(entry)
     }
 
-    // Lets the flow in front send into `out` by CoDel's law, and pay for the packet.
+    // The flow in front: of the new list, or of the old one where the new one is empty.
+    fn first(&self) -> Option<Entry>
+        ensures { result ≡ front self.now.state }
+    {
+        if self.has_new() {
+            return self.lists.first_new();
+        }
+        self.lists.first_old()
+    }
+
+    // Sends the packet of the flow in front into `out`, where CoDel lets it go as it is, and lets the flow pay for it.
     #[inline(always)]
-    fn send_front_into<S: Sink>(
+    fn pass_front_into(
         &mut self,
         first: Option<Entry>,
         now: Moment,
         out: &mut Packet,
-        sink: &mut S,
-    ) -> Sent
+    ) -> Result<Option<u16>, Late>
         requires first { first ≡ front self.old.state }
         requires settled { IsSettled self.old.state }
-        requires room { packets_of self.old.state.flows ≤ S.room sink.old }
-        ensures len { result.len ≡ option_map_or (λ (t : Taken). t.packet.len) (sent_from now self.old.state) 0 }
-        ensures some { (0 < result.len) ↔ (0 < packets_of self.old.state.flows) }
-        ensures packet { out.new ≡ option_map_or (λ (t : Taken). t.packet) (sent_from now self.old.state) out.old }
-        ensures marked { result.marked ≡ option_map_or (λ (t : Taken). t.marked) (sent_from now self.old.state) false }
-        ensures dropped { result.dropped ≡ not (count (dropped_from now self.old.state) == 0) }
-        ensures after { self.new.state ≡ after_sending now self.old.state }
+        ensures len { IfOk result (λ len. len ≡ option_map (λ (t : Taken). t.packet.len) (sent_from now self.old.state)) }
+        ensures some { IfOk result (λ len. IsSome len ↔ (0 < packets_of self.old.state.flows)) }
+        ensures positive { IfOk result (λ len. IfSome len (λ n. 0 < n)) }
+        ensures packet { OnOk result (out.new ≡ option_map_or (λ (t : Taken). t.packet) (sent_from now self.old.state) out.old) }
+        ensures marked { OnOk result (option_map_or (λ (t : Taken). t.marked) (sent_from now self.old.state) false ≡ false) }
+        ensures dropped { OnOk result (dropped_from now self.old.state ≡ []) }
+        ensures after { OnOk result (self.new.state ≡ after_sending now self.old.state) }
         ensures places { self.new.places ≡ self.old.places }
-        ensures lost { S.losses sink.new ≡ S.losses sink.old ++ losses_of Cause.CoDel (dropped_from now self.old.state) }
-        ensures room { S.room sink.new + count (dropped_from now self.old.state) ≡ S.room sink.old }
-        ensures kept { S.keeps sink.old sink.new }
+        ensures late { OnErr result (IsFrontLate now self.old.state) }
+        ensures stays { OnErr result (self.new.state ≡ self.old.state) }
+        ensures unwritten { OnErr result (out.new ≡ out.old) }
     {
         let Some(front) = first else {
             // An fq_codel with no flow in front holds no packet, as its state is lawful.
             let _ = self.queued();
-            return Sent {
-                len: 0,
-                marked: false,
-                dropped: false,
-            };
+            return Ok(None);
         };
-        let sent = self.flows.send_into(front.flow, now, out, sink);
-        // CoDel's drops cost the flow nothing: only what is sent does.
-        self.lists.write_front(front.charged(sent.len));
-        sent
+        let len = self.flows.pass_into(front.flow, now, out)?;
+        self.lists.write_front(front.charged(len));
+        Ok(Some(len))
     }
 }
 

@@ -8,6 +8,8 @@
 //! - [`FqCodel::take`] gives the next packet to send, with CoDel's drops and marks.
 //! - [`FqCodel::put_from`] and [`FqCodel::take_into`] do the same with a packet that is read or written in the caller's
 //!   memory, so that it is copied once. [`Sent`] says what a take did, and [`FqCodel::fits`] beforehand that a put loses nothing.
+//! - [`FqCodel::pass_into`] and [`FqCodel::take_late_into`] are the two parts of a take: the usual one, where CoDel lets the packet
+//!   go as it is, and the other.
 //! - [`FqCodel::put_counted`] returns how many packets and bytes a put dropped, as [`Dropped`].
 //! - [`FqCodel::change`] replaces the settings, [`FqCodel::purge`] loses every packet, [`FqCodel::queued`] counts.
 //!
@@ -48,6 +50,7 @@ mod flow_list;
 mod flow_queue;
 mod flows;
 mod fq_codel;
+mod late;
 pub mod laws;
 mod link;
 mod links;
@@ -61,5 +64,6 @@ mod winners;
 
 pub use dropped::Dropped;
 pub use fq_codel::FqCodel;
+pub use late::Late;
 pub use sent::Sent;
 pub use settings::Settings;

@@ -115,6 +115,31 @@ impl Nodes {
         key
     }
 
+    /// Copies the packet of the node at a key into `out`, and leaves the node without it. Returns the key that the node led to, and
+    /// the packet's length in bytes.
+    #[inline(always)]
+    pub(crate) fn release_into(&mut self, key: usize, out: &mut Packet) -> (usize, u16)
+        requires there { IsSome (used self.old key) }
+        requires some { 0 < self.old.count }
+        ensures given { (x : Node) → used self.old key ≡ Some x → out.new ≡ x.packet }
+        ensures next { (x : Node) → used self.old key ≡ Some x → result.0 ≡ x.next }
+        ensures len { result.1 ≡ out.new.len }
+        ensures same { (j : ℕ) → j ≢ key → used self.new j ≡ used self.old j }
+        ensures count { self.new.count + 1 ≡ self.old.count }
+        ensures capacity { self.new.slab.capacity ≡ self.old.slab.capacity }
+    {
+        let spare = self.spare;
+        let node = &mut self.slab[key];
+        let packet = &node.packet;
+        let len = packet.len;
+        let next = node.next;
+        *out = *packet;
+        node.next = spare;
+        self.spare = key;
+        self.count -= 1;
+        (next, len)
+    }
+
     /// Leaves the node at a key without its packet.
     #[inline(always)]
     pub(crate) fn vacate(&mut self, key: usize)

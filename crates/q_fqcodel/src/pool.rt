@@ -154,6 +154,24 @@ impl Pool {
         self.bytes -= list.bytes - rest.bytes;
     }
 
+    /// Loses the packet in front of a flow, which has one: `sink` gets it, with this cause.
+    #[inline(always)]
+    pub(crate) fn lose_head<S: Sink>(&mut self, flow: u32, cause: Cause, sink: &mut S)
+        requires some { 0 < count (get_or self.old.queues flow []) }
+        requires room { 1 ≤ S.room sink.old }
+        ensures queues { self.new.queues ≡ set self.old.queues flow (drop 1 (get_or self.old.queues flow [])) }
+        ensures packets { packets_in self.new.queues + 1 ≡ packets_in self.old.queues }
+        ensures places { self.new.places ≡ self.old.places }
+        ensures lost { S.losses sink.new ≡ S.losses sink.old ++ losses_of cause (take 1 (get_or self.old.queues flow [])) }
+        ensures room { S.room sink.new + 1 ≡ S.room sink.old }
+        ensures kept { S.keeps sink.old sink.new }
+    {
+        // It is copied before its node is written, and so once.
+        let gone = self.head_of(flow).unwrap();
+        sink.lost(gone.packet, cause);
+        self.discard(flow);
+    }
+
     /// Takes the packet in front of a flow, which has one, into `out`.
     #[inline(always)]
     pub(crate) fn take_of_into(&mut self, flow: u32, out: &mut Packet)
@@ -166,7 +184,9 @@ impl Pool {
         let list = list_at(&self.lists, flow);
         let rest = take_head_into(&mut self.nodes, list, out);
         write_rest(&mut self.lists, flow, rest);
-        self.bytes -= out.len as u64;
+        self.bytes -= list.bytes - rest.bytes;
+        // A packet has a byte at least.
+        let _ = &out.len;
     }
 
     /// Loses the packet in front of the flow `from`, and appends another to a flow. Returns the bytes of that flow.
@@ -193,9 +213,7 @@ impl Pool {
         ensures room { S.room sink.new + 1 ≡ S.room sink.old }
         ensures kept { S.keeps sink.old sink.new }
     {
-        let gone = self.head_of(from).unwrap();
-        sink.lost(gone.packet, Cause::FatFlow);
-        self.discard(from);
+        self.lose_head(from, Cause::FatFlow, sink);
         self.push(packet, now, flow)
     }
 
@@ -220,6 +238,15 @@ impl Pool {
         ensures few { result < 2 ^ 48 - 1 }
     {
         list_of(&self.lists, flow).bytes
+    }
+
+    /// The same, of a flow that is there.
+    pub(crate) fn bytes_at(&self, flow: u32) -> u64
+        requires { flow < length self.now.queues }
+        ensures value { result ≡ size (get_or self.now.queues flow []) }
+        ensures few { result < 2 ^ 48 - 1 }
+    {
+        list_at(&self.lists, flow).bytes
     }
 
     /// Every packet has a byte at least, and 65535 at most. It does nothing.

@@ -1,6 +1,7 @@
 -- What a take from an fq_codel counts: what CoDel dropped and marked, by the numbers of its flows before and after.
-use Rattle.std.proofs.Common.{◌≡◌, ℕ, ◌+◌, ◌∙◌, List, [], ◌∷◌, ◌++◌, length, refl, sym, ap, ap₂, Option, Some, None, option_map, option_to_list, arith}
+use Rattle.std.proofs.Common.{◌≡◌, ℕ, ◌+◌, ◌∙◌, List, [], ◌∷◌, ◌++◌, length, refl, sym, ap, ap₂, Option, Some, None, option_map, option_to_list, subst, arith}
 use Rattle.std.specs.Prelude.{Bool, true, false, if◌then◌else◌}
+use Rattle.std.specs.Option.{option_map_or}
 use Rattle.std.proofs.lemmas.List.{append-nil, length-map}
 use Rattle.std.proofs.lemmas.List.Elements.{filter_map-append}
 use Rattle.q_packet.specs.Descriptor.{Descriptor}
@@ -68,10 +69,27 @@ counted-take now s =
       );
     }
 
+-- the same where the flow that sends is in front already
+pub late-packets : (now : ℕ) (s : FqState) → selected s ≡ s
+    → packets_of s.flows ≡ (totals_in (beneath.packets_of (dropped_from now s))).packets + length (option_to_list (packet_of (sent_from now s))) + packets_of (after_sending now s).flows
+late-packets now s chosen =
+    subst (λ (t : FqState). packets_of s.flows ≡ (totals_in (beneath.packets_of (dropped_from now t))).packets + length (option_to_list (packet_of (sent_from now t))) + packets_of (after_sending now t).flows)
+    chosen (counted-take now s).packets
+
+pub late-bytes : (now : ℕ) (s : FqState) → selected s ≡ s
+    → bytes_of s.flows ≡ (totals_in (beneath.packets_of (dropped_from now s))).bytes + (totals_in (option_to_list (packet_of (sent_from now s)))).bytes + bytes_of (after_sending now s).flows
+late-bytes now s chosen =
+    subst (λ (t : FqState). bytes_of s.flows ≡ (totals_in (beneath.packets_of (dropped_from now t))).bytes + (totals_in (option_to_list (packet_of (sent_from now t)))).bytes + bytes_of (after_sending now t).flows)
+    chosen (counted-take now s).bytes
+
 -- what is marked by a take
 abbrev pub marked_of : Option Taken → Totals
 marked_of None = no_totals
 marked_of (Some t) = if t.marked then with_packet no_totals t.packet else no_totals
+
+pub marked_is : (o : Option Taken) → marked_of o ≡ option_map_or (λ (t : Taken). if t.marked then with_packet no_totals t.packet else no_totals) o no_totals
+marked_is None = refl
+marked_is (Some t) = refl
 
 marks-packets : (sent : Option Taken) → marked one (marks_of sent) ≡ (marked_of sent).packets
 marks-packets None = marked-nil one

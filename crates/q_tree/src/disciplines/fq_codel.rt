@@ -1,9 +1,12 @@
 //! fq_codel: how one is made, enqueues, dequeues, shows its packet, is ready, and changes (tc-fq_codel(8)).
-ghost use Rattle.std.specs.Prelude.{◌≡◌, ◌<◌, ◌≤◌, ◌+◌, ◌++◌, IfOk, IsOk, List, None, OnErr, OnOk, Some, length, unwrap_or, if◌then◌else◌};
+ghost use Rattle.std.specs.Prelude.{◌≡◌, ◌<◌, ◌≤◌, ◌+◌, ◌++◌, IfOk, IsOk, List, None, OnErr, OnOk, Some, length, option_map, unwrap_or, if◌then◌else◌};
 ghost use Rattle.q_codel.specs.Losses.{losses_of};
 ghost use Rattle.q_fqcodel.specs.FqState.{first_state, packets_of};
 ghost use Rattle.q_fqcodel.specs.Put.{after_put, is_lost_itself, lost_by_put};
-ghost use Rattle.q_fqcodel.specs.Take.{after_sending, dropped_from, selected};
+ghost use Rattle.q_codel.specs.declared.taken.Taken.{Taken};
+ghost use Rattle.q_fqcodel.specs.Take.{IsFrontLate, after_sending, dropped_from, selected, sent_from};
+ghost use Rattle.q_fqcodel.specs.Turns.{IsSettled};
+ghost use Rattle.std.specs.Option.{option_map_or};
 ghost use Rattle.q_model.specs.Ask.{Asked, ask_fq_codel};
 ghost use Rattle.q_model.specs.Beneath as beneath;
 ghost use Rattle.q_model.specs.Beneath.{beneath};
@@ -120,7 +123,7 @@ fn enqueue_over<S: Sink>(
 }
 
 /// Puts a packet into its flow, and counts what the fattest flow loses.
-#[inline(never)]
+#[inline(always)]
 pub(crate) fn put_in_flow<S: Sink>(
     queue: &mut FqCodel,
     packet: &Packet,
@@ -139,15 +142,13 @@ pub(crate) fn put_in_flow<S: Sink>(
     ensures room { S.room sink.new + length (lost_by_put queue.old.state packet.now now) ≡ S.room sink.old }
     ensures kept { S.keeps sink.old sink.new }
 {
-    let (packets, bytes) = queue.queued();
-    let is_lost = queue.put_from(packet, now, sink);
-    let (packets_after, bytes_after) = queue.queued();
+    let dropped = queue.put_counted(packet, now, sink);
     Outcome {
-        loss: is_lost.then_some(Cause::FatFlow),
+        loss: dropped.itself.then_some(Cause::FatFlow),
         refused: NOTHING,
         dropped: Totals {
-            packets: packets + 1 - packets_after,
-            bytes: bytes + u64::from(packet.len) - bytes_after,
+            packets: dropped.packets,
+            bytes: dropped.bytes,
         },
     }
 }
@@ -171,12 +172,41 @@ pub(crate) fn dequeue_flow<S: Sink>(
     ensures signals { signals.new ≡ signals_of result }
     ensures kept { S.keeps sink.old sink.new }
 {
-    let (packets, bytes) = queue.queued();
-    let sent = queue.take_into(now, out, sink);
-    if sent.len == 0 {
+    match queue.pass_into(now, out) {
         // CoDel drops none of an empty fq_codel.
-        return Shown::at_hand(&None);
+        Ok(None) => return Shown::at_hand(&None),
+        Ok(Some(len)) => return Shown::quiet(out, len),
+        Err(_) => return dequeue_late(queue, out, now, signals, sink),
     }
+}
+
+// The same where CoDel found the packet in front late. A call by itself, so that the usual way counts nothing and saves no registers.
+#[cold]
+#[inline(never)]
+fn dequeue_late<S: Sink>(
+    queue: &mut FqCodel,
+    out: &mut Packet,
+    now: Moment,
+    signals: &mut Signals,
+    sink: &mut S,
+) -> Shown
+    requires sink { packets_of queue.old.state.flows ≤ S.room sink.old }
+    requires settled { IsSettled queue.old.state }
+    requires late { IsFrontLate now queue.old.state }
+    requires clean { signals.old ≡ no_signals }
+    ensures after { queue.new.state ≡ after_sending now queue.old.state }
+    ensures places { queue.new.places ≡ queue.old.places }
+    ensures given { result.packet ≡ option_map (λ (t : Taken). t.packet) (sent_from now queue.old.state) }
+    ensures dropped { result.dropped ≡ beneath.totals_in (beneath.packets_of (dropped_from now queue.old.state)) }
+    ensures marked { result.marked ≡ option_map_or (λ (t : Taken). if t.marked then with_packet no_totals t.packet else no_totals) (sent_from now queue.old.state) no_totals }
+    ensures packet { out.new ≡ unwrap_or result.packet out.old }
+    ensures lost { S.losses sink.new ≡ S.losses sink.old ++ losses_of Cause.CoDel (dropped_from now queue.old.state) }
+    ensures room { S.room sink.new + length (dropped_from now queue.old.state) ≡ S.room sink.old }
+    ensures signals { signals.new ≡ signals_of result }
+    ensures kept { S.keeps sink.old sink.new }
+{
+    let (packets, bytes) = queue.queued();
+    let sent = queue.take_late_into(now, out, sink);
     if !sent.dropped {
         return show_marked(sent.marked, out, signals);
     }

@@ -15,7 +15,7 @@ use Rattle.q_fqcodel.proofs.FlowLemmas.{length-adjust, packets_at}
 use Rattle.q_fqcodel.proofs.PooledLemmas.{length-flows_from, queue_there, sizes_at, length-sizes}
 use Rattle.q_fqcodel.proofs.PutLemmas.{other_queue, own_queue, packets_of-joined}
 use Rattle.q_fqcodel.proofs.flows.Flows.fattest_with.Goals as goal
-use Rattle.q_fqcodel.proofs.flows.Flows.fattest_with.Goals.{After-each_has_bytes, After-bytes_of, After-top_with}
+use Rattle.q_fqcodel.proofs.flows.Flows.fattest_with.Goals.{After-each_has_bytes, After-bytes_at, After-top_with}
 
 -- each flow's queue, as the pool has it, and its bytes, as the winners have them
 queue_is : (c : After-each_has_bytes) (k : ℕ) → queue_of c.args.self.now.flows k ≡ get_or c.self.inside.pool.queues k []
@@ -34,12 +34,17 @@ all c =
     ∙ sym (length-sizes qs)
     ∙ ap length (sym c.self.invariant.2)
 
+pub bytes_at-requires : goal.bytes_at-requires
+bytes_at-requires c =
+    let d = (goal.at.bytes_at-requires c).After-each_has_bytes in
+    omega (arith, c.requires.within, all d, ap length c.self.invariant.2, length-sizes c.self.inside.pool.queues)
+
 pub overflow_add-held : goal.overflow_add-held
 overflow_add-held c =
     let d = (goal.at.overflow_add-held c).After-each_has_bytes in
     omega (
       arith,
-      c.bytes_of.ensures.value,
+      c.bytes_at.ensures.value,
       c.each_has_bytes.ensures.most c.args.flow,
       ap count (queue_is d c.args.flow),
       packets_at c.args.flow c.args.self.now.flows,
@@ -52,14 +57,14 @@ top_with-requires-clause-in_range c = omega (arith, c.requires.within, all (goal
 pub top_with-requires-clause-more : goal.top_with-requires-clause-more
 top_with-requires-clause-more c =
     let d = (goal.at.top_with-requires-clause-more c).After-each_has_bytes in
-    omega (arith, bytes_are d c.args.flow, ap size (queue_is d c.args.flow), c.bytes_of.ensures.value)
+    omega (arith, bytes_are d c.args.flow, ap size (queue_is d c.args.flow), c.bytes_at.ensures.value)
 
 pub top_with-requires-clause-few : goal.top_with-requires-clause-few
 top_with-requires-clause-few c =
     let d = (goal.at.top_with-requires-clause-few c).After-each_has_bytes in
     omega (
       arith,
-      c.bytes_of.ensures.value,
+      c.bytes_at.ensures.value,
       c.each_has_bytes.ensures.most c.args.flow,
       ap count (queue_is d c.args.flow),
       packets_at c.args.flow c.args.self.now.flows,
@@ -71,7 +76,7 @@ abbrev fuller : After-top_with → Stamped → List Flow
 fuller c s = adjust (joined s) c.args.flow c.args.self.now.flows
 
 abbrev held : After-top_with → ℕ
-held c = c.bytes_of.result + c.args.len
+held c = c.bytes_at.result + c.args.len
 
 grown : (c : After-top_with) (s : Stamped) → s.packet.len ≡ c.args.len → (k : ℕ) → size (queue_of (fuller c s) k) ≡ bytes_at (set c.self.inside.winners c.args.flow (held c)) k
 grown c s len k =
@@ -83,7 +88,7 @@ grown c s len k =
     ap (λ (m : ℕ). size (queue_of (fuller c s) m)) own
     ∙ ap size (own_queue s n c.args.self.now.flows c.requires.within)
     ∙ size_push (queue_of c.args.self.now.flows n) s
-    ∙ omega (arith, ap size (queue_is d n), c.bytes_of.ensures.value, len)
+    ∙ omega (arith, ap size (queue_is d n), c.bytes_at.ensures.value, len)
     ∙ sym (get_or-set_same ws n (held c) 0 (omega (arith, c.requires.within, all d)))
     ∙ ap (λ (m : ℕ). bytes_at (set ws n (held c)) m) (sym own))
     (λ (ne : k ≢ n).

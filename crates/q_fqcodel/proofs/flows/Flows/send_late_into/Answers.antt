@@ -45,9 +45,32 @@ there g c =
     flow_read c.args.flow c.self.inside.pool.queues (codels_in c.self.inside.parameters c.self.inside.states.items) (joined c.self.inside.parameters c.index_mut-codel.result.now) c.args.self.now.flows c.self.invariant.0
     (omega_within g c) (read g c) (ap (λ (f : FlowsState). f.flows) c.self.view_is)
 
-pub send_late_from-marked-requires-clause-front : goal.send_late_from-marked-requires-clause-front
-send_late_from-marked-requires-clause-front g c =
-    subst (λ (q : List Stamped). IsFront c.args.front q) (queue_is g (goal.at.send_late_from-marked-requires-clause-front g c).After-index_mut-codel) c.requires.front
+pub peek-front-requires : goal.peek-front-requires
+peek-front-requires g c =
+    let same = ap (λ (f : FlowsState). f.flows) c.self.view_is in
+    omega (
+      arith,
+      c.requires.some,
+      ap count (queue_there c.args.flow c.self.inside.pool.queues (codels_in c.self.inside.parameters c.self.inside.states.items) c.self.invariant.0),
+      ap (λ (fs : List Flow). count (queue_of fs c.args.flow)) same,
+    )
+
+pub count_at-held-requires : goal.count_at-held-requires
+count_at-held-requires g c =
+    let same = ap (λ (f : FlowsState). f.flows) c.self.view_is in
+    omega (arith, c.requires.in_range, ap length same, length-flows_from c.self.inside.pool.queues (codels_in c.self.inside.parameters c.self.inside.states.items) c.self.invariant.0, c.self.invariant.0)
+
+pub count_at-rest-requires : goal.count_at-rest-requires
+count_at-rest-requires g c =
+    let d = (goal.at.count_at-rest-requires g c).After-index_mut-codel in
+    let qs : List (List Stamped) = c.self.inside.pool.queues in
+    omega (arith, omega_within g d, c.self.invariant.0, ap length c.send_late_from-marked.ensures.others, length-set qs c.args.flow (get_or c.send_late_from-marked.new.pool.queues c.args.flow []))
+
+pub bytes_at-bytes-requires : goal.bytes_at-bytes-requires
+bytes_at-bytes-requires g c =
+    let d = (goal.at.bytes_at-bytes-requires g c).After-index_mut-codel in
+    let qs : List (List Stamped) = c.self.inside.pool.queues in
+    omega (arith, omega_within g d, c.self.invariant.0, ap length c.send_late_from-marked.ensures.others, length-set qs c.args.flow (get_or c.send_late_from-marked.new.pool.queues c.args.flow []))
 
 pub send_late_from-marked-requires-clause-late : goal.send_late_from-marked-requires-clause-late
 send_late_from-marked-requires-clause-late g c =
@@ -78,8 +101,8 @@ overflow_sub-result g c =
     let d = (goal.at.overflow_sub-result g c).After-send_late_from-marked in
     omega (
       arith,
-      rest_count c.count_of-held.result c.count_of-rest.result (was g d) c.args.now (queue g d) (get_or c.send_late_from-marked.new.pool.queues c.args.flow [])
-          c.count_of-held.ensures c.count_of-rest.ensures c.send_late_from-marked.ensures.left (sends g d),
+      rest_count c.count_at-held.result c.count_at-rest.result (was g d) c.args.now (queue g d) (get_or c.send_late_from-marked.new.pool.queues c.args.flow [])
+          c.count_at-held.ensures c.count_at-rest.ensures c.send_late_from-marked.ensures.left (sends g d),
     )
 
 pub returns-clause-sent : goal.returns-clause-sent
@@ -97,11 +120,11 @@ returns-clause-dropped g c =
     let same = ap (λ (f : FlowsState). f.flows) c.self.view_is in
     let within = omega_within g (goal.at.returns-clause-dropped g c).After-index_mut-codel in
     let d = (goal.at.returns-clause-dropped g c).After-send_late_from-marked in
-    let rest = rest_count c.count_of-held.result c.count_of-rest.result (was g d) c.args.now (queue g d) (get_or c.send_late_from-marked.new.pool.queues c.args.flow [])
-    c.count_of-held.ensures c.count_of-rest.ensures c.send_late_from-marked.ensures.left (sends g d) in
-    subst (λ (o : Option Flow). IfSome o (λ f. nat_lt 1 (c.count_of-held.result - c.count_of-rest.result) ≡ not (count (packets_dropped c.args.now f) == 0)))
+    let rest = rest_count c.count_at-held.result c.count_at-rest.result (was g d) c.args.now (queue g d) (get_or c.send_late_from-marked.new.pool.queues c.args.flow [])
+    c.count_at-held.ensures c.count_at-rest.ensures c.send_late_from-marked.ensures.left (sends g d) in
+    subst (λ (o : Option Flow). IfSome o (λ f. nat_lt 1 (c.count_at-held.result - c.count_at-rest.result) ≡ not (count (packets_dropped c.args.now f) == 0)))
     (sym (flow_read c.args.flow c.self.inside.pool.queues (codels_in c.self.inside.parameters c.self.inside.states.items) (joined c.self.inside.parameters c.index_mut-codel.result.now) c.args.self.now.flows c.self.invariant.0 within (read g (goal.at.returns-clause-dropped g c).After-index_mut-codel) same))
-    (drops_told c.count_of-held.result c.count_of-rest.result (was g d) c.args.now (queue g d) rest (sends g d))
+    (drops_told c.count_at-held.result c.count_at-rest.result (was g d) c.args.now (queue g d) rest (sends g d))
 
 pub returns-clause-flows : goal.returns-clause-flows
 unfolding flow_after
@@ -158,7 +181,7 @@ invariant_of-self g c =
     let new : List (List Stamped) = c.send_late_from-marked.new.pool.queues in (
       ap length c.send_late_from-marked.ensures.others ∙ length-set qs n (get_or new n []) ∙ c.self.invariant.0 ∙ length-codels_in p vs ∙ sym (length-set vs n v) ∙ sym (length-codels_in p (set vs n v)),
       omega (arith, c.self.invariant.1, length-set vs n v),
-      sizes_renewed qs new n (get_or new n []) c.renew.new.self c.bytes_of-bytes.result c.send_late_from-marked.ensures.others (omega (arith, omega_within g d, c.self.invariant.0))
-          (c.renew.ensures ∙ ap (λ (l : List ℕ). set l n c.bytes_of-bytes.result) c.self.invariant.2) c.bytes_of-bytes.ensures.value,
+      sizes_renewed qs new n (get_or new n []) c.renew.new.self c.bytes_at-bytes.result c.send_late_from-marked.ensures.others (omega (arith, omega_within g d, c.self.invariant.0))
+          (c.renew.ensures ∙ ap (λ (l : List ℕ). set l n c.bytes_at-bytes.result) c.self.invariant.2) c.bytes_at-bytes.ensures.value,
       c.self.invariant.3,
     )

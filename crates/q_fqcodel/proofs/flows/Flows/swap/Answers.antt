@@ -1,5 +1,5 @@
 use Rattle.std.proofs.Common.{◌≡◌, ℕ, ◌%◌, ◌<◌, List, [], ◌∷◌, ◌++◌, length, get_or, set, take, drop, refl, sym, ap, ◌∙◌, arith}
-use Rattle.std.proofs.lemmas.List.{length-set}
+use Rattle.std.proofs.lemmas.List.{length-set, get_or-set_other}
 use Rattle.q_packet.specs.Totals.{count}
 use Rattle.q_packet.specs.declared.stamped.Stamped.{Stamped}
 use Rattle.q_packet.specs.declared.cause.Cause.TheVariants.{FatFlow}
@@ -10,10 +10,10 @@ use Rattle.q_fqcodel.specs.FlowsState.{FlowsState}
 use Rattle.q_fqcodel.specs.FqState.{Flow, queue_of, packets_of}
 use Rattle.q_fqcodel.specs.Pool.{stamp, flows_from, codels_in, sizes}
 use Rattle.q_fqcodel.specs.Put.{joined, shortened}
-use Rattle.q_fqcodel.proofs.MovedLemmas.{fuller, moved_is, first_kept, one_told, both_told}
-use Rattle.q_fqcodel.proofs.PooledLemmas.{length-flows_from, queue_there, queue_written, flow_with, length-sizes, packets_pooled}
+use Rattle.q_fqcodel.proofs.MovedLemmas.{fuller, moved_is, first_kept, grown, fallen, one_told, both_told}
+use Rattle.q_fqcodel.proofs.PooledLemmas.{length-flows_from, queue_there, queue_written, flow_with, sizes_at, length-sizes, packets_pooled}
 use Rattle.q_fqcodel.proofs.flows.Flows.swap.Goals as goal
-use Rattle.q_fqcodel.proofs.flows.Flows.swap.Goals.{After-replace-own, After-renew}
+use Rattle.q_fqcodel.proofs.flows.Flows.swap.Goals.{After-replace-own, After-renew-2}
 
 pub replace-own-requires-clause-in_range : goal.replace-own-requires-clause-in_range
 replace-own-requires-clause-in_range g c =
@@ -95,21 +95,19 @@ lengths g c =
     ∙ length-set (more g c) c.args.fat (drop 1 (get_or (more g c) c.args.fat []))
     ∙ longer g c
 
-pub renew-requires-clause-in_range : goal.renew-requires-clause-in_range
-renew-requires-clause-in_range g c =
-    omega (arith, within g (goal.at.renew-requires-clause-in_range g c).After-replace-own, ap length c.self.invariant.2, length-sizes c.self.inside.pool.queues)
+in_winners : (g : _) (c : After-replace-own g) → c.args.flow < length c.self.inside.winners
+in_winners g c = omega (arith, within g c, ap length c.self.invariant.2, length-sizes c.self.inside.pool.queues)
 
-told : (g : _) (c : After-renew g) → c.renew.new.self ≡ set (sizes c.self.inside.pool.queues) c.args.flow c.replace-own.result
-told g c = c.renew.ensures ∙ ap (λ (l : List ℕ). set l c.args.flow c.replace-own.result) c.self.invariant.2
+pub renew-requires-clause-in_range : goal.renew-requires-clause-in_range
+renew-requires-clause-in_range g c = in_winners g (goal.at.renew-requires-clause-in_range g c).After-replace-own
 
 pub invariant_of-self : goal.invariant_of-self
 invariant_of-self g c =
-    let d = (goal.at.invariant_of-self g c).After-replace-own in
-    let e = (goal.at.invariant_of-self g c).After-renew in (
+    let d = (goal.at.invariant_of-self g c).After-replace-own in (
       lengths g d,
       c.self.invariant.1,
       one_told c.self.inside.pool.queues c.args.fat c.args.flow (stamp c.args.packet.now c.args.now) (some g d) (within g d) c.replace-own.new.self.queues c.replace-own.ensures.queues
-          c.renew.new.self c.replace-own.result (told g e) c.replace-own.ensures.bytes c.if-fat-flow.true,
+          c.renew.new.self c.replace-own.result (c.renew.ensures ∙ ap (λ (l : List ℕ). set l c.args.flow c.replace-own.result) c.self.invariant.2) c.replace-own.ensures.bytes c.if-fat-flow.true,
       c.self.invariant.3,
     )
 
@@ -124,9 +122,31 @@ returns-then-fat-flow-clause-lost g c =
     (sym (ap (take 1) (queue_is g d) ∙ first_kept c.self.inside.pool.queues c.args.fat c.args.flow (stamp c.args.packet.now c.args.now) (some g d) (within g d)))
 
 pub renew-requires-2-clause-in_range : goal.renew-requires-2-clause-in_range
-renew-requires-2-clause-in_range g c =
-    let d = (goal.at.renew-requires-2-clause-in_range g c).After-replace-own in
-    let e = (goal.at.renew-requires-2-clause-in_range g c).After-renew in
+renew-requires-2-clause-in_range g c = in_winners g (goal.at.renew-requires-2-clause-in_range g c).After-replace-own
+
+pub renew-requires-2-clause-rose : goal.renew-requires-2-clause-rose
+renew-requires-2-clause-rose g c _ =
+    let d = (goal.at.renew-requires-2-clause-rose g c).After-replace-own in
+    let qs : List (List Stamped) = c.self.inside.pool.queues in
+    omega (
+      arith,
+      ap (λ (l : List ℕ). get_or l c.args.flow 0) c.self.invariant.2,
+      sizes_at qs c.args.flow,
+      grown qs c.args.fat c.args.flow (stamp c.args.packet.now c.args.now) (some g d) (within g d) c.replace-own.new.self.queues c.replace-own.ensures.queues c.replace-own.result c.replace-own.ensures.bytes c.if-fat-flow.false,
+    )
+
+told : (g : _) (c : After-renew-2 g) → c.renew-2.new.self ≡ set (sizes c.self.inside.pool.queues) c.args.flow c.replace-own.result
+told g c = c.renew-2.ensures ∙ ap (λ (l : List ℕ). set l c.args.flow c.replace-own.result) c.self.invariant.2
+
+pub bytes_at-rest-requires : goal.bytes_at-rest-requires
+bytes_at-rest-requires g c =
+    let d = (goal.at.bytes_at-rest-requires g c).After-replace-own in
+    omega (arith, flow_with c.self.inside.pool.queues c.args.fat (some g d), lengths g d, c.self.invariant.0)
+
+pub renew-requires-3-clause-in_range : goal.renew-requires-3-clause-in_range
+renew-requires-3-clause-in_range g c =
+    let d = (goal.at.renew-requires-3-clause-in_range g c).After-replace-own in
+    let e = (goal.at.renew-requires-3-clause-in_range g c).After-renew-2 in
     omega (
       arith,
       flow_with c.self.inside.pool.queues c.args.fat (some g d),
@@ -135,15 +155,28 @@ renew-requires-2-clause-in_range g c =
       length-sizes c.self.inside.pool.queues,
     )
 
+pub renew-requires-3-clause-fell : goal.renew-requires-3-clause-fell
+renew-requires-3-clause-fell g c _ =
+    let d = (goal.at.renew-requires-3-clause-fell g c).After-replace-own in
+    let e = (goal.at.renew-requires-3-clause-fell g c).After-renew-2 in
+    let qs : List (List Stamped) = c.self.inside.pool.queues in
+    omega (
+      arith,
+      ap (λ (l : List ℕ). get_or l c.args.fat 0) (told g e),
+      get_or-set_other (sizes qs) c.args.flow c.args.fat c.replace-own.result 0 c.if-fat-flow.false,
+      sizes_at qs c.args.fat,
+      fallen qs c.args.fat c.args.flow (stamp c.args.packet.now c.args.now) (some g d) (within g d) c.replace-own.new.self.queues c.replace-own.ensures.queues c.bytes_at-rest.result c.bytes_at-rest.ensures.value c.if-fat-flow.false,
+    )
+
 pub invariant_of-self-2 : goal.invariant_of-self-2
 invariant_of-self-2 g c =
     let d = (goal.at.invariant_of-self-2 g c).After-replace-own in
-    let e = (goal.at.invariant_of-self-2 g c).After-renew in (
+    let e = (goal.at.invariant_of-self-2 g c).After-renew-2 in (
       lengths g d,
       c.self.invariant.1,
       both_told c.self.inside.pool.queues c.args.fat c.args.flow (stamp c.args.packet.now c.args.now) (some g d) (within g d) c.replace-own.new.self.queues c.replace-own.ensures.queues
-          c.renew.new.self c.replace-own.result (told g e) c.replace-own.ensures.bytes
-          c.renew-2.new.self c.bytes_of-rest.result c.renew-2.ensures c.bytes_of-rest.ensures.value c.if-fat-flow.false,
+          c.renew-2.new.self c.replace-own.result (told g e) c.replace-own.ensures.bytes
+          c.renew-3.new.self c.bytes_at-rest.result c.renew-3.ensures c.bytes_at-rest.ensures.value c.if-fat-flow.false,
       c.self.invariant.3,
     )
 

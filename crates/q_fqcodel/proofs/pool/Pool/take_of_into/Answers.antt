@@ -67,7 +67,7 @@ invariant_of-self c =
       rw c.write_rest.ensures (pool_after (used p.nodes) (used c.take_head_into-rest.new.nodes) p.nodes.count p.lists.items p.bytes c.self.invariant.0 c.args.flow c.take_head_into-rest.result (within d) (others d) (linked d)
           _ _
           (omega (arith, count, c.take_head_into-rest.ensures.len, c.take_head_into-rest.ensures.count))
-          (omega (arith, bytes, c.take_head_into-rest.ensures.bytes, ap (λ (x : Descriptor). x.len) c.out.view_is, enough))
+          (omega (arith, bytes, c.take_head_into-rest.ensures.bytes, enough))
           (omega (arith, c.take_head_into-rest.ensures.len, c.self.invariant.0.few))),
       omega (arith, c.self.invariant.1, c.take_head_into-rest.ensures.capacity),
     )

@@ -5,7 +5,7 @@ use Rattle.q_codel.specs.Codel.{CodelVars, joined, is_capable, is_late}
 use Rattle.q_codel.specs.declared.front.Front.{Front}
 use Rattle.q_codel.proofs.FrontLemmas.{split, front_at, next, behind_is, len_within}
 use Rattle.q_codel.proofs.ChooseLemmas.{late_has_two, chosen_behind, chosen_in}
-use Rattle.q_codel.proofs.control_state.ControlState.choose_late.Goals as goal
+use Rattle.q_codel.proofs.control_state.ControlState.drop_or_mark.Goals as goal
 
 pub drop_head-next-requires-clause-some : goal.drop_head-next-requires-clause-some
 drop_head-next-requires-clause-some g c =

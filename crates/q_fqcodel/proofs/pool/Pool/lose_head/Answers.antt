@@ -1,0 +1,14 @@
+use Rattle.std.proofs.Common.{List, [], get_or, Option, IsSome, sym, ap, ◌∙◌, subst, append-nil}
+use Rattle.q_packet.specs.declared.stamped.Stamped.{Stamped}
+use Rattle.q_fqcodel.proofs.SentLemmas.{slice_there}
+use Rattle.q_fqcodel.proofs.ShedLemmas.{lost_one}
+use Rattle.q_fqcodel.proofs.pool.Pool.lose_head.Goals as goal
+
+pub unwrap-gone-requires : goal.unwrap-gone-requires
+unwrap-gone-requires g c =
+    subst (λ (o : Option Stamped). IsSome o) (sym c.head_of.ensures) (slice_there (get_or c.args.self.now.queues c.args.flow []) 0 c.requires.some)
+
+pub returns-clause-lost : goal.returns-clause-lost
+returns-clause-lost g c =
+    lost_one (g.S.Sink.losses c.args.sink.now) (g.S.Sink.losses c.args.sink.now) (g.S.Sink.losses c.lost.new.self) c.args.cause (get_or c.args.self.now.queues c.args.flow []) 0 c.unwrap-gone.result
+    (sym (append-nil (g.S.Sink.losses c.args.sink.now))) c.lost.ensures.losses (sym c.head_of.ensures ∙ c.unwrap-gone.ensures)
