@@ -118,6 +118,20 @@ above_by_the_sent_head : (
 unfolding seen put gap_of
 above_by_the_sent_head = (refl, refl)
 
+-- a standing queue is late at its moment, and not a nanosecond before it
+late_at_its_moment : seen (at_first 5 10 1514 false) ((5, old) ∷ (14, old) ∷ (15, old) ∷ []) ≡
+    (0 ∷ 0 ∷ 0 ∷ 15 ∷ 0 ∷ []) ∷ (0 ∷ 0 ∷ 0 ∷ 15 ∷ 0 ∷ []) ∷ (1 ∷ 1 ∷ 25 ∷ 15 ∷ 1 ∷ []) ∷ []
+unfolding seen old put gap_of
+late_at_its_moment = refl
+
+-- a queue stands with a byte more than one mtu behind its head, and does not with one mtu
+stands_beyond_an_mtu : (
+    let queue = map (put NotEct) (1 ∷ 2 ∷ []) in
+    (seen (at_first 5 10 999 false) ((5, queue) ∷ []) ≡ (0 ∷ 0 ∷ 0 ∷ 15 ∷ 0 ∷ []) ∷ [])
+    × (seen (at_first 5 10 1000 false) ((5, queue) ∷ []) ≡ (0 ∷ 0 ∷ 0 ∷ 0 ∷ 0 ∷ []) ∷ []))
+unfolding seen put gap_of
+stands_beyond_an_mtu = (refl, refl)
+
 -- an empty queue ends dropping, and keeps the rest
 empty_queue : after dropped_thrice 300 [] ≡ rested dropped_thrice
 unfolding dropped_thrice
@@ -133,6 +147,13 @@ marked_already : (
     (drops s 20 queue ≡ 0) × (marks s 20 queue ≡ true))
 unfolding put
 marked_already = (refl, refl)
+
+-- a mark while dropping counts as one drop, and the next moment is a gap of that count away
+mark_counts_once : (
+    let s = record (at_first 5 10 1514 true) { first_above_time = 10; drop_next = 20; count = 1; lastcount = 1; dropping = true } in
+    seen s ((20, map (put Ect0) (1 ∷ 2 ∷ 3 ∷ [])) ∷ []) ≡ (2 ∷ 1 ∷ 27 ∷ 10 ∷ 1 ∷ []) ∷ [])
+unfolding seen put gap_of
+mark_counts_once = refl
 
 -- the count stays at its end, where the gaps are 0
 ceiling : (

@@ -1,13 +1,17 @@
 -- Worked examples of the definitions, by computation.
 use Rattle.std.proofs.Common.{◌≡◌, [], ◌∷◌, Some, None, refl}
+use Rattle.std.specs.Prelude.{◌-◌, ◌^◌}
 use Rattle.q_drr.specs.declared.turn.Turn.TheVariants.{Send, Granted}
-use Rattle.q_drr.specs.Schedule.{Schedule, no_classes, added, woken, asleep, removed, with_quantum, turned, turn_answer, deficit_of, granted_of}
+use Rattle.q_drr.specs.Schedule.{Schedule, no_classes, place_of, name_at, added, woken, asleep, removed, with_quantum, turned, turn_answer, deficit_of, granted_of}
 use Rattle.q_drr.specs.Take.{grants_for, served, met, head_at}
 use Rattle.q_drr.specs.Stretch.{after_turns, grants, sent}
 
 -- two classes with a quantum of 1000 bytes, both awake
 abbrev two : Schedule
 two = woken 2 (woken 1 (added 2 1000 (added 1 1000 (no_classes 1514))))
+
+in_order_of_adding : (place_of 2 two.classes ≡ Some 1) × (name_at 0 two.classes ≡ Some 1)
+in_order_of_adding = (refl, refl)
 
 first_turn : turn_answer 1500 two.active ≡ Granted
 first_turn = refl
@@ -80,3 +84,11 @@ cut_behind_the_front = (refl, refl, refl)
 cut_to_the_bound : (let s = with_quantum 2 1 (woken 2 (added 2 500 (woken 1 (added 1 500 (no_classes 100))))) in
     (deficit_of 1 s.active ≡ 500) × (deficit_of 2 s.active ≡ 100))
 cut_to_the_bound = (refl, refl)
+
+cut_in_front : (let s = with_quantum 1 1 (woken 2 (added 2 500 (woken 1 (added 1 500 (no_classes 100))))) in
+    (deficit_of 1 s.active ≡ 100) × (deficit_of 2 s.active ≡ 500))
+cut_in_front = (refl, refl)
+
+-- the number of turns stays at 2^64 - 1
+turns_end : ((turned 100 (record two { turns = 2 ^ 64 - 2 })).turns ≡ 2 ^ 64 - 1) × ((turned 100 (record two { turns = 2 ^ 64 - 1 })).turns ≡ 2 ^ 64 - 1)
+turns_end = (refl, refl)

@@ -63,6 +63,11 @@ nothing_is_left : (let s = taken_once (taken_once (taken_once three)) in (shown 
 unfolding shared_rules
 nothing_is_left = (refl, refl, refl)
 
+-- a flow's index is the remainder of the hash by the number of flows
+flow_by_remainder : (after_put (first_state (settings 100 1000 1)) (packet 1 100 9) 0).new_flows ≡ entry 1 1000 ∷ []
+unfolding shared_rules
+flow_by_remainder = refl
+
 -- Flows 3 and 7 have 300 bytes each: the third packet takes the first of flow 3 with it.
 abbrev tied : FqState
 tied = after_put (after_put (first_state (settings 2 1514 1)) (packet 1 300 7) 0) (packet 2 100 3) 0
@@ -70,6 +75,14 @@ tied = after_put (after_put (first_state (settings 2 1514 1)) (packet 1 300 7) 0
 the_lower_index_loses : (map (λ (x : Stamped). x.packet.number) (lost_by_put tied (packet 3 200 3) 0) ≡ 2 ∷ []) × (is_lost_itself tied (packet 3 200 3) 0 ≡ false)
 unfolding shared_rules
 the_lower_index_loses = (refl, refl)
+
+-- The fat flow is the one with the most bytes, though flow 0 has more packets.
+abbrev many_short : FqState
+many_short = after_put (after_put (after_put (first_state (settings 3 1514 1)) (packet 1 50 0) 0) (packet 2 50 0) 0) (packet 3 400 1) 0
+
+the_most_bytes_lose : map (λ (x : Stamped). x.packet.number) (lost_by_put many_short (packet 4 50 0) 0) ≡ 3 ∷ []
+unfolding shared_rules
+the_most_bytes_lose = refl
 
 -- The fat flow has two packets, and the batch is of three: both are lost, the newcomer among them.
 abbrev batched : FqState
@@ -93,6 +106,13 @@ in_debt = record (after_put (after_put (after_put (first_state (settings 100 100
 visited_in_rounds : (shown in_debt ≡ Some 2) × ((taken_once in_debt).old_flows ≡ entry 1 10 ∷ entry 2 50 ∷ entry 0 50 ∷ [])
 unfolding shared_rules
 visited_in_rounds = (refl, refl)
+
+-- a new flow that owes two quanta and more goes over with one
+moved_with_a_quantum : (
+    let s = taken_once (record in_debt { new_flows = owing 0 250 ∷ entry 1 100 ∷ []; old_flows = [] }) in
+    (s.new_flows ≡ entry 1 60 ∷ []) × (s.old_flows ≡ owing 0 150 ∷ []))
+unfolding shared_rules
+moved_with_a_quantum = (refl, refl)
 
 quanta_of_a_take : grants in_debt ≡ record { flow = 0; quanta = 3 } ∷ record { flow = 1; quanta = 2 } ∷ record { flow = 2; quanta = 2 } ∷ []
 unfolding shared_rules
@@ -121,6 +141,27 @@ leaves_rested = (refl, refl)
 stays_unasked : (known (taken_once (emptied (entry 0 0))) ≡ (7 ∷ 3 ∷ 1 ∷ []) ∷ (0 ∷ 0 ∷ 0 ∷ []) ∷ []) × ((taken_once (emptied (entry 0 0))).old_flows ≡ entry 1 400 ∷ entry 0 1000 ∷ [])
 unfolding shared_rules known
 stays_unasked = (refl, refl)
+
+-- CoDel rests as well for a new flow that is found empty, and goes over to the old list; for a flow behind the one that sends, which is
+-- met again before that; and where no flow has a packet
+new_flow_rested : (
+    let s = taken_once (record (emptied (entry 0 500)) { new_flows = entry 0 500 ∷ entry 1 1000 ∷ []; old_flows = [] }) in
+    (known s ≡ (0 ∷ 3 ∷ 0 ∷ []) ∷ (0 ∷ 0 ∷ 0 ∷ []) ∷ []) × (s.new_flows ≡ entry 1 900 ∷ []) × (s.old_flows ≡ entry 0 500 ∷ []))
+unfolding shared_rules known
+new_flow_rested = (refl, refl, refl)
+
+flow_behind_rested : (
+    let s = taken_once (record (emptied (entry 0 500)) { old_flows = owing 1 1500 ∷ owing 0 500 ∷ [] }) in
+    (known s ≡ (0 ∷ 3 ∷ 0 ∷ []) ∷ (0 ∷ 0 ∷ 0 ∷ []) ∷ []) × (s.old_flows ≡ entry 1 400 ∷ []))
+unfolding shared_rules known
+flow_behind_rested = (refl, refl)
+
+last_flow_rested : (
+    let s = emptied (entry 0 500) in
+    let t = taken_once (record s { flows = adjust (λ f. record f { queue = [] }) 1 s.flows }) in
+    (known t ≡ (0 ∷ 3 ∷ 0 ∷ []) ∷ (0 ∷ 0 ∷ 0 ∷ []) ∷ []) × (t.old_flows ≡ []))
+unfolding shared_rules known
+last_flow_rested = (refl, refl)
 
 -- a change gives each flow's CoDel the new settings, and leaves its state, the packets and the lists
 changed : (
