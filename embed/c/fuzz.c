@@ -258,6 +258,36 @@ static void read_recorder(qtree_device *device, struct input *input) {
     is_lent(qtree_recorded_line(device, (size_t)take(input, 1) % 32, text, room, &needed), text, sizeof text, room, needed);
 }
 
+/* The last events, of which there are as many as were noted and as are kept, and their lines. */
+static void read_last(qtree_device *device, struct input *input) {
+    uint8_t text[1100];
+    size_t room = (size_t)take(input, 1), needed = 7, kept = 7, index = (size_t)take(input, 1) % 32;
+    uint64_t noted = 7;
+    qtree_event event = { .moment = UINT64_MAX };
+    qtree_code code = qtree_last_noted(device, &noted, &kept);
+    CHECK(code == QTREE_DONE ? kept <= noted : code == QTREE_IS_CLOSED && noted == 0 && kept == 0);
+    code = qtree_last_event(device, index, &event);
+    CHECK(index < kept ? code == QTREE_DONE : code == QTREE_NOTHING || code == QTREE_IS_CLOSED);
+    CHECK(code == QTREE_DONE ? event.kind <= QTREE_COMMANDED && event.moment <= QTREE_MOMENT_MAX : event.moment == UINT64_MAX);
+    memset(text, GUARD, sizeof text);
+    is_lent(qtree_last_line(device, index, text, room, &needed), text, sizeof text, room, needed);
+}
+
+/* Others are kept from now on, and none of those that were kept before. */
+static void keep_last(qtree_device *device, struct input *input) {
+    uint32_t places = (uint32_t)take(input, 1) % 32;
+    uint64_t noted = 7;
+    size_t kept = 7;
+    if (take(input, 1) % 16 == 0) {
+        places = 1000001 + (uint32_t)take(input, 3);
+    }
+    qtree_code code = qtree_keep_last(device, places);
+    CHECK(code == QTREE_DONE || code == QTREE_OUT_OF_RANGE || code == QTREE_IS_CLOSED || code == QTREE_MEMORY);
+    CHECK((code == QTREE_OUT_OF_RANGE) == (places > 1000000));
+    CHECK(qtree_last_noted(device, &noted, &kept) == QTREE_IS_CLOSED || code != QTREE_DONE || (noted == 0 && kept == 0));
+    read_last(device, input);
+}
+
 /* What a class is promised is a part of the link; nothing is written where it is promised nothing. */
 static void promised(qtree_device *device, struct input *input) {
     qtree_promise promise = { 7, 7, 7, 7 };
@@ -323,6 +353,7 @@ static void look(qtree_device *device, struct input *input) {
     code = qtree_recorded(device, (size_t)take(input, 1), &event);
     CHECK(code == QTREE_DONE ? event.kind <= QTREE_COMMANDED : code == QTREE_NOTHING || code == QTREE_IS_CLOSED);
     read_recorder(device, input);
+    read_last(device, input);
     qtree_packet one = packet(input);
     uint8_t bytes[80] = { 0 };
     size_t count = (size_t)take(input, 1) % sizeof bytes;
@@ -433,7 +464,8 @@ static void adds_up(qtree_device *device) {
 int LLVMFuzzerTestOneInput(const uint8_t *data, size_t size);
 int LLVMFuzzerTestOneInput(const uint8_t *data, size_t size) {
     static void (*const each[])(qtree_device *, struct input *) = {
-        single, command, arrive_frame, arrive_many, poll_many, poll_bufs, reap, show, look, open_or_close, open_or_close_ring, offer, offer_many, take_in,
+        single, command, arrive_frame, arrive_many, poll_many, poll_bufs, reap, show, look, keep_last, open_or_close, open_or_close_ring, offer, offer_many,
+        take_in,
     };
     static bool is_begun;
     if (!is_begun) {

@@ -46,6 +46,8 @@ static void reads(const qtree_device *device) {
     CHECK(qtree_events(device, &number, &count) == QTREE_DONE && qtree_recorded(device, 0, &event) == QTREE_DONE);
     CHECK(qtree_recorded_line(device, 0, text, TEXT, &count) == QTREE_DONE);
     CHECK(qtree_recorded_script(device, text, TEXT, &count) == QTREE_DONE);
+    CHECK(qtree_last_noted(device, &number, &count) == QTREE_DONE && qtree_last_event(device, 0, &event) == QTREE_DONE);
+    CHECK(qtree_last_line(device, 0, text, TEXT, &count) == QTREE_DONE);
 }
 
 static void ring(struct places *places) {
@@ -72,6 +74,7 @@ int main(void) {
         qtree_fault fault;
         CHECK(qtree_open(&places->devices[i], &(qtree_settings){ 1000, 100, 1514 }) == QTREE_IS_OPEN);
         CHECK(qtree_command(&places->devices[i], (const uint8_t *)line, strlen(line), 0, &fault) == QTREE_DONE);
+        CHECK(qtree_keep_last(&places->devices[i], 4) == QTREE_DONE);
         packets(&places->devices[i]);
         reads(&places->devices[i]);
     }

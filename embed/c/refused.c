@@ -48,13 +48,14 @@ static qtree_outlet outlet = QTREE_CLOSED;
 
 /* All that can be read of a device and its ring. */
 struct view {
-    qtree_code codes[12];
+    qtree_code codes[14];
     qtree_row device, root, classes[3];
     uint8_t text[4][TEXT];
     size_t needed[4];
     qtree_node_view nodes[NODES];
-    uint64_t events, ready;
-    size_t recorded;
+    uint64_t events, noted, ready;
+    size_t recorded, kept;
+    qtree_event last;
     qtree_count placed, taken;
 };
 
@@ -74,6 +75,8 @@ static void look(struct view *view) {
         qtree_node(&device, i, &view->nodes[i]);
     }
     *code++ = qtree_events(&device, &view->events, &view->recorded);
+    *code++ = qtree_last_noted(&device, &view->noted, &view->kept);
+    *code++ = qtree_last_event(&device, view->kept - 1, &view->last);
     *code++ = qtree_ready_at(&device, &view->ready);
     *code++ = qtree_port_share(&port, &view->placed);
     *code++ = qtree_outlet_share(&outlet, &view->taken);
@@ -109,6 +112,8 @@ static qtree_code commands(const void *given) {
     CHECK(fault.word == 7 && fault.number == 7);
     return code;
 }
+
+static qtree_code keeps_last(const void *given) { return qtree_keep_last(&device, *(const uint32_t *)given); }
 
 static qtree_code arrives(const void *given) { return qtree_arrive(&device, given, 1000); }
 
@@ -243,7 +248,7 @@ static void play_without_memory(void) {
     }
     granted = -1;
     look(&after);
-    CHECK(after.device.queued.packets == 0);
+    CHECK(after.device.queued.packets == 0 && after.last.kind == QTREE_POLLED);
 }
 
 /* Once a device has room for so many packets, they arrive by one call and go without an allocation. */
@@ -268,9 +273,11 @@ static void play_in_room(void) {
 
 int main(void) {
     const qtree_settings settings = { 1000, 16, 1514 };
-    CHECK(insist(opens, &settings) == QTREE_DONE);
+    const uint32_t few = 4, more = 8;
+    CHECK(insist(opens, &settings) == QTREE_DONE && insist(keeps_last, &few) == QTREE_DONE);
     play_lines();
     play_packets();
+    CHECK(after.kept == few && after.noted > 4 * few && insist(keeps_last, &more) == QTREE_DONE);
     play_whole_rings();
     for (uint32_t what = QTREE_SHOW_QDISCS; what <= QTREE_SHOW_FILTERS; what++) {
         CHECK(insist(shows, &what) == QTREE_DONE);

@@ -398,6 +398,24 @@ qtree_code qtree_recorded_line(const qtree_device *device, size_t index, uint8_t
  * QTREE_DONE, QTREE_ROOM, QTREE_IS_CLOSED, QTREE_MEMORY. */
 qtree_code qtree_recorded_script(const qtree_device *device, uint8_t *text, size_t room, size_t *needed);
 
+/* Keeps the last events from now on, so many of them, 0 to 1000000: where all places are taken the oldest event makes way. The recorder
+ * has the first events; a program that runs for a long time asks what happened last. Events are the arrivals, polls and commands
+ * that the device accepts, by whichever function, those of packets that are taken in from rings too. The ring is allocated here, and no
+ * call that notes an event allocates for it. Events that an earlier call kept are gone. 0 keeps none, which is how a device begins.
+ * Where the allocation fails (QTREE_MEMORY) all is as it was.
+ * QTREE_DONE, QTREE_OUT_OF_RANGE, QTREE_IS_CLOSED, QTREE_MEMORY. */
+qtree_code qtree_keep_last(qtree_device *device, uint32_t places);
+
+/* The number of events that were noted since qtree_keep_last, and of those that are kept, which are the last of them. Both are 0 where
+ * none are to be kept. QTREE_DONE, QTREE_IS_CLOSED. */
+qtree_code qtree_last_noted(const qtree_device *device, uint64_t *noted, size_t *kept);
+
+/* The index-th of the last events, counted from 0, which is the oldest that is kept, as qtree_recorded returns one; and its line, as
+ * qtree_recorded_line writes one. Together the lines are no script that plays the session again: they begin in its midst.
+ * QTREE_DONE, QTREE_NOTHING, QTREE_IS_CLOSED; the line also QTREE_ROOM. */
+qtree_code qtree_last_event(const qtree_device *device, size_t index, qtree_event *event);
+qtree_code qtree_last_line(const qtree_device *device, size_t index, uint8_t *text, size_t room, size_t *needed);
+
 /* The names of answers (causes and refusals as reports write them), of faults of lines, and of kinds of qdiscs. They are static, and
  * those of unknown numbers are "Unknown" and "unknown". */
 static inline const char *qtree_code_name(qtree_code code) {

@@ -12,7 +12,7 @@ use Rattle.q_device.specs.Events.{after_event, reply_to, with_memory}
 use Rattle.qtree_c.specs.Codes.{reply_number}
 use Rattle.qtree_c.specs.Lines.{IsCommand}
 
-not-done : (r : Refusal) → refusal_number r ≡ 0 → ⊥
+pub not-done : (r : Refusal) → refusal_number r ≡ 0 → ⊥
 not-done NoParent e = omega (arith, e)
 not-done Exists e = omega (arith, e)
 not-done NoQdisc e = omega (arith, e)

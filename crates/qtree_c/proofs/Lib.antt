@@ -2,6 +2,7 @@ pub mod Arriving
 pub mod Commanding
 pub mod HeldSteps
 pub mod Naming
+pub mod NotingLemmas
 pub mod Offering
 pub mod PlaceLemmas
 pub mod PollLemmas

@@ -9,6 +9,7 @@ pub mod Lines
 pub mod Promised
 pub mod Names
 pub mod Nodes
+pub mod Noting
 pub mod Readiness
 pub mod Sample
 pub mod Scripts

@@ -1,18 +1,21 @@
 //! Packets arrive.
-ghost use Rattle.std.specs.Prelude.{◌≡◌, ◌≢◌, ◌≤◌, ◌<◌, ◌^◌, length};
+ghost use Rattle.std.specs.Prelude.{◌≡◌, ◌≢◌, ◌≤◌, ◌<◌, ◌^◌, length, map, take};
 ghost use Rattle.q_device.specs.DeviceLaws.{HasItsMemory};
 ghost use Rattle.q_device.specs.DeviceSeen.{HasRoomFor};
+ghost use Rattle.q_model.specs.Step.{counts_at};
 ghost use Rattle.q_ports.specs.Room.{StaysButForPlaces};
 ghost use Rattle.qtree_c.specs.Calls.{Calls, IsArrival};
-ghost use Rattle.qtree_c.specs.Folds.{IsArrivals};
 ghost use Rattle.qtree_c.specs.Codes.{fate_number};
+ghost use Rattle.qtree_c.specs.Folds.{arrival, IsArrivals};
+ghost use Rattle.qtree_c.specs.Noting.{arrival_events, noting, one_event, Notes};
 ghost use Rattle.qtree_c.specs.Structs.{descriptor};
 
 use crate::c_device::CDevice;
 use crate::c_packet::CPacket;
 use crate::codes::{DONE, IS_CLOSED, MEMORY, OUT_OF_RANGE, ROOM};
+use crate::opened::Opened;
 use crate::steps;
-use q_device::{Device, Fate};
+use q_device::Fate;
 use q_packet::Moment;
 
 /// A packet arrives.
@@ -20,6 +23,8 @@ use q_packet::Moment;
 pub extern "C" fn qtree_arrive(device: &mut CDevice, packet: &CPacket, now: u64) -> u32
     ensures arrival { now ≤ 2 ^ 62 → Calls (IsArrival packet.now now result) result device.old.held.device device.new.held.device }
     ensures moment { 2 ^ 62 < now → (result ≡ 42) × (device.new.held.device ≡ device.old.held.device) }
+    ensures noted { result ≤ 6 → Notes (one_event (arrival now packet.now)) device.old.held.device device.old.held.last device.new.held.last }
+    ensures unnoted { 6 < result → device.new.held.last ≡ device.old.held.last }
 {
     let Some(now) = Moment::new(now) else {
         return OUT_OF_RANGE;
@@ -46,6 +51,8 @@ pub extern "C" fn qtree_arrive_many(
     ensures moment_kept { 2 ^ 62 < now → codes.new ≡ codes.old }
     ensures room_kept { result ≡ 43 → codes.new ≡ codes.old }
     ensures closed_kept { result ≡ 50 → (done.new ≡ 0) × (codes.new ≡ codes.old) }
+    ensures noted { 1 ≤ done.new → Notes (arrival_events now (map descriptor (take done.new packets.now))) device.old.held.device device.old.held.last device.new.held.last }
+    ensures unnoted { done.new ≡ 0 → device.new.held.last ≡ device.old.held.last }
 {
     *done = 0;
     let Some(now) = Moment::new(now) else {
@@ -64,17 +71,20 @@ pub extern "C" fn qtree_arrive_many(
 
 /// A packet arrives at an open device.
 #[inline(always)]
-fn arrive(device: &mut Device, packet: &CPacket, now: Moment) -> u32
-    ensures arrival { IsArrival packet.now now result device.old device.new }
-    ensures full { result ≡ 90 → HasItsMemory device.old × StaysButForPlaces device.old device.new }
-    ensures no_room { result ≡ 90 → HasRoomFor (descriptor packet.now) device.old → ⊥ }
+fn arrive(opened: &mut Opened, packet: &CPacket, now: Moment) -> u32
+    ensures arrival { IsArrival packet.now now result opened.old.device opened.new.device }
+    ensures full { result ≡ 90 → HasItsMemory opened.old.device × StaysButForPlaces opened.old.device opened.new.device }
+    ensures no_room { result ≡ 90 → HasRoomFor (descriptor packet.now) opened.old.device → ⊥ }
     ensures codes { result ≢ 50 }
     ensures room { result ≢ 43 }
+    ensures noted { result ≤ 6 → opened.new.last ≡ noting (one_event (arrival now packet.now) opened.old.device) opened.old.last }
+    ensures unnoted { 6 < result → opened.new.last ≡ opened.old.last }
+    ensures clock { result ≤ 6 → opened.new.device.device.clock ≡ counts_at now opened.old.device.device }
 {
     let Some(packet) = packet.packet() else {
         return OUT_OF_RANGE;
     };
-    match steps::arrive(device, &packet, now) {
+    match steps::arrive(opened, &packet, now) {
         Ok(fate) => number(fate),
         Err(_) => MEMORY,
     }
@@ -82,18 +92,19 @@ fn arrive(device: &mut Device, packet: &CPacket, now: Moment) -> u32
 
 /// Packets arrive at an open device.
 fn arrive_many(
-    device: &mut Device,
+    opened: &mut Opened,
     packets: &[CPacket],
     codes: &mut [u8],
     now: Moment,
 ) -> (usize, u32)
     requires { length packets.now ≤ length codes.old }
-    ensures arrivals { IsArrivals now packets.now result.1 result.0 codes.old codes.new device.old device.new }
+    ensures arrivals { IsArrivals now packets.now result.1 result.0 codes.old codes.new opened.old.device opened.new.device }
     ensures answer { result.1 ≢ 50 }
     ensures room { result.1 ≢ 43 }
+    ensures noted { opened.new.last ≡ noting (arrival_events now (map descriptor (take result.0 packets.now)) opened.old.device) opened.old.last }
 {
     for i in 0..packets.len() {
-        let code = arrive(device, &packets[i], now);
+        let code = arrive(opened, &packets[i], now);
         if code > 6 {
             return (i, code);
         }

@@ -4,12 +4,13 @@ ghost use Rattle.q_device.specs.contracts.Device.{the_row as device_row};
 ghost use Rattle.qtree_c.specs.Holding.{IsClosed, IsClosed-prop};
 
 use crate::held_device::HeldDevice;
+use crate::opened::Opened;
 use crate::raw_box::RawBox;
-use q_device::Device;
 use std::alloc::Global;
 use std::mem;
 
-/// A place for a device. One whose bytes are all 0 is closed. `held.device` is the device for contracts, or `None` where it is closed.
+/// A place for a device. One whose bytes are all 0 is closed. `held.device` is the device for contracts, or `None` where it is closed,
+/// and `held.last` the ring of its last events, where it has one.
 #[repr(C)]
 #[derive(Drop)]
 pub struct CDevice {
@@ -25,6 +26,7 @@ impl CDevice {
     fn closed() -> CDevice
         ensures state { result.state ≡ 0 }
         ensures device { result.held.device ≡ None }
+        ensures last { result.held.last ≡ None }
     {
         CDevice {
             held: HeldDevice::empty(),
@@ -40,11 +42,11 @@ impl CDevice {
         self.state != 0
     }
 
-    /// The device, which leaves the place closed; `None` where it was.
-    pub fn take(&mut self, alloc: Global) -> Option<Box<Device>>
+    /// The device with its ring, which leaves the place closed; `None` where it was.
+    pub fn take(&mut self, alloc: Global) -> Option<Box<Opened>>
         ensures closed { self.new.held.device ≡ None }
         ensures state { self.new.state ≡ 0 }
-        ensures some { IfSome result (λ device. self.old.held.device ≡ Some device.value) }
+        ensures some { IfSome result (λ opened. self.old.held.device ≡ Some opened.value.device) }
         ensures none { IfNone result (self.old.held.device ≡ None) }
     {
         if self.state == 0 {
@@ -54,13 +56,14 @@ impl CDevice {
         Some(held.into_raw(alloc).into_box())
     }
 
-    /// Puts a device into a closed place.
-    pub fn put(&mut self, device: Box<Device>)
+    /// Puts a device with its ring into a closed place.
+    pub fn put(&mut self, opened: Box<Opened>)
         requires { self.old.held.device ≡ None }
-        ensures { self.new.held.device ≡ Some device.value }
+        ensures device { self.new.held.device ≡ Some opened.value.device }
+        ensures last { self.new.held.last ≡ opened.value.last }
     {
         *self = CDevice {
-            held: HeldDevice::of(RawBox::of(device)),
+            held: HeldDevice::of(RawBox::of(opened)),
             state: 1,
         };
     }

@@ -22,6 +22,7 @@ pub extern "C" fn qtree_stats(
     ensures row { IsPlaceOf place major minor → Calls (IsRow (place_of place major minor) result row.old row.new) result device.old.held.device device.new.held.device }
     ensures out_of_range { result ≢ 42 → IsPlaceOf place major minor }
     ensures same { device.new.held.device ≡ device.old.held.device }
+    ensures last { device.new.held.last ≡ device.old.held.last }
     ensures kept { 42 ≤ result → row.new ≡ row.old }
 {
     let Some(place) = place_at(place, major, minor) else {
@@ -35,6 +36,7 @@ pub extern "C" fn qtree_stats(
 pub extern "C" fn qtree_totals(device: &mut CDevice, row: &mut CRow) -> u32
     ensures row { Calls (IsRow place.Top result row.old row.new) result device.old.held.device device.new.held.device }
     ensures same { device.new.held.device ≡ device.old.held.device }
+    ensures last { device.new.held.last ≡ device.old.held.last }
     ensures kept { 42 ≤ result → row.new ≡ row.old }
 {
     stats_at(device, Place::Top, row)
@@ -44,13 +46,14 @@ pub extern "C" fn qtree_totals(device: &mut CDevice, row: &mut CRow) -> u32
 fn stats_at(device: &mut CDevice, place: Place, row: &mut CRow) -> u32
     ensures row { Calls (IsRow place result row.old row.new) result device.old.held.device device.new.held.device }
     ensures same { device.new.held.device ≡ device.old.held.device }
+    ensures last { device.new.held.last ≡ device.old.held.last }
     ensures kept { 42 ≤ result → row.new ≡ row.old }
     ensures codes { result ≢ 42 }
 {
     if !device.is_open() {
         return IS_CLOSED;
     }
-    let counted = device.held.lend().stats(place);
+    let counted = device.held.lend().device.stats(place);
     match counted {
         Some(counted) => {
             *row = CRow::of(&counted);

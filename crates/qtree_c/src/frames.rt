@@ -4,13 +4,15 @@ ghost use Rattle.q_packet.specs.Head.{head};
 ghost use Rattle.q_packet.specs.Key.{key_bytes};
 ghost use Rattle.q_packet.specs.OneAtATime.{one_at_a_time};
 ghost use Rattle.qtree_c.specs.Calls.{Calls, IsArrival};
+ghost use Rattle.qtree_c.specs.Folds.{arrival};
+ghost use Rattle.qtree_c.specs.Noting.{noting, one_event, Notes};
 ghost use Rattle.qtree_c.specs.Structs.{framed};
 
 use crate::arrivals::number;
 use crate::c_device::CDevice;
 use crate::codes::{IS_CLOSED, MEMORY, OUT_OF_RANGE};
+use crate::opened::Opened;
 use crate::steps;
-use q_device::Device;
 use q_packet::{FlowHash, Head, Moment, OneAtATime, Packet, read_head};
 
 /// A packet arrives that has these first bytes, and this hash of its flow.
@@ -26,6 +28,8 @@ pub extern "C" fn qtree_arrive_frame(
     ensures arrival { now ≤ 2 ^ 62 → Calls (IsArrival (framed len buf hash (head bytes.now)) now result) result device.old.held.device device.new.held.device }
     ensures moment { 2 ^ 62 < now → (result ≡ 42) × (device.new.held.device ≡ device.old.held.device) }
     ensures len { now ≤ 2 ^ 62 → result ≡ 42 → len ≡ 0 }
+    ensures noted { result ≤ 6 → Notes (one_event (arrival now (framed len buf hash (head bytes.now)))) device.old.held.device device.old.held.last device.new.held.last }
+    ensures unnoted { 6 < result → device.new.held.last ≡ device.old.held.last }
 {
     let Some(now) = Moment::new(now) else {
         return OUT_OF_RANGE;
@@ -49,6 +53,8 @@ pub extern "C" fn qtree_arrive_frame_seeded(
     ensures arrival { now ≤ 2 ^ 62 → Calls (IsArrival (framed len buf (one_at_a_time seed (key_bytes (head bytes.now).key)) (head bytes.now)) now result) result device.old.held.device device.new.held.device }
     ensures moment { 2 ^ 62 < now → (result ≡ 42) × (device.new.held.device ≡ device.old.held.device) }
     ensures len { now ≤ 2 ^ 62 → result ≡ 42 → len ≡ 0 }
+    ensures noted { result ≤ 6 → Notes (one_event (arrival now (framed len buf (one_at_a_time seed (key_bytes (head bytes.now).key)) (head bytes.now)))) device.old.held.device device.old.held.last device.new.held.last }
+    ensures unnoted { 6 < result → device.new.held.last ≡ device.old.held.last }
 {
     let Some(now) = Moment::new(now) else {
         return OUT_OF_RANGE;
@@ -63,15 +69,17 @@ pub extern "C" fn qtree_arrive_frame_seeded(
 
 /// A packet with this head arrives at an open device.
 #[inline(always)]
-fn arrive(device: &mut Device, head: &Head, len: u16, buf: u32, hash: u32, now: Moment) -> u32
+fn arrive(opened: &mut Opened, head: &Head, len: u16, buf: u32, hash: u32, now: Moment) -> u32
     requires { head.now.prio ≤ 15 }
-    ensures arrival { IsArrival (framed len buf hash head.now) now result device.old device.new }
+    ensures arrival { IsArrival (framed len buf hash head.now) now result opened.old.device opened.new.device }
     ensures len { result ≡ 42 → len ≡ 0 }
+    ensures noted { result ≤ 6 → opened.new.last ≡ noting (one_event (arrival now (framed len buf hash head.now)) opened.old.device) opened.old.last }
+    ensures unnoted { 6 < result → opened.new.last ≡ opened.old.last }
 {
     let Some(packet) = Packet::new(0, 0, buf, len, head.key, hash, head.prio, head.ecn) else {
         return OUT_OF_RANGE;
     };
-    match steps::arrive(device, &packet, now) {
+    match steps::arrive(opened, &packet, now) {
         Ok(fate) => number(fate),
         Err(_) => MEMORY,
     }

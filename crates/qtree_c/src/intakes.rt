@@ -1,12 +1,14 @@
 //! Packets are taken in from rings.
 ghost use Rattle.std.specs.Prelude.{◌≡◌, ◌≢◌, ◌≤◌, ◌<◌, ◌^◌};
+ghost use Rattle.q_ports.specs.NotedIn.{arrivals_between};
 ghost use Rattle.qtree_c.specs.Ends.{CallsBoth, CallsEnd, IsTakeIn, IsTakenIn};
+ghost use Rattle.qtree_c.specs.Noting.{noting, NotesTakenIn};
 
 use crate::c_count::CCount;
 use crate::c_device::CDevice;
 use crate::c_outlet::COutlet;
 use crate::codes::{DONE, IS_CLOSED, MEMORY, OUT_OF_RANGE};
-use q_device::Device;
+use crate::opened::Opened;
 use q_packet::Moment;
 use q_ports::Outlet;
 
@@ -22,6 +24,8 @@ pub extern "C" fn qtree_take_in(
     ensures taken { now ≤ 2 ^ 62 → CallsBoth (IsTakeIn now most result taken.new) result device.old.held.device device.new.held.device outlet.old.held.outlet outlet.new.held.outlet }
     ensures moment { 2 ^ 62 < now → (result ≡ 42) × (device.new.held.device ≡ device.old.held.device) × (outlet.new.held.outlet ≡ outlet.old.held.outlet) }
     ensures nothing { result ≢ 0 → result ≢ 90 → taken.new ≡ 0 }
+    ensures noted { now ≤ 2 ^ 62 → NotesTakenIn now device.old.held.device outlet.old.held.outlet outlet.new.held.outlet device.old.held.last device.new.held.last }
+    ensures unnoted { 2 ^ 62 < now → device.new.held.last ≡ device.old.held.last }
 {
     *taken = 0;
     let Some(now) = Moment::new(now) else {
@@ -50,11 +54,15 @@ pub extern "C" fn qtree_outlet_share(outlet: &mut COutlet, share: &mut CCount) -
 }
 
 /// Packets of an open outlet arrive at an open device.
-fn take_in(device: &mut Device, outlet: &mut Outlet, now: Moment, most: usize) -> (usize, u32)
-    ensures taken { IsTakeIn now most result.1 result.0 device.old device.new outlet.old outlet.new }
+fn take_in(opened: &mut Opened, outlet: &mut Outlet, now: Moment, most: usize) -> (usize, u32)
+    ensures taken { IsTakeIn now most result.1 result.0 opened.old.device opened.new.device outlet.old outlet.new }
     ensures codes { result.1 ≢ 50 }
+    ensures noted { opened.new.last ≡ noting (arrivals_between now opened.old.device outlet.old outlet.new) opened.old.last }
 {
-    let taken_in = outlet.take_in(device, now, most);
+    let taken_in = match &mut opened.last {
+        Some(last) => outlet.take_in_noted(&mut opened.device, last, now, most),
+        None => outlet.take_in(&mut opened.device, now, most),
+    };
     if taken_in.memory {
         return (taken_in.taken, MEMORY);
     }

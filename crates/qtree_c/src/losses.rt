@@ -12,12 +12,13 @@ use q_device::Device;
 #[unsafe(no_mangle)]
 pub extern "C" fn qtree_reap(device: &mut CDevice, loss: &mut CLoss) -> u32
     ensures reap { Calls (IsReap result loss.old loss.new) result device.old.held.device device.new.held.device }
+    ensures last { device.new.held.last ≡ device.old.held.last }
     ensures kept { result ≡ 50 → loss.new ≡ loss.old }
 {
     if !device.is_open() {
         return IS_CLOSED;
     }
-    reap(device.held.lend(), loss)
+    reap(&mut device.held.lend().device, loss)
 }
 
 /// Hands out losses until there are as many as places, or none waits any more.
@@ -28,13 +29,14 @@ pub extern "C" fn qtree_reap_many(
     count: &mut usize,
 ) -> u32
     ensures reaps { Calls (IsReaps result count.new losses.old losses.new) result device.old.held.device device.new.held.device }
+    ensures last { device.new.held.last ≡ device.old.held.last }
     ensures kept { result ≡ 50 → (losses.new ≡ losses.old) × (count.new ≡ 0) }
 {
     *count = 0;
     if !device.is_open() {
         return IS_CLOSED;
     }
-    let (handed_out, code) = reap_many(device.held.lend(), losses);
+    let (handed_out, code) = reap_many(&mut device.held.lend().device, losses);
     *count = handed_out;
     code
 }

@@ -14,12 +14,13 @@ use q_device::Device;
 pub extern "C" fn qtree_node(device: &mut CDevice, index: usize, view: &mut CNodeView) -> u32
     ensures node { Calls (IsNode index result view.old view.new) result device.old.held.device device.new.held.device }
     ensures same { device.new.held.device ≡ device.old.held.device }
+    ensures last { device.new.held.last ≡ device.old.held.last }
     ensures kept { result ≢ 0 → view.new ≡ view.old }
 {
     if !device.is_open() {
         return IS_CLOSED;
     }
-    node_at(device.held.lend(), index, view)
+    node_at(&device.held.lend().device, index, view)
 }
 
 /// A class, by the index of its qdisc in that order, and by its own among that qdisc's classes.
@@ -32,12 +33,13 @@ pub extern "C" fn qtree_class(
 ) -> u32
     ensures class { Calls (IsClass index which result view.old view.new) result device.old.held.device device.new.held.device }
     ensures same { device.new.held.device ≡ device.old.held.device }
+    ensures last { device.new.held.last ≡ device.old.held.last }
     ensures kept { result ≢ 0 → view.new ≡ view.old }
 {
     if !device.is_open() {
         return IS_CLOSED;
     }
-    class_at(device.held.lend(), index, which, view)
+    class_at(&device.held.lend().device, index, which, view)
 }
 
 /// A qdisc of an open device.

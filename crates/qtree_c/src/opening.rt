@@ -7,6 +7,7 @@ ghost use Rattle.qtree_c.specs.Structs.{settings_of};
 use crate::c_device::CDevice;
 use crate::c_settings::CSettings;
 use crate::codes::{DONE, IS_OPEN, MEMORY, OUT_OF_RANGE};
+use crate::opened::Opened;
 use q_device::{Device, Settings};
 use std::alloc::Global;
 
@@ -22,6 +23,8 @@ pub extern "C" fn qtree_open(alloc: Global, device: &mut CDevice, settings: &CSe
     ensures memory { result ≡ 90 → IsInRange (settings_of settings.now) }
     ensures same { result ≢ 0 → device.new.held.device ≡ device.old.held.device }
     ensures codes { device.old.held.device ≡ None → result ≢ 0 → result ≢ 42 → result ≡ 90 }
+    ensures last { result ≡ 0 → device.new.held.last ≡ None }
+    ensures same_last { result ≢ 0 → device.new.held.last ≡ device.old.held.last }
 {
     if device.is_open() {
         return IS_OPEN;
@@ -29,8 +32,12 @@ pub extern "C" fn qtree_open(alloc: Global, device: &mut CDevice, settings: &CSe
     let Some(settings) = Settings::new(settings.mtu, settings.txqueuelen, settings.recorder) else {
         return OUT_OF_RANGE;
     };
-    let Ok(opened) = Device::open(alloc, settings) else {
+    let Ok(new) = Device::open(alloc, settings) else {
         return MEMORY;
+    };
+    let opened = Opened {
+        device: new,
+        last: None,
     };
     let Ok(boxed) = Box::new(alloc, opened) else {
         return MEMORY;

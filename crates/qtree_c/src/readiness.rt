@@ -12,12 +12,13 @@ use q_device::Device;
 pub extern "C" fn qtree_ready_at(device: &mut CDevice, moment: &mut u64) -> u32
     ensures ready { Calls (IsReady result moment.old moment.new) result device.old.held.device device.new.held.device }
     ensures same { device.new.held.device ≡ device.old.held.device }
+    ensures last { device.new.held.last ≡ device.old.held.last }
     ensures kept { result ≢ 0 → moment.new ≡ moment.old }
 {
     if !device.is_open() {
         return IS_CLOSED;
     }
-    ready_at(device.held.lend(), moment)
+    ready_at(&device.held.lend().device, moment)
 }
 
 /// The moment before which no poll of an open device gives a packet.

@@ -12,6 +12,7 @@ use q_device::Device;
 pub extern "C" fn qtree_events(device: &mut CDevice, events: &mut u64, recorded: &mut usize) -> u32
     ensures events { Calls (IsCountOfEvents result events.new recorded.new) result device.old.held.device device.new.held.device }
     ensures same { device.new.held.device ≡ device.old.held.device }
+    ensures last { device.new.held.last ≡ device.old.held.last }
     ensures closed { result ≡ 50 → (events.new ≡ 0) × (recorded.new ≡ 0) }
 {
     *events = 0;
@@ -19,7 +20,7 @@ pub extern "C" fn qtree_events(device: &mut CDevice, events: &mut u64, recorded:
     if !device.is_open() {
         return IS_CLOSED;
     }
-    let opened = device.held.lend();
+    let opened = &device.held.lend().device;
     *events = opened.events();
     *recorded = opened.recorded().len();
     DONE
@@ -30,12 +31,13 @@ pub extern "C" fn qtree_events(device: &mut CDevice, events: &mut u64, recorded:
 pub extern "C" fn qtree_recorded(device: &mut CDevice, index: usize, event: &mut CEvent) -> u32
     ensures event { Calls (IsRecorded index result event.old event.new) result device.old.held.device device.new.held.device }
     ensures same { device.new.held.device ≡ device.old.held.device }
+    ensures last { device.new.held.last ≡ device.old.held.last }
     ensures kept { result ≢ 0 → event.new ≡ event.old }
 {
     if !device.is_open() {
         return IS_CLOSED;
     }
-    recorded(device.held.lend(), index, event)
+    recorded(&device.held.lend().device, index, event)
 }
 
 /// A recorded event of an open device.

@@ -20,6 +20,7 @@ pub extern "C" fn qtree_recorded_line(
 ) -> u32
     ensures line { Calls (IsRecordedLine index result needed.new text.old text.new) result device.old.held.device device.new.held.device }
     ensures same { device.new.held.device ≡ device.old.held.device }
+    ensures last { device.new.held.last ≡ device.old.held.last }
     ensures kept { result ≢ 0 → text.new ≡ text.old }
     ensures closed { result ≡ 50 → needed.new ≡ 0 }
 {
@@ -27,7 +28,7 @@ pub extern "C" fn qtree_recorded_line(
     if !device.is_open() {
         return IS_CLOSED;
     }
-    recorded_line(device.held.lend(), index, text, needed)
+    recorded_line(&device.held.lend().device, index, text, needed)
 }
 
 /// The line of a recorded event of an open device.
@@ -53,6 +54,7 @@ pub extern "C" fn qtree_recorded_script(
 ) -> u32
     ensures script { Calls (IsScript result needed.new text.old text.new) result device.old.held.device device.new.held.device }
     ensures same { device.new.held.device ≡ device.old.held.device }
+    ensures last { device.new.held.last ≡ device.old.held.last }
     ensures kept { result ≢ 0 → text.new ≡ text.old }
     ensures closed { result ≡ 50 → needed.new ≡ 0 }
 {
@@ -60,7 +62,7 @@ pub extern "C" fn qtree_recorded_script(
     if !device.is_open() {
         return IS_CLOSED;
     }
-    recorded_script(alloc, device.held.lend(), text, needed)
+    recorded_script(alloc, &device.held.lend().device, text, needed)
 }
 
 /// The script of an open device.

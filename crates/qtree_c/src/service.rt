@@ -22,6 +22,7 @@ pub extern "C" fn qtree_service(
     ensures promise { IsPlaceOf place major minor → Calls (IsPromised (place_of place major minor) result promise.old promise.new) result device.old.held.device device.new.held.device }
     ensures out_of_range { result ≢ 42 → IsPlaceOf place major minor }
     ensures same { device.new.held.device ≡ device.old.held.device }
+    ensures last { device.new.held.last ≡ device.old.held.last }
     ensures kept { result ≢ 0 → promise.new ≡ promise.old }
 {
     let Some(place) = place_at(place, major, minor) else {
@@ -34,13 +35,14 @@ pub extern "C" fn qtree_service(
 fn service_at(device: &mut CDevice, place: Place, promise: &mut CPromise) -> u32
     ensures promise { Calls (IsPromised place result promise.old promise.new) result device.old.held.device device.new.held.device }
     ensures same { device.new.held.device ≡ device.old.held.device }
+    ensures last { device.new.held.last ≡ device.old.held.last }
     ensures kept { result ≢ 0 → promise.new ≡ promise.old }
     ensures codes { result ≢ 42 }
 {
     if !device.is_open() {
         return IS_CLOSED;
     }
-    let service = device.held.lend().service(place);
+    let service = device.held.lend().device.service(place);
     match service {
         Some(service) => {
             *promise = CPromise::of(&service);

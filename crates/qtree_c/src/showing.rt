@@ -22,6 +22,7 @@ pub extern "C" fn qtree_show(
     ensures show { what ≤ 3 → Calls (IsShow what result needed.new text.old text.new) result device.old.held.device device.new.held.device }
     ensures out_of_range { 3 < what → result ≡ 42 }
     ensures same { device.new.held.device ≡ device.old.held.device }
+    ensures last { device.new.held.last ≡ device.old.held.last }
     ensures kept { result ≢ 0 → text.new ≡ text.old }
     ensures nothing { result ≡ 42 → needed.new ≡ 0 }
     ensures closed { result ≡ 50 → needed.new ≡ 0 }
@@ -33,7 +34,7 @@ pub extern "C" fn qtree_show(
     if !device.is_open() {
         return IS_CLOSED;
     }
-    show(alloc, device.held.lend(), what, text, needed)
+    show(alloc, &device.held.lend().device, what, text, needed)
 }
 
 /// What tc shows of an open device.

@@ -1,64 +1,108 @@
-//! The events of a device, in the words of this crate's contracts.
+//! The events of a device, in the words of this crate's contracts. Each is noted in the ring of the last events, where there is one.
 ghost use Rattle.std.specs.Prelude.{◌≡◌, IfErr, IfOk, IsOk, Ok, OnOk, OnErr};
 ghost use Rattle.q_device.specs.DeviceLaws.{HasItsMemory};
 ghost use Rattle.q_device.specs.DeviceSeen.{HasRoomFor, IsRefusal, IsRefusedAt};
 ghost use Rattle.q_device.specs.Giving.{polled_in};
+ghost use Rattle.q_device.specs.LastNoted.{with_noted};
 ghost use Rattle.q_model.specs.declared.event.Event.TheVariants as event;
 ghost use Rattle.q_model.specs.declared.reply.Reply.TheVariants as reply;
 ghost use Rattle.q_ports.specs.Room.{KeepsPlaces, StaysButForPlaces};
 ghost use Rattle.q_tree.specs.Commanding.{MayTakeMemory};
 ghost use Rattle.q_device.specs.Events.{after_event, reply_to, with_memory};
 ghost use Rattle.q_device.specs.Polls.{after_poll};
+ghost use Rattle.q_model.specs.Step.{counts_at};
+ghost use Rattle.qtree_c.specs.Noting.{noting, one_event};
 
+use crate::noting::{note_arrival, note_command};
+use crate::opened::Opened;
 use q_device::laws::device_has_its_memory;
-use q_device::{Command, Device, Fate, Given, Refusal};
+use q_device::{Command, Device, Event, Fate, Given, LastEvents, Refusal};
 use q_packet::{Moment, Packet};
 use std::alloc::AllocError;
 
-/// A packet arrives, as at [`Device::arrive_at`].
+/// A packet arrives, as at `Device::arrive_at`.
 ///
 /// # Errors
 ///
 /// `AllocError` where memory is refused. Nothing has changed then but for places: what there was room for there is room for still.
 #[inline(always)]
-pub fn arrive(device: &mut Device, packet: &Packet, now: Moment) -> Result<Fate, AllocError>
-    ensures event { OnOk result (device.new ≡ with_memory device.new.memory (after_event (event.Arrive packet.now now) device.old)) }
-    ensures fate { IfOk result (λ fate. reply.Fate fate ≡ reply_to (event.Arrive packet.now now) device.old) }
-    ensures stays { OnErr result (StaysButForPlaces device.old device.new) }
-    ensures places { KeepsPlaces device.old device.new }
-    ensures memory { HasItsMemory device.old }
-    ensures succeeds { HasRoomFor packet.now device.old → IsOk result }
+pub fn arrive(opened: &mut Opened, packet: &Packet, now: Moment) -> Result<Fate, AllocError>
+    ensures event { OnOk result (opened.new.device ≡ with_memory opened.new.device.memory (after_event (event.Arrive packet.now now) opened.old.device)) }
+    ensures fate { IfOk result (λ fate. reply.Fate fate ≡ reply_to (event.Arrive packet.now now) opened.old.device) }
+    ensures stays { OnErr result (StaysButForPlaces opened.old.device opened.new.device) }
+    ensures places { KeepsPlaces opened.old.device opened.new.device }
+    ensures memory { HasItsMemory opened.old.device }
+    ensures succeeds { HasRoomFor packet.now opened.old.device → IsOk result }
+    ensures noted { OnOk result (opened.new.last ≡ noting (one_event (event.Arrive packet.now now) opened.old.device) opened.old.last) }
+    ensures unnoted { OnErr result (opened.new.last ≡ opened.old.last) }
+    ensures clock { OnOk result (opened.new.device.device.clock ≡ counts_at now opened.old.device.device) }
 {
-    device_has_its_memory(device);
-    match device.arrive_at(packet, now) {
-        Ok(fate) => Ok(fate),
+    device_has_its_memory(&opened.device);
+    match opened.device.arrive_at(packet, now) {
+        Ok(fate) => {
+            note_arrival(&mut opened.last, &opened.device, packet);
+            Ok(fate)
+        }
         Err(_) => Err(AllocError),
     }
 }
 
-/// The device is polled, as at [`Device::poll_into`].
+/// The device is polled, as at `Device::poll_into`.
 #[inline(always)]
-pub fn poll(device: &mut Device, now: Moment, out: &mut Packet) -> Given
+pub fn poll(opened: &mut Opened, now: Moment, out: &mut Packet) -> Given
+    ensures polled { opened.new.device ≡ after_poll now opened.old.device }
+    ensures reply { reply.Polled (polled_in out.new result) ≡ reply_to (event.Poll now) opened.old.device }
+    ensures noted { opened.new.last ≡ noting (one_event (event.Poll now) opened.old.device) opened.old.last }
+    ensures clock { opened.new.device.device.clock ≡ counts_at now opened.old.device.device }
+{
+    match &mut opened.last {
+        None => poll_device(&mut opened.device, now, out),
+        Some(last) => poll_noted(&mut opened.device, last, now, out),
+    }
+}
+
+// Polls a device, and notes it. Out of the way, since most devices have no ring.
+#[cold]
+#[inline(never)]
+fn poll_noted(device: &mut Device, last: &mut LastEvents, now: Moment, out: &mut Packet) -> Given
     ensures polled { device.new ≡ after_poll now device.old }
     ensures reply { reply.Polled (polled_in out.new result) ≡ reply_to (event.Poll now) device.old }
+    ensures noted { last.new ≡ with_noted (event.Poll device.new.device.clock) last.old }
+    ensures clock { device.new.device.clock ≡ counts_at now device.old.device }
+{
+    let given = poll_device(device, now, out);
+    last.note(Event::Poll(device.clock()));
+    given
+}
+
+#[inline(always)]
+fn poll_device(device: &mut Device, now: Moment, out: &mut Packet) -> Given
+    ensures polled { device.new ≡ after_poll now device.old }
+    ensures reply { reply.Polled (polled_in out.new result) ≡ reply_to (event.Poll now) device.old }
+    ensures clock { device.new.device.clock ≡ counts_at now device.old.device }
 {
     device.poll_into(now, out)
 }
 
-/// A command is done, as at [`Device::command`].
+/// A command is done, as at `Device::command`.
 ///
 /// # Errors
 ///
 /// The refusal. Nothing has changed then.
-pub fn command(device: &mut Device, command: Command, now: Moment) -> Result<(), Refusal>
-    ensures event { OnOk result (device.new ≡ with_memory device.new.memory (after_event (event.Command command now) device.old)) }
-    ensures reply { OnOk result (reply.Done (Ok (record {})) ≡ reply_to (event.Command command now) device.old) }
-    ensures refused { IfErr result (IsRefusal (MayTakeMemory command) (reply_to (event.Command command now) device.old)) }
-    ensures memory { IfErr result (IsRefusedAt command now device.old) }
-    ensures same { OnErr result (device.new ≡ device.old) }
+pub fn command(opened: &mut Opened, command: Command, now: Moment) -> Result<(), Refusal>
+    ensures event { OnOk result (opened.new.device ≡ with_memory opened.new.device.memory (after_event (event.Command command now) opened.old.device)) }
+    ensures reply { OnOk result (reply.Done (Ok (record {})) ≡ reply_to (event.Command command now) opened.old.device) }
+    ensures refused { IfErr result (IsRefusal (MayTakeMemory command) (reply_to (event.Command command now) opened.old.device)) }
+    ensures memory { IfErr result (IsRefusedAt command now opened.old.device) }
+    ensures same { OnErr result (opened.new.device ≡ opened.old.device) }
+    ensures noted { OnOk result (opened.new.last ≡ noting (one_event (event.Command command now) opened.old.device) opened.old.last) }
+    ensures unnoted { OnErr result (opened.new.last ≡ opened.old.last) }
 {
-    match device.command(command, now) {
-        Ok(()) => Ok(()),
+    match opened.device.command(command, now) {
+        Ok(()) => {
+            note_command(&mut opened.last, &opened.device, &command);
+            Ok(())
+        }
         Err(refusal) => Err(refusal),
     }
 }

@@ -341,19 +341,9 @@ impl Device {
     ///
     /// `Memory`, for the line of a command.
     pub fn recorded(&self, index: usize) -> Result<Option<Event>, Error> {
-        let (code, event) = self.0.recorded(index);
-        if code != sys::QTREE_DONE {
-            return Ok(None);
-        }
-        let kind = match event.kind {
-            sys::QTREE_ARRIVED => EventKind::Arrived(Packet(event.packet)),
-            sys::QTREE_POLLED => EventKind::Polled,
-            _ => EventKind::Commanded(text_of(|text| self.0.recorded_line(index, text))?),
-        };
-        Ok(Some(Event {
-            moment: event.moment,
-            kind,
-        }))
+        event_of(self.0.recorded(index), |text| {
+            self.0.recorded_line(index, text)
+        })
     }
 
     /// The script that plays all recorded events again: with the device's mtu and txqueuelen, `qtree play` does what the device
@@ -378,6 +368,62 @@ impl Device {
     pub fn recorded_script(&self) -> Result<String, Error> {
         text_of(|text| self.0.recorded_script(text))
     }
+
+    /// Keeps the last events from now on, so many of them: where all places are taken the oldest makes way. The recorder has the first
+    /// events. Those that an earlier call kept are gone. 0 keeps none, which is how a device begins.
+    ///
+    /// ```
+    /// # use qtree::{Device, Error, EventKind, Packet, Settings};
+    /// let mut device = Device::open(Settings::default())?;
+    /// device.keep_last(2)?;
+    /// device.command("tc qdisc add dev wan root handle 1: pfifo limit 100", 0)?;
+    /// device.arrive(&Packet::builder(1000).buf(7).build(), 5)?;
+    /// device.poll(9)?;
+    /// assert_eq!(device.last_noted(), (3, 2));
+    /// let last = device.last_events()?;
+    /// assert!(matches!(&last[0].kind, EventKind::Arrived(packet) if packet.buf() == 7));
+    /// assert_eq!((last[1].moment, &last[1].kind), (9, &EventKind::Polled));
+    /// # Ok::<(), Error>(())
+    /// ```
+    ///
+    /// # Errors
+    ///
+    /// `OutOfRange` for more than 1,000,000 places; `Memory`. All is then as it was.
+    pub fn keep_last(&mut self, places: u32) -> Result<(), Error> {
+        match self.0.keep_last(places) {
+            sys::QTREE_DONE => Ok(()),
+            code => Err(Error::of(code)),
+        }
+    }
+
+    /// How many events were noted since [`keep_last`](Device::keep_last), and how many of them, the last ones, are kept.
+    pub fn last_noted(&self) -> (u64, usize) {
+        self.0.last_noted()
+    }
+
+    /// One of the last events, by its index from the oldest that is kept, which is 0; `None` after the newest.
+    ///
+    /// # Errors
+    ///
+    /// None but those of the line of a command, which a device always has.
+    pub fn last_event(&self, index: usize) -> Result<Option<Event>, Error> {
+        event_of(self.0.last_event(index), |text| {
+            self.0.last_line(index, text)
+        })
+    }
+
+    /// The last events, the oldest first.
+    ///
+    /// # Errors
+    ///
+    /// None but those of the line of a command, which a device always has.
+    pub fn last_events(&self) -> Result<Vec<Event>, Error> {
+        let mut events = Vec::new();
+        while let Some(event) = self.last_event(events.len())? {
+            events.push(event);
+        }
+        Ok(events)
+    }
 }
 
 fn fate(code: u32) -> Result<Fate, Error> {
@@ -386,4 +432,23 @@ fn fate(code: u32) -> Result<Fate, Error> {
         (_, Some(cause)) => Ok(Fate::Lost(cause)),
         (code, None) => Err(Error::of(code)),
     }
+}
+
+/// An event with the answer of the call that read it, and by what its line is written.
+fn event_of(
+    (code, event): (u32, sys::Event),
+    line: impl FnMut(&mut [u8]) -> (u32, usize),
+) -> Result<Option<Event>, Error> {
+    if code != sys::QTREE_DONE {
+        return Ok(None);
+    }
+    let kind = match event.kind {
+        sys::QTREE_ARRIVED => EventKind::Arrived(Packet(event.packet)),
+        sys::QTREE_POLLED => EventKind::Polled,
+        _ => EventKind::Commanded(text_of(line)?),
+    };
+    Ok(Some(Event {
+        moment: event.moment,
+        kind,
+    }))
 }

@@ -1,5 +1,5 @@
 //! What a device recorded, and its script, by which another one does the same.
-use qtree::{Device, Error, Event, EventKind, Packet, Polled, Settings, Show};
+use qtree::{Device, Drain, Error, Event, EventKind, Packet, Polled, Settings, Show};
 use std::fmt::Write;
 use std::net::IpAddr;
 
@@ -167,5 +167,79 @@ fn without_a_recorder_the_script_is_empty() -> Result<(), Error> {
     device.poll(3)?;
     assert_eq!(device.events(), (1, 0));
     assert_eq!(device.recorded_script()?, "");
+    Ok(())
+}
+
+#[test]
+fn the_last_events_are_those_of_a_long_recorder() -> Result<(), Error> {
+    for seed in 0..20 {
+        let mut device = Device::open(RECORDING)?;
+        device.keep_last(30)?;
+        session(&mut device, &mut Numbers(seed))?;
+        let (events, recorded) = device.events();
+        assert_eq!(device.last_noted(), (events, 30));
+        let last = device.last_events()?;
+        assert_eq!(last.len(), 30);
+        for (i, event) in last.into_iter().enumerate() {
+            assert_eq!(Some(event), device.recorded(recorded - 30 + i)?, "{seed}");
+        }
+        assert_eq!(device.last_event(30)?, None);
+    }
+    Ok(())
+}
+
+#[test]
+fn a_ring_of_last_events_comes_and_goes() -> Result<(), Error> {
+    let mut device = Device::open(DEFAULTS)?;
+    assert_eq!(device.keep_last(1_000_001), Err(Error::OutOfRange));
+    device.poll(3)?;
+    assert_eq!(
+        (device.last_noted(), device.last_events()?),
+        ((0, 0), vec![])
+    );
+    device.keep_last(5)?;
+    device.poll(4)?;
+    assert_eq!(
+        device.command("tc qdisc del dev wan root", 4),
+        Err(Error::Refused(qtree::Refusal::NoQdisc))
+    );
+    assert_eq!(device.last_noted(), (1, 1));
+    device.keep_last(0)?;
+    device.poll(5)?;
+    assert_eq!(device.last_noted(), (0, 0));
+    Ok(())
+}
+
+#[test]
+fn packets_from_rings_are_among_the_last_events() -> Result<(), Error> {
+    let (mut drain, mut ports) = Drain::open(DEFAULTS, 2, 8)?;
+    drain.device_mut().keep_last(3)?;
+    for (i, port) in ports.iter_mut().enumerate() {
+        let packet = Packet::builder(100 + i as u16).buf(7).build();
+        port.offer(&packet).expect("room");
+    }
+    let mut sent = Vec::new();
+    drain.turn(9, 8, &mut sent)?;
+    assert_eq!(drain.device().last_noted(), (5, 3)); // two arrivals, two polls, and one that gave none
+    let kinds: Vec<EventKind> = drain
+        .device()
+        .last_events()?
+        .into_iter()
+        .map(|it| it.kind)
+        .collect();
+    assert_eq!(
+        kinds,
+        [EventKind::Polled, EventKind::Polled, EventKind::Polled]
+    );
+    drain.device_mut().keep_last(3)?;
+    ports[1]
+        .offer(&Packet::builder(300).buf(8).build())
+        .expect("room");
+    drain.turn(10, 8, &mut sent)?;
+    let last = drain.device().last_events()?;
+    assert!(
+        matches!(&last[0].kind, EventKind::Arrived(packet) if (packet.port(), packet.number(), packet.buf()) == (1, 2, 8))
+    );
+    assert_eq!(last[0].moment, 10);
     Ok(())
 }

@@ -182,6 +182,33 @@ impl RawDevice {
         let code = unsafe { sys::qtree_recorded_script(&self.0, at, room, &mut needed) };
         (code, needed)
     }
+
+    pub(crate) fn keep_last(&mut self, places: u32) -> u32 {
+        // SAFETY: the device is open.
+        unsafe { sys::qtree_keep_last(&mut self.0, places) }
+    }
+
+    pub(crate) fn last_noted(&self) -> (u64, usize) {
+        let (mut noted, mut kept) = (0, 0);
+        // SAFETY: the device is open, and the numbers are other places.
+        unsafe { sys::qtree_last_noted(&self.0, &mut noted, &mut kept) };
+        (noted, kept)
+    }
+
+    pub(crate) fn last_event(&self, index: usize) -> (u32, sys::Event) {
+        let mut event = sys::Event::default();
+        // SAFETY: the device is open, and `event` is another place.
+        let code = unsafe { sys::qtree_last_event(&self.0, index, &mut event) };
+        (code, event)
+    }
+
+    /// Also the length of the line, which is written where there is room for it.
+    pub(crate) fn last_line(&self, index: usize, text: &mut [u8]) -> (u32, usize) {
+        let (at, room, mut needed) = (text.as_mut_ptr(), text.len(), 0);
+        // SAFETY: the device is open; pointer and length are those of `text`.
+        let code = unsafe { sys::qtree_last_line(&self.0, index, at, room, &mut needed) };
+        (code, needed)
+    }
 }
 
 impl Drop for RawDevice {

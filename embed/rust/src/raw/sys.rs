@@ -331,6 +331,16 @@ unsafe extern "C" {
         room: usize,
         needed: *mut usize,
     ) -> u32;
+    pub fn qtree_keep_last(device: *mut Device, places: u32) -> u32;
+    pub fn qtree_last_noted(device: *const Device, noted: *mut u64, kept: *mut usize) -> u32;
+    pub fn qtree_last_event(device: *const Device, index: usize, event: *mut Event) -> u32;
+    pub fn qtree_last_line(
+        device: *const Device,
+        index: usize,
+        text: *mut u8,
+        room: usize,
+        needed: *mut usize,
+    ) -> u32;
     pub fn qtree_node(device: *const Device, index: usize, view: *mut NodeView) -> u32;
     pub fn qtree_class(
         device: *const Device,

@@ -1,12 +1,15 @@
-use Rattle.std.proofs.Common.{ℕ, subst, sym}
+use Rattle.std.proofs.Common.{◌∙◌, ℕ, subst, sym}
 use Rattle.qtree_c.specs.Lines.{IsCommand}
-use Rattle.qtree_c.proofs.Commanding.{command-done, command-refused}
+use Rattle.qtree_c.proofs.Commanding.{command-done, command-refused, not-done}
 use Rattle.qtree_c.proofs.commands.do_command.Goals as goal
 
-pub returns-in-Ok : goal.returns-in-Ok
-returns-in-Ok c = command-done c.args.command c.args.now c.args.device.now c.command.new.device c.in-Ok.ensures.event c.in-Ok.ensures.reply
+pub returns-in-Ok-clause-command : goal.returns-in-Ok-clause-command
+returns-in-Ok-clause-command c = command-done c.args.command c.args.now c.args.opened.now.device c.command.new.opened.device c.in-Ok.ensures.event c.in-Ok.ensures.reply
 
-pub returns-in-Err : goal.returns-in-Err
-returns-in-Err c =
-    subst (λ (k : ℕ). IsCommand c.args.command c.args.now k c.args.device.now c.command.new.device) (sym c.number.ensures)
-    (command-refused c.args.command c.args.now c.args.device.now c.command.new.device c.in-Err.refusal c.in-Err.ensures.refused c.in-Err.ensures.memory c.in-Err.ensures.same)
+pub returns-in-Err-clause-command : goal.returns-in-Err-clause-command
+returns-in-Err-clause-command c =
+    subst (λ (k : ℕ). IsCommand c.args.command c.args.now k c.args.opened.now.device c.command.new.opened.device) (sym c.number.ensures)
+    (command-refused c.args.command c.args.now c.args.opened.now.device c.command.new.opened.device c.in-Err.refusal c.in-Err.ensures.refused c.in-Err.ensures.memory c.in-Err.ensures.same)
+
+pub returns-in-Err-clause-noted : goal.returns-in-Err-clause-noted
+returns-in-Err-clause-noted c done = absurd (not-done c.in-Err.refusal (sym c.number.ensures ∙ done))

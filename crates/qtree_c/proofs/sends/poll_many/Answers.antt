@@ -1,24 +1,45 @@
 use Rattle.std.proofs.Common.{◌≡◌, ℕ, arith, length, refl, subst}
 use Rattle.qtree_c.specs.Sent.{IsSentPolls}
 use Rattle.qtree_c.proofs.SentPolling.{sending-begins, sending-ends, sending-more, sending-stops}
+use Rattle.qtree_c.specs.Noting.{noting, poll_events}
+use Rattle.qtree_c.proofs.NotingLemmas.{polls-begin, polls-end, polls-more, polls-stop}
 use Rattle.qtree_c.proofs.sends.poll_many.Goals as goal
 
 pub loop-i-init : goal.loop-i-init
-loop-i-init c = sending-begins (length c.args.sent.now) c.args.now c.args.sent.now c.args.device.now refl
+loop-i-init c = record {
+  polling = sending-begins (length c.args.sent.now) c.args.now c.args.sent.now c.args.opened.now.device refl;
+  noted = polls-begin c.args.now c.args.opened.now.device c.args.opened.now.last;
+}
 
 pub returns-in-Err-clause-polls : goal.returns-in-Err-clause-polls
 returns-in-Err-clause-polls c =
-    sending-stops c.loop-i.i (length c.args.sent.now) c.args.now c.in-Err.code c.args.sent.now c.loop-i.sent c.args.device.now c.loop-i.device c.next.new.device
-    c.loop-i.invariant c.loop-i-test.true refl c.in-Err.ensures.none c.next.ensures.polled c.in-Err.ensures.answer
+    sending-stops c.loop-i.i (length c.args.sent.now) c.args.now c.in-Err.code c.args.sent.now c.loop-i.sent c.args.opened.now.device c.loop-i.opened.device c.next.new.opened.device
+    c.loop-i.invariant.polling c.loop-i-test.true refl c.in-Err.ensures.none c.next.ensures.polled c.in-Err.ensures.answer
 
 pub loop-i-preserved : goal.loop-i-preserved
-loop-i-preserved c =
-    sending-more c.loop-i.i (length c.args.sent.now) c.args.now c.args.sent.now c.loop-i.sent c.args.device.now c.loop-i.device c.next.new.device c.in-Ok.told
-    c.loop-i.invariant c.loop-i-test.true refl c.in-Ok.ensures.given c.next.ensures.polled
+loop-i-preserved c = record {
+  polling =
+      sending-more c.loop-i.i (length c.args.sent.now) c.args.now c.args.sent.now c.loop-i.sent c.args.opened.now.device c.loop-i.opened.device c.next.new.opened.device c.in-Ok.told
+      c.loop-i.invariant.polling c.loop-i-test.true refl c.in-Ok.ensures.given c.next.ensures.polled;
+  noted = polls-more c.loop-i.i c.args.now c.args.opened.now.device c.loop-i.opened.device c.next.new.opened.device c.args.opened.now.last c.loop-i.opened.last c.next.new.opened.last
+      c.loop-i.invariant.noted c.next.ensures.noted c.next.ensures.clock;
+}
 
 pub returns-clause-polls : goal.returns-clause-polls
 returns-clause-polls c =
     let end : c.loop-i.i ≡ length c.args.sent.now = omega (arith, c.loop-i-test.false, c.loop-i.auto.i-end) in
     let all : c.loop-i.i ≡ length c.loop-i.sent = omega (arith, end, c.loop-i.auto.sent) in
-    subst (λ (k : ℕ). IsSentPolls c.args.now 0 k c.args.sent.now c.loop-i.sent c.args.device.now c.loop-i.device) all
-    (sending-ends c.loop-i.i (length c.args.sent.now) c.args.now c.args.sent.now c.loop-i.sent c.args.device.now c.loop-i.device c.loop-i.invariant end refl)
+    subst (λ (k : ℕ). IsSentPolls c.args.now 0 k c.args.sent.now c.loop-i.sent c.args.opened.now.device c.loop-i.opened.device) all
+    (sending-ends c.loop-i.i (length c.args.sent.now) c.args.now c.args.sent.now c.loop-i.sent c.args.opened.now.device c.loop-i.opened.device c.loop-i.invariant.polling end refl)
+
+pub returns-in-Err-clause-noted : goal.returns-in-Err-clause-noted
+returns-in-Err-clause-noted c =
+    polls-stop c.loop-i.i c.args.now c.in-Err.code c.args.opened.now.device c.loop-i.opened.device c.next.new.opened.device c.args.opened.now.last c.loop-i.opened.last c.next.new.opened.last
+    c.loop-i.invariant.noted c.next.ensures.noted c.next.ensures.clock (omega (arith, c.in-Err.ensures.waits))
+
+pub returns-clause-noted : goal.returns-clause-noted
+returns-clause-noted c =
+    let end : c.loop-i.i ≡ length c.args.sent.now = omega (arith, c.loop-i-test.false, c.loop-i.auto.i-end) in
+    let all : c.loop-i.i ≡ length c.loop-i.sent = omega (arith, end, c.loop-i.auto.sent) in
+    subst (λ (k : ℕ). c.loop-i.opened.last ≡ noting (poll_events c.args.now 0 k c.args.opened.now.device) c.args.opened.now.last) all
+    (polls-end c.loop-i.i c.args.now c.args.opened.now.device c.loop-i.opened.device c.args.opened.now.last c.loop-i.opened.last c.loop-i.invariant.noted)

@@ -1,5 +1,5 @@
 -- `lend` gives the address its type, and the device to who borrows it, until the borrow ends.
-use Rattle.std.proofs.Common.{◌≡◌, ℕ, List, [], ◌∷◌, refl, sym}
+use Rattle.std.proofs.Common.{◌≡◌, ℕ, List, [], ◌∷◌, refl, sym, ap}
 use seplogic.Ra.Ura.{Ura}
 use base.Fraction.{full_share}
 use mir.Syntax.{named}
@@ -27,10 +27,11 @@ use Rattle.std.proofs.raw_atomic.Walks.{proved}
 use Rattle.std.specs.declared.option.Option.TheVariants.{Some}
 use Rattle.std.specs.Prelude.{IsSome}
 use Rattle.std_alloc.proofs.VecSteps.Shapes.{after}
-use Rattle.q_device.specs.contracts.Device.{the_row as R}
-use Rattle.qtree_c.specs.Holding.{token}
+use Rattle.qtree_c.specs.contracts.opened.Opened.{the_row as R}
+use Rattle.qtree_c.specs.Holding.{token, opened_of}
 use Rattle.qtree_c.specs.Lending.{with_device}
 use Rattle.qtree_c.proofs.HeldSteps.{single, found, held_in, held_out, owns_held}
+use Rattle.qtree_c.specs.declared.opened.Opened.{Opened}
 use Rattle.qtree_c.specs.declared.held_device.HeldDevice.{HeldDevice as Held}
 use Rattle.qtree_c.specs.contracts.held_device.HeldDevice.{the_row as H'}
 use Rattle.qtree_c.specs.contracts.held_device.HeldDevice.lend.{ended, clauses}
@@ -59,10 +60,10 @@ lend_spec 𝓤 𝓛 𝓜 𝓡 wired =
     let κ = κs.0 in let q = qs.0 in let rb = a.0.ref_ptr.0 in let ro = a.0.ref_ptr.1 in let γ = a.0.ghost_name in let h = a.0.now in
     let y : (walk_of 𝓛 ended hs c).Ghost = ((κs, qs, bounds, a, (vptr rb ro ∷ [], tt)), g) in let Post : Val → SProp 𝓤 = (walk_of 𝓛 ended hs c).post y in
     qed 𝓛 (((‵ (flft κ q) ⊛ ‵ ftrue) ⊛ ‵ (owns (MutRef (named 0) κ H' ∷ []) a (vptr rb ro ∷ [], tt))) ∷ raw (fact 𝓤 (IsSome h.device)) ∷ []) ∵
-    move ! (1 ∷ []) $ heard ! (IsSome h.device) (λ is_some. let x = (found h.device is_some).item in let full = (found h.device is_some).is in split ! $
+    move ! (1 ∷ []) $ heard ! (IsSome h.device) (λ is_some. let x : Opened = record { device = (found h.device is_some).item; last = h.last } in let full = (found h.device is_some).is in split ! $
     enter ! 𝓣.C 𝓣.Λ code.function (vptr rb ro ∷ []) Post $ alloc_all ! (λ l. pass_all ! refl ((tt, tt), tt) $
     move ! (1 ∷ []) $ fsplit ! $ fsplit3 ! $ drop ! $ move ! (3 ∷ []) $ split ! $ move ! (2 ∷ 3 ∷ 0 ∷ []) $
-    opens ! tt H' {h = h} rb ro (λ vs. move ! (1 ∷ []) $ held_out R ! h.at h.device x vs full (λ b o at_b ws. fsplit ! $
+    opens ! tt H' {h = h} rb ro (λ vs. move ! (1 ∷ []) $ held_out R ! h.at (opened_of h.device h.last) x vs (ap (λ m. opened_of m h.last) full) (λ b o at_b ws. fsplit ! $
     rewrite ! 2 (λ (us : List Val). ‵ (cell_at full_share H'.mir us rb ro)) ws refl $
     sets ! (of_opd ! (load ! (through ! refl (fld ! refl (stop !))) (look_in ! 2 (sub ! 0 refl (whole !))))) refl (tt, tt) $
     sets ! (of_opd ! (get ! refl)) refl (tt, tt) $
@@ -76,4 +77,4 @@ lend_spec 𝓤 𝓛 𝓜 𝓡 wired =
     returns ! (look_at ! 0 refl) $ free_all ! refl $ keep ! (0 ∷ []) $
     use1 𝓛 (‵ ((MutRef (named 0) κ R).own_val (record { ref_ptr = (b, o); ghost_name = γ'; now = x }) (vptr b o ∷ [])) ⊛ (‵ (flft κ q) ⊛ ‵ (follows H' R γ γ' (with_device h)))) (id⊢ 𝓤 _) $ split ! $ move ! (1 ∷ []) $ split ! $ move ! (2 ∷ 0 ∷ []) $
     suffices ! _ (ends_at 𝓛 ended hs c y (vptr b o) (record { ref_ptr = (b, o); ghost_name = γ'; now = x }) (tt, tt) (tt, tt)) $
-    nothing ! $ nothing ! $ fjoin ! $ join ! $ nothing ! $ move ! (2 ∷ 0 ∷ []) $ join ! $ join ! $ frame ! $ says ! full $ done !))))))
+    nothing ! $ nothing ! $ fjoin ! $ join ! $ nothing ! $ move ! (2 ∷ 0 ∷ []) $ join ! $ join ! $ frame ! $ says ! (full, refl) $ done !))))))

@@ -1,0 +1,37 @@
+//! Events are noted in the ring of the last events, where there is one.
+//!
+//! Most devices have none: so an event is made out of the way, as it is where the recorder keeps one.
+ghost use Rattle.std.specs.Prelude.{◌≡◌, ◌∷◌, []};
+ghost use Rattle.q_device.specs.LastNoted.{with_noted};
+ghost use Rattle.q_model.specs.declared.event.Event.TheVariants as event;
+ghost use Rattle.qtree_c.specs.Noting.{noting};
+
+use q_device::{Command, Device, Event, LastEvents};
+use q_packet::Packet;
+
+/// Notes the arrival of a packet at the device, which has just accepted it.
+#[inline(always)]
+pub fn note_arrival(last: &mut Option<LastEvents>, device: &Device, packet: &Packet)
+    ensures { last.new ≡ noting (event.Arrive packet.now device.now.device.clock ∷ []) last.old }
+{
+    if let Some(last) = last {
+        keep_arrival(last, device, packet);
+    }
+}
+
+/// Notes a command, which the device has just done.
+pub fn note_command(last: &mut Option<LastEvents>, device: &Device, command: &Command)
+    ensures { last.new ≡ noting (event.Command command.now device.now.device.clock ∷ []) last.old }
+{
+    if let Some(last) = last {
+        last.note(Event::Command(*command, device.clock()));
+    }
+}
+
+#[cold]
+#[inline(never)]
+fn keep_arrival(last: &mut LastEvents, device: &Device, packet: &Packet)
+    ensures { last.new ≡ with_noted (event.Arrive packet.now device.now.device.clock) last.old }
+{
+    last.note(Event::Arrive(*packet, device.clock()));
+}
