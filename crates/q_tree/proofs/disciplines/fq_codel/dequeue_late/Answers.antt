@@ -1,6 +1,5 @@
-use Rattle.std.proofs.Common.{◌∙◌, ◌<◌, ◌≡◌, ◌-◌, [], Some, length, ap, sym, option_to_list, arith}
-use Rattle.std.specs.Prelude.{Option, unwrap_or}
-use Rattle.q_codel.specs.declared.taken.Taken.{Taken}
+use Rattle.std.proofs.Common.{◌∙◌, ◌≡◌, ◌-◌, [], Some, length, ap, sym, option_to_list, arith}
+use Rattle.std.specs.Prelude.{unwrap_or}
 use Rattle.std.proofs.lemmas.Bool.{not-true}
 use Rattle.std.proofs.lemmas.List.Sums.{sum_by-cons}
 use Rattle.q_packet.specs.Descriptor.{Descriptor}
