@@ -1,5 +1,5 @@
 -- A packet that a queue gave into the caller's place: what the call answered is what was queued.
-use Rattle.std.proofs.Common.{◌≡◌, ℕ, zero, suc, ◌<◌, List, [], ◌∷◌, Option, Some, None, option_to_list, length, refl, sym, ap, ap₂, arith}
+use Rattle.std.proofs.Common.{◌≡◌, ℕ, zero, suc, ◌<◌, List, [], ◌∷◌, Option, Some, None, option_map, option_to_list, length, refl, sym, ap, ap₂, arith}
 use Rattle.std.specs.Prelude.{Bool, false, not, ◌==◌}
 use Rattle.std.proofs.lemmas.Bool.{eqb-true, not-false}
 use Rattle.std.specs.Option.{option_map_or}
