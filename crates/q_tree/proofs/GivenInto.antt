@@ -1,5 +1,5 @@
 -- A packet that a queue gave into the caller's place: what the call answered is what was queued.
-use Rattle.std.proofs.Common.{◌≡◌, ℕ, zero, suc, ◌<◌, List, [], ◌∷◌, Option, Some, None, option_map, option_to_list, length, refl, sym, ap, ap₂, arith}
+use Rattle.std.proofs.Common.{◌≡◌, ℕ, zero, suc, ◌<◌, List, [], ◌∷◌, Option, Some, None, option_to_list, length, refl, sym, ap, ap₂, arith}
 use Rattle.std.specs.Prelude.{Bool, false, not, ◌==◌}
 use Rattle.std.proofs.lemmas.Bool.{eqb-true, not-false}
 use Rattle.std.specs.Option.{option_map_or}
@@ -21,22 +21,6 @@ pub sent-some : (sent : Option Taken) (len : ℕ) (marked : Bool) (old new : Des
     → sent ≡ Some (record { packet = new; marked = marked })
 sent-some None len marked old new some l m p = absurd (omega (arith, some, l))
 sent-some (Some t) len marked old new some l m p = ap₂ (λ (packet : Descriptor) (marked : Bool). Some (record { packet = packet; marked = marked })) (sym p) (sym m)
-
--- the same where CoDel let it go as it is
-pub passed-some : (sent : Option Taken) (len : ℕ) (old new : Descriptor) → Some len ≡ option_map (λ (t : Taken). t.packet.len) sent
-    → option_map_or (λ (t : Taken). t.marked) sent false ≡ false → new ≡ option_map_or (λ (t : Taken). t.packet) sent old
-    → sent ≡ Some (record { packet = new; marked = false })
-passed-some None len old new is m p = absurd cc
-passed-some (Some t) len old new is m p = ap₂ (λ (packet : Descriptor) (marked : Bool). Some (record { packet = packet; marked = marked })) (sym p) m
-
-pub passed-len : (sent : Option Taken) (len : ℕ) (old new : Descriptor) → Some len ≡ option_map (λ (t : Taken). t.packet.len) sent
-    → new ≡ option_map_or (λ (t : Taken). t.packet) sent old → len ≡ new.len
-passed-len None len old new is p = absurd cc
-passed-len (Some t) len old new is p = let same : len ≡ t.packet.len = cc in omega (arith, same, ap (λ (d : Descriptor). d.len) p)
-
-pub passed-none : (sent : Option Taken) → None ≡ option_map (λ (t : Taken). t.packet.len) sent → sent ≡ None
-passed-none None is = refl
-passed-none (Some t) is = absurd cc
 
 -- and one that gave none sends none: it has no packet to send
 pub sent-none : (sent : Option Taken) → length (option_to_list (packet_of sent)) ≡ 0 → sent ≡ None
