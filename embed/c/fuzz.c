@@ -308,6 +308,7 @@ static void read_nodes(const qtree_device *device, struct input *input) {
     if (code == QTREE_DONE) {
         CHECK(node.kind >= QTREE_PFIFO && node.kind <= QTREE_FQ_CODEL && node.place == (index == 0 ? QTREE_ROOT : QTREE_CLASS));
         CHECK(node.ecn <= 1 && node.bands <= 16 && (node.handle == 0 || node.handle <= 0xfffe));
+        CHECK((uint64_t)node.new_flows + node.old_flows <= node.flows && (node.kind == QTREE_FQ_CODEL || node.flows == 0));
         CHECK(index == 0 || qtree_node(device, index - 1, &beside) == QTREE_DONE);
     } else {
         CHECK(memcmp(&node, &beside, sizeof node) == 0);

@@ -408,6 +408,7 @@ static void nodes(void) {
     CHECK(all[0].bands == 3 && all[0].priomap[0] == 1 && all[0].priomap[6] == 0 && all[0].priomap[15] == 2 && all[1].priomap[0] == 0);
     CHECK(all[1].rate == 8000000 && all[1].burst == 2000 && all[1].limit == 52000 && all[0].rate == 0);
     CHECK(all[4].limit == 90 && all[4].flows == 8 && all[4].quantum == 300 && all[4].target == 2000000 && all[4].interval == 40000000);
+    CHECK(all[4].new_flows == 1 && all[4].old_flows == 0 && all[3].new_flows == 0 && all[5].old_flows == 0);
     CHECK(all[4].ecn == 0 && all[4].drop_batch == 3 && all[4].mtu == 1514 && all[3].mtu == 0 && all[6].limit == 5000);
     CHECK(qtree_class(&device, 0, 2, &class) == QTREE_DONE && class.kind == QTREE_PRIO && class.major == 1 && class.minor == 3);
     CHECK(class.quantum == 0 && class.active == 0 && qtree_class(&device, 0, 3, &class) == QTREE_NOTHING);
@@ -416,6 +417,10 @@ static void nodes(void) {
     CHECK(class.quantum == 1500 && class.active == 1 && class.deficit == 1500);
     CHECK(qtree_class(&device, 3, 1, &class) == QTREE_DONE && class.quantum == 700 && class.active == 0 && class.deficit == 0);
     CHECK(qtree_class(&device, 3, 2, &class) == QTREE_NOTHING && qtree_class(&device, 7, 0, &class) == QTREE_NOTHING);
+    CHECK(qtree_arrive(&device, &packet, 0) == QTREE_DONE && qtree_poll(&device, 0, &packet) == QTREE_DONE);
+    CHECK(qtree_node(&device, 4, &node) == QTREE_DONE && node.new_flows == 1 && node.old_flows == 0);
+    CHECK(qtree_poll(&device, 0, &packet) == QTREE_DONE && qtree_node(&device, 4, &node) == QTREE_DONE && node.new_flows == 0);
+    CHECK(node.old_flows == 1 && qtree_poll(&device, 0, &packet) == QTREE_IDLE);
     qtree_close(&device);
 }
 

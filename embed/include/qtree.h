@@ -306,6 +306,8 @@ typedef struct qtree_node_view {
     uint64_t interval;     /* an fq_codel's, in nanoseconds */
     uint32_t burst;        /* a tbf's, in bytes */
     uint32_t flows;        /* an fq_codel's */
+    uint32_t new_flows;    /* how many of an fq_codel's flows are in its list of new flows now */
+    uint32_t old_flows;    /* and how many in that of old flows: the others have no packets, and no turn */
     uint32_t quantum;      /* an fq_codel's, in bytes */
     uint32_t drop_batch;   /* an fq_codel's, in packets */
     uint32_t kind;         /* QTREE_PFIFO to QTREE_FQ_CODEL */

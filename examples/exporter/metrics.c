@@ -94,6 +94,20 @@ static void write_classes(FILE *file, const char *device, const struct tree *tre
     }
 }
 
+/* How many flows of each fq_codel are in its list of new flows; or of old ones. */
+static void write_flows(FILE *file, const char *device, const struct tree *tree, bool are_new) {
+    const char *name = are_new ? "qtree_new_flows" : "qtree_old_flows";
+    write_head(file, name, "gauge", "Flows in the list of ", are_new ? "new flows" : "old flows");
+    for (size_t i = 0; i < tree->qdisc_count; i++) {
+        const qtree_node_view *qdisc = &tree->qdiscs[i];
+        if (qdisc->kind == QTREE_FQ_CODEL) {
+            write_begin(file, name, device);
+            write_qdisc(file, qdisc);
+            fprintf(file, " %" PRIu32 "\n", are_new ? qdisc->new_flows : qdisc->old_flows);
+        }
+    }
+}
+
 void metrics_write(FILE *file, const char *device, const struct tree *tree, const struct losses *losses) {
     for (size_t which = 0; which < sizeof counts / sizeof counts[0]; which++) {
         write_counts(file, device, tree, which, false);
@@ -103,4 +117,6 @@ void metrics_write(FILE *file, const char *device, const struct tree *tree, cons
     for (int which = 0; which < 3; which++) {
         write_classes(file, device, tree, which);
     }
+    write_flows(file, device, tree, true);
+    write_flows(file, device, tree, false);
 }

@@ -55,7 +55,7 @@ pub use q_packet::{
 };
 pub use q_tree::{
     Burst, ClassId, ClassKind, ClassView, Command, Filter, FilterKeys, FilterPrio, FilterView,
-    FqCodelOptions, Handle, IpPrefix, IpVersion, Kind, Latency, Minor, NodeView, Place,
-    PrioOptions, Protocol, QdiscView, Quantum, Rate, Refusal, Route, Row, Share, TbfLimit, Totals,
-    Tree,
+    FqCodelOptions, Handle, IpPrefix, IpVersion, Kind, Latency, ListedFlows, Minor, NodeView,
+    Place, PrioOptions, Protocol, QdiscView, Quantum, Rate, Refusal, Route, Row, Share, TbfLimit,
+    Totals, Tree,
 };

@@ -4,7 +4,7 @@ use Rattle.std.specs.Prelude.{replicate}
 use Rattle.std.proofs.lemmas.Bool.{ne_eqb}
 use Rattle.std.proofs.lemmas.List.{map-append}
 use Rattle.q_device.specs.DeviceSeen.{DeviceSeen, as_counted}
-use Rattle.q_device.specs.LastNoted.{LastNoted, all_noted}
+use Rattle.q_device.specs.LastNoted.{LastNoted}
 use Rattle.q_model.specs.Step.{counts_at}
 use Rattle.q_model.specs.declared.event.Event.{Event}
 use Rattle.q_model.specs.declared.event.Event.TheVariants.{Arrive, Poll}

@@ -14,6 +14,8 @@ use Rattle.q_model.specs.declared.place.Place.{Place}
 use Rattle.q_model.specs.declared.place.Place.TheVariants as place
 use Rattle.q_model.specs.declared.qdisc_view.QdiscView.{QdiscView}
 use Rattle.q_model.specs.declared.qdisc_view.QdiscView.TheVariants as qdisc
+use Rattle.q_tree.specs.Flows.{flows_of}
+use Rattle.q_tree.specs.declared.listed_flows.ListedFlows.{ListedFlows}
 use Rattle.qtree_c.specs.Calls.{found_number}
 use Rattle.qtree_c.specs.Structs.{row_of}
 use Rattle.qtree_c.specs.declared.c_class_view.CClassView.{CClassView}
@@ -40,6 +42,8 @@ standing_of v = record {
   interval = 0;
   burst = 0;
   flows = 0;
+  new_flows = 0;
+  old_flows = 0;
   quantum = 0;
   drop_batch = 0;
   kind = 0;
@@ -76,19 +80,24 @@ with_options (qdisc.Tbf rate burst limit) n = record n { kind = 4; rate = rate; 
 with_options qdisc.Drr n = record n { kind = 5 }
 with_options (qdisc.FqCodel settings) n = with_fq_codel settings n
 
-abbrev pub node_of : NodeView → CNodeView
-node_of v = with_options v.qdisc (standing_of v)
+-- how many flows an fq_codel has listed
+abbrev pub with_listed : Option ListedFlows → CNodeView → CNodeView
+with_listed None n = n
+with_listed (Some c) n = record n { new_flows = c.new_flows; old_flows = c.old_flows }
+
+abbrev pub node_of : NodeView → Option ListedFlows → CNodeView
+node_of v listed = with_listed listed (with_options v.qdisc (standing_of v))
 
 -- what stands in the place of what stood there before
-abbrev pub node_or : CNodeView → Option NodeView → CNodeView
-node_or before None = before
-node_or before (Some v) = node_of v
+abbrev pub node_or : CNodeView → Option NodeView → Option ListedFlows → CNodeView
+node_or before None listed = before
+node_or before (Some v) listed = node_of v listed
 
 -- the node of this index, in the order of show, or that there are not so many (32)
 pub record IsNode (index code : ℕ) (before after : CNodeView) (d n : DeviceSeen) : Type 0 where
   pub same : n ≡ d
   pub answer : code ≡ found_number (node totals index d.device.tree)
-  pub view : after ≡ node_or before (node totals index d.device.tree)
+  pub view : after ≡ node_or before (node totals index d.device.tree) (flows_of index d.device.tree)
 
 -- ---- classes
 

@@ -1,7 +1,8 @@
 ghost use Rattle.std.specs.Prelude.{◌≡◌};
-ghost use Rattle.qtree_c.specs.Nodes.{node_of, place_in, with_fq_codel, with_options};
+ghost use Rattle.qtree_c.specs.Nodes.{node_of, place_in, with_fq_codel, with_listed, with_options};
 
 use crate::c_row::CRow;
+use q_device::ListedFlows;
 use q_fqcodel::Settings;
 use q_model::{NodeView, Place, QdiscView};
 
@@ -22,6 +23,10 @@ pub struct CNodeView {
     pub burst: u32,
     /// An fq_codel's.
     pub flows: u32,
+    /// How many of an fq_codel's flows are in its list of new ones.
+    pub new_flows: u32,
+    /// How many of an fq_codel's flows are in its list of old ones.
+    pub old_flows: u32,
     /// An fq_codel's, in bytes.
     pub quantum: u32,
     /// An fq_codel's, in packets.
@@ -46,9 +51,9 @@ pub struct CNodeView {
 }
 
 impl CNodeView {
-    /// This node as C has it.
-    pub fn of(node: &NodeView) -> CNodeView
-        ensures { result ≡ node_of node.now }
+    /// This node as C has it, with the flows that it has listed if it is an fq_codel.
+    pub fn of(node: &NodeView, listed: Option<ListedFlows>) -> CNodeView
+        ensures { result ≡ node_of node.now listed }
     {
         let handle = match node.handle {
             Some(handle) => handle.major(),
@@ -63,6 +68,8 @@ impl CNodeView {
             interval: 0,
             burst: 0,
             flows: 0,
+            new_flows: 0,
+            old_flows: 0,
             quantum: 0,
             drop_batch: 0,
             kind: 0,
@@ -75,7 +82,21 @@ impl CNodeView {
             bands: 0,
             priomap: [0; 16],
         };
-        view.with_options(&node.qdisc)
+        view.with_options(&node.qdisc).with_listed(listed)
+    }
+
+    /// The same with the numbers of an fq_codel's listed flows.
+    fn with_listed(self, listed: Option<ListedFlows>) -> CNodeView
+        ensures { result ≡ with_listed listed self }
+    {
+        match listed {
+            Some(flows) => CNodeView {
+                new_flows: flows.new_flows,
+                old_flows: flows.old_flows,
+                ..self
+            },
+            None => self,
+        }
     }
 
     /// The same with the kind of a qdisc and its settings.

@@ -47,9 +47,10 @@ fn node_at(device: &Device, index: usize, view: &mut CNodeView) -> u32
     ensures node { IsNode index result view.old view.new device.now device.now }
     ensures kept { result ≢ 0 → view.new ≡ view.old }
 {
-    match device.tree().node(index) {
+    let tree = device.tree();
+    match tree.node(index) {
         Some(node) => {
-            *view = CNodeView::of(&node);
+            *view = CNodeView::of(&node, tree.flows(index));
             DONE
         }
         None => NOTHING,

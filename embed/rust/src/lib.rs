@@ -77,7 +77,7 @@ pub use gauge::Gauge;
 pub use head::{ip_at, mark_head};
 pub use loss::Loss;
 pub use losses::Losses;
-pub use node::Node;
+pub use node::{ListedFlows, Node};
 pub use offer_error::OfferError;
 pub use packet::Packet;
 pub use place::Place;

@@ -16,8 +16,19 @@ pub struct Node {
     pub qdisc: Qdisc,
     /// What it counted.
     pub row: Row,
+    /// How many flows are listed, if it is an fq_codel.
+    pub listed: Option<ListedFlows>,
     /// Its classes, in the order of `tc class show`.
     pub classes: Vec<Class>,
+}
+
+/// How many flows of an fq_codel are in each of its lists. The others have no packets, and no turn.
+#[derive(Clone, Copy, Debug, PartialEq, Eq)]
+pub struct ListedFlows {
+    /// In the list of new flows.
+    pub new: u32,
+    /// In the list of old flows.
+    pub old: u32,
 }
 
 impl Node {
@@ -30,6 +41,10 @@ impl Node {
             },
             qdisc: Qdisc::of(&view),
             row: Row::of(view.row),
+            listed: (view.kind == sys::QTREE_FQ_CODEL).then_some(ListedFlows {
+                new: view.new_flows,
+                old: view.old_flows,
+            }),
             classes,
         }
     }

@@ -21,6 +21,7 @@ pub const QTREE_BFIFO: u32 = 2;
 pub const QTREE_PRIO: u32 = 3;
 pub const QTREE_TBF: u32 = 4;
 pub const QTREE_DRR: u32 = 5;
+pub const QTREE_FQ_CODEL: u32 = 6;
 pub const QTREE_IS_CLOSED: u32 = 50;
 pub const QTREE_IS_OPEN: u32 = 51;
 pub const QTREE_MEMORY: u32 = 90;
@@ -128,6 +129,8 @@ pub struct NodeView {
     pub interval: u64,
     pub burst: u32,
     pub flows: u32,
+    pub new_flows: u32,
+    pub old_flows: u32,
     pub quantum: u32,
     pub drop_batch: u32,
     pub kind: u32,
@@ -198,9 +201,9 @@ layout!(Loss, 72: packet 0, cause 64);
 layout!(Count, 16: packets 0, bytes 8);
 layout!(Row, 96: arrived 0, sent 16, refused 32, dropped 48, queued 64, marked 80);
 layout!(Promise, 32: link 0, rate 8, part 16, slack 24);
-layout!(NodeView, 184: row 0, limit 96, rate 104, target 112, interval 120, burst 128, flows 132, quantum 136,
-    drop_batch 140, kind 144, place 148, handle 152, parent_major 154, parent_minor 156, mtu 158, ecn 160, bands 161,
-    priomap 162);
+layout!(NodeView, 192: row 0, limit 96, rate 104, target 112, interval 120, burst 128, flows 132, new_flows 136,
+    old_flows 140, quantum 144, drop_batch 148, kind 152, place 156, handle 160, parent_major 162, parent_minor 164,
+    mtu 166, ecn 168, bands 169, priomap 170);
 layout!(ClassView, 24: deficit 0, quantum 8, kind 12, major 16, minor 18, active 20);
 layout!(Fault, 16: word 0, number 8);
 layout!(Event, 80: packet 0, moment 64, kind 72);
