@@ -405,7 +405,7 @@ impl Device {
     ///
     /// # Errors
     ///
-    /// None but those of the line of a command, which a device always has.
+    /// `Memory`, for the line of a command.
     pub fn last_event(&self, index: usize) -> Result<Option<Event>, Error> {
         event_of(self.0.last_event(index), |text| {
             self.0.last_line(index, text)
@@ -416,9 +416,11 @@ impl Device {
     ///
     /// # Errors
     ///
-    /// None but those of the line of a command, which a device always has.
+    /// `Memory`.
     pub fn last_events(&self) -> Result<Vec<Event>, Error> {
+        let (_, kept) = self.last_noted();
         let mut events = Vec::new();
+        events.try_reserve_exact(kept).map_err(|_| Error::Memory)?;
         while let Some(event) = self.last_event(events.len())? {
             events.push(event);
         }

@@ -1,5 +1,6 @@
-//! What a call answers where Rust's allocator refuses the room for its text. The library has its memory from `malloc`, and still gets it.
-use qtree::{Device, Error, Settings, Show};
+//! What a call answers where Rust's allocator refuses the room for its text or list. The library has its memory from `malloc`, and still
+//! gets it.
+use qtree::{Device, Error, EventKind, Settings, Show};
 use std::alloc::{GlobalAlloc, Layout, System};
 use std::cell::Cell;
 use std::ptr;
@@ -49,5 +50,35 @@ fn a_text_whose_room_is_refused_is_memory() -> Result<(), Error> {
             .show(Show::Counters)?
             .starts_with("qdisc drr 1: root")
     );
+    Ok(())
+}
+
+#[test]
+fn last_events_whose_room_is_refused_are_memory() -> Result<(), Error> {
+    let mut device = Device::open(Settings::default())?;
+    device.keep_last(2)?;
+    device.command("tc qdisc add dev wan root handle 1: drr", 0)?;
+    device.poll(3)?;
+    REFUSES.set(true);
+    let command = device.last_event(0);
+    let poll = device.last_event(1);
+    let both = device.last_events();
+    REFUSES.set(false);
+    assert_eq!(command, Err(Error::Memory));
+    assert_eq!(poll?.map(|it| it.kind), Some(EventKind::Polled));
+    assert_eq!(both, Err(Error::Memory));
+    assert_eq!(device.last_events()?.len(), 2);
+    Ok(())
+}
+
+#[test]
+fn a_list_of_polls_whose_room_is_refused_is_memory() -> Result<(), Error> {
+    let mut device = Device::open(Settings::default())?;
+    device.keep_last(2)?;
+    device.poll(3)?;
+    REFUSES.set(true);
+    let polls = device.last_events();
+    REFUSES.set(false);
+    assert_eq!(polls, Err(Error::Memory));
     Ok(())
 }
