@@ -85,8 +85,12 @@ abbrev pub with_listed : Option ListedFlows → CNodeView → CNodeView
 with_listed None n = n
 with_listed (Some c) n = record n { new_flows = c.new_flows; old_flows = c.old_flows }
 
+-- all but those
+abbrev pub unlisted_of : NodeView → CNodeView
+unlisted_of v = with_options v.qdisc (standing_of v)
+
 abbrev pub node_of : NodeView → Option ListedFlows → CNodeView
-node_of v listed = with_listed listed (with_options v.qdisc (standing_of v))
+node_of v listed = with_listed listed (unlisted_of v)
 
 -- what stands in the place of what stood there before
 abbrev pub node_or : CNodeView → Option NodeView → Option ListedFlows → CNodeView

@@ -1,5 +1,5 @@
 ghost use Rattle.std.specs.Prelude.{◌≡◌};
-ghost use Rattle.qtree_c.specs.Nodes.{node_of, place_in, with_fq_codel, with_listed, with_options};
+ghost use Rattle.qtree_c.specs.Nodes.{node_of, place_in, unlisted_of, with_fq_codel, with_listed, with_options};
 
 use crate::c_row::CRow;
 use q_device::ListedFlows;
@@ -55,6 +55,13 @@ impl CNodeView {
     pub fn of(node: &NodeView, listed: Option<ListedFlows>) -> CNodeView
         ensures { result ≡ node_of node.now listed }
     {
+        CNodeView::unlisted(node).with_listed(listed)
+    }
+
+    /// This node as C has it, without the flows that it has listed.
+    fn unlisted(node: &NodeView) -> CNodeView
+        ensures { result ≡ unlisted_of node.now }
+    {
         let handle = match node.handle {
             Some(handle) => handle.major(),
             None => 0,
@@ -82,7 +89,7 @@ impl CNodeView {
             bands: 0,
             priomap: [0; 16],
         };
-        view.with_options(&node.qdisc).with_listed(listed)
+        view.with_options(&node.qdisc)
     }
 
     /// The same with the numbers of an fq_codel's listed flows.
