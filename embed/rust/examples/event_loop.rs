@@ -37,7 +37,8 @@ fn main() -> Result<(), qtree::Error> {
     let now = || u64::try_from(begun.elapsed().as_nanos()).unwrap_or(u64::MAX);
     let (mut given, mut sent) = (Vec::new(), 0);
     loop {
-        let is_last = drain.open_ports() == 0; // checked first: the packets of a port that has closed are in its ring
+        // Asked before the turn: if all ports have closed by now, and the turn then finds no packet, none will ever come.
+        let is_last = drain.open_ports() == 0;
         let turn = drain.turn(now(), 64, &mut given)?;
         sent += given.drain(..).count(); // a program transmits the packet of each buf
         let lost = drain.device_mut().losses().count(); // and frees the buffers of the losses
