@@ -5,6 +5,7 @@ pub mod FatLemmas
 pub mod FlowLemmas
 pub mod FlowsShow
 pub mod GivenLemmas
+pub mod GoneLemmas
 pub mod InLemmas
 pub mod KeptLemmas
 pub mod LinkLemmas

@@ -33,12 +33,7 @@ omega_within g c =
 read : (g : _) (c : After-index_mut-codel g) → joined c.self.inside.parameters c.index_mut-codel.result.now ≡ get_or (codels_in c.self.inside.parameters c.self.inside.states.items) c.args.flow (joined c.self.inside.parameters c.index_mut-codel.result.now)
 read g c = ap (joined c.self.inside.parameters) c.index_mut-codel.ensures.value ∙ sym (codel_at c.self.inside.parameters c.self.inside.states.items c.args.flow c.index_mut-codel.result.now)
 
--- the flow's queue, and the flow, as the model has them
-queue_is : (g : _) (c : After-index_mut-codel g) → queue_of c.args.self.now.flows c.args.flow ≡ get_or c.self.inside.pool.queues c.args.flow []
-queue_is g c =
-    ap (λ (f : FlowsState). queue_of f.flows c.args.flow) (sym c.self.view_is)
-    ∙ queue_there c.args.flow c.self.inside.pool.queues (codels_in c.self.inside.parameters c.self.inside.states.items) c.self.invariant.0
-
+-- the flow, as the model has it
 there : (g : _) (c : After-index_mut-codel g)
     → slice_get c.args.self.now.flows c.args.flow ≡ Some (record { queue = get_or c.self.inside.pool.queues c.args.flow []; codel = joined c.self.inside.parameters c.index_mut-codel.result.now })
 there g c =

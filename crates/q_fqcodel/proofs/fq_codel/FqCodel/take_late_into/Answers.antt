@@ -55,9 +55,6 @@ late_in_front g c = ap front (late_opened_is g c) ∙ sym c.first.ensures ∙ c.
 late_first : (g : _) (c : After-front g) → (late_opened g c).new_flows ++ (late_opened g c).old_flows ≡ late_sender g c ∷ late_behind g c
 late_first g c = front_is (late_opened g c) (late_sender g c) (late_in_front g c)
 
-late_within : (g : _) (c : After-front g) → (late_sender g c).flow < length (late_opened g c).flows
-late_within g c = omega (arith, front_within (late_opened g c) (late_sender g c) (late_behind g c) c.self.invariant.0 (late_first g c), c.self.invariant.0.each_flow)
-
 pub send_late_into-sent-requires-clause-late : goal.send_late_into-sent-requires-clause-late
 send_late_into-sent-requires-clause-late g c =
     let s = late_opened g c in
