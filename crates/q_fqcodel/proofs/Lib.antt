@@ -2,10 +2,10 @@ pub mod ChainLemmas
 pub mod ClearedLemmas
 pub mod CountLemmas
 pub mod FatLemmas
+pub mod FirstLemmas
 pub mod FlowLemmas
 pub mod FlowsShow
 pub mod GivenLemmas
-pub mod GoneLemmas
 pub mod InLemmas
 pub mod KeptLemmas
 pub mod LinkLemmas

@@ -2,7 +2,7 @@ use Rattle.std.proofs.Common.{ap, ◌∙◌, arith}
 use Rattle.q_fqcodel.specs.Pool.{PoolState}
 use Rattle.q_fqcodel.specs.declared.flow_list.FlowList.{FlowList}
 use Rattle.q_fqcodel.proofs.PoolLemmas.{count_read}
-use Rattle.q_fqcodel.proofs.GoneLemmas.{list_within, pool_gone, queues_gone, packets_gone}
+use Rattle.q_fqcodel.proofs.FirstLemmas.{list_within, pool_gone, queues_gone, packets_gone}
 use Rattle.q_fqcodel.proofs.pool.Pool.discard.Goals as goal
 
 pub list_at-list-requires : goal.list_at-list-requires

@@ -4,7 +4,7 @@ use Rattle.q_packet.specs.declared.stamped.Stamped.{Stamped}
 use Rattle.q_fqcodel.specs.Pool.{PoolState}
 use Rattle.q_fqcodel.specs.declared.flow_list.FlowList.{FlowList}
 use Rattle.q_fqcodel.proofs.PoolLemmas.{count_read, queue_read}
-use Rattle.q_fqcodel.proofs.GoneLemmas.{list_within, pool_gone, queues_gone}
+use Rattle.q_fqcodel.proofs.FirstLemmas.{list_within, pool_gone, queues_gone}
 use Rattle.q_fqcodel.proofs.pool.Pool.take_of_into.Goals as goal
 
 pub list_at-list-requires : goal.list_at-list-requires

@@ -1,12 +1,13 @@
 -- The first packet of a flow is read, or leaves the pool: what the list of that flow tells, as it was read and as it is written.
-use Rattle.std.proofs.Common.{◌≡◌, ℕ, ◌+◌, ◌-◌, ◌<◌, ◌≤◌, List, [], length, get_or, set, drop, Option, IsSome, refl, sym, ap, ap₂, ◌∙◌, arith, subst}
+use Rattle.std.proofs.Common.{◌≡◌, ℕ, ◌+◌, ◌-◌, ◌<◌, ◌≤◌, List, [], length, get_or, set, drop, Option, Some, IsSome, refl, sym, ap, ap₂, ◌∙◌, arith, subst}
+use Rattle.std.specs.Prelude.{slice_get}
 use Rattle.q_packet.specs.Totals.{count}
 use Rattle.q_packet.specs.declared.stamped.Stamped.{Stamped}
-use Rattle.q_fqcodel.specs.Chain.{queue_in, IsList, KeepsOthers}
+use Rattle.q_fqcodel.specs.Chain.{stamped_of, queue_in, IsList, KeepsOthers}
 use Rattle.q_fqcodel.specs.Pool.{no_list, queues_in, packets_in, IsPool}
 use Rattle.q_fqcodel.specs.declared.node.Node.{Node}
 use Rattle.q_fqcodel.specs.declared.flow_list.FlowList.{FlowList}
-use Rattle.q_fqcodel.proofs.ChainLemmas.{head_there}
+use Rattle.q_fqcodel.proofs.ChainLemmas.{head_there, first_packet}
 use Rattle.q_fqcodel.proofs.PoolLemmas.{length-queues_in, list_read, count_read, queue_read, written, pool_after, bytes_le, packets_pooled}
 use Rattle.q_fqcodel.proofs.PooledLemmas.{flow_with}
 
@@ -21,6 +22,11 @@ module _ (at : ℕ → Option Node) (nodes : ℕ) (lists : List FlowList) (bytes
     node_there some =
         let x = head_there at (length lists) n l (list_read at nodes lists bytes pool qs same n l read) some in
         subst (λ (o : Option Node). IsSome o) (sym x.1) refl
+
+    -- and has the first packet
+    pub front_there : (x : Node) → 0 < l.count → at l.head ≡ Some x → Some (stamped_of x) ≡ slice_get (get_or qs n []) 0
+    front_there x some there =
+        ap (λ (q : List Stamped). slice_get q 0) (sym (first_packet at l x some there) ∙ queue_read at nodes lists bytes pool qs same n l read)
 
     -- a list with one packet fewer is written in place of that one
     module _ (at2 : ℕ → Option Node) (nodes2 : ℕ) (l2 : FlowList) (lists2 : List FlowList) (is : lists2 ≡ set lists n l2) (some : 0 < count (get_or qs n []))
