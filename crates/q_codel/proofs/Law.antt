@@ -18,8 +18,8 @@ drop_within queue j head rest e = omega (arith, length-drop j queue, ap length e
 pub drop_behind : (queue : List Stamped) (j : ℕ) (head : Stamped) (rest : List Stamped) → drop j queue ≡ head ∷ rest → rest ≡ drop (suc j) queue
 drop_behind queue j head rest e = let parts = drop-cons queue j head (drop_within queue j head rest e) in cc
 
-pub slice_get-drop : (queue : List Stamped) (j : ℕ) (head : Stamped) (rest : List Stamped) → drop j queue ≡ head ∷ rest → Some head ≡ slice_get queue j
-slice_get-drop queue j head rest e =
+pub drop_at : (queue : List Stamped) (j : ℕ) (head : Stamped) (rest : List Stamped) → drop j queue ≡ head ∷ rest → Some head ≡ slice_get queue j
+drop_at queue j head rest e =
     let within = drop_within queue j head rest e in
     let parts = drop-cons queue j head within in
     let there = slice_get-get_or queue j head within in
@@ -69,7 +69,7 @@ marks_is s now all j head rest dropping count place =
 -- where k heads go, the next one is sent, and the control law leaves t: what is chosen
 pub Chooses_of : (s : CodelState) (now : ℕ) (all : List Stamped) (k : ℕ) (head : Stamped) (rest : List Stamped) (marked : Bool) (t : CodelState) → drops s now all ≡ k → drop k all ≡ head ∷ rest → marks s now all ≡ marked → control_after s now all ≡ t → Chooses s now all head marked rest (record t { first_above_time = above_after s now (head ∷ rest) })
 Chooses_of s now all k head rest marked t count place mark control = record {
-  head_is = slice_get-drop all k head rest place ∙ ap (λ (i : ℕ). slice_get all i) (sym count);
+  head_is = drop_at all k head rest place ∙ ap (λ (i : ℕ). slice_get all i) (sym count);
   marked_is = sym mark;
   rest_is = drop_behind all k head rest place ∙ ap (λ (i : ℕ). drop (suc i) all) (sym count);
   state_is = sym (ap (λ (u : CodelState). record u { first_above_time = above_after s now (drop (drops s now all) all) }) control

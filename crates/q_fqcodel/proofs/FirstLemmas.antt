@@ -8,7 +8,7 @@ use Rattle.q_fqcodel.specs.Pool.{no_list, queues_in, packets_in, IsPool}
 use Rattle.q_fqcodel.specs.declared.node.Node.{Node}
 use Rattle.q_fqcodel.specs.declared.flow_list.FlowList.{FlowList}
 use Rattle.q_fqcodel.proofs.ChainLemmas.{head_there, first_packet}
-use Rattle.q_fqcodel.proofs.PoolLemmas.{length-queues_in, list_read, count_read, queue_read, written, pool_after, bytes_le, packets_pooled}
+use Rattle.q_fqcodel.proofs.PoolLemmas.{length-queues_in, list_read, queue_read, written, pool_after, bytes_le, packets_pooled}
 use Rattle.q_fqcodel.proofs.PooledLemmas.{flow_with}
 
 module _ (at : ℕ → Option Node) (nodes : ℕ) (lists : List FlowList) (bytes : ℕ) (pool : IsPool at nodes lists bytes) (qs : List (List Stamped)) (same : queues_in at lists ≡ qs) (n : ℕ) where

@@ -3,7 +3,6 @@ use Rattle.q_packet.specs.Totals.{count}
 use Rattle.q_packet.specs.declared.stamped.Stamped.{Stamped}
 use Rattle.std.specs.Prelude.{slice_get}
 use Rattle.q_codel.specs.Codel.{CodelState, joined, taken, is_late}
-use Rattle.q_codel.specs.Front.{IsFront}
 use Rattle.q_fqcodel.specs.Cleared.{adjust}
 use Rattle.q_fqcodel.specs.FlowsState.{FlowsState}
 use Rattle.q_fqcodel.specs.FqState.{Flow, queue_of}

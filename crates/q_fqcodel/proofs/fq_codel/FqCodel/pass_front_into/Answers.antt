@@ -1,22 +1,20 @@
-use Rattle.std.proofs.Common.{◌≡◌, ℕ, ◌+◌, ◌<◌, Bool, false, true, pos, ◌-ℤ◌, Option, None, List, [], ◌∷◌, ◌++◌, length, set, drop, IfSome, IsSomeAnd, Some, slice_get, option_map, IsSome, Result, Ok, Err, OnErr, refl, sym, ap, ◌∙◌, arith, subst}
+use Rattle.std.proofs.Common.{◌≡◌, ℕ, ◌<◌, false, true, pos, ◌-ℤ◌, Option, None, List, [], ◌∷◌, ◌++◌, length, set, drop, IfSome, IsSomeAnd, Some, slice_get, option_map, IsSome, Result, Ok, Err, OnErr, refl, sym, ap, ◌∙◌, arith, subst}
 use Rattle.std.proofs.lemmas.Bool.{eqb-false}
 use Rattle.std.specs.Option.{option_map_or}
-use Rattle.q_packet.specs.Descriptor.{Descriptor}
 use Rattle.q_packet.specs.Totals.{count}
-use Rattle.q_packet.specs.declared.stamped.Stamped.{Stamped}
 use Rattle.q_codel.specs.Codel.{is_late}
 use Rattle.q_codel.specs.declared.taken.Taken.{Taken}
 use Rattle.q_fqcodel.specs.Cleared.{adjust}
 use Rattle.q_fqcodel.specs.Entry.{Entry}
 use Rattle.q_fqcodel.specs.FlowsState.{state_of}
-use Rattle.q_fqcodel.specs.FqState.{Flow, FqState, FqView, queue_of, is_idle, packets_of}
+use Rattle.q_fqcodel.specs.FqState.{Flow, FqState, FqView, queue_of, is_idle}
 use Rattle.q_fqcodel.specs.Lawful.{IsLawful}
 use Rattle.q_fqcodel.specs.Links.{ListsState}
 use Rattle.q_fqcodel.specs.Take.{IsFrontLate, taken_as, front, sender as sending_flow, packet_sent, packets_dropped, flow_after, paid, sent_from, dropped_from, after_sending}
 use Rattle.q_fqcodel.proofs.FlowLemmas.{packets_at}
 use Rattle.q_fqcodel.proofs.KeptLemmas.{lawful_after_sending}
 use Rattle.q_fqcodel.proofs.LawfulLemmas.{front_within, none_waits}
-use Rattle.q_fqcodel.proofs.SentLemmas.{front_is, front_none, sender_found, slice_there, sent_is, sent_none, dropped_is, dropped_none, after_none, after_sending-written, written, paid_is}
+use Rattle.q_fqcodel.proofs.SentLemmas.{front_is, front_none, sender_found, slice_there, sent_is, sent_none, dropped_is, dropped_none, after_none, after_sending_written, written, paid_is}
 use Rattle.q_fqcodel.proofs.fq_codel.FqCodel.pass_front_into.Goals as goal
 use Rattle.q_fqcodel.proofs.fq_codel.FqCodel.pass_front_into.Goals.{After-queued, After-pass_into, After-write_front}
 
@@ -115,7 +113,7 @@ after c =
     ap (λ (f : List Flow). record s { flows = f; new_flows = c.write_front.new.self.new_flows; old_flows = c.write_front.new.self.old_flows }) (flows_sent c)
     ∙ ap (λ (v : ListsState). record s { flows = flows; new_flows = v.new_flows; old_flows = v.old_flows }) c.write_front.ensures
     ∙ ap (λ (m : Entry). record s { flows = flows; new_flows = set s.new_flows 0 m; old_flows = written m s.new_flows s.old_flows }) (sym (paying c))
-    ∙ sym (after_sending-written s (sender (met c)) c.args.now (in_front (met c)))
+    ∙ sym (after_sending_written s (sender (met c)) c.args.now (in_front (met c)))
 
 pub invariant_of-self-2 : goal.invariant_of-self-2
 invariant_of-self-2 c = (

@@ -1,4 +1,4 @@
-use Rattle.std.proofs.Common.{◌≡◌, ℕ, ◌+◌, ◌<◌, ◌==◌, not, false, true, pos, ◌-ℤ◌, Option, None, List, [], ◌∷◌, ◌++◌, length, set, drop, IfSome, IsSome, IsSomeAnd, Some, slice_get, option_and_then, refl, sym, ap, ◌∙◌, arith, subst}
+use Rattle.std.proofs.Common.{◌≡◌, ℕ, ◌+◌, ◌<◌, ◌==◌, not, false, true, pos, ◌-ℤ◌, Option, None, List, ◌∷◌, ◌++◌, length, set, drop, IfSome, IsSome, IsSomeAnd, Some, slice_get, option_and_then, refl, sym, ap, ◌∙◌, arith, subst}
 use Rattle.std.proofs.lemmas.Bool.{eqb-false}
 use Rattle.std.specs.Option.{option_map_or}
 use Rattle.q_packet.specs.Totals.{count}
@@ -17,7 +17,7 @@ use Rattle.q_fqcodel.specs.Take.{IsFrontLate, taken_as, front, sender as sending
 use Rattle.q_fqcodel.proofs.FlowLemmas.{packets_at}
 use Rattle.q_fqcodel.proofs.KeptLemmas.{lawful_after_sending}
 use Rattle.q_fqcodel.proofs.LawfulLemmas.{front_within}
-use Rattle.q_fqcodel.proofs.SentLemmas.{front_is, sender_found, sent_is, dropped_is, after_sending-written, written, paid_is}
+use Rattle.q_fqcodel.proofs.SentLemmas.{front_is, sender_found, sent_is, dropped_is, after_sending_written, written, paid_is}
 use Rattle.q_fqcodel.proofs.fq_codel.FqCodel.take_late_into.Goals as goal
 use Rattle.q_fqcodel.proofs.fq_codel.FqCodel.take_late_into.Goals.{After-front, After-write_front}
 
@@ -121,7 +121,7 @@ after g c =
     ap (λ (f : List Flow). record s { flows = f; new_flows = c.write_front.new.self.new_flows; old_flows = c.write_front.new.self.old_flows }) (flows_sent g c)
     ∙ ap (λ (v : ListsState). record s { flows = flows; new_flows = v.new_flows; old_flows = v.old_flows }) c.write_front.ensures
     ∙ ap (λ (m : Entry). record s { flows = flows; new_flows = set s.new_flows 0 m; old_flows = written m s.new_flows s.old_flows }) (sym (paying g c))
-    ∙ sym (after_sending-written s (sender g (met g c)) c.args.now (in_front g (met g c)))
+    ∙ sym (after_sending_written s (sender g (met g c)) c.args.now (in_front g (met g c)))
 
 pub invariant_of-self : goal.invariant_of-self
 invariant_of-self g c = (
