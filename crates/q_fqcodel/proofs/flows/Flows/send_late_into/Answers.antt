@@ -102,22 +102,18 @@ overflow_sub-result g c =
 pub returns-clause-sent : goal.returns-clause-sent
 unfolding packet_sent
 returns-clause-sent g c =
-    let same = ap (λ (f : FlowsState). f.flows) c.self.view_is in
-    let within = omega_within g (goal.at.returns-clause-sent g c).After-index_mut-codel in
     subst (λ (o : Option Flow). IfSome o (λ f. taken_as c.send_late_from-marked.new.out c.send_late_from-marked.result ≡ packet_sent c.args.now f))
-    (sym (flow_read c.args.flow c.self.inside.pool.queues (codels_in c.self.inside.parameters c.self.inside.states.items) (joined c.self.inside.parameters c.index_mut-codel.result.now) c.args.self.now.flows c.self.invariant.0 within (read g (goal.at.returns-clause-sent g c).After-index_mut-codel) same))
+    (sym (there g (goal.at.returns-clause-sent g c).After-index_mut-codel))
     c.send_late_from-marked.ensures.sent
 
 pub returns-clause-dropped : goal.returns-clause-dropped
 unfolding packets_dropped
 returns-clause-dropped g c =
-    let same = ap (λ (f : FlowsState). f.flows) c.self.view_is in
-    let within = omega_within g (goal.at.returns-clause-dropped g c).After-index_mut-codel in
     let d = (goal.at.returns-clause-dropped g c).After-send_late_from-marked in
     let rest = rest_count c.count_at-held.result c.count_at-rest.result (was g d) c.args.now (queue g d) (get_or c.send_late_from-marked.new.pool.queues c.args.flow [])
     c.count_at-held.ensures c.count_at-rest.ensures c.send_late_from-marked.ensures.left (sends g d) in
     subst (λ (o : Option Flow). IfSome o (λ f. nat_lt 1 (c.count_at-held.result - c.count_at-rest.result) ≡ not (count (packets_dropped c.args.now f) == 0)))
-    (sym (flow_read c.args.flow c.self.inside.pool.queues (codels_in c.self.inside.parameters c.self.inside.states.items) (joined c.self.inside.parameters c.index_mut-codel.result.now) c.args.self.now.flows c.self.invariant.0 within (read g (goal.at.returns-clause-dropped g c).After-index_mut-codel) same))
+    (sym (there g (goal.at.returns-clause-dropped g c).After-index_mut-codel))
     (drops_told c.count_at-held.result c.count_at-rest.result (was g d) c.args.now (queue g d) rest (sends g d))
 
 pub returns-clause-flows : goal.returns-clause-flows
@@ -142,21 +138,17 @@ returns-clause-flows g c =
 pub returns-clause-lost : goal.returns-clause-lost
 unfolding packets_dropped
 returns-clause-lost g c =
-    let same = ap (λ (f : FlowsState). f.flows) c.self.view_is in
-    let within = omega_within g (goal.at.returns-clause-lost g c).After-index_mut-codel in
     subst (λ (o : Option Flow). IfSome o (λ f. g.S.Sink.losses c.send_late_from-marked.new.sink ≡ g.S.Sink.losses c.args.sink.now ++ losses_of CoDel (packets_dropped c.args.now f)))
-    (sym (flow_read c.args.flow c.self.inside.pool.queues (codels_in c.self.inside.parameters c.self.inside.states.items) (joined c.self.inside.parameters c.index_mut-codel.result.now) c.args.self.now.flows c.self.invariant.0 within (read g (goal.at.returns-clause-lost g c).After-index_mut-codel) same))
+    (sym (there g (goal.at.returns-clause-lost g c).After-index_mut-codel))
     c.send_late_from-marked.ensures.lost
 
 pub returns-clause-room : goal.returns-clause-room
 unfolding packets_dropped
 returns-clause-room g c =
-    let same = ap (λ (f : FlowsState). f.flows) c.self.view_is in
-    let within = omega_within g (goal.at.returns-clause-room g c).After-index_mut-codel in
     let q : List Stamped = get_or c.self.inside.pool.queues c.args.flow [] in
     let n = count_dropped (joined c.self.inside.parameters c.index_mut-codel.result.now) c.args.now q (λ _. sends g (goal.at.returns-clause-room g c).After-send_late_from-marked) in
     subst (λ (o : Option Flow). IfSome o (λ f. g.S.Sink.room c.send_late_from-marked.new.sink + count (packets_dropped c.args.now f) ≡ g.S.Sink.room c.args.sink.now))
-    (sym (flow_read c.args.flow c.self.inside.pool.queues (codels_in c.self.inside.parameters c.self.inside.states.items) (joined c.self.inside.parameters c.index_mut-codel.result.now) c.args.self.now.flows c.self.invariant.0 within (read g (goal.at.returns-clause-room g c).After-index_mut-codel) same))
+    (sym (there g (goal.at.returns-clause-room g c).After-index_mut-codel))
     (ap (λ (m : ℕ). g.S.Sink.room c.send_late_from-marked.new.sink + m) n ∙ c.send_late_from-marked.ensures.room)
 
 pub renew-requires-clause-in_range : goal.renew-requires-clause-in_range
