@@ -5,7 +5,7 @@ use Rattle.std.specs.Prelude.{if◌then◌else◌}
 use Rattle.std.proofs.lemmas.Bool.{cases_Bool, cond-false, and_parts, ltb-true}
 use Rattle.q_packet.specs.Totals.{size}
 use Rattle.q_packet.specs.declared.stamped.Stamped.{Stamped}
-use Rattle.q_codel.specs.Codel.{CodelState, CodelParams, CodelVars, joined, is_standing, is_late, is_capable, is_markable, moment, begun, above_after, count_after, Chooses}
+use Rattle.q_codel.specs.Codel.{CodelState, CodelParams, CodelVars, joined, is_standing, is_late, is_capable, is_markable, moment, begun, above_after, count_after, Chooses, HasChosen}
 use Rattle.q_codel.proofs.Law.{drops_is, stops_early, marks_at, Chooses_of, Chooses_at, above_late}
 
 -- a late head has a packet behind it
@@ -91,5 +91,5 @@ chosen_behind p u v w x now head rest next behind resting late same plain begins
 pub chosen_in : (s : CodelState) (now : ℕ) (whole queue : List Stamped) (head : Stamped) (marked : Bool) (rest : List Stamped) (t : CodelState) → whole ≡ queue → Chooses s now queue head marked rest t → Chooses s now whole head marked rest t
 chosen_in s now whole queue head marked rest t is chosen = subst (λ (q : List Stamped). Chooses s now q head marked rest t) (sym is) chosen
 
-pub chosen_from : (p : CodelParams) (u v : CodelVars) (now : ℕ) (whole : List Stamped) (head : Stamped) (marked : Bool) (rest : List Stamped) (t : CodelState) → v ≡ u → Chooses (joined p v) now whole head marked rest t → Chooses (joined p u) now whole head marked rest t
-chosen_from p u v now whole head marked rest t same chosen = subst (λ (w : CodelVars). Chooses (joined p w) now whole head marked rest t) same chosen
+pub chosen_from : (p : CodelParams) (u v : CodelVars) (now : ℕ) (queue waiting : List Stamped) (marked : Bool) (t : CodelState) → v ≡ u → HasChosen (joined p v) now queue marked waiting t → HasChosen (joined p u) now queue marked waiting t
+chosen_from p u v now queue waiting marked t same chosen = subst (λ (w : CodelVars). HasChosen (joined p w) now queue marked waiting t) same chosen

@@ -4,13 +4,13 @@ use Rattle.std.specs.Prelude.{slice_get, Some}
 use Rattle.std.proofs.lemmas.Option.{none-some, same_Some}
 use Rattle.std.specs.List.{All}
 use Rattle.std.proofs.lemmas.List.Elements.{All-drop}
-use Rattle.q_packet.proofs.TotalsLemmas.{size-cons, size-le}
+use Rattle.q_packet.proofs.TotalsLemmas.{size-cons, size_within}
 use Rattle.q_packet.specs.Totals.{size}
 use Rattle.q_packet.specs.declared.stamped.Stamped.{Stamped}
 use Rattle.q_codel.specs.FifoState.{IsCounted}
 
 pub size_bound : (queue : List Stamped) → All (λ s. s.packet.len < 2 ^ 16) queue → size queue ≤ length queue * 65535
-size_bound queue h = size-le 65535 queue (λ k d below. let short = h k d below in omega arith)
+size_bound queue h = size_within 65535 queue (λ k d below. let short = h k d below in omega arith)
 
 -- one more length still fits
 pub one_more : (bytes : ℕ) (queue : List Stamped) (len : ℕ) → IsCounted bytes queue → len < 2 ^ 16 → bytes + len < 2 ^ 64

@@ -1,14 +1,13 @@
 -- What the front of a queue tells of it: the head is there, and the bytes behind it are the others.
 use Rattle.std.proofs.Common.{◌≡◌, ℕ, ◌-◌, ◌^◌, ◌<◌, ◌≤◌, List, [], ◌∷◌, ◌++◌, Bool, true, take, drop, arith, refl, sym, ap, subst, ◌∙◌}
-use Rattle.std.specs.Prelude.{option_map, slice_get}
 use Rattle.std.proofs.lemmas.Option.{none-some, same_Some}
 use Rattle.q_packet.proofs.TotalsLemmas.{size-cons}
-use Rattle.q_packet.specs.Totals.{size}
+use Rattle.q_packet.specs.Totals.{count, size}
 use Rattle.q_packet.specs.declared.stamped.Stamped.{Stamped}
 use Rattle.q_packet.specs.declared.cause.Cause.{Cause}
 use Rattle.q_codel.specs.declared.loss.Loss.{Loss}
 use Rattle.q_codel.specs.declared.front.Front.{Front}
-use Rattle.q_codel.specs.Codel.{CodelState, is_late, Chooses}
+use Rattle.q_codel.specs.Codel.{CodelState, is_late, Chooses, HasChosen}
 use Rattle.q_codel.specs.Losses.{losses_of}
 use Rattle.q_codel.proofs.Law.{OnTheWay, OnTheWay_start}
 use Rattle.q_codel.specs.Front.{front_of, IsFront}
@@ -23,10 +22,6 @@ pub record Split (front : Front) (queue : List Stamped) : Type 0 where
 pub split : (front : Front) (queue : List Stamped) → IsFront front queue → Split front queue
 split front [] h = absurd (none-some front (sym h))
 split front (s ∷ queue) h = record { head = s; rest = queue; is = refl; front_is = same_Some front (front_of s) h }
-
--- at a head that is known by another way
-pub front_at : (front : Front) (queue : List Stamped) (head : Stamped) (rest : List Stamped) → IsFront front queue → queue ≡ head ∷ rest → front ≡ front_of head
-front_at front queue head rest h is = same_Some front (front_of head) (h ∙ ap (λ (q : List Stamped). option_map front_of (slice_get q 0)) is)
 
 -- the bytes behind a head
 pub behind_is : (bytes len : ℕ) (queue : List Stamped) (head : Stamped) (rest : List Stamped) → bytes ≡ size queue → queue ≡ head ∷ rest → len ≡ head.packet.len → bytes - len ≡ size rest
@@ -53,13 +48,16 @@ pub head_lost : (old new : List Loss) (cause : Cause) (queue : List Stamped) (he
     → new ≡ old ++ losses_of cause (take 1 queue) → new ≡ old ++ record { packet = head.packet; cause = cause } ∷ []
 head_lost old new cause queue head rest is e = e ∙ ap (λ (q : List Stamped). old ++ losses_of cause (take 1 q)) is
 
--- what is chosen, at the head and the rest by which a caller knows the queue
-pub chosen_at : (s : CodelState) (now : ℕ) (all : List Stamped) (head : Stamped) (marked : Bool) (rest : List Stamped) (t : CodelState) (queue : List Stamped)
-    → Chooses s now all head marked rest t → queue ≡ head ∷ rest → (h : Stamped) (r : List Stamped) → queue ≡ h ∷ r → Chooses s now all h marked r t
-chosen_at s now all head marked rest t queue chosen is h r e =
-    let first : head ≡ h = cc in
-    let others : rest ≡ r = cc in
-    subst (λ (x : Stamped). Chooses s now all x marked r t) first (subst (λ (x : List Stamped). Chooses s now all head marked x t) others chosen)
+-- what is chosen, where a caller knows what waits by its head and the rest
+pub chosen_at : (s : CodelState) (now : ℕ) (all : List Stamped) (head : Stamped) (marked : Bool) (rest : List Stamped) (t : CodelState) (waiting : List Stamped)
+    → Chooses s now all head marked rest t → waiting ≡ head ∷ rest → HasChosen s now all marked waiting t
+chosen_at s now all head marked rest t waiting chosen is = record {
+  some = omega (arith, ap count is);
+  chosen = λ h r e.
+      let first : head ≡ h = cc in
+      let others : rest ≡ r = cc in
+      subst (λ (x : Stamped). Chooses s now all x marked r t) first (subst (λ (x : List Stamped). Chooses s now all head marked x t) others chosen);
+}
 
 -- dropping goes on from the head of a queue that is late
 pub way_from : (s : CodelState) (now : ℕ) (queue : List Stamped) (head : Stamped) (rest : List Stamped) → queue ≡ head ∷ rest → s.count < 2 ^ 32 → is_late s now queue ≡ true → OnTheWay s now queue 0 s head rest

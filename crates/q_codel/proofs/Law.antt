@@ -6,7 +6,7 @@ use Rattle.std.proofs.lemmas.Option.{slice_get-get_or}
 use Rattle.q_packet.specs.declared.stamped.Stamped.{Stamped}
 use Rattle.q_packet.specs.declared.cause.Cause.{Cause}
 use Rattle.q_codel.specs.declared.loss.Loss.{Loss}
-use Rattle.q_codel.specs.Losses.{losses_of}
+use Rattle.q_codel.specs.Losses.{losses_of, AreLost}
 use Rattle.q_codel.specs.Gap.{gap_of}
 use Rattle.q_codel.specs.Codel.{CodelState, CodelParams, CodelVars, joined, count_after, is_standing, is_late, is_capable, is_markable, moment, stops, drops, marks, gone_on, control_after, above_after, Chooses}
 use Rattle.q_packet.proofs.LeastLemmas.{least_is}
@@ -18,8 +18,8 @@ drop_within queue j head rest e = omega (arith, length-drop j queue, ap length e
 pub drop_behind : (queue : List Stamped) (j : ℕ) (head : Stamped) (rest : List Stamped) → drop j queue ≡ head ∷ rest → rest ≡ drop (suc j) queue
 drop_behind queue j head rest e = let parts = drop-cons queue j head (drop_within queue j head rest e) in cc
 
-pub slice_get-drop : (queue : List Stamped) (j : ℕ) (head : Stamped) (rest : List Stamped) → drop j queue ≡ head ∷ rest → Some head ≡ slice_get queue j
-slice_get-drop queue j head rest e =
+pub drop_at : (queue : List Stamped) (j : ℕ) (head : Stamped) (rest : List Stamped) → drop j queue ≡ head ∷ rest → Some head ≡ slice_get queue j
+drop_at queue j head rest e =
     let within = drop_within queue j head rest e in
     let parts = drop-cons queue j head within in
     let there = slice_get-get_or queue j head within in
@@ -69,7 +69,7 @@ marks_is s now all j head rest dropping count place =
 -- where k heads go, the next one is sent, and the control law leaves t: what is chosen
 pub Chooses_of : (s : CodelState) (now : ℕ) (all : List Stamped) (k : ℕ) (head : Stamped) (rest : List Stamped) (marked : Bool) (t : CodelState) → drops s now all ≡ k → drop k all ≡ head ∷ rest → marks s now all ≡ marked → control_after s now all ≡ t → Chooses s now all head marked rest (record t { first_above_time = above_after s now (head ∷ rest) })
 Chooses_of s now all k head rest marked t count place mark control = record {
-  head_is = slice_get-drop all k head rest place ∙ ap (λ (i : ℕ). slice_get all i) (sym count);
+  head_is = drop_at all k head rest place ∙ ap (λ (i : ℕ). slice_get all i) (sym count);
   marked_is = sym mark;
   rest_is = drop_behind all k head rest place ∙ ap (λ (i : ℕ). drop (suc i) all) (sym count);
   state_is = sym (ap (λ (u : CodelState). record u { first_above_time = above_after s now (drop (drops s now all) all) }) control
@@ -257,15 +257,16 @@ lost_more cause [] (suc j) head rest e = cc
 lost_more cause (x ∷ all) zero head rest e = let h : x ≡ head = cc in ap (λ (y : Stamped). losses_of cause (y ∷ [])) (sym h)
 lost_more cause (x ∷ all) (suc j) head rest e = ap (λ (l : List Loss). record { packet = x.packet; cause = cause } ∷ l) (lost_more cause all j head rest e)
 
-pub losses_more : (old now later : List Loss) (cause : Cause) (all : List Stamped) (j : ℕ) (head : Stamped) (rest : List Stamped) → drop j all ≡ head ∷ rest → now ≡ old ++ losses_of cause (take j all) → later ≡ now ++ record { packet = head.packet; cause = cause } ∷ [] → later ≡ old ++ losses_of cause (take (suc j) all)
-losses_more old now later cause all j head rest place e f =
-    f ∙ ap (λ (l : List Loss). l ++ record { packet = head.packet; cause = cause } ∷ []) e
-    ∙ append_assoc old (losses_of cause (take j all)) (record { packet = head.packet; cause = cause } ∷ [])
-    ∙ ap (λ (l : List Loss). old ++ l) (lost_more cause all j head rest place)
+pub losses_more : (cause : Cause) (all : List Stamped) (j : ℕ) (old now later : List Loss) (room left less : ℕ) (head : Stamped) (rest : List Stamped) → drop j all ≡ head ∷ rest
+    → AreLost cause j all old now room left → later ≡ now ++ record { packet = head.packet; cause = cause } ∷ [] → less + 1 ≡ left → AreLost cause (suc j) all old later room less
+losses_more cause all j old now later room left less head rest place are added taken = record {
+  lost =
+      added ∙ ap (λ (l : List Loss). l ++ record { packet = head.packet; cause = cause } ∷ []) are.lost
+      ∙ append_assoc old (losses_of cause (take j all)) (record { packet = head.packet; cause = cause } ∷ [])
+      ∙ ap (λ (l : List Loss). old ++ l) (lost_more cause all j head rest place);
+  room = let r = are.room in omega arith;
+}
 
--- losses and room, told by the number that the definition gives
-pub lost_at : (old now : List Loss) (cause : Cause) (all : List Stamped) (j n : ℕ) → n ≡ j → now ≡ old ++ losses_of cause (take j all) → now ≡ old ++ losses_of cause (take n all)
-lost_at old now cause all j n e h = subst (λ (k : ℕ). now ≡ old ++ losses_of cause (take k all)) (sym e) h
-
-pub room_at : (old now j n : ℕ) → n ≡ j → now + j ≡ old → now + n ≡ old
-room_at old now j n e h = omega arith
+-- losses told by the number that the definition gives
+pub lost_at : (cause : Cause) (all : List Stamped) (j n : ℕ) (old now : List Loss) (room left : ℕ) → n ≡ j → AreLost cause j all old now room left → AreLost cause n all old now room left
+lost_at cause all j n old now room left e are = subst (λ (k : ℕ). AreLost cause k all old now room left) (sym e) are

@@ -3,7 +3,7 @@
 -- what a drop does, and ends the call is this project's choice.
 use Rattle.std.specs.Prelude.{◌≡◌, ℕ, zero, suc, ◌≤◌, ◌<◌, ◌+◌, ◌-◌, ◌*◌, ◌^◌, min, Bool, true, false, not, ◌&&◌, ◌||◌, ◌==◌, nat_lt, nat_le, if◌then◌else◌, List, [], ◌∷◌, length, drop, Option, Some, slice_get, option_map}
 use Rattle.q_packet.specs.Least.{least}
-use Rattle.q_packet.specs.Totals.{size}
+use Rattle.q_packet.specs.Totals.{count, size}
 use Rattle.q_packet.specs.Descriptor.{Descriptor}
 pub use Rattle.q_packet.specs.Ecn.{is_capable}
 use Rattle.q_packet.specs.declared.ecn.Ecn.TheVariants.{Ce}
@@ -193,3 +193,8 @@ pub record Chooses (s : CodelState) (now : ℕ) (queue : List Stamped) (head : S
   pub marked_is : marked ≡ marks s now queue
   pub rest_is : rest ≡ left s now queue
   pub state_is : t ≡ after s now queue
+
+-- the heads that go have gone: one to be sent is in front of what waits, to be marked or not, and this is the state
+pub record HasChosen (s : CodelState) (now : ℕ) (queue : List Stamped) (marked : Bool) (waiting : List Stamped) (t : CodelState) : Type 0 where
+  pub some : 0 < count waiting
+  pub chosen : (head : Stamped) (rest : List Stamped) → waiting ≡ head ∷ rest → Chooses s now queue head marked rest t

@@ -4,7 +4,7 @@ ghost use Rattle.q_packet.specs.Totals.{count, size};
 ghost use Rattle.q_packet.specs.declared.stamped.Stamped.{Stamped};
 ghost use Rattle.q_codel.specs.Front.{front_of, IsFront};
 ghost use Rattle.q_codel.specs.declared.taken.Taken.{Taken};
-ghost use Rattle.q_codel.specs.Losses.{losses_of};
+ghost use Rattle.q_codel.specs.Losses.{losses_of, AreLost};
 ghost use Rattle.q_codel.specs.Codel.{leaving};
 
 use crate::control_law::gap;
@@ -61,7 +61,7 @@ impl Model for ControlState {
 }
 
 impl ControlState {
-    ghost use Rattle.q_codel.specs.Codel.{joined, vars_at_first, taken, drops, left, after, begun, above_after, is_late, Chooses};
+    ghost use Rattle.q_codel.specs.Codel.{joined, vars_at_first, taken, drops, left, after, begun, above_after, is_late, Chooses, HasChosen};
 
     /// The state of a queue that has not sent yet.
     pub fn new() -> ControlState
@@ -226,14 +226,11 @@ impl ControlState {
     ) -> bool
         requires front { IsFront front (Q.packets queue.old) }
         requires room { count (Q.packets queue.old) ≤ S.room sink.old }
-        ensures chosen { (head : Stamped) (rest : List Stamped) → Q.packets queue.new ≡ head ∷ rest
-            → Chooses (joined parameters.now self.old) now (Q.packets queue.old) head result rest (joined parameters.now self.new) }
-        ensures some { 0 < count (Q.packets queue.new) }
+        ensures chosen { HasChosen (joined parameters.now self.old) now (Q.packets queue.old) result (Q.packets queue.new)
+            (joined parameters.now self.new) }
         ensures lost { let all = Q.packets queue.old in
-            S.losses sink.new ≡ S.losses sink.old
-            ++ losses_of Cause.CoDel (take (drops (joined parameters.now self.old) now all) all) }
-        ensures room { S.room sink.new + drops (joined parameters.now self.old) now (Q.packets queue.old)
-            ≡ S.room sink.old }
+            AreLost Cause.CoDel (drops (joined parameters.now self.old) now all) all (S.losses sink.old) (S.losses sink.new)
+            (S.room sink.old) (S.room sink.new) }
         ensures kept { Q.keeps queue.old queue.new }
         ensures sink_kept { S.keeps sink.old sink.new }
     {
@@ -260,14 +257,11 @@ impl ControlState {
         requires front { IsFront front (Q.packets queue.old) }
         requires room { count (Q.packets queue.old) ≤ S.room sink.old }
         requires late { is_late (joined parameters.now self.old) now (Q.packets queue.old) ≡ true }
-        ensures chosen { (head : Stamped) (rest : List Stamped) → Q.packets queue.new ≡ head ∷ rest
-            → Chooses (joined parameters.now self.old) now (Q.packets queue.old) head result rest (joined parameters.now self.new) }
-        ensures some { 0 < count (Q.packets queue.new) }
+        ensures chosen { HasChosen (joined parameters.now self.old) now (Q.packets queue.old) result (Q.packets queue.new)
+            (joined parameters.now self.new) }
         ensures lost { let all = Q.packets queue.old in
-            S.losses sink.new ≡ S.losses sink.old
-            ++ losses_of Cause.CoDel (take (drops (joined parameters.now self.old) now all) all) }
-        ensures room { S.room sink.new + drops (joined parameters.now self.old) now (Q.packets queue.old)
-            ≡ S.room sink.old }
+            AreLost Cause.CoDel (drops (joined parameters.now self.old) now all) all (S.losses sink.old) (S.losses sink.new)
+            (S.room sink.old) (S.room sink.new) }
         ensures kept { Q.keeps queue.old queue.new }
         ensures sink_kept { S.keeps sink.old sink.new }
     {
@@ -287,14 +281,11 @@ impl ControlState {
         requires front { IsFront front (Q.packets queue.old) }
         requires room { count (Q.packets queue.old) ≤ S.room sink.old }
         requires late { is_late (joined parameters.now self.old) now (Q.packets queue.old) ≡ true }
-        ensures chosen { (head : Stamped) (rest : List Stamped) → Q.packets queue.new ≡ head ∷ rest
-            → Chooses (joined parameters.now self.old) now (Q.packets queue.old) head result rest (joined parameters.now self.new) }
-        ensures some { 0 < count (Q.packets queue.new) }
+        ensures chosen { HasChosen (joined parameters.now self.old) now (Q.packets queue.old) result (Q.packets queue.new)
+            (joined parameters.now self.new) }
         ensures lost { let all = Q.packets queue.old in
-            S.losses sink.new ≡ S.losses sink.old
-            ++ losses_of Cause.CoDel (take (drops (joined parameters.now self.old) now all) all) }
-        ensures room { S.room sink.new + drops (joined parameters.now self.old) now (Q.packets queue.old)
-            ≡ S.room sink.old }
+            AreLost Cause.CoDel (drops (joined parameters.now self.old) now all) all (S.losses sink.old) (S.losses sink.new)
+            (S.room sink.old) (S.room sink.new) }
         ensures kept { Q.keeps queue.old queue.new }
         ensures sink_kept { S.keeps sink.old sink.new }
     {
@@ -329,14 +320,11 @@ impl ControlState {
         requires counted { self.old.count < 2 ^ 32 }
         requires dropping { self.old.dropping ≡ true }
         requires late { is_late (joined parameters.now self.old) now (Q.packets queue.old) ≡ true }
-        ensures chosen { (head : Stamped) (rest : List Stamped) → Q.packets queue.new ≡ head ∷ rest
-            → Chooses (joined parameters.now self.old) now (Q.packets queue.old) head result rest (joined parameters.now self.new) }
-        ensures some { 0 < count (Q.packets queue.new) }
+        ensures chosen { HasChosen (joined parameters.now self.old) now (Q.packets queue.old) result (Q.packets queue.new)
+            (joined parameters.now self.new) }
         ensures lost { let all = Q.packets queue.old in
-            S.losses sink.new ≡ S.losses sink.old
-            ++ losses_of Cause.CoDel (take (drops (joined parameters.now self.old) now all) all) }
-        ensures room { S.room sink.new + drops (joined parameters.now self.old) now (Q.packets queue.old)
-            ≡ S.room sink.old }
+            AreLost Cause.CoDel (drops (joined parameters.now self.old) now all) all (S.losses sink.old) (S.losses sink.new)
+            (S.room sink.old) (S.room sink.new) }
         ensures kept { Q.keeps queue.old queue.new }
         ensures sink_kept { S.keeps sink.old sink.new }
     {

@@ -15,7 +15,7 @@ use Rattle.q_fqcodel.specs.Put.{flow_of, joined, appended, fattest, overflow, sh
 use Rattle.q_fqcodel.specs.Selection.{arranged}
 use Rattle.q_fqcodel.specs.Take.{selected, packet_sent, flow_after, front, sender, sent_from, after_sending}
 use Rattle.q_fqcodel.proofs.LawLemmas.{queues-clear}
-use Rattle.q_fqcodel.proofs.SentLemmas.{sender_found, after_none, sent_none, front_is, front_none, after_sending-written}
+use Rattle.q_fqcodel.proofs.SentLemmas.{sender_found, after_none, sent_none, front_is, front_none, after_sending_written}
 use Rattle.q_model.specs.Beneath.{packets_of}
 use Rattle.q_device.specs.Order.{is_alike, flow_among, IsPartOf}
 use Rattle.q_device.proofs.PartLemmas.{part-refl, part-trans, part-behind, part-front}
@@ -143,7 +143,7 @@ module _ (c : Descriptor) where
           (subst (λ (t : FqState). Gives c [] (flow_queues t.flows) (flow_queues s.flows)) (sym (after_none s now none.0 none.1))
           (less-gives c [] (flow_queues s.flows) (flow_queues s.flows) refl (are-less-refl c (flow_queues s.flows))))
       by (Some e) at =
-          let flows_are : (after_sending now s).flows ≡ adjust (flow_after now) e.flow s.flows = ap (λ (t : FqState). t.flows) (after_sending-written s e now at) in
+          let flows_are : (after_sending now s).flows ≡ adjust (flow_after now) e.flow s.flows = ap (λ (t : FqState). t.flows) (after_sending_written s e now at) in
           let sender_is : sender s ≡ slice_get s.flows e.flow = sender_found s e (drop 1 (s.new_flows ++ s.old_flows)) (front_is s e at) in
           subst (λ (o : Option Flow). Gives c (gives (option_and_then (packet_sent now) o)) (flow_queues (after_sending now s).flows) (flow_queues s.flows)) (sym sender_is)
           (subst (λ (fs : List Flow). Gives c (gives (option_and_then (packet_sent now) (slice_get s.flows e.flow))) (flow_queues fs) (flow_queues s.flows)) (sym flows_are)
@@ -218,7 +218,7 @@ take-settings now s = by (front (selected s)) refl
   where
     by : (o : Option Entry) → front (selected s) ≡ o → (after_sending now (selected s)).settings ≡ (selected s).settings
     by None e = let none = front_none (selected s) e in ap (λ (t : FqState). t.settings) (after_none (selected s) now none.0 none.1)
-    by (Some e) at = ap (λ (t : FqState). t.settings) (after_sending-written (selected s) e now at)
+    by (Some e) at = ap (λ (t : FqState). t.settings) (after_sending_written (selected s) e now at)
 
 pub put-settings : (s : FqState) (p : Descriptor) (now : ℕ) → (after_put s p now).settings ≡ s.settings
 unfolding cut_back appended

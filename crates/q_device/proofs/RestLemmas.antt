@@ -19,7 +19,7 @@ use Rattle.q_fqcodel.specs.Quanta.{need, given, stay, leave}
 use Rattle.q_fqcodel.specs.Selection.{Lists, chosen, turned, first_ready, moved, with_rest, arranged}
 use Rattle.q_fqcodel.specs.Take.{selected, flow_after, front, paid, sent_from, after_sending}
 use Rattle.q_fqcodel.proofs.QuantaLemmas.{flow-given, stay_kept, stay_dropped, leave_kept, leave_dropped}
-use Rattle.q_fqcodel.proofs.SentLemmas.{flow-paid, front_is, front_none, after_none, after_sending-written, lists_written}
+use Rattle.q_fqcodel.proofs.SentLemmas.{flow-paid, front_is, front_none, after_none, after_sending_written, lists_written}
 use Rattle.q_invariants.proofs.FlowSteps.{lists_of}
 use Rattle.q_device.specs.Rest.{IsAtRest, FlowRests, IsSparing}
 
@@ -228,12 +228,12 @@ sent-rests n now s absent h = by (front s) refl
     by (Some e) at =
         let rest : List Entry = drop 1 (lists_of s) in
         let m : Entry = paid (sent_from now s) e in
-        let after : lists_of (after_sending now s) ≡ m ∷ rest = ap lists_of (after_sending-written s e now at) ∙ lists_written s m e at in
+        let after : lists_of (after_sending now s) ≡ m ∷ rest = ap lists_of (after_sending_written s e now at) ∙ lists_written s m e at in
         let before : lists_of s ≡ e ∷ rest = front_is s e at in
         let same : is_listed n (m ∷ rest) ≡ is_listed n (e ∷ rest) = ap (λ (k : ℕ). (k == n) || is_listed n rest) (flow-paid (sent_from now s) e) in
         let gone : is_listed n (e ∷ rest) ≡ false = sym same ∙ sym (ap (is_listed n) after) ∙ absent in
         let other : e.flow ≢ n = λ own. true≢false (sym (or_left (e.flow == n) (is_listed n rest) (eq-eqb e.flow n own)) ∙ gone) in
-        subst (λ (t : FqState). FlowRests n t.flows) (sym (after_sending-written s e now at)) (rests-other (flow_after now) n e.flow s.flows other (h (ap (is_listed n) before ∙ gone)))
+        subst (λ (t : FqState). FlowRests n t.flows) (sym (after_sending_written s e now at)) (rests-other (flow_after now) n e.flow s.flows other (h (ap (is_listed n) before ∙ gone)))
 
 -- a selection that leaves the flow listed is not followed by one that does not
 pub take-rests : (n now : ℕ) (s : FqState) → In n (lists_of s) → is_listed n (lists_of (after_sending now (selected s))) ≡ false → FlowRests n (after_sending now (selected s)).flows

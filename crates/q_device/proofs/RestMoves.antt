@@ -17,9 +17,9 @@ use Rattle.q_fqcodel.specs.FqState.{Flow, FqState, all_packets}
 use Rattle.q_fqcodel.specs.Lawful.{times}
 use Rattle.q_fqcodel.specs.Put.{is_listed}
 use Rattle.q_fqcodel.specs.Take.{selected, packet_sent, flow_after, front, sent_from, after_sending}
-use Rattle.q_fqcodel.proofs.ListedLemmas.{times-selected, times_sent}
+use Rattle.q_fqcodel.proofs.ListedLemmas.{times_selected, times_sent}
 use Rattle.q_fqcodel.proofs.PutLemmas.{listed_not, listed_yes}
-use Rattle.q_fqcodel.proofs.SentLemmas.{sender_found, front_is, front_none, after_none, after_sending-written}
+use Rattle.q_fqcodel.proofs.SentLemmas.{sender_found, front_is, front_none, after_none, after_sending_written}
 use Rattle.q_model.specs.declared.event.Event.{Event}
 use Rattle.q_model.specs.Events.{IsEvent}
 use Rattle.q_model.specs.Tally.{Note, FlowGave, history}
@@ -108,7 +108,7 @@ sent-keeps j now s nothing long h = by (front s) refl
         let none = front_none s e in
         subst (λ (t : FqState). FlowRests j t.flows) (sym (after_none s now none.0 none.1)) h
     by (Some e) at =
-        subst (λ (t : FqState). FlowRests j t.flows) (sym (after_sending-written s e now at))
+        subst (λ (t : FqState). FlowRests j t.flows) (sym (after_sending_written s e now at))
         (⊎_elim
         (λ (same : e.flow ≡ j). subst (λ (k : ℕ). FlowRests j (adjust (flow_after now) k s.flows)) (sym same) (own e at same (sent_from now s) refl long))
         (λ (other : e.flow ≢ j). rests-other (flow_after now) j e.flow s.flows other h)
@@ -194,7 +194,7 @@ module _ (major j : ℕ) where
               listed_yes j (lists_of y.state) listed,
               ap (λ (t : FqState). times j (lists_of t)) turns.0,
               times_sent j (step history d e).device.clock (selected x.state),
-              times-selected j x.state,
+              times_selected j x.state,
             ))
 
 -- ---- over a stretch

@@ -42,9 +42,9 @@ walk_path nx bf a [] b p = refl
 walk_path nx bf a (n ∷ ns) b p =
     ap (λ m. m ∷ walk nx (length ns) (nx m)) p.0 ∙ ap (λ ms. n ∷ ms) (walk_path nx bf n ns b p.2)
 
-IsPath-append : (nx bf : ℕ → ℕ) (a : ℕ) (ns : List ℕ) (c : ℕ) (ms : List ℕ) (b : ℕ) → IsPath nx bf a ns c → IsPath nx bf c ms b → IsPath nx bf a (ns ++ c ∷ ms) b
-IsPath-append nx bf a [] c ms b p q = (p.0, p.1, q)
-IsPath-append nx bf a (n ∷ ns) c ms b p q = (p.0, p.1, IsPath-append nx bf n ns c ms b p.2 q)
+IsPath_joined : (nx bf : ℕ → ℕ) (a : ℕ) (ns : List ℕ) (c : ℕ) (ms : List ℕ) (b : ℕ) → IsPath nx bf a ns c → IsPath nx bf c ms b → IsPath nx bf a (ns ++ c ∷ ms) b
+IsPath_joined nx bf a [] c ms b p q = (p.0, p.1, q)
+IsPath_joined nx bf a (n ∷ ns) c ms b p q = (p.0, p.1, IsPath_joined nx bf n ns c ms b p.2 q)
 
 widen : (x y z : Bool) → (x || z) ≡ true → (x || (y || z)) ≡ true
 widen true y z h = refl
@@ -96,7 +96,7 @@ circle_walks links (n ∷ ns) count front h len head =
 
 closed_rotated : (nx bf : ℕ → ℕ) (n : ℕ) (ns : List ℕ) → IsClosed nx bf (n ∷ ns) → IsClosed nx bf (ns ++ n ∷ [])
 closed_rotated nx bf n [] h = h
-closed_rotated nx bf n (m ∷ ms) h = IsPath-append nx bf m ms n [] m h.2 (h.0, h.1)
+closed_rotated nx bf n (m ∷ ms) h = IsPath_joined nx bf m ms n [] m h.2 (h.0, h.1)
 
 circle_rotated : (links : List Link) (n : ℕ) (ns : List ℕ) → IsCircle links (n ∷ ns) → IsCircle links (ns ++ n ∷ [])
 circle_rotated links n ns h = record {
@@ -162,7 +162,7 @@ circle_grown links joined closed marked first ns n h j i k below absent =
       room = omega (arith, h.room, j.len, i.len, k.len);
       differ = numbers_differ_from ((first ∷ ns) ++ n ∷ []) (differ_push n (first ∷ ns) differ absent);
       inside = All-push (λ m. m < length marked) (first ∷ ns) n (below_same links marked (first ∷ ns) (k.len ∙ i.len ∙ j.len) h.inside) (omega (arith, j.len, i.len, k.len));
-      closed = IsPath-append (next_of marked) (before_of marked) first ns n [] first whole (
+      closed = IsPath_joined (next_of marked) (before_of marked) first ns n [] first whole (
         k.next n ∙ if_true _ _ _ _ (i.next n) (eq-eqb n n refl),
         k.before first ∙ if_true _ _ _ _ (i.before first) (eq-eqb first first refl),
       );

@@ -6,7 +6,7 @@ use Rattle.std.proofs.Math.Seq.{get_or-append_seam}
 use Rattle.std.proofs.lemmas.Bool.{cases_lt, cases_eq, cond-true, cond-false, ne_eqb, lt-ltb, le-ltb, lt-leb, le-leb, leb-false}
 use Rattle.std.proofs.lemmas.List.{get_or_append_left, get_or-map, length_push}
 use Rattle.q_packet.specs.Choice.{Choice, sooner, choose, IsChosen}
-use Rattle.q_packet.proofs.ChoiceLemmas.{last_one, last_one-le, last_one-gt, sooner-le, sooner-gt, choice_is, chosen_is}
+use Rattle.q_packet.proofs.ChoiceLemmas.{last_one, last_one_within, last_one_past, sooner_within, sooner_past, choice_is, chosen_is}
 use Rattle.q_packet.proofs.LeastLemmas.{least_gt}
 use Rattle.q_drr.specs.Changes.{HeadsFit, ServedIsLawful}
 use Rattle.q_drr.specs.Schedule.{Entry, Schedule, quantum_of, deficit_of, front_of, turned, IsLawful}
@@ -37,45 +37,45 @@ module _ (k len : ℕ) where
   grants_front : (o : Option Choice) → IfSome o (λ c. c.place < len) → grants_at (Some (sooner (suc k) o)) 0 ≡ suc (grants_at (Some (last_one k len o)) len)
   grants_front None within = grants_from (record { rounds = suc k; place = 0 }) 0 (omega arith) ∙ sym (ap suc (grants_from (record { rounds = k; place = len }) len (omega arith)))
   grants_front (Some c) within = elim (cases_lt k c.rounds) [
-    | inl less ↦ ap (λ d. grants_at (Some d) 0) (sooner-le (suc k) c (omega arith)) ∙ grants_from (record { rounds = suc k; place = 0 }) 0 (omega arith)
-        ∙ sym (ap (λ d. suc (grants_at (Some d) len)) (last_one-gt k len c less) ∙ ap suc (grants_from (record { rounds = k; place = len }) len (omega arith)))
-    | inr more ↦ ap (λ d. grants_at (Some d) 0) (sooner-gt (suc k) c (omega arith)) ∙ grants_before (record { rounds = c.rounds; place = suc c.place }) 0 (omega arith)
-        ∙ sym (ap (λ d. suc (grants_at (Some d) len)) (last_one-le k len c more) ∙ ap suc (grants_from c len (omega (arith, within))))
+    | inl less ↦ ap (λ d. grants_at (Some d) 0) (sooner_within (suc k) c (omega arith)) ∙ grants_from (record { rounds = suc k; place = 0 }) 0 (omega arith)
+        ∙ sym (ap (λ d. suc (grants_at (Some d) len)) (last_one_past k len c less) ∙ ap suc (grants_from (record { rounds = k; place = len }) len (omega arith)))
+    | inr more ↦ ap (λ d. grants_at (Some d) 0) (sooner_past (suc k) c (omega arith)) ∙ grants_before (record { rounds = c.rounds; place = suc c.place }) 0 (omega arith)
+        ∙ sym (ap (λ d. suc (grants_at (Some d) len)) (last_one_within k len c more) ∙ ap suc (grants_from c len (omega (arith, within))))
   ]
 
   grants_behind : (j : ℕ) (o : Option Choice) → j < len → grants_at (Some (sooner (suc k) o)) (suc j) ≡ grants_at (Some (last_one k len o)) j
   grants_behind j None below = grants_from (record { rounds = suc k; place = 0 }) (suc j) (omega arith) ∙ sym (grants_before (record { rounds = k; place = len }) j below)
   grants_behind j (Some c) below = elim (cases_lt k c.rounds) [
-    | inl less ↦ ap (λ d. grants_at (Some d) (suc j)) (sooner-le (suc k) c (omega arith)) ∙ grants_from (record { rounds = suc k; place = 0 }) (suc j) (omega arith)
-        ∙ sym (ap (λ d. grants_at (Some d) j) (last_one-gt k len c less) ∙ grants_before (record { rounds = k; place = len }) j below)
-    | inr more ↦ ap (λ d. grants_at (Some d) (suc j)) (sooner-gt (suc k) c (omega arith))
+    | inl less ↦ ap (λ d. grants_at (Some d) (suc j)) (sooner_within (suc k) c (omega arith)) ∙ grants_from (record { rounds = suc k; place = 0 }) (suc j) (omega arith)
+        ∙ sym (ap (λ d. grants_at (Some d) j) (last_one_past k len c less) ∙ grants_before (record { rounds = k; place = len }) j below)
+    | inr more ↦ ap (λ d. grants_at (Some d) (suc j)) (sooner_past (suc k) c (omega arith))
         ∙ elim (cases_lt j c.place) [
           | inl before ↦ grants_before (record { rounds = c.rounds; place = suc c.place }) (suc j) (omega arith) ∙ sym (grants_before c j before)
           | inr from ↦ grants_from (record { rounds = c.rounds; place = suc c.place }) (suc j) (omega arith) ∙ sym (grants_from c j from)
         ]
-        ∙ sym (ap (λ d. grants_at (Some d) j) (last_one-le k len c more))
+        ∙ sym (ap (λ d. grants_at (Some d) j) (last_one_within k len c more))
   ]
 
   bytes_front : (o : Option Choice) (head : Option ℕ) → IfSome o (λ c. c.place < len) → bytes_at (Some (sooner (suc k) o)) 0 head ≡ bytes_at (Some (last_one k len o)) len head
   bytes_front None head within = bytes_chosen (record { rounds = suc k; place = 0 }) 0 head refl ∙ sym (bytes_chosen (record { rounds = k; place = len }) len head refl)
   bytes_front (Some c) head within = elim (cases_lt k c.rounds) [
-    | inl less ↦ ap (λ d. bytes_at (Some d) 0 head) (sooner-le (suc k) c (omega arith)) ∙ bytes_chosen (record { rounds = suc k; place = 0 }) 0 head refl
-        ∙ sym (ap (λ d. bytes_at (Some d) len head) (last_one-gt k len c less) ∙ bytes_chosen (record { rounds = k; place = len }) len head refl)
-    | inr more ↦ ap (λ d. bytes_at (Some d) 0 head) (sooner-gt (suc k) c (omega arith)) ∙ bytes_other (record { rounds = c.rounds; place = suc c.place }) 0 head (λ e. omega arith)
-        ∙ sym (ap (λ d. bytes_at (Some d) len head) (last_one-le k len c more) ∙ bytes_other c len head (λ e. omega (arith, within)))
+    | inl less ↦ ap (λ d. bytes_at (Some d) 0 head) (sooner_within (suc k) c (omega arith)) ∙ bytes_chosen (record { rounds = suc k; place = 0 }) 0 head refl
+        ∙ sym (ap (λ d. bytes_at (Some d) len head) (last_one_past k len c less) ∙ bytes_chosen (record { rounds = k; place = len }) len head refl)
+    | inr more ↦ ap (λ d. bytes_at (Some d) 0 head) (sooner_past (suc k) c (omega arith)) ∙ bytes_other (record { rounds = c.rounds; place = suc c.place }) 0 head (λ e. omega arith)
+        ∙ sym (ap (λ d. bytes_at (Some d) len head) (last_one_within k len c more) ∙ bytes_other c len head (λ e. omega (arith, within)))
   ]
 
   bytes_behind : (j : ℕ) (o : Option Choice) (head : Option ℕ) → j < len → bytes_at (Some (sooner (suc k) o)) (suc j) head ≡ bytes_at (Some (last_one k len o)) j head
   bytes_behind j None head below = bytes_other (record { rounds = suc k; place = 0 }) (suc j) head (λ e. omega arith) ∙ sym (bytes_other (record { rounds = k; place = len }) j head (λ e. omega arith))
   bytes_behind j (Some c) head below = elim (cases_lt k c.rounds) [
-    | inl less ↦ ap (λ d. bytes_at (Some d) (suc j) head) (sooner-le (suc k) c (omega arith)) ∙ bytes_other (record { rounds = suc k; place = 0 }) (suc j) head (λ e. omega arith)
-        ∙ sym (ap (λ d. bytes_at (Some d) j head) (last_one-gt k len c less) ∙ bytes_other (record { rounds = k; place = len }) j head (λ e. omega arith))
-    | inr more ↦ ap (λ d. bytes_at (Some d) (suc j) head) (sooner-gt (suc k) c (omega arith))
+    | inl less ↦ ap (λ d. bytes_at (Some d) (suc j) head) (sooner_within (suc k) c (omega arith)) ∙ bytes_other (record { rounds = suc k; place = 0 }) (suc j) head (λ e. omega arith)
+        ∙ sym (ap (λ d. bytes_at (Some d) j head) (last_one_past k len c less) ∙ bytes_other (record { rounds = k; place = len }) j head (λ e. omega arith))
+    | inr more ↦ ap (λ d. bytes_at (Some d) (suc j) head) (sooner_past (suc k) c (omega arith))
         ∙ elim (cases_eq j c.place) [
           | inl same ↦ bytes_chosen (record { rounds = c.rounds; place = suc c.place }) (suc j) head (ap suc same) ∙ sym (bytes_chosen c j head same)
           | inr other ↦ bytes_other (record { rounds = c.rounds; place = suc c.place }) (suc j) head (λ e. other (omega arith)) ∙ sym (bytes_other c j head other)
         ]
-        ∙ sym (ap (λ d. bytes_at (Some d) j head) (last_one-le k len c more))
+        ∙ sym (ap (λ d. bytes_at (Some d) j head) (last_one_within k len c more))
   ]
 
 -- ---- what one turn grants and sends

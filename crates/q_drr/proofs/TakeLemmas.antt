@@ -8,7 +8,7 @@ use Rattle.std.proofs.lemmas.List.{append-nil, map-append, take_at, drop_at, dro
 use Rattle.std.proofs.lemmas.List.Sums.{sum_by_push, sum_by-cons}
 use Rattle.q_packet.specs.Choice.{Choice, sooner, choose}
 use Rattle.q_packet.specs.Least.{least}
-use Rattle.q_packet.proofs.ChoiceLemmas.{sooner-le, sooner-gt, sooner_first, last_one, last_one-le, last_one-gt, choose_end, choose_within}
+use Rattle.q_packet.proofs.ChoiceLemmas.{sooner_within, sooner_past, sooner_first, last_one, last_one_within, last_one_past, choose_end, choose_within}
 use Rattle.q_packet.proofs.LeastLemmas.{least_here, least_later, least_is, least_le, least_holds, least_gt}
 use Rattle.q_drr.specs.Schedule.{Class, Entry, Schedule, has_class, quantum_of, after_grants, turn_answer, active_after, turned, counted, front_of, IsEntry, IsLawful}
 use Rattle.q_drr.specs.Take.{grants_for, need, needs, choice_of, granted, brought_up, turns_until, prepared, sent_by, sent_in, served, met_in, met}
@@ -84,24 +84,24 @@ module _ (quantum : ℕ → ℕ) (e : Entry) (es : List Entry) where
       → brought_up quantum (Some (sooner (suc k) o)) (e ∷ es) ≡ brought_up quantum (Some (last_one k (length es) o)) (es ++ once quantum e ∷ [])
   list_goes_on k None within = turned_first k
   list_goes_on k (Some c) within = elim (cases_lt k c.rounds) [
-    | inl less ↦ ap (λ (d : Choice). brought_up quantum (Some d) (e ∷ es)) (sooner-le (suc k) c (omega arith))
+    | inl less ↦ ap (λ (d : Choice). brought_up quantum (Some d) (e ∷ es)) (sooner_within (suc k) c (omega arith))
         ∙ turned_first k
-        ∙ sym (ap (λ (d : Choice). brought_up quantum (Some d) (es ++ once quantum e ∷ [])) (last_one-gt k (length es) c less))
-    | inr more ↦ ap (λ (d : Choice). brought_up quantum (Some d) (e ∷ es)) (sooner-gt (suc k) c (omega arith))
+        ∙ sym (ap (λ (d : Choice). brought_up quantum (Some d) (es ++ once quantum e ∷ [])) (last_one_past k (length es) c less))
+    | inr more ↦ ap (λ (d : Choice). brought_up quantum (Some d) (e ∷ es)) (sooner_past (suc k) c (omega arith))
         ∙ turned_other c within
-        ∙ sym (ap (λ (d : Choice). brought_up quantum (Some d) (es ++ once quantum e ∷ [])) (last_one-le k (length es) c more))
+        ∙ sym (ap (λ (d : Choice). brought_up quantum (Some d) (es ++ once quantum e ∷ [])) (last_one_within k (length es) c more))
   ]
 
   pub turns_go_on : (k : ℕ) (o : Option Choice)
       → turns_until (Some (sooner (suc k) o)) (suc (length es)) ≡ suc (turns_until (Some (last_one k (length es) o)) (suc (length es)))
   turns_go_on k None = omega arith
   turns_go_on k (Some c) = elim (cases_lt k c.rounds) [
-    | inl less ↦ ap (λ (d : Choice). turns_until (Some d) (suc (length es))) (sooner-le (suc k) c (omega arith))
+    | inl less ↦ ap (λ (d : Choice). turns_until (Some d) (suc (length es))) (sooner_within (suc k) c (omega arith))
         ∙ omega arith
-        ∙ sym (ap (λ (d : Choice). suc (turns_until (Some d) (suc (length es)))) (last_one-gt k (length es) c less))
-    | inr more ↦ ap (λ (d : Choice). turns_until (Some d) (suc (length es))) (sooner-gt (suc k) c (omega arith))
+        ∙ sym (ap (λ (d : Choice). suc (turns_until (Some d) (suc (length es)))) (last_one_past k (length es) c less))
+    | inr more ↦ ap (λ (d : Choice). turns_until (Some d) (suc (length es))) (sooner_past (suc k) c (omega arith))
         ∙ omega arith
-        ∙ sym (ap (λ (d : Choice). suc (turns_until (Some d) (suc (length es)))) (last_one-le k (length es) c more))
+        ∙ sym (ap (λ (d : Choice). suc (turns_until (Some d) (suc (length es)))) (last_one_within k (length es) c more))
   ]
 
 -- the class in front and the others

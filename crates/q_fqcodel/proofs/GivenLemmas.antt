@@ -17,7 +17,7 @@ use Rattle.q_fqcodel.specs.Take.{selected}
 use Rattle.q_fqcodel.specs.Laws.{CreditsByQuanta, GrantsAreSome, QuantaByPlace}
 use Rattle.q_fqcodel.proofs.LawfulLemmas.{times-cons, times-append, one_same}
 use Rattle.q_fqcodel.proofs.QuantaLemmas.{flow-given}
-use Rattle.q_fqcodel.proofs.InLemmas.{In, In-append, In_left, In_right, In-take, In-drop, In-map, In-stay, In_before, In_behind, In_found, In-times, same_entry, sum_none, sum_once}
+use Rattle.q_fqcodel.proofs.InLemmas.{In, In_either, In_left, In_right, In_taken, In_dropped, In_mapped, In_stayed, In_before, In_behind, In_found, In_counted, same_entry, sum_none, sum_once}
 
 pub times_split : (n k : ℕ) (es : List Entry) → times n es ≡ times n (take k es) + times n (drop k es)
 times_split n k es = ap (times n) (sym (take-append-drop k es)) ∙ times-append n (take k es) (drop k es)
@@ -70,7 +70,7 @@ turned_some q n es c = refl
 behind_chosen : (q n : ℕ) (es : List Entry) (c : Choice) (e : Entry) → times n es ≤ 1 → e.flow ≡ n → In e (drop c.place es) → quanta_turned q n es (Some c) ≡ min c.rounds (need q e)
 behind_chosen q n es c e once own h =
     let split = times_split n c.place es in
-    let some = In-times n e (drop c.place es) h own in
+    let some = In_counted n e (drop c.place es) h own in
     let here = quanta_in_once q n c.rounds e (drop c.place es) h own (omega (arith, split, once)) in
     let none = quanta_in_none q n (suc c.rounds) (take c.place es) (omega (arith, split, once, some)) in
     omega (arith, turned_some q n es c, here, none)
@@ -78,7 +78,7 @@ behind_chosen q n es c e once own h =
 before_chosen : (q n : ℕ) (es : List Entry) (c : Choice) (e : Entry) → times n es ≤ 1 → e.flow ≡ n → In e (take c.place es) → quanta_turned q n es (Some c) ≡ min (suc c.rounds) (need q e)
 before_chosen q n es c e once own h =
     let split = times_split n c.place es in
-    let some = In-times n e (take c.place es) h own in
+    let some = In_counted n e (take c.place es) h own in
     let here = quanta_in_once q n (suc c.rounds) e (take c.place es) h own (omega (arith, split, once)) in
     let none = quanta_in_none q n c.rounds (drop c.place es) (omega (arith, split, once, some)) in
     omega (arith, turned_some q n es c, here, none)
@@ -90,18 +90,18 @@ turned_credits : (q n : ℕ) (es : List Entry) (c : Choice) (a : Entry) → time
 turned_credits q n es c a once own h =
     ⊎_elim
     (λ (behind : In a (stay q c.rounds (drop c.place es))).
-    let r = In-stay q c.rounds a (drop c.place es) behind in
+    let r = In_stayed q c.rounds a (drop c.place es) behind in
     let x : Entry = r.0 in
     let own' : x.flow ≡ n = sym (flow-given q c.rounds x) ∙ ap (λ (y : Entry). y.flow) r.3 ∙ own in
     let k : quanta_turned q n es (Some c) ≡ c.rounds = omega (arith, behind_chosen q n es c x once own' r.1, r.2) in
-    (x, In-drop x c.place es r.1, own', ap (λ (y : Entry). y.credits) (sym r.3) ∙ credits-given q c.rounds x ∙ ap (λ (k : ℕ). x.credits +ℤ pos (k * q)) (sym k)))
+    (x, In_dropped x c.place es r.1, own', ap (λ (y : Entry). y.credits) (sym r.3) ∙ credits-given q c.rounds x ∙ ap (λ (k : ℕ). x.credits +ℤ pos (k * q)) (sym k)))
     (λ (before : In a (stay q (suc c.rounds) (take c.place es))).
-    let r = In-stay q (suc c.rounds) a (take c.place es) before in
+    let r = In_stayed q (suc c.rounds) a (take c.place es) before in
     let x : Entry = r.0 in
     let own' : x.flow ≡ n = sym (flow-given q (suc c.rounds) x) ∙ ap (λ (y : Entry). y.flow) r.3 ∙ own in
     let k : quanta_turned q n es (Some c) ≡ suc c.rounds = omega (arith, before_chosen q n es c x once own' r.1, r.2) in
-    (x, In-take x c.place es r.1, own', ap (λ (y : Entry). y.credits) (sym r.3) ∙ credits-given q (suc c.rounds) x ∙ ap (λ (k : ℕ). x.credits +ℤ pos (k * q)) (sym k)))
-    (In-append a (stay q c.rounds (drop c.place es)) (stay q (suc c.rounds) (take c.place es)) h)
+    (x, In_taken x c.place es r.1, own', ap (λ (y : Entry). y.credits) (sym r.3) ∙ credits-given q (suc c.rounds) x ∙ ap (λ (k : ℕ). x.credits +ℤ pos (k * q)) (sym k)))
+    (In_either a (stay q c.rounds (drop c.place es)) (stay q (suc c.rounds) (take c.place es)) h)
 
 -- so many quanta, and then so many
 quanta_more : (z : ℤ) (j k q : ℕ) → (z +ℤ pos (j * q)) +ℤ pos (k * q) ≡ z +ℤ pos ((j + k) * q)
@@ -137,18 +137,18 @@ module _ (q n : ℕ) (idle : ℕ → Bool) (new_flows old_flows : List Entry) (p
   unfolding old over
   old_credits x h own' =
       ⊎_elim
-      (λ (stayed : In x old_flows). untouched x (In_right x new_flows old_flows stayed) own' (omega (arith, at_most, In-times n x old_flows stayed own')))
+      (λ (stayed : In x old_flows). untouched x (In_right x new_flows old_flows stayed) own' (omega (arith, at_most, In_counted n x old_flows stayed own')))
       (λ (came : In x (map (moved q) (take p new_flows))).
-      let r = In-map (moved q) x (take p new_flows) came in
+      let r = In_mapped (moved q) x (take p new_flows) came in
       let y : Entry = r.0 in
       let own'' : y.flow ≡ n = sym (flow-moved q y) ∙ ap (λ (z : Entry). z.flow) r.2 ∙ own' in
-      let same : y ≡ e = same_entry n y e (new_flows ++ old_flows) (In_left y new_flows old_flows (In-take y p new_flows r.1)) listed own'' own once in
+      let same : y ≡ e = same_entry n y e (new_flows ++ old_flows) (In_left y new_flows old_flows (In_taken y p new_flows r.1)) listed own'' own once in
       let k : quanta_in q n 1 (take p new_flows) ≡ min 1 (need q y) = quanta_in_once q n 1 y (take p new_flows) r.1 own'' (omega (arith, at_most)) in
       ap (λ (z : Entry). z.credits) (sym r.2)
       ∙ credits-moved q y
       ∙ ap (λ (k : ℕ). y.credits +ℤ pos (k * q)) (sym k)
       ∙ ap (λ (z : Entry). z.credits +ℤ pos (quanta_in q n 1 (take p new_flows) * q)) same)
-      (In-append x old_flows (map (moved q) (take p new_flows)) h)
+      (In_either x old_flows (map (moved q) (take p new_flows)) h)
 
   after_turn : (a : Entry) (o : Option Choice) → In a (turned q old o).old_flows → a.flow ≡ n → a.credits ≡ e.credits +ℤ pos ((quanta_in q n 1 over + quanta_turned q n old o) * q)
   unfolding turned
@@ -174,9 +174,9 @@ module _ (q n : ℕ) (idle : ℕ → Bool) (new_flows old_flows : List Entry) (p
       ⊎_elim
       (λ (new : In a (r ∷ rs)).
       let there : In a (drop p new_flows) = subst (In a) (sym left) new in
-      untouched a (In_left a new_flows old_flows (In-drop a p new_flows there)) own' (omega (arith, at_most, In-times n a (drop p new_flows) there own')) ∙ same)
+      untouched a (In_left a new_flows old_flows (In_dropped a p new_flows there)) own' (omega (arith, at_most, In_counted n a (drop p new_flows) there own')) ∙ same)
       (λ (before : In a old). old_credits a before own' ∙ same)
-      (In-append a (r ∷ rs) old h)
+      (In_either a (r ∷ rs) old h)
 
 pub credits_by_quanta : CreditsByQuanta
 unfolding selected arranged quanta_given passed_over old_list over old

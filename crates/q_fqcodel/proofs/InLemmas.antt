@@ -23,33 +23,33 @@ pub In_right : (e : Entry) (xs ys : List Entry) → In e ys → In e (xs ++ ys)
 In_right e [] ys h = h
 In_right e (x ∷ xs) ys h = inr (In_right e xs ys h)
 
-pub In-append : (e : Entry) (xs ys : List Entry) → In e (xs ++ ys) → In e xs ⊎ In e ys
-In-append e [] ys h = inr h
-In-append e (x ∷ xs) ys h =
+pub In_either : (e : Entry) (xs ys : List Entry) → In e (xs ++ ys) → In e xs ⊎ In e ys
+In_either e [] ys h = inr h
+In_either e (x ∷ xs) ys h =
     ⊎_elim (λ (a : x ≡ e). inl (inl a))
-    (λ (b : In e (xs ++ ys)). ⊎_elim (λ (l : In e xs). inl (inr l)) (λ (r : In e ys). inr r) (In-append e xs ys b)) h
+    (λ (b : In e (xs ++ ys)). ⊎_elim (λ (l : In e xs). inl (inr l)) (λ (r : In e ys). inr r) (In_either e xs ys b)) h
 
-pub In-take : (e : Entry) (n : ℕ) (xs : List Entry) → In e (take n xs) → In e xs
-In-take e n xs h = subst (In e) (take-append-drop n xs) (In_left e (take n xs) (drop n xs) h)
+pub In_taken : (e : Entry) (n : ℕ) (xs : List Entry) → In e (take n xs) → In e xs
+In_taken e n xs h = subst (In e) (take-append-drop n xs) (In_left e (take n xs) (drop n xs) h)
 
-pub In-drop : (e : Entry) (n : ℕ) (xs : List Entry) → In e (drop n xs) → In e xs
-In-drop e n xs h = subst (In e) (take-append-drop n xs) (In_right e (take n xs) (drop n xs) h)
+pub In_dropped : (e : Entry) (n : ℕ) (xs : List Entry) → In e (drop n xs) → In e xs
+In_dropped e n xs h = subst (In e) (take-append-drop n xs) (In_right e (take n xs) (drop n xs) h)
 
-pub In-map : (f : Entry → Entry) (a : Entry) (xs : List Entry) → In a (map f xs) → (x : Entry) × In x xs × (f x ≡ a)
-In-map f a [] h = absurd h
-In-map f a (x ∷ xs) h =
-    ⊎_elim (λ (here : f x ≡ a). (x, inl refl, here)) (λ (there : In a (map f xs)). let r = In-map f a xs there in (r.0, inr r.1, r.2)) h
+pub In_mapped : (f : Entry → Entry) (a : Entry) (xs : List Entry) → In a (map f xs) → (x : Entry) × In x xs × (f x ≡ a)
+In_mapped f a [] h = absurd h
+In_mapped f a (x ∷ xs) h =
+    ⊎_elim (λ (here : f x ≡ a). (x, inl refl, here)) (λ (there : In a (map f xs)). let r = In_mapped f a xs there in (r.0, inr r.1, r.2)) h
 
 -- one that has stayed got all its quanta
-pub In-stay : (q k : ℕ) (a : Entry) (es : List Entry) → In a (stay q k es) → (x : Entry) × In x es × (k ≤ need q x) × (given q k x ≡ a)
-In-stay q k a [] h = absurd (subst (In a) (stay-nil q k) h)
-In-stay q k a (x ∷ xs) h =
+pub In_stayed : (q k : ℕ) (a : Entry) (es : List Entry) → In a (stay q k es) → (x : Entry) × In x es × (k ≤ need q x) × (given q k x ≡ a)
+In_stayed q k a [] h = absurd (subst (In a) (stay-nil q k) h)
+In_stayed q k a (x ∷ xs) h =
     ⊎_elim
-    (λ (few : need q x < k). let r = In-stay q k a xs (subst (In a) (stay_dropped q k x xs few) h) in (r.0, inr r.1, r.2, r.3))
+    (λ (few : need q x < k). let r = In_stayed q k a xs (subst (In a) (stay_dropped q k x xs few) h) in (r.0, inr r.1, r.2, r.3))
     (λ (more : k ≤ need q x).
     let w : (given q k x ≡ a) ⊎ In a (stay q k xs) = subst (In a) (stay_kept q k x xs more) h in
     ⊎_elim (λ (here : given q k x ≡ a). (x, inl refl, more, here))
-    (λ (there : In a (stay q k xs)). let r = In-stay q k a xs there in (r.0, inr r.1, r.2, r.3)) w)
+    (λ (there : In a (stay q k xs)). let r = In_stayed q k a xs there in (r.0, inr r.1, r.2, r.3)) w)
     (cases_lt (need q x) k)
 
 -- the entry at a place is before or behind another place
@@ -85,12 +85,12 @@ In_found n (x ∷ xs) z h =
 pub one_at : (n : ℕ) (x : Entry) → x.flow ≡ n → one n x ≡ 1
 one_at n x own = ap (λ (k : ℕ). one k x) (sym own) ∙ one_own x
 
-pub In-times : (n : ℕ) (e : Entry) (es : List Entry) → In e es → e.flow ≡ n → 1 ≤ times n es
-In-times n e [] h own = absurd h
-In-times n e (x ∷ xs) h own =
+pub In_counted : (n : ℕ) (e : Entry) (es : List Entry) → In e es → e.flow ≡ n → 1 ≤ times n es
+In_counted n e [] h own = absurd h
+In_counted n e (x ∷ xs) h own =
     ⊎_elim
     (λ (here : x ≡ e). omega (arith, times-cons n x xs, one_at n x (ap (λ (y : Entry). y.flow) here ∙ own)))
-    (λ (there : In e xs). omega (arith, times-cons n x xs, In-times n e xs there own)) h
+    (λ (there : In e xs). omega (arith, times-cons n x xs, In_counted n e xs there own)) h
 
 pub same_entry : (n : ℕ) (e x : Entry) (es : List Entry) → In e es → In x es → e.flow ≡ n → x.flow ≡ n → times n es ≤ 1 → e ≡ x
 same_entry n e x [] h k own own' once = absurd h
@@ -98,10 +98,10 @@ same_entry n e x (y ∷ ys) h k own own' once =
     ⊎_elim
     (λ (here : y ≡ e).
     let first : one n y ≡ 1 = one_at n y (ap (λ (z : Entry). z.flow) here ∙ own) in
-    ⊎_elim (λ (here' : y ≡ x). sym here ∙ here') (λ (there' : In x ys). absurd (omega (arith, once, times-cons n y ys, first, In-times n x ys there' own'))) k)
+    ⊎_elim (λ (here' : y ≡ x). sym here ∙ here') (λ (there' : In x ys). absurd (omega (arith, once, times-cons n y ys, first, In_counted n x ys there' own'))) k)
     (λ (there : In e ys).
     ⊎_elim
-    (λ (here' : y ≡ x). absurd (omega (arith, once, times-cons n y ys, one_at n y (ap (λ (z : Entry). z.flow) here' ∙ own'), In-times n e ys there own)))
+    (λ (here' : y ≡ x). absurd (omega (arith, once, times-cons n y ys, one_at n y (ap (λ (z : Entry). z.flow) here' ∙ own'), In_counted n e ys there own)))
     (λ (there' : In x ys). same_entry n e x ys there there' own own' (omega (arith, once, times-cons n y ys))) k)
     h
 
@@ -131,7 +131,7 @@ sum_once n f e (x ∷ xs) h own once =
     let first : x.flow ≡ n = ap (λ (y : Entry). y.flow) here ∙ own in
     omega (arith, sum_by-cons (at n f) x xs, at_own n f x first, ap f here, sum_none n f xs (omega (arith, once, times-cons n x xs, one_at n x first))))
     (λ (there : In e xs).
-    let rest : 1 ≤ times n xs = In-times n e xs there own in
+    let rest : 1 ≤ times n xs = In_counted n e xs there own in
     ⊎_elim
     (λ (own' : x.flow ≡ n). absurd (omega (arith, once, times-cons n x xs, one_at n x own', rest)))
     (λ (other : x.flow ≢ n). omega (arith, sum_by-cons (at n f) x xs, at_other n f x other, sum_once n f e xs there own (omega (arith, once, times-cons n x xs))))

@@ -23,7 +23,7 @@ use Rattle.q_fqcodel.proofs.FlowLemmas.{length-adjust}
 use Rattle.q_fqcodel.proofs.LawLemmas.{queues-clear, packets_of-appended}
 use Rattle.q_fqcodel.proofs.LawfulLemmas.{lawful_shrunk, lawful_written}
 use Rattle.q_fqcodel.proofs.PutLemmas.{own_queue, other_queue, busy_put, busy_shed, cut_none, cut_some, lawful_put, packets_of-shortened, shed_within, shed_positive}
-use Rattle.q_fqcodel.proofs.SentLemmas.{front_is, front_none, after_none, after_sending-written, lists_written, written, count_after, flow-paid}
+use Rattle.q_fqcodel.proofs.SentLemmas.{front_is, front_none, after_none, after_sending_written, lists_written, written, count_after, flow-paid}
 use Rattle.q_fqcodel.proofs.TurnLemmas.{LeadsOn, new_granted, new_moves, new_ready, old_granted, old_leaves, old_ready, none_left}
 
 -- ---- the selection keeps the packets
@@ -127,7 +127,7 @@ sent_with s now None h lawful =
 sent_with s now (Some e) h lawful =
     let m : Entry = paid (sent_from now s) e in
     let t : FqState = record s { flows = adjust (flow_after now) e.flow s.flows } in
-    subst (λ (x : FqState). IsLawful x) (sym (after_sending-written s e now h))
+    subst (λ (x : FqState). IsLawful x) (sym (after_sending_written s e now h))
     (lawful_written t e m (drop 1 (s.new_flows ++ s.old_flows)) (set s.new_flows 0 m) (written m s.new_flows s.old_flows)
     (lawful_shrunk s (flow_after now) (count_after now) e.flow lawful) (front_is s e h) (flow-paid (sent_from now s) e) (lists_written s m e h))
 

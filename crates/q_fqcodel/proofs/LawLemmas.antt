@@ -120,15 +120,15 @@ module _ (w : Stamped → ℕ) where
   queues-clear [] fs = refl
   queues-clear (n ∷ ns) fs = queues-clear ns (adjust rested_flow n fs) ∙ queues-rested_flow n fs
 
-  all_packets-queues : (fs : List Flow) → all_packets fs ≡ flat_map (λ (q : List Stamped). q) (queues fs)
-  all_packets-queues [] = all_packets_none
-  all_packets-queues (f ∷ fs) = all_packets-cons f fs ∙ ap (λ (l : List Stamped). f.queue ++ l) (all_packets-queues fs)
+  all_packets_by_queues : (fs : List Flow) → all_packets fs ≡ flat_map (λ (q : List Stamped). q) (queues fs)
+  all_packets_by_queues [] = all_packets_none
+  all_packets_by_queues (f ∷ fs) = all_packets-cons f fs ∙ ap (λ (l : List Stamped). f.queue ++ l) (all_packets_by_queues fs)
 
   total-selected : (s : FqState) → total (selected s).flows ≡ total s.flows
   unfolding selected total
   total-selected s =
       let gone : List ℕ = (arranged s.settings.quantum (is_idle s.flows) s.new_flows s.old_flows).gone in
-      ap (sum_by w) (all_packets-queues (clear rested_flow gone s.flows) ∙ ap (flat_map (λ (q : List Stamped). q)) (queues-clear gone s.flows) ∙ sym (all_packets-queues s.flows))
+      ap (sum_by w) (all_packets_by_queues (clear rested_flow gone s.flows) ∙ ap (flat_map (λ (q : List Stamped). q)) (queues-clear gone s.flows) ∙ sym (all_packets_by_queues s.flows))
 
   take_keeps : (s : FqState) (now : ℕ)
       → sum_by w (all_packets (after_sending now (selected s)).flows) + sum_by w (dropped_from now (selected s)) + sum_by w (option_to_list (head_sent now (selected s))) ≡ sum_by w (all_packets s.flows)

@@ -2,6 +2,7 @@ pub mod ChainLemmas
 pub mod ClearedLemmas
 pub mod CountLemmas
 pub mod FatLemmas
+pub mod FirstLemmas
 pub mod FlowLemmas
 pub mod FlowsShow
 pub mod GivenLemmas

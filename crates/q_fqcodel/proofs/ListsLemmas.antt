@@ -117,9 +117,9 @@ module _ (links : List Link) (new_flows old_flows : Ends) (lists : IsLists links
 
 -- ---- whether a flow is listed
 
-is_listed-append : (n : ℕ) (es fs : List Entry) → is_listed n (es ++ fs) ≡ true → (is_listed n es ≡ true) ⊎ (is_listed n fs ≡ true)
-is_listed-append n [] fs h = inr h
-is_listed-append n (e ∷ es) fs h = wider (e.flow == n) (is_listed n es) (is_listed n (es ++ fs)) h (is_listed-append n es fs)
+is_listed_in_either : (n : ℕ) (es fs : List Entry) → is_listed n (es ++ fs) ≡ true → (is_listed n es ≡ true) ⊎ (is_listed n fs ≡ true)
+is_listed_in_either n [] fs h = inr h
+is_listed_in_either n (e ∷ es) fs h = wider (e.flow == n) (is_listed n es) (is_listed n (es ++ fs)) h (is_listed_in_either n es fs)
   where
     wider : (a b c : Bool) → (a || c) ≡ true → (c ≡ true → (b ≡ true) ⊎ (is_listed n fs ≡ true)) → ((a || b) ≡ true) ⊎ (is_listed n fs ≡ true)
     wider true b c h on = inl refl
@@ -149,7 +149,7 @@ module _ (links : List Link) (new_flows old_flows : Ends) (lists : IsLists links
   not_listed free = sym (unless (is_listed n all) (λ h. ⊎_elim
       (λ (a : is_listed n (entries_in links new_flows) ≡ true). nowhere (listed_there (link_at links) New new_flows.tail new_flows.count new_flows.head n lists.new.linked a))
       (λ (b : is_listed n (entries_in links old_flows) ≡ true). nowhere (listed_there (link_at links) Old old_flows.tail old_flows.count old_flows.head n lists.old.linked b))
-      (is_listed-append n (entries_in links new_flows) (entries_in links old_flows) h)))
+      (is_listed_in_either n (entries_in links new_flows) (entries_in links old_flows) h)))
     where
       unless : (b : Bool) → (b ≡ true → false ≡ true) → b ≡ false
       unless true h = absurd (false≢true (h refl))

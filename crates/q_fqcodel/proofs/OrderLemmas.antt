@@ -17,7 +17,7 @@ use Rattle.q_fqcodel.specs.QuantaGiven.{quanta_in, quanta_turned, passed_over, o
 use Rattle.q_fqcodel.specs.Take.{selected}
 use Rattle.q_fqcodel.proofs.LawfulLemmas.{one, times-cons, times-append, one_other}
 use Rattle.q_fqcodel.proofs.QuantaLemmas.{flow-given, stay-nil, stay_kept, stay_dropped}
-use Rattle.q_fqcodel.proofs.InLemmas.{In, In-take, In-drop, one_at, at, at_own, at_other}
+use Rattle.q_fqcodel.proofs.InLemmas.{In, In_taken, In_dropped, one_at, at, at_own, at_other}
 use Rattle.q_fqcodel.proofs.SelectionLemmas.{chosen-cons, first_passes}
 use Rattle.q_fqcodel.proofs.GivenLemmas.{flow-moved, times-moved, turned_some, need_at, chosen_least}
 
@@ -165,12 +165,12 @@ module _ (i j : ℕ) where
 -- ---- how many quanta a flow with packets needs
 
 -- a flow that needs as many gets one a visit
-quanta_in-times : (q n v : ℕ) (es : List Entry) → ((e : Entry) → In e es → e.flow ≡ n → v ≤ need q e) → quanta_in q n v es ≡ times n es * v
+quanta_in_by_times : (q n v : ℕ) (es : List Entry) → ((e : Entry) → In e es → e.flow ≡ n → v ≤ need q e) → quanta_in q n v es ≡ times n es * v
 unfolding quanta_in
-quanta_in-times q n v [] enough = omega arith
-quanta_in-times q n v (x ∷ xs) enough =
+quanta_in_by_times q n v [] enough = omega arith
+quanta_in_by_times q n v (x ∷ xs) enough =
     let f : Entry → ℕ = λ e. min v (need q e) in
-    let rest = quanta_in-times q n v xs (λ e h own. enough e (inr h) own) in
+    let rest = quanta_in_by_times q n v xs (λ e h own. enough e (inr h) own) in
     let product : times n (x ∷ xs) * v ≡ one n x * v + times n xs * v = ap (λ k. k * v) (times-cons n x xs) ∙ add-mul (one n x) (times n xs) v in
     elim (cases_eq x.flow n) [
       | inl own ↦
@@ -185,7 +185,7 @@ quanta_in-times q n v (x ∷ xs) enough =
 
 -- a new flow with packets that is passed over has no credits
 passed_short : (q : ℕ) (idle : ℕ → Bool) (es : List Entry) (e : Entry) → In e (take (first_ready q idle es) es) → idle e.flow ≡ false → 1 ≤ need q e
-passed_short q idle [] e h busy = absurd (In-take e (first_ready q idle []) [] h)
+passed_short q idle [] e h busy = absurd (In_taken e (first_ready q idle []) [] h)
 passed_short q idle (x ∷ xs) e h busy =
     ⊎_elim
     (λ (ready : first_ready q idle (x ∷ xs) ≡ 0). absurd (subst (λ (p : ℕ). In e (take p (x ∷ xs))) ready h))
@@ -204,14 +204,14 @@ In_place e (x ∷ xs) h =
     ⊎_elim (λ (same : x ≡ e). (zero, ap Some same)) (λ (there : In e xs). let r = In_place e xs there in (suc r.0, r.1)) h
 
 place_before : (e : Entry) (n : ℕ) (es : List Entry) → In e (take n es) → (k : ℕ) × (k < n) × (slice_get es k ≡ Some e)
-place_before e n [] h = absurd (In-take e n [] h)
+place_before e n [] h = absurd (In_taken e n [] h)
 place_before e zero (x ∷ xs) h = absurd h
 place_before e (suc n) (x ∷ xs) h =
     ⊎_elim (λ (same : x ≡ e). (zero, omega arith, ap Some same))
     (λ (there : In e (take n xs)). let r = place_before e n xs there in (suc r.0, let l = r.1 in omega (arith, l), r.2)) h
 
 place_behind : (e : Entry) (n : ℕ) (es : List Entry) → In e (drop n es) → (k : ℕ) × (n ≤ k) × (slice_get es k ≡ Some e)
-place_behind e n [] h = absurd (In-drop e n [] h)
+place_behind e n [] h = absurd (In_dropped e n [] h)
 place_behind e zero (x ∷ xs) h = let r = In_place e (x ∷ xs) h in (r.0, omega arith, r.1)
 place_behind e (suc n) (x ∷ xs) h = let r = place_behind e n xs h in (suc r.0, let l = r.1 in omega (arith, l), r.2)
 
@@ -249,8 +249,8 @@ module _ (i j q : ℕ) (idle : ℕ → Bool) (busy_i : idle i ≡ false) (busy_j
     -- each visit is a quantum: one more for a flow before the chosen one
     turned_times : (n : ℕ) → idle n ≡ false → times n es ≡ 1 → quanta_turned q n es (Some c) ≡ c.rounds + times n (take c.place es)
     turned_times n full once =
-        let behind = quanta_in-times q n c.rounds (drop c.place es) (λ e h own. needs_behind e h (ap idle own ∙ full)) in
-        let before = quanta_in-times q n (suc c.rounds) (take c.place es) (λ e h own. needs_before e h (ap idle own ∙ full)) in
+        let behind = quanta_in_by_times q n c.rounds (drop c.place es) (λ e h own. needs_behind e h (ap idle own ∙ full)) in
+        let before = quanta_in_by_times q n (suc c.rounds) (take c.place es) (λ e h own. needs_before e h (ap idle own ∙ full)) in
         let split : times n (take c.place es) + times n (drop c.place es) ≡ 1 = sym (times-append n (take c.place es) (drop c.place es)) ∙ ap (times n) (take-append-drop c.place es) ∙ once in
         let all : (times n (take c.place es) + times n (drop c.place es)) * c.rounds ≡ c.rounds = ap (λ k. k * c.rounds) split ∙ omega arith in
         let spread = add-mul (times n (take c.place es)) (times n (drop c.place es)) c.rounds in
@@ -285,7 +285,7 @@ module _ (i j q : ℕ) (idle : ℕ → Bool) (busy_i : idle i ≡ false) (busy_j
 
     passed_times : (n : ℕ) → idle n ≡ false → quanta_in q n 1 over ≡ times n over
     unfolding over
-    passed_times n full = quanta_in-times q n 1 over (λ e h own. passed_short q idle new_flows e h (ap idle own ∙ full)) ∙ omega arith
+    passed_times n full = quanta_in_by_times q n 1 over (λ e h own. passed_short q idle new_flows e h (ap idle own ∙ full)) ∙ omega arith
 
     -- the new flows that are passed over
     passed_even : quanta_in q i 1 over + one_if (stands_first i j (left ++ old)) ≡ quanta_in q j 1 over + one_if (stands_first i j (new_flows ++ old_flows))

@@ -1,5 +1,5 @@
 -- The queues of all flows in one slab: one of them is written, the others stay, and all are counted.
-use Rattle.std.proofs.Common.{◌≡◌, ◌≢◌, ℕ, zero, suc, ◌+◌, ◌*◌, ◌<◌, ◌≤◌, ◌^◌, List, [], ◌∷◌, length, map, get_or, set, replicate, sum_by, Option, refl, sym, ap, ap₂, ◌∙◌, arith, subst, ⊎_elim}
+use Rattle.std.proofs.Common.{◌≡◌, ◌≢◌, ℕ, zero, suc, ◌+◌, ◌*◌, ◌<◌, ◌≤◌, ◌-◌, ◌^◌, List, [], ◌∷◌, length, map, get_or, set, replicate, sum_by, Option, refl, sym, ap, ap₂, ◌∙◌, arith, subst, ⊎_elim}
 use Rattle.std.proofs.lemmas.Bool.{cases_eq, cases_lt}
 use Rattle.std.proofs.lemmas.List.{length-set, get_or-set_same, get_or-set_other, get_or_past}
 use Rattle.std.proofs.lemmas.List.Sums.{sum_by-cons, sum_by-set}
@@ -161,6 +161,10 @@ module _ (at : ℕ → Option Node) (nodes : ℕ) (lists : List FlowList) (bytes
 
     pub few_read : l.count ≤ nodes
     few_read = omega (arith, count_le at nodes lists bytes pool n, ap (λ (m : FlowList). m.count) read)
+
+    pub bytes_below : l.bytes < 2 ^ 48 - 1
+    bytes_below =
+        omega (arith, ap (λ (m : FlowList). m.bytes) read, bytes_few at nodes lists bytes pool n, count_le at nodes lists bytes pool n, pool.few)
 
 -- ---- without packets
 

@@ -44,28 +44,28 @@ sum_below-one e (suc n) h =
     (λ (before : e.flow ≢ n). omega (arith, one_other n e before, sum_below-one e n (omega (arith, before))))
     (cases_eq e.flow n)
 
-sum_below-le : (f : ℕ → ℕ) (n : ℕ) → ((k : ℕ) → f k ≤ 1) → sum_below f n ≤ n
+sum_below_within : (f : ℕ → ℕ) (n : ℕ) → ((k : ℕ) → f k ≤ 1) → sum_below f n ≤ n
 unfolding sum_below
-sum_below-le f zero h = omega arith
-sum_below-le f (suc n) h = omega (arith, h n, sum_below-le f n h)
+sum_below_within f zero h = omega arith
+sum_below_within f (suc n) h = omega (arith, h n, sum_below_within f n h)
 
-sum_below-lt : (f : ℕ → ℕ) (n m : ℕ) → ((k : ℕ) → f k ≤ 1) → m < n → f m ≡ 0 → sum_below f n < n
+sum_below_short : (f : ℕ → ℕ) (n m : ℕ) → ((k : ℕ) → f k ≤ 1) → m < n → f m ≡ 0 → sum_below f n < n
 unfolding sum_below
-sum_below-lt f zero m h l none = absurd (omega arith)
-sum_below-lt f (suc n) m h l none =
+sum_below_short f zero m h l none = absurd (omega arith)
+sum_below_short f (suc n) m h l none =
     ⊎_elim
-    (λ (here : m ≡ n). omega (arith, ap f here, none, sum_below-le f n h))
-    (λ (before : m ≢ n). omega (arith, h n, sum_below-lt f n m h (omega (arith, before)) none))
+    (λ (here : m ≡ n). omega (arith, ap f here, none, sum_below_within f n h))
+    (λ (before : m ≢ n). omega (arith, h n, sum_below_short f n m h (omega (arith, before)) none))
     (cases_eq m n)
 
-length-times : (n : ℕ) (es : List Entry) → ((k : ℕ) → n ≤ k → times k es ≡ 0) → length es ≡ sum_below (λ k. times k es) n
-length-times n [] h = sym (sum_below_none (λ k. times k []) n (λ k l. refl))
-length-times n (e ∷ es) h =
+length_by_times : (n : ℕ) (es : List Entry) → ((k : ℕ) → n ≤ k → times k es ≡ 0) → length es ≡ sum_below (λ k. times k es) n
+length_by_times n [] h = sym (sum_below_none (λ k. times k []) n (λ k l. refl))
+length_by_times n (e ∷ es) h =
     let within : e.flow < n =
     ⊎_elim (λ (l : e.flow < n). l) (λ (l : n ≤ e.flow). absurd (omega (arith, h e.flow l, times-cons e.flow e es, one_own e))) (cases_lt e.flow n) in
     omega (
       arith,
-      length-times n es (λ k l. omega (arith, h k l, times-cons k e es)),
+      length_by_times n es (λ k l. omega (arith, h k l, times-cons k e es)),
       sum_below_same (λ k. times k (e ∷ es)) (λ k. one k e + times k es) n (λ k. times-cons k e es),
       sum_below_add (λ k. one k e) (λ k. times k es) n,
       sum_below-one e n within,
@@ -78,8 +78,8 @@ place_for s n lawful within absent =
     omega (
       arith,
       length-append s.new_flows s.old_flows,
-      length-times s.settings.flows all lawful.in_range,
-      sum_below-lt (λ k. times k all) s.settings.flows n lawful.once within absent,
+      length_by_times s.settings.flows all lawful.in_range,
+      sum_below_short (λ k. times k all) s.settings.flows n lawful.once within absent,
     )
 
 pub listed_not : (n : ℕ) (es : List Entry) → is_listed n es ≡ false → times n es ≡ 0

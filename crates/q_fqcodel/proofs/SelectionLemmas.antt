@@ -6,7 +6,7 @@ use Rattle.std.proofs.lemmas.List.{length-map, map-append, drop-append-le, take-
 use Rattle.q_fqcodel.specs.Cleared.{adjust, clear}
 use Rattle.q_fqcodel.specs.Quanta.{need, given, stay, leave}
 use Rattle.q_packet.specs.Choice.{Choice, later, sooner, choose}
-use Rattle.q_packet.proofs.ChoiceLemmas.{sooner_none, sooner-le, sooner-gt, sooner_first, last_one, last_one-le, last_one-gt, choose_if, choose_end_if, choose_within}
+use Rattle.q_packet.proofs.ChoiceLemmas.{sooner_none, sooner_within, sooner_past, sooner_first, last_one, last_one_within, last_one_past, choose_if, choose_end_if, choose_within}
 use Rattle.q_fqcodel.specs.Selection.{Lists, chosen, turned, first_ready, moved, with_rest, arranged}
 use Rattle.q_fqcodel.specs.Entry.{Entry}
 use Rattle.q_fqcodel.proofs.ClearedLemmas.{clear_middle, clear-cons}
@@ -137,13 +137,13 @@ module _ {F : Type 0} (r : F → F) (q : ℕ) (positive : 1 ≤ q) (e : Entry) (
   granted_busy k (Some c) within flows =
       ⊎_elim
       (λ (behind : c.rounds < suc k).
-      ap (λ (c : Choice). turned q (e ∷ es) (Some c)) (sooner-gt (suc k) c behind)
+      ap (λ (c : Choice). turned q (e ∷ es) (Some c)) (sooner_past (suc k) c behind)
       ∙ granted_behind c within flows
-      ∙ ap (λ (c : Choice). turned q (es ++ given q 1 e ∷ []) (Some c)) (sym (last_one-le k (length es) c (omega arith))))
+      ∙ ap (λ (c : Choice). turned q (es ++ given q 1 e ∷ []) (Some c)) (sym (last_one_within k (length es) c (omega arith))))
       (λ (front : suc k ≤ c.rounds).
-      ap (λ (c : Choice). turned q (e ∷ es) (Some c)) (sooner-le (suc k) c front)
+      ap (λ (c : Choice). turned q (e ∷ es) (Some c)) (sooner_within (suc k) c front)
       ∙ granted_front k
-      ∙ ap (λ (c : Choice). turned q (es ++ given q 1 e ∷ []) (Some c)) (sym (last_one-gt k (length es) c (omega arith))))
+      ∙ ap (λ (c : Choice). turned q (es ++ given q 1 e ∷ []) (Some c)) (sym (last_one_past k (length es) c (omega arith))))
       (cases_lt c.rounds (suc k))
 
   granted_if : (b : Bool) (o : Option Choice) → IfSome o (λ c. c.place < length es) → (flows : List F)

@@ -19,7 +19,7 @@ use Rattle.q_fqcodel.specs.Take.{selected, front, paid, sent_from, after_sending
 use Rattle.q_fqcodel.proofs.GivenLemmas.{credits_by_quanta}
 use Rattle.q_fqcodel.proofs.LawfulLemmas.{times-append}
 use Rattle.q_fqcodel.proofs.PutLemmas.{listed_not}
-use Rattle.q_fqcodel.proofs.SentLemmas.{flow-paid, paid_is, after_none, after_new_flows, after_sending-written, written}
+use Rattle.q_fqcodel.proofs.SentLemmas.{flow-paid, paid_is, after_none, after_new_flows, after_sending_written, written}
 use Rattle.q_fqcodel.proofs.TurnLemmas.{first_in_front, none_in_front}
 use Rattle.q_model.specs.declared.event.Event.{Event}
 use Rattle.q_model.specs.Events.{IsEvent}
@@ -100,7 +100,7 @@ module _ (i j mtu : ℕ) (apart : i ≢ j) where
         let all : lists_of s ≡ e ∷ rest = ap₂ (λ (l k : List Entry). l ++ k) none is in
         let before : may s ≡ in_lists i j s.settings.quantum mtu false [] (e ∷ rest) = ap₂ (λ (l k : List Entry). in_lists i j s.settings.quantum mtu false l k) none is in
         let after : may (after_sending now s) ≡ in_lists i j s.settings.quantum mtu false [] (m ∷ rest) =
-        ap may (after_sending-written s e now (sym (first_in_front s e rest all)))
+        ap may (after_sending_written s e now (sym (first_in_front s e rest all)))
         ∙ ap₂ (λ (l k : List Entry). in_lists i j s.settings.quantum mtu false (set l 0 m) (written m l k)) none is in
         let bytes = gave-of now s (Some e) (first_in_front s e rest all) in
         elim (cases_eq e.flow j) [

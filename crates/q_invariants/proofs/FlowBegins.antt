@@ -11,7 +11,7 @@ use Rattle.q_fqcodel.specs.Put.{flow_of, is_listed, appended, cut_back, after_pu
 use Rattle.q_fqcodel.specs.Take.{selected}
 use Rattle.q_fqcodel.proofs.LawfulLemmas.{times-cons, times-append, one_other}
 use Rattle.q_fqcodel.proofs.InLemmas.{one_at}
-use Rattle.q_fqcodel.proofs.ListedLemmas.{times-selected, times_sent}
+use Rattle.q_fqcodel.proofs.ListedLemmas.{times_selected, times_sent}
 use Rattle.q_fqcodel.proofs.PutLemmas.{listed_not, listed_yes}
 use Rattle.q_model.specs.declared.event.Event.{Event}
 use Rattle.q_model.specs.Events.{IsEvent}
@@ -70,7 +70,7 @@ step-begins n now s t notes (inl quiet) none some = by quiet.lists
         ∙ put-begins n s put.0 put.1 none (omega (arith, some, ap (λ (x : FqState). times n (lists_of x)) put.2))
         ∙ sym (ap (λ (x : FqState). Some (pos x.settings.quantum)) put.2 ∙ ap (λ (settings : FqSettings). Some (pos settings.quantum)) (put-settings s put.0 put.1))
 step-begins n now s t notes (inr take) none some =
-    absurd (omega (arith, none, some, ap (λ (x : FqState). times n (lists_of x)) take.is, times_sent n now (selected s), times-selected n s))
+    absurd (omega (arith, none, some, ap (λ (x : FqState). times n (lists_of x)) take.is, times_sent n now (selected s), times_selected n s))
 
 pub flow-begins : (major n : ℕ) (d : DeviceState (List Note)) (e : Event) (x y : FqAt) → IsKept d → IsEvent e → fq_in major d ≡ Some x → fq_in major (step history d e).device ≡ Some y
     → is_listed n (lists_of x.state) ≡ false → is_listed n (lists_of y.state) ≡ true → credits_of n y.state.new_flows ≡ Some (pos y.state.settings.quantum)

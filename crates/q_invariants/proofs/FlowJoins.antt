@@ -20,7 +20,7 @@ use Rattle.q_fqcodel.specs.Turns.{turns}
 use Rattle.q_fqcodel.proofs.FlowLemmas.{is_idle-rested_flow}
 use Rattle.q_fqcodel.proofs.InLemmas.{one_at}
 use Rattle.q_fqcodel.proofs.LawfulLemmas.{times-cons, times-append, one_other}
-use Rattle.q_fqcodel.proofs.ListedLemmas.{times-selected, times_sent}
+use Rattle.q_fqcodel.proofs.ListedLemmas.{times_selected, times_sent}
 use Rattle.q_fqcodel.proofs.PutLemmas.{listed_not, listed_yes}
 use Rattle.q_fqcodel.proofs.SentLemmas.{flow-paid, paid_is, after_new_flows}
 use Rattle.q_fqcodel.proofs.TurnLemmas.{LeadsOn, new_granted, new_moves, new_ready, first_in_front}
@@ -330,7 +330,7 @@ module _ (j k mtu : ℕ) (apart : j ≢ k) where
             }
 
     pub step-joins : Changes now s t notes → Joins s t notes
-    step-joins (inr take) = absurd (omega (arith, none, some, ap (λ (x : FqState). times j (lists_of x)) take.is, times_sent j now (selected s), times-selected j s))
+    step-joins (inr take) = absurd (omega (arith, none, some, ap (λ (x : FqState). times j (lists_of x)) take.is, times_sent j now (selected s), times_selected j s))
     step-joins (inl quiet) = by quiet.lists
       where
         by : SameLists s t ⊎ ((p : Descriptor) × (at : ℕ) × (t ≡ after_put s p at)) → Joins s t notes

@@ -16,7 +16,7 @@ use Rattle.q_fqcodel.specs.Put.{flow_of, is_listed, appended, cut_back, after_pu
 use Rattle.q_fqcodel.specs.QuantaGiven.{Grant, quanta_given, grants}
 use Rattle.q_fqcodel.specs.Take.{front, paid, sent_from, after_sending}
 use Rattle.q_fqcodel.proofs.LawfulLemmas.{times-cons, one, one_other}
-use Rattle.q_fqcodel.proofs.SentLemmas.{flow-paid, paid_is, front_is, front_none, after_sending-written, lists_written}
+use Rattle.q_fqcodel.proofs.SentLemmas.{flow-paid, paid_is, front_is, front_none, after_sending_written, lists_written}
 use Rattle.q_model.specs.Tally.{FlowGranted}
 use Rattle.q_model.specs.Quanta.{flows_granted, flow_gave}
 use Rattle.q_model.specs.Stretches.{flow_granted_by, flow_grants_to, bytes_given}
@@ -80,7 +80,7 @@ module _ (n : ℕ) where
     where
       lists : (m e : Entry) → front s ≡ Some e → m ≡ paid (sent_from now s) e → (after_sending now s).new_flows ++ (after_sending now s).old_flows ≡ m ∷ drop 1 (s.new_flows ++ s.old_flows)
       lists m e f is =
-          ap (λ (t : FqState). t.new_flows ++ t.old_flows) (after_sending-written s e now f) ∙ lists_written s (paid (sent_from now s) e) e f ∙ ap (λ (x : Entry). x ∷ drop 1 (s.new_flows ++ s.old_flows)) (sym is)
+          ap (λ (t : FqState). t.new_flows ++ t.old_flows) (after_sending_written s e now f) ∙ lists_written s (paid (sent_from now s) e) e f ∙ ap (λ (x : Entry). x ∷ drop 1 (s.new_flows ++ s.old_flows)) (sym is)
 
       behind : (e : Entry) (o : Option Taken) → (e.flow == n) ≡ false → bytes_given n (flow_gave (Some e) o) ≡ 0
       behind e None other = refl

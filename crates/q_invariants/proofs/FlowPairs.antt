@@ -12,7 +12,7 @@ use Rattle.q_fqcodel.specs.Put.{flow_of, is_listed, appended, cut_back, after_pu
 use Rattle.q_fqcodel.specs.Take.{front, paid, sent_from, selected, after_sending}
 use Rattle.q_fqcodel.proofs.OrderLemmas.{one_if, order_other, order_same, order_front, quanta_even}
 use Rattle.q_fqcodel.proofs.PutLemmas.{listed_not}
-use Rattle.q_fqcodel.proofs.SentLemmas.{flow-paid, front_is, front_none, after_none, after_sending-written, lists_written}
+use Rattle.q_fqcodel.proofs.SentLemmas.{flow-paid, front_is, front_none, after_none, after_sending_written, lists_written}
 use Rattle.q_model.specs.declared.event.Event.{Event}
 use Rattle.q_model.specs.Events.{IsEvent}
 use Rattle.q_model.specs.Tally.{Note, history}
@@ -51,7 +51,7 @@ order-sent i j now s = by (front s) refl
     by (Some e) f =
         let m : Entry = paid (sent_from now s) e in
         let rest : List Entry = drop 1 (lists_of s) in
-        let written : lists_of (after_sending now s) ≡ m ∷ rest = ap lists_of (after_sending-written s e now f) ∙ lists_written s m e f in
+        let written : lists_of (after_sending now s) ≡ m ∷ rest = ap lists_of (after_sending_written s e now f) ∙ lists_written s m e f in
         ap (stands_first i j) written ∙ order_same i j m e rest rest (flow-paid (sent_from now s) e) refl ∙ ap (stands_first i j) (sym (front_is s e f))
 
 step-even : (i j now : ℕ) (s t : FqState) (notes : List Note) → IsLawful s → is_idle s.flows i ≡ false → is_idle s.flows j ≡ false → Changes now s t notes

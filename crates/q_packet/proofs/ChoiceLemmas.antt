@@ -9,16 +9,16 @@ use Rattle.q_packet.specs.Choice.{Choice, later, sooner, choose, IsChosen}
 pub sooner_none : (k : ℕ) → sooner k None ≡ record { rounds = k; place = 0 }
 sooner_none k = refl
 
-pub sooner-le : (k : ℕ) (c : Choice) → k ≤ c.rounds → sooner k (Some c) ≡ record { rounds = k; place = 0 }
-sooner-le k c h = cond-true (nat_le k c.rounds) _ _ (le-leb _ _ h)
+pub sooner_within : (k : ℕ) (c : Choice) → k ≤ c.rounds → sooner k (Some c) ≡ record { rounds = k; place = 0 }
+sooner_within k c h = cond-true (nat_le k c.rounds) _ _ (le-leb _ _ h)
 
-pub sooner-gt : (k : ℕ) (c : Choice) → c.rounds < k → sooner k (Some c) ≡ record { rounds = c.rounds; place = suc c.place }
-sooner-gt k c h = cond-false (nat_le k c.rounds) _ _ (lt-leb _ _ h)
+pub sooner_past : (k : ℕ) (c : Choice) → c.rounds < k → sooner k (Some c) ≡ record { rounds = c.rounds; place = suc c.place }
+sooner_past k c h = cond-false (nat_le k c.rounds) _ _ (lt-leb _ _ h)
 
 -- one that needs nothing is chosen before all that stand behind it
 pub sooner_first : (o : Option Choice) → sooner 0 o ≡ record { rounds = 0; place = 0 }
 sooner_first None = sooner_none 0
-sooner_first (Some c) = sooner-le 0 c (omega arith)
+sooner_first (Some c) = sooner_within 0 c (omega arith)
 
 -- one in front that may be chosen or not, as a test says
 pub choose_if : (b : Bool) (k : ℕ) (needs : List (Option ℕ)) → choose (cond b None (Some k) ∷ needs) ≡ cond b (later (choose needs)) (Some (sooner k (choose needs)))
@@ -32,11 +32,11 @@ abbrev pub last_one : ℕ → ℕ → Option Choice → Choice
 last_one k len None = record { rounds = k; place = len }
 last_one k len (Some c) = cond (nat_le c.rounds k) c (record { rounds = k; place = len })
 
-pub last_one-le : (k len : ℕ) (c : Choice) → c.rounds ≤ k → last_one k len (Some c) ≡ c
-last_one-le k len c h = cond-true (nat_le c.rounds k) _ _ (le-leb _ _ h)
+pub last_one_within : (k len : ℕ) (c : Choice) → c.rounds ≤ k → last_one k len (Some c) ≡ c
+last_one_within k len c h = cond-true (nat_le c.rounds k) _ _ (le-leb _ _ h)
 
-pub last_one-gt : (k len : ℕ) (c : Choice) → k < c.rounds → last_one k len (Some c) ≡ record { rounds = k; place = len }
-last_one-gt k len c h = cond-false (nat_le c.rounds k) _ _ (lt-leb _ _ h)
+pub last_one_past : (k len : ℕ) (c : Choice) → k < c.rounds → last_one k len (Some c) ≡ record { rounds = k; place = len }
+last_one_past k len c h = cond-false (nat_le c.rounds k) _ _ (lt-leb _ _ h)
 
 pub later_if : (b : Bool) (c d : Choice) → later (Some (cond b c d)) ≡ Some (cond b (record { rounds = c.rounds; place = suc c.place }) (record { rounds = d.rounds; place = suc d.place }))
 later_if true c d = refl
@@ -48,8 +48,8 @@ later_end k len (Some c) = later_if (nat_le c.rounds k) c (record { rounds = k; 
 
 pub sooner_end : (j k len : ℕ) (o : Option Choice) → sooner j (Some (last_one k len o)) ≡ last_one k (suc len) (Some (sooner j o))
 sooner_end j k len None = elim (cases_lt k j) [
-  | inl after ↦ sooner-gt j (record { rounds = k; place = len }) after ∙ sym (last_one-gt k (suc len) (record { rounds = j; place = 0 }) after)
-  | inr before ↦ sooner-le j (record { rounds = k; place = len }) before ∙ sym (last_one-le k (suc len) (record { rounds = j; place = 0 }) before)
+  | inl after ↦ sooner_past j (record { rounds = k; place = len }) after ∙ sym (last_one_past k (suc len) (record { rounds = j; place = 0 }) after)
+  | inr before ↦ sooner_within j (record { rounds = k; place = len }) before ∙ sym (last_one_within k (suc len) (record { rounds = j; place = 0 }) before)
 ]
 sooner_end j k len (Some c) =
     let at_j : Choice = record { rounds = j; place = 0 } in
@@ -57,22 +57,22 @@ sooner_end j k len (Some c) =
     let at_k : Choice = record { rounds = k; place = len } in
     elim (cases_lt k c.rounds) [
       | inl far ↦
-          ap (λ (d : Choice). sooner j (Some d)) (last_one-gt k len c far)
+          ap (λ (d : Choice). sooner j (Some d)) (last_one_past k len c far)
           ∙ elim (cases_lt k j) [
-            | inl after ↦ sooner-gt j at_k after ∙ sym (elim (cases_lt c.rounds j) [
-              | inl second ↦ ap (λ (d : Choice). last_one k (suc len) (Some d)) (sooner-gt j c second) ∙ last_one-gt k (suc len) behind far
-              | inr first ↦ ap (λ (d : Choice). last_one k (suc len) (Some d)) (sooner-le j c first) ∙ last_one-gt k (suc len) at_j after
+            | inl after ↦ sooner_past j at_k after ∙ sym (elim (cases_lt c.rounds j) [
+              | inl second ↦ ap (λ (d : Choice). last_one k (suc len) (Some d)) (sooner_past j c second) ∙ last_one_past k (suc len) behind far
+              | inr first ↦ ap (λ (d : Choice). last_one k (suc len) (Some d)) (sooner_within j c first) ∙ last_one_past k (suc len) at_j after
             ])
-            | inr before ↦ sooner-le j at_k before
-                ∙ sym (ap (λ (d : Choice). last_one k (suc len) (Some d)) (sooner-le j c (omega arith)) ∙ last_one-le k (suc len) at_j before)
+            | inr before ↦ sooner_within j at_k before
+                ∙ sym (ap (λ (d : Choice). last_one k (suc len) (Some d)) (sooner_within j c (omega arith)) ∙ last_one_within k (suc len) at_j before)
           ]
       | inr near ↦
-          ap (λ (d : Choice). sooner j (Some d)) (last_one-le k len c near)
+          ap (λ (d : Choice). sooner j (Some d)) (last_one_within k len c near)
           ∙ elim (cases_lt c.rounds j) [
-            | inl second ↦ sooner-gt j c second
-                ∙ sym (ap (λ (d : Choice). last_one k (suc len) (Some d)) (sooner-gt j c second) ∙ last_one-le k (suc len) behind near)
-            | inr first ↦ sooner-le j c first
-                ∙ sym (ap (λ (d : Choice). last_one k (suc len) (Some d)) (sooner-le j c first) ∙ last_one-le k (suc len) at_j (omega arith))
+            | inl second ↦ sooner_past j c second
+                ∙ sym (ap (λ (d : Choice). last_one k (suc len) (Some d)) (sooner_past j c second) ∙ last_one_within k (suc len) behind near)
+            | inr first ↦ sooner_within j c first
+                ∙ sym (ap (λ (d : Choice). last_one k (suc len) (Some d)) (sooner_within j c first) ∙ last_one_within k (suc len) at_j (omega arith))
           ]
     ]
 
@@ -138,8 +138,8 @@ later_is needs (Some c) h = chosen_later needs c h
 sooner_is : (j : ℕ) (needs : List (Option ℕ)) (o : Option Choice) → IsChoiceOf needs o → IsChosen (Some j ∷ needs) (sooner j o)
 sooner_is j needs None h = chosen_front j needs (λ i k e. let none = h i in cc)
 sooner_is j needs (Some c) h = elim (cases_lt c.rounds j) [
-  | inl fewer ↦ subst (IsChosen (Some j ∷ needs)) (sym (sooner-gt j c fewer)) (chosen_behind j needs c fewer h)
-  | inr enough ↦ subst (IsChosen (Some j ∷ needs)) (sym (sooner-le j c enough)) (chosen_front j needs (λ i k e. omega (arith, h.least i k e)))
+  | inl fewer ↦ subst (IsChosen (Some j ∷ needs)) (sym (sooner_past j c fewer)) (chosen_behind j needs c fewer h)
+  | inr enough ↦ subst (IsChosen (Some j ∷ needs)) (sym (sooner_within j c enough)) (chosen_front j needs (λ i k e. omega (arith, h.least i k e)))
 ]
 
 pub choice_is : (needs : List (Option ℕ)) → IsChoiceOf needs (choose needs)

@@ -12,5 +12,5 @@ pub size_push : (queue : List Stamped) (s : Stamped) → size (queue ++ s ∷ []
 size_push queue s = sum_by_push (λ (x : Stamped). x.packet.len) queue s
 
 -- a queue of packets of at most m bytes each
-pub size-le : (m : ℕ) (queue : List Stamped) → All (λ (x : Stamped). x.packet.len ≤ m) queue → size queue ≤ count queue * m
-size-le m queue short = sum_by-le (λ (x : Stamped). x.packet.len) m queue short
+pub size_within : (m : ℕ) (queue : List Stamped) → All (λ (x : Stamped). x.packet.len ≤ m) queue → size queue ≤ count queue * m
+size_within m queue short = sum_by-le (λ (x : Stamped). x.packet.len) m queue short

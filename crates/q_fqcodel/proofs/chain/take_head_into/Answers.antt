@@ -4,7 +4,6 @@ use Rattle.q_packet.specs.Descriptor.{Descriptor}
 use Rattle.q_packet.specs.declared.stamped.Stamped.{Stamped}
 use Rattle.q_fqcodel.specs.Chain.{queue_in, IsList}
 use Rattle.q_fqcodel.specs.Nodes.{used}
-use Rattle.q_fqcodel.specs.declared.flow_list.FlowList.{FlowList}
 use Rattle.q_fqcodel.specs.declared.node.Node.{Node}
 use Rattle.q_fqcodel.proofs.ChainLemmas.{head_there, rest_queue, rest_bytes, rest_list, rest_keeps}
 use Rattle.q_fqcodel.proofs.chain.take_head_into.Goals as goal

@@ -1,7 +1,7 @@
 use Rattle.std.proofs.Common.{◌∙◌, ap, sym, arith}
 use Rattle.q_codel.specs.Codel.{CodelVars}
 use Rattle.q_codel.specs.declared.front.Front.{Front}
-use Rattle.q_codel.proofs.FrontLemmas.{split, front_at, behind_is, len_within}
+use Rattle.q_codel.proofs.FrontLemmas.{split, chosen_at, behind_is, len_within}
 use Rattle.q_codel.proofs.ChooseLemmas.{unmoved, chosen_early, chosen_in, chosen_from}
 use Rattle.q_codel.proofs.control_state.ControlState.choose.Goals as goal
 
@@ -10,19 +10,21 @@ overflow_sub-behind g c = let s = split _ _ c.requires.front in len_within _ _ _
 
 -- the head is not late
 pub returns-then-not-should_drop-clause-chosen : goal.returns-then-not-should_drop-clause-chosen
-returns-then-not-should_drop-clause-chosen g c = λ head rest is.
-    let front = front_at _ _ head rest c.requires.front is in
-    let behind = behind_is _ _ _ _ _ c.bytes.ensures is (ap (λ (f : Front). f.len) front) in
+returns-then-not-should_drop-clause-chosen g c =
+    let s = split _ _ c.requires.front in
+    let behind = behind_is _ _ _ _ _ c.bytes.ensures s.is (ap (λ (f : Front). f.len) s.front_is) in
     let looked = c.if-not-should_drop.ensures in
-    chosen_in _ _ _ _ _ _ _ _ is
-    (chosen_early c.args.parameters.now c.args.self.now _ c.args.now head rest (omega (arith, c.self.invariant.count, ap (λ (v : CodelVars). v.count) (c.self.view_is ∙ looked.kept)))
-    (sym (looked.late head rest front behind)) (c.self.view_is ∙ looked.noted head rest front behind))
+    chosen_at _ _ _ _ _ _ _ _
+    (chosen_in _ _ _ _ _ _ _ _ s.is
+    (chosen_early c.args.parameters.now c.args.self.now _ c.args.now s.head s.rest (omega (arith, c.self.invariant.count, ap (λ (v : CodelVars). v.count) (c.self.view_is ∙ looked.kept)))
+    (sym (looked.late s.head s.rest s.front_is behind)) (c.self.view_is ∙ looked.noted s.head s.rest s.front_is behind)))
+    s.is
 
 -- the head is late
 pub returns-clause-chosen : goal.returns-clause-chosen
-returns-clause-chosen g c = λ head rest is.
+returns-clause-chosen g c =
     let s = split _ _ c.requires.front in
     let behind = behind_is _ _ _ _ _ c.bytes.ensures s.is (ap (λ (f : Front). f.len) s.front_is) in
     let looked = c.if-not-should_drop.ensures in
     let same = unmoved c.args.parameters.now c.args.self.now c.should_drop.new.self c.args.now s.head s.rest (sym (looked.late s.head s.rest s.front_is behind)) (looked.noted s.head s.rest s.front_is behind) in
-    chosen_from _ _ _ _ _ _ _ _ _ same (c.choose_late.ensures.chosen head rest is)
+    chosen_from _ _ _ _ _ _ _ _ same c.choose_late.ensures.chosen

@@ -3,7 +3,7 @@ use Rattle.q_packet.specs.Totals.{count}
 use Rattle.q_packet.specs.declared.stamped.Stamped.{Stamped}
 use Rattle.q_codel.specs.Codel.{CodelVars, joined, is_capable, is_late}
 use Rattle.q_codel.specs.declared.front.Front.{Front}
-use Rattle.q_codel.proofs.FrontLemmas.{split, front_at, next, behind_is, len_within}
+use Rattle.q_codel.proofs.FrontLemmas.{split, next, chosen_at, behind_is, len_within}
 use Rattle.q_codel.proofs.ChooseLemmas.{late_has_two, chosen_behind, chosen_in}
 use Rattle.q_codel.proofs.control_state.ControlState.drop_or_mark.Goals as goal
 
@@ -22,14 +22,15 @@ overflow_sub-behind g c =
 
 -- one is dropped, and the next one goes
 pub returns-clause-chosen : goal.returns-clause-chosen
-returns-clause-chosen g c = λ head rest is.
+returns-clause-chosen g c =
     let s = split _ _ c.requires.front in
     let late = sym (ap (is_late (joined c.args.parameters.now c.args.self.now) c.args.now) s.is) ∙ c.requires.late in
-    let front = front_at _ _ head rest c.drop_head-next.ensures.front is in
-    let further = behind_is _ _ _ _ _ c.bytes.ensures is (ap (λ (f : Front). f.len) front) in
-    let plain = sym (c.if-marks.ensures ∙ ap (λ (f : Front). c.args.parameters.now.ecn && is_capable f.ecn) s.front_is) in
     let n = next _ _ _ _ _ s.is c.drop_head-next.ensures.rest c.drop_head-next.ensures.front in
-    chosen_in _ _ _ _ _ _ _ _ s.is
-    (chosen_behind c.args.parameters.now c.args.self.now c.args.self.now _ _ c.args.now s.head s.rest head rest
+    let further = behind_is _ _ _ _ _ c.bytes.ensures n.here (ap (λ (f : Front). f.len) n.front_is) in
+    let plain = sym (c.if-marks.ensures ∙ ap (λ (f : Front). c.args.parameters.now.ecn && is_capable f.ecn) s.front_is) in
+    chosen_at _ _ _ _ _ _ _ _
+    (chosen_in _ _ _ _ _ _ _ _ s.is
+    (chosen_behind c.args.parameters.now c.args.self.now c.args.self.now _ _ c.args.now s.head s.rest n.head n.behind
     (sym (ap (λ (v : CodelVars). v.dropping) c.self.view_is) ∙ c.if-self.false) late refl plain c.begin.ensures
-    (n.rest_is ∙ sym n.here ∙ is) (c.should_drop-is_late.ensures.noted head rest front further))
+    n.rest_is (c.should_drop-is_late.ensures.noted n.head n.behind n.front_is further)))
+    n.here

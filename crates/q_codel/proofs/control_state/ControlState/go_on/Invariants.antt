@@ -1,8 +1,8 @@
-use Rattle.std.proofs.Common.{◌≡◌, ◌≤◌, ◌+◌, ◌∷◌, ◌++◌, ℕ, List, take}
+use Rattle.std.proofs.Common.{◌≡◌, ◌≤◌, ◌∷◌, ℕ, List}
 use Rattle.q_packet.specs.Totals.{count}
 use Rattle.q_packet.specs.declared.cause.Cause.TheVariants.{CoDel}
 use Rattle.q_packet.specs.declared.stamped.Stamped.{Stamped}
-use Rattle.q_codel.specs.Losses.{losses_of}
+use Rattle.q_codel.specs.Losses.{AreLost}
 use Rattle.q_codel.specs.Codel.{joined}
 use Rattle.q_codel.specs.Front.{front_of}
 use Rattle.q_codel.proofs.Law.{OnTheWay}
@@ -13,8 +13,7 @@ invariant-loop-self g l = (j : ℕ) × (head : Stamped) × (rest : List Stamped)
   packets : g.Q.Queue.packets l.queue ≡ head ∷ rest;
   front : l.front ≡ front_of head;
   way : OnTheWay (joined l.parameters l.initial.self) l.now (g.Q.Queue.packets l.initial.queue) j (joined l.parameters l.self) head rest;
-  lost : g.S.Sink.losses l.sink ≡ g.S.Sink.losses l.initial.sink ++ losses_of CoDel (take j (g.Q.Queue.packets l.initial.queue));
-  room : g.S.Sink.room l.sink + j ≡ g.S.Sink.room l.initial.sink;
+  lost : AreLost CoDel j (g.Q.Queue.packets l.initial.queue) (g.S.Sink.losses l.initial.sink) (g.S.Sink.losses l.sink) (g.S.Sink.room l.initial.sink) (g.S.Sink.room l.sink);
   enough : count (g.Q.Queue.packets l.queue) ≤ g.S.Sink.room l.sink;
   kept : g.Q.Queue.keeps l.initial.queue l.queue;
   sink_kept : g.S.Sink.keeps l.initial.sink l.sink;

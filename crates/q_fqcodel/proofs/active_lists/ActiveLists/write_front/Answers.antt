@@ -10,8 +10,16 @@ use Rattle.q_fqcodel.proofs.ListsLemmas.{counted, front_flow, front_flow_all, so
 use Rattle.q_fqcodel.proofs.active_lists.ActiveLists.write_front.Goals as goal
 
 -- the front is that of the new list, or of the old one where the new one is empty
-module _ (links : List Link) (new_flows old_flows : Ends) (lists : IsLists links new_flows old_flows) (e : Entry)
-    (own : IfSome (slice_get (entries_in links new_flows ++ entries_in links old_flows) 0) (λ f. f.flow ≡ e.flow)) (some : 0 < new_flows.count + old_flows.count) where
+module _ (links : List Link) (new_flows old_flows : Ends) (lists : IsLists links new_flows old_flows) (seen : ListsState)
+    (is : record { new_flows = entries_in links new_flows; old_flows = entries_in links old_flows; room = length links } ≡ seen) (e : Entry)
+    (front : IfSome (slice_get (seen.new_flows ++ seen.old_flows) 0) (λ f. f.flow ≡ e.flow)) (any : 0 < length seen.new_flows + length seen.old_flows) where
+  own : IfSome (slice_get (entries_in links new_flows ++ entries_in links old_flows) 0) (λ f. f.flow ≡ e.flow)
+  own = subst (λ (v : ListsState). IfSome (slice_get (v.new_flows ++ v.old_flows) 0) (λ f. f.flow ≡ e.flow)) (sym is) front
+
+  some : 0 < new_flows.count + old_flows.count
+  some =
+      omega (arith, any, ap (λ (v : ListsState). length v.new_flows + length v.old_flows) is, counted links New new_flows lists.new, counted links Old old_flows lists.old)
+
   own_new : 0 < new_flows.count → new_flows.head ≡ e.flow
   own_new h = front_flow_all links New new_flows (entries_in links old_flows) e.flow lists.new h own
 
@@ -58,45 +66,17 @@ module _ (links : List Link) (new_flows old_flows : Ends) (lists : IsLists links
       (some_or_none new_flows.count)
 
 pub write_credits-requires : goal.write_credits-requires
-write_credits-requires c =
-    let p = c.self.inside in
-    within p.links.items p.new_flows p.old_flows c.self.invariant c.args.entry
-    (subst (λ (v : ListsState). IfSome (slice_get (v.new_flows ++ v.old_flows) 0) (λ f. f.flow ≡ c.args.entry.flow)) (sym c.self.view_is) c.requires.own)
-    (omega (
-      arith,
-      c.requires.some,
-      ap (λ (v : ListsState). length v.new_flows + length v.old_flows) c.self.view_is,
-      counted p.links.items New p.new_flows c.self.invariant.new,
-      counted p.links.items Old p.old_flows c.self.invariant.old,
-    ))
+write_credits-requires c = within _ _ _ c.self.invariant _ c.self.view_is c.args.entry c.requires.own c.requires.some
 
 pub invariant_of-self : goal.invariant_of-self
-invariant_of-self c =
-    let p = c.self.inside in
-    rw c.write_credits.ensures (right p.links.items p.new_flows p.old_flows c.self.invariant c.args.entry
-    (subst (λ (v : ListsState). IfSome (slice_get (v.new_flows ++ v.old_flows) 0) (λ f. f.flow ≡ c.args.entry.flow)) (sym c.self.view_is) c.requires.own)
-    (omega (
-      arith,
-      c.requires.some,
-      ap (λ (v : ListsState). length v.new_flows + length v.old_flows) c.self.view_is,
-      counted p.links.items New p.new_flows c.self.invariant.new,
-      counted p.links.items Old p.old_flows c.self.invariant.old,
-    )))
+invariant_of-self c = rw c.write_credits.ensures (right _ _ _ c.self.invariant _ c.self.view_is c.args.entry c.requires.own c.requires.some)
 
 pub returns : goal.returns
 returns c =
     let p = c.self.inside in
     let s : ListsState = c.args.self.now in
     let e : Entry = c.args.entry in
-    let w = both p.links.items p.new_flows p.old_flows c.self.invariant e
-    (subst (λ (v : ListsState). IfSome (slice_get (v.new_flows ++ v.old_flows) 0) (λ f. f.flow ≡ e.flow)) (sym c.self.view_is) c.requires.own)
-    (omega (
-      arith,
-      c.requires.some,
-      ap (λ (v : ListsState). length v.new_flows + length v.old_flows) c.self.view_is,
-      counted p.links.items New p.new_flows c.self.invariant.new,
-      counted p.links.items Old p.old_flows c.self.invariant.old,
-    )) in
+    let w = both p.links.items p.new_flows p.old_flows c.self.invariant s c.self.view_is e c.requires.own c.requires.some in
     let new : entries_in c.write_credits.new.links.items p.new_flows ≡ set s.new_flows 0 e =
     ap (λ (l : List Link). entries_in l p.new_flows) c.write_credits.ensures ∙ w.0 ∙ ap (λ (v : ListsState). set v.new_flows 0 e) c.self.view_is in
     let old : entries_in c.write_credits.new.links.items p.old_flows ≡ (if length s.new_flows == 0 then set s.old_flows 0 e else s.old_flows) =

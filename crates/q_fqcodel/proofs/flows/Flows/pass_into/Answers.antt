@@ -1,12 +1,9 @@
-use Rattle.std.proofs.Common.{◌≡◌, ℕ, ◌+◌, ◌-◌, ◌<◌, ◌==◌, not, List, [], ◌++◌, length, take, drop, get_or, set, sym, ap, ap₂, ◌∙◌, arith, subst, Option, IfSome, Some, true, false}
+use Rattle.std.proofs.Common.{◌≡◌, ℕ, ◌-◌, ◌<◌, List, [], length, take, drop, get_or, set, sym, ap, ap₂, ◌∙◌, arith, subst, Option, IfSome, Some, true, false}
 use Rattle.std.specs.Prelude.{slice_get}
-use Rattle.std.proofs.lemmas.List.{length-set, get_or_default, get_or-set_same, append-nil}
+use Rattle.std.proofs.lemmas.List.{length-set, get_or_default, get_or-set_same}
 use Rattle.q_packet.specs.Totals.{count, size}
 use Rattle.q_packet.specs.declared.stamped.Stamped.{Stamped}
-use Rattle.q_packet.specs.declared.cause.Cause.TheVariants.{CoDel}
 use Rattle.q_codel.specs.Codel.{CodelState, CodelVars, joined, is_late}
-use Rattle.q_codel.specs.Front.{IsFront}
-use Rattle.q_codel.specs.Losses.{losses_of}
 use Rattle.q_fqcodel.specs.Cleared.{adjust}
 use Rattle.q_fqcodel.specs.FlowsState.{FlowsState}
 use Rattle.q_fqcodel.specs.FqState.{Flow, queue_of}

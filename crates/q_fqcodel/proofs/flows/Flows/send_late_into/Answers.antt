@@ -3,7 +3,6 @@ use Rattle.q_packet.specs.Totals.{count}
 use Rattle.q_packet.specs.declared.stamped.Stamped.{Stamped}
 use Rattle.std.specs.Prelude.{slice_get}
 use Rattle.q_codel.specs.Codel.{CodelState, joined, taken, is_late}
-use Rattle.q_codel.specs.Front.{IsFront}
 use Rattle.q_fqcodel.specs.Cleared.{adjust}
 use Rattle.q_fqcodel.specs.FlowsState.{FlowsState}
 use Rattle.q_fqcodel.specs.FqState.{Flow, queue_of}
@@ -33,12 +32,7 @@ omega_within g c =
 read : (g : _) (c : After-index_mut-codel g) → joined c.self.inside.parameters c.index_mut-codel.result.now ≡ get_or (codels_in c.self.inside.parameters c.self.inside.states.items) c.args.flow (joined c.self.inside.parameters c.index_mut-codel.result.now)
 read g c = ap (joined c.self.inside.parameters) c.index_mut-codel.ensures.value ∙ sym (codel_at c.self.inside.parameters c.self.inside.states.items c.args.flow c.index_mut-codel.result.now)
 
--- the flow's queue, and the flow, as the model has them
-queue_is : (g : _) (c : After-index_mut-codel g) → queue_of c.args.self.now.flows c.args.flow ≡ get_or c.self.inside.pool.queues c.args.flow []
-queue_is g c =
-    ap (λ (f : FlowsState). queue_of f.flows c.args.flow) (sym c.self.view_is)
-    ∙ queue_there c.args.flow c.self.inside.pool.queues (codels_in c.self.inside.parameters c.self.inside.states.items) c.self.invariant.0
-
+-- the flow, as the model has it
 there : (g : _) (c : After-index_mut-codel g)
     → slice_get c.args.self.now.flows c.args.flow ≡ Some (record { queue = get_or c.self.inside.pool.queues c.args.flow []; codel = joined c.self.inside.parameters c.index_mut-codel.result.now })
 there g c =
@@ -108,22 +102,18 @@ overflow_sub-result g c =
 pub returns-clause-sent : goal.returns-clause-sent
 unfolding packet_sent
 returns-clause-sent g c =
-    let same = ap (λ (f : FlowsState). f.flows) c.self.view_is in
-    let within = omega_within g (goal.at.returns-clause-sent g c).After-index_mut-codel in
     subst (λ (o : Option Flow). IfSome o (λ f. taken_as c.send_late_from-marked.new.out c.send_late_from-marked.result ≡ packet_sent c.args.now f))
-    (sym (flow_read c.args.flow c.self.inside.pool.queues (codels_in c.self.inside.parameters c.self.inside.states.items) (joined c.self.inside.parameters c.index_mut-codel.result.now) c.args.self.now.flows c.self.invariant.0 within (read g (goal.at.returns-clause-sent g c).After-index_mut-codel) same))
+    (sym (there g (goal.at.returns-clause-sent g c).After-index_mut-codel))
     c.send_late_from-marked.ensures.sent
 
 pub returns-clause-dropped : goal.returns-clause-dropped
 unfolding packets_dropped
 returns-clause-dropped g c =
-    let same = ap (λ (f : FlowsState). f.flows) c.self.view_is in
-    let within = omega_within g (goal.at.returns-clause-dropped g c).After-index_mut-codel in
     let d = (goal.at.returns-clause-dropped g c).After-send_late_from-marked in
     let rest = rest_count c.count_at-held.result c.count_at-rest.result (was g d) c.args.now (queue g d) (get_or c.send_late_from-marked.new.pool.queues c.args.flow [])
     c.count_at-held.ensures c.count_at-rest.ensures c.send_late_from-marked.ensures.left (sends g d) in
     subst (λ (o : Option Flow). IfSome o (λ f. nat_lt 1 (c.count_at-held.result - c.count_at-rest.result) ≡ not (count (packets_dropped c.args.now f) == 0)))
-    (sym (flow_read c.args.flow c.self.inside.pool.queues (codels_in c.self.inside.parameters c.self.inside.states.items) (joined c.self.inside.parameters c.index_mut-codel.result.now) c.args.self.now.flows c.self.invariant.0 within (read g (goal.at.returns-clause-dropped g c).After-index_mut-codel) same))
+    (sym (there g (goal.at.returns-clause-dropped g c).After-index_mut-codel))
     (drops_told c.count_at-held.result c.count_at-rest.result (was g d) c.args.now (queue g d) rest (sends g d))
 
 pub returns-clause-flows : goal.returns-clause-flows
@@ -148,21 +138,17 @@ returns-clause-flows g c =
 pub returns-clause-lost : goal.returns-clause-lost
 unfolding packets_dropped
 returns-clause-lost g c =
-    let same = ap (λ (f : FlowsState). f.flows) c.self.view_is in
-    let within = omega_within g (goal.at.returns-clause-lost g c).After-index_mut-codel in
     subst (λ (o : Option Flow). IfSome o (λ f. g.S.Sink.losses c.send_late_from-marked.new.sink ≡ g.S.Sink.losses c.args.sink.now ++ losses_of CoDel (packets_dropped c.args.now f)))
-    (sym (flow_read c.args.flow c.self.inside.pool.queues (codels_in c.self.inside.parameters c.self.inside.states.items) (joined c.self.inside.parameters c.index_mut-codel.result.now) c.args.self.now.flows c.self.invariant.0 within (read g (goal.at.returns-clause-lost g c).After-index_mut-codel) same))
+    (sym (there g (goal.at.returns-clause-lost g c).After-index_mut-codel))
     c.send_late_from-marked.ensures.lost
 
 pub returns-clause-room : goal.returns-clause-room
 unfolding packets_dropped
 returns-clause-room g c =
-    let same = ap (λ (f : FlowsState). f.flows) c.self.view_is in
-    let within = omega_within g (goal.at.returns-clause-room g c).After-index_mut-codel in
     let q : List Stamped = get_or c.self.inside.pool.queues c.args.flow [] in
     let n = count_dropped (joined c.self.inside.parameters c.index_mut-codel.result.now) c.args.now q (λ _. sends g (goal.at.returns-clause-room g c).After-send_late_from-marked) in
     subst (λ (o : Option Flow). IfSome o (λ f. g.S.Sink.room c.send_late_from-marked.new.sink + count (packets_dropped c.args.now f) ≡ g.S.Sink.room c.args.sink.now))
-    (sym (flow_read c.args.flow c.self.inside.pool.queues (codels_in c.self.inside.parameters c.self.inside.states.items) (joined c.self.inside.parameters c.index_mut-codel.result.now) c.args.self.now.flows c.self.invariant.0 within (read g (goal.at.returns-clause-room g c).After-index_mut-codel) same))
+    (sym (there g (goal.at.returns-clause-room g c).After-index_mut-codel))
     (ap (λ (m : ℕ). g.S.Sink.room c.send_late_from-marked.new.sink + m) n ∙ c.send_late_from-marked.ensures.room)
 
 pub renew-requires-clause-in_range : goal.renew-requires-clause-in_range

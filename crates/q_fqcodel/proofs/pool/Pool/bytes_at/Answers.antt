@@ -1,8 +1,7 @@
 use Rattle.std.proofs.Common.{length, ap, arith}
 use Rattle.q_fqcodel.specs.Nodes.{used}
 use Rattle.q_fqcodel.specs.Pool.{PoolState}
-use Rattle.q_fqcodel.specs.declared.flow_list.FlowList.{FlowList}
-use Rattle.q_fqcodel.proofs.PoolLemmas.{length-queues_in, bytes_read, bytes_few, count_le}
+use Rattle.q_fqcodel.proofs.PoolLemmas.{length-queues_in, bytes_read, bytes_below}
 use Rattle.q_fqcodel.proofs.pool.Pool.bytes_at.Goals as goal
 
 pub list_at-requires : goal.list_at-requires
@@ -14,12 +13,4 @@ returns-clause-value c =
     bytes_read (used p.nodes) p.nodes.count p.lists.items p.bytes c.self.invariant.0 c.args.self.now.queues (ap (λ (s : PoolState). s.queues) c.self.view_is) c.args.flow c.list_at.result c.list_at.ensures
 
 pub returns-clause-few : goal.returns-clause-few
-returns-clause-few c =
-    let p = c.self.inside in
-    omega (
-      arith,
-      ap (λ (l : FlowList). l.bytes) c.list_at.ensures,
-      bytes_few (used p.nodes) p.nodes.count p.lists.items p.bytes c.self.invariant.0 c.args.flow,
-      count_le (used p.nodes) p.nodes.count p.lists.items p.bytes c.self.invariant.0 c.args.flow,
-      c.self.invariant.0.few,
-    )
+returns-clause-few c = bytes_below _ _ _ _ c.self.invariant.0 _ (ap (λ (s : PoolState). s.queues) c.self.view_is) c.args.flow _ c.list_at.ensures

@@ -1,4 +1,4 @@
-use Rattle.std.proofs.Common.{List, [], get_or, Option, IsSome, sym, ap, ◌∙◌, subst, append-nil}
+use Rattle.std.proofs.Common.{[], get_or, Option, IsSome, sym, ◌∙◌, subst, append-nil}
 use Rattle.q_packet.specs.declared.stamped.Stamped.{Stamped}
 use Rattle.q_fqcodel.proofs.SentLemmas.{slice_there}
 use Rattle.q_fqcodel.proofs.ShedLemmas.{lost_one}

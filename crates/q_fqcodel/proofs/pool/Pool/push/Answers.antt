@@ -7,7 +7,7 @@ use Rattle.q_packet.specs.declared.stamped.Stamped.{Stamped}
 use Rattle.q_fqcodel.specs.Chain.{IsList, KeepsOthers}
 use Rattle.q_fqcodel.specs.Pool.{PoolState, stamp, no_list, queues_in, IsPool}
 use Rattle.q_fqcodel.specs.declared.flow_list.FlowList.{FlowList}
-use Rattle.q_fqcodel.proofs.PoolLemmas.{length-queues_in, list_read, few_read, packets_read, within_read, queue_read, written, pool_after, all_bytes_few, bytes_read, bytes_few, count_le}
+use Rattle.q_fqcodel.proofs.PoolLemmas.{length-queues_in, list_read, few_read, packets_read, within_read, queue_read, written, pool_after, all_bytes_few, bytes_read, bytes_below}
 use Rattle.q_fqcodel.proofs.pool.Pool.push.Goals as goal
 use Rattle.q_fqcodel.proofs.pool.Pool.push.Goals.{After-list_at-list, After-append-longer}
 
@@ -126,14 +126,7 @@ returns-clause-bytes c =
 pub returns-clause-bytes_few : goal.returns-clause-bytes_few
 returns-clause-bytes_few c =
     let d = (goal.at.returns-clause-bytes_few c).After-append-longer in
-    let pool = pool2 d c.args.packet.now.len refl in
-    omega (
-      arith,
-      ap (λ (l : FlowList). l.bytes) (own_list d),
-      bytes_few (used c.append-longer.new.nodes) c.append-longer.new.nodes.count _ _ pool c.args.flow,
-      count_le (used c.append-longer.new.nodes) c.append-longer.new.nodes.count _ _ pool c.args.flow,
-      pool.few,
-    )
+    bytes_below (used c.append-longer.new.nodes) c.append-longer.new.nodes.count _ _ (pool2 d c.args.packet.now.len refl) _ refl c.args.flow c.append-longer.result (own_list d)
 
 pub returns-clause-queues : goal.returns-clause-queues
 returns-clause-queues c =

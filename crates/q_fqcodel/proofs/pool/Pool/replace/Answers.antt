@@ -1,10 +1,7 @@
-use Rattle.std.proofs.Common.{◌%◌, List, [], ◌∷◌, ◌++◌, length, get_or, set, drop, ℕ, Option, sym, ap, ◌∙◌, arith, subst, append-nil, IsSome}
+use Rattle.std.proofs.Common.{◌%◌, List, [], ◌∷◌, ◌++◌, length, get_or, set, drop, ℕ, ap, ◌∙◌, arith}
 use Rattle.std.proofs.lemmas.List.{length-set}
 use Rattle.q_packet.specs.declared.stamped.Stamped.{Stamped}
-use Rattle.q_packet.specs.declared.cause.Cause.TheVariants.{FatFlow}
 use Rattle.q_fqcodel.specs.Pool.{stamp}
-use Rattle.q_fqcodel.proofs.SentLemmas.{slice_there}
-use Rattle.q_fqcodel.proofs.ShedLemmas.{lost_one}
 use Rattle.q_fqcodel.proofs.pool.Pool.replace.Goals as goal
 
 pub push-requires-clause-in_range : goal.push-requires-clause-in_range
