@@ -1,5 +1,5 @@
 -- A fifo that has a packet, and holds none, gives its head: asking it changes nothing, and CoDel neither drops nor marks there.
-use Rattle.std.proofs.Common.{◌≡◌, ℕ, List, [], ◌∷◌, refl, sym, ap, subst, Some, None, arith}
+use Rattle.std.proofs.Common.{◌≡◌, ℕ, List, [], ◌∷◌, refl, sym, subst, Some, None, arith}
 use Rattle.q_packet.specs.Descriptor.{Descriptor}
 use Rattle.q_packet.specs.declared.stamped.Stamped.{Stamped}
 use Rattle.q_codel.specs.declared.limit.Limit.{Limit}
