@@ -1,4 +1,4 @@
-ghost use Rattle.std.specs.Prelude.{◌≡◌, ◌≤◌, ◌<◌, ◌↔◌, ◌+◌, [], ◌∷◌, ◌++◌, drop, slice_get, option_map, IsTrue, OnOk, OnErr};
+ghost use Rattle.std.specs.Prelude.{◌≡◌, ◌≤◌, ◌<◌, ◌↔◌, ◌+◌, [], ◌∷◌, ◌++◌, drop, nat_lt, slice_get, option_map, IsTrue, OnOk, OnErr};
 ghost use Rattle.q_packet.specs.Totals.{count, size};
 ghost use Rattle.q_codel.specs.Front.{front_of};
 ghost use Rattle.q_codel.specs.Losses.{losses_of};
@@ -53,6 +53,13 @@ impl Fifo {
             bytes: 0,
             limit,
         }
+    }
+
+    /// Whether there is a place for one more packet, so that [`Fifo::reserve`] has nothing to do.
+    pub fn has_place(&self) -> bool
+        ensures { result ≡ nat_lt (count self.now.packets) self.now.places }
+    {
+        self.packets.len() < self.packets.places()
     }
 
     /// Makes a place for one more packet, if there is none yet.

@@ -16,6 +16,7 @@ pub mod ClassPlans
 pub mod CountedLosses
 pub mod CountingLemmas
 pub mod EditLemmas
+pub mod FifoHead
 pub mod FilterIndexValues
 pub mod FindLemmas
 pub mod FlowCounts

@@ -1,8 +1,9 @@
 -- What the arrival of a packet comes to at one node: a place is made where its route ends, if it is queued there, and the packet is
 -- put along that route. tc-prio(8), tc-drr(8), tc-tbf(8), tc-pfifo(8), tc-fq_codel(8).
-use Rattle.std.specs.Prelude.{◌≡◌, ℕ, ◌≤◌, List, [], ◌∷◌, map, slice_get, Option, Some, None, IfSome}
+use Rattle.std.specs.Prelude.{◌≡◌, ℕ, ◌<◌, ◌≤◌, true, length, List, [], ◌∷◌, map, slice_get, Option, Some, None, IfSome}
 use Rattle.q_packet.specs.Descriptor.{Descriptor}
 use Rattle.q_packet.specs.declared.cause.Cause.{Cause}
+use Rattle.q_codel.specs.FifoState.{takes}
 use Rattle.q_codel.specs.declared.loss.Loss.{Loss}
 use Rattle.q_fqcodel.specs.FqState.{FqState}
 use Rattle.q_model.specs.declared.filter.Filter.{Filter}
@@ -36,6 +37,17 @@ pub record CanCome (now : ℕ) (p : Descriptor) (n : spec.Node Kept) : Type 0 wh
   pub fits : IsWithin 1 mtu p.len
   pub lawful : IsLawfulRoot mtu now n
   pub counts : CanCount n.memory.counts.arrived p
+
+-- a fifo takes a packet of this length, and has a place for it
+abbrev pub CanKeepIn : ℕ → ℕ → spec.Discipline → Type 0
+CanKeepIn len places (spec.Fifo limit packets) = (takes limit packets len ≡ true) × (length packets < places)
+CanKeepIn len places (spec.FqCodel s) = ⊥
+CanKeepIn len places (spec.Prio priomap) = ⊥
+CanKeepIn len places (spec.Tbf bucket limit) = ⊥
+CanKeepIn len places (spec.Drr s) = ⊥
+
+abbrev pub CanKeep : ℕ → spec.Node Kept → Type 0
+CanKeep len n = CanKeepIn len n.memory.places n.own.discipline
 
 -- and at a discipline: its own fq_codel, or each of its children, can take the packet
 pub record CanComeIn (now : ℕ) (p : Descriptor) (d : Discipline) : Type 0 where

@@ -25,6 +25,19 @@ IsFirstReady bands (Some place) = (place ≡ first_ready bands) × (place < leng
 abbrev pub popping_of : Discipline → Popping
 popping_of d = pop_discipline (own_of None [] (discipline_seen d)) (map pop (children_seen d)) (discipline_seen d)
 
+-- a fifo that has a packet, and holds none
+abbrev pub HasHeadIn : spec.Discipline → Type 0
+HasHeadIn (spec.Fifo limit packets) = 0 < length packets
+HasHeadIn (spec.FqCodel s) = ⊥
+HasHeadIn (spec.Prio priomap) = ⊥
+HasHeadIn (spec.Tbf bucket limit) = ⊥
+HasHeadIn (spec.Drr s) = ⊥
+
+pub record HasHead (n : spec.Node Kept) : Type 0 where
+  pub free : n.own.held ≡ None
+  pub head : HasHeadIn n.own.discipline
+  pub alone : n.below ≡ spec.none
+
 pub record IsPoppedIn (before after : Discipline) : Type 0 where
   pub discipline : discipline_seen after ≡ (popping_of before).after.own.discipline
   pub children : side_by_side (children_seen after) ≡ each_booked kept (side_by_side (children_seen before)) (popping_of before).after.below

@@ -121,13 +121,23 @@ pub(crate) fn book_arrival(
     ensures { row.new ≡ with_arrival packet.now arrived.now row.old }
 {
     if arrived.is_kept() {
-        // The length is read before the row is written, and once: a compiler does not know that they are apart.
-        let len = u64::from(packet.len);
-        row.arrived_packets += 1;
-        row.arrived_bytes += len;
-        row.queued_packets += 1;
-        row.queued_bytes += len;
+        book_kept(row, packet);
         return;
     }
     book_outcome(row, packet, outcome);
+}
+
+/// Books a packet that has arrived and is kept, and for which none is lost.
+#[inline(always)]
+pub(crate) fn book_kept(row: &mut Counters, packet: &Packet)
+    requires balanced { IsBalanced row.old }
+    requires room { CanCount row.old.arrived packet.now }
+    ensures { row.new ≡ with_arrival packet.now nothing_lost row.old }
+{
+    // The length is read before the row is written, and once: a compiler does not know that they are apart.
+    let len = u64::from(packet.len);
+    row.arrived_packets += 1;
+    row.arrived_bytes += len;
+    row.queued_packets += 1;
+    row.queued_bytes += len;
 }

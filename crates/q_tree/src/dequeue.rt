@@ -1,4 +1,4 @@
-ghost use Rattle.std.specs.Prelude.{◌≡◌, ◌≤◌, ◌+◌, ◌++◌, List, None, Option, is_some, length, unwrap_or, ℕ};
+ghost use Rattle.std.specs.Prelude.{◌≡◌, ◌≤◌, ◌+◌, ◌++◌, List, None, Option, Some, is_some, length, true, unwrap_or, ℕ};
 ghost use Rattle.q_model.specs.Ask.{ask, take_from};
 ghost use Rattle.q_model.specs.Beneath.{beneath};
 ghost use Rattle.q_model.specs.Node.{shape};
@@ -9,7 +9,7 @@ ghost use Rattle.q_model.specs.Work.{booked};
 ghost use Rattle.q_model.specs.declared.filter.Filter.{Filter};
 ghost use Rattle.q_tree.specs.AskSteps.{CanAsk, CanAskIn, IsShown, IsToldOf, answer_of, no_signals, packets_within, signals_of};
 ghost use Rattle.q_tree.specs.Kept.{kept};
-ghost use Rattle.q_tree.specs.PopSteps.{IsPoppedIn, popping_of};
+ghost use Rattle.q_tree.specs.PopSteps.{HasHead, IsPoppedIn, popping_of};
 ghost use Rattle.q_tree.specs.SendSteps.{IsSentIn};
 
 use crate::booking::{book_sent, book_shown};
@@ -44,8 +44,15 @@ impl Tree {
         // A moment is at most 2^62 nanoseconds.
         let _ = now.ns();
         self.top.fit();
+        // A fifo at the root gives its head with no answer from below.
+        if self.root.has_head() {
+            self.root.send_head(out);
+            book_sent(&mut self.top, out);
+            self.clock = now;
+            return true;
+        }
         let mut signals = NO_SIGNALS;
-        let shown = self.root.dequeue(now, out, &mut signals, sink);
+        let shown = self.root.dequeue_asked(now, out, &mut signals, sink);
         book_shown(&mut self.top, &shown, &signals);
         self.clock = now;
         if !shown.has_packet() {
@@ -57,6 +64,36 @@ impl Tree {
 }
 
 impl Node {
+    /// Whether the node is a fifo with a packet, so that nobody has to be asked.
+    #[inline(always)]
+    fn has_head(&self) -> bool
+        ensures { result ≡ true → HasHead self.now }
+    {
+        if self.held.is_some() {
+            return false;
+        }
+        let Discipline::Fifo(fifo) = &self.discipline else {
+            return false;
+        };
+        fifo.count() > 0
+    }
+
+    /// Gives the head of a fifo that has a packet, and holds none, to `out`, as [`Node::give`] does.
+    #[inline(always)]
+    fn send_head(&mut self, out: &mut Packet)
+        requires head { HasHead self.old }
+        ensures packet { Some out.new ≡ (pop self.old).shown }
+        ensures after { self.new ≡ booked kept self.old (pop self.old).after }
+        ensures arrived { self.new.memory.counts.arrived ≡ self.old.memory.counts.arrived }
+    {
+        self.row.fit();
+        let Discipline::Fifo(fifo) = &mut self.discipline else {
+            unreachable!()
+        };
+        let _ = fifo.take_into(out);
+        book_sent(&mut self.row, out);
+    }
+
     /// Asks the node for its packet and gives it into `out`, which is what a peek and a give come to. Where the node shows none,
     /// `out` stays as it is.
     ///
@@ -102,6 +139,37 @@ impl Node {
             }
             _ => return self.dequeue_further(now, out, signals, sink),
         }
+    }
+
+    // The same with no short way for a fifo.
+    #[inline(always)]
+    fn dequeue_asked<S: Sink>(
+        &mut self,
+        now: Moment,
+        out: &mut Packet,
+        signals: &mut Signals,
+        sink: &mut S,
+    ) -> Shown
+        requires ready { CanAsk now self.old }
+        requires sink { length (beneath self.old) ≤ S.room sink.old }
+        requires clean { signals.old ≡ no_signals }
+        ensures after { self.new ≡ booked kept self.old (take_from now (shape self.old)).node }
+        ensures arrived { self.new.memory.counts.arrived ≡ self.old.memory.counts.arrived }
+        ensures shown { IsShown (ask now (shape self.old)) result }
+        ensures packet { out.new ≡ unwrap_or result.packet out.old }
+        ensures lost { S.losses sink.new ≡ S.losses sink.old ++ losses_in (ask now (shape self.old)).rises }
+        ensures room { S.room sink.new + length (losses_in (ask now (shape self.old)).rises) ≡ S.room sink.old }
+        ensures signals { signals.new ≡ signals_of result }
+        ensures kept { S.keeps sink.old sink.new }
+    {
+        self.row.fit();
+        if let Some(packet) = self.held {
+            self.held = None;
+            book_sent(&mut self.row, &packet);
+            *out = packet;
+            return Shown::sending(&packet, &NO_SIGNALS);
+        }
+        self.dequeue_further(now, out, signals, sink)
     }
 
     // The same of a node that holds no packet, for each discipline.

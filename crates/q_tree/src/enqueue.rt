@@ -1,4 +1,5 @@
-ghost use Rattle.std.specs.Prelude.{◌≡◌, ◌≤◌, ◌+◌, ◌++◌, IfOk, IsOk, List, None, OnErr, OnOk, length, ℕ};
+ghost use Rattle.std.specs.Prelude.{◌≡◌, ◌≤◌, ◌+◌, ◌++◌, IfOk, IsOk, List, None, OnErr, OnOk, length, true, ℕ};
+ghost use Rattle.q_codel.specs.declared.loss.Loss.{Loss};
 ghost use Rattle.q_model.specs.Beneath as beneath;
 ghost use Rattle.q_model.specs.Beneath.{beneath};
 ghost use Rattle.q_model.specs.Node.{shape};
@@ -8,13 +9,13 @@ ghost use Rattle.q_model.specs.Tally.{totals};
 ghost use Rattle.q_model.specs.TreeState.{noted_by_put, own_loss, put, put_on};
 ghost use Rattle.q_packet.specs.Descriptor.{Descriptor};
 ghost use Rattle.q_tree.specs.Arrivals.{CanCount, HasPlace};
-ghost use Rattle.q_tree.specs.ArriveSteps.{CanCome, CanComeIn, HasCome, HasComeBelow, HasComeIn, HasPlaceOn, IsPlaced, IsPlacedIn, nothing_lost, rises_along, way_in};
+ghost use Rattle.q_tree.specs.ArriveSteps.{CanCome, CanComeIn, CanKeep, HasCome, HasComeBelow, HasComeIn, HasPlaceOn, IsPlaced, IsPlacedIn, nothing_lost, rises_along, way_in};
 ghost use Rattle.q_tree.specs.AskSteps.{IsToldOf, packets_within};
 ghost use Rattle.q_tree.specs.Places.{places_at};
 ghost use Rattle.q_tree.specs.RouteSeen.{RouteSeen, route_seen};
 ghost use Rattle.q_tree.specs.TreeSeen.{CanArrive, numbers, tree_numbers};
 
-use crate::arrived::{Arrived, NOTHING_LOST, book_arrival, refuse};
+use crate::arrived::{Arrived, NOTHING_LOST, book_arrival, book_kept, refuse};
 use crate::disciplines::drr::{class_place, settle};
 use crate::disciplines::fifo::enqueue_in_fifo;
 use crate::disciplines::fq_codel::enqueue_in_flows;
@@ -100,6 +101,41 @@ impl Tree {
     {
         // A moment is at most 2^62 nanoseconds, and a packet has a byte at least.
         let _ = (now.ns(), packet.len);
+        // A fifo at the root keeps the packet with no answer from below.
+        if packet.len <= self.mtu && self.root.can_keep(packet.len) {
+            self.root.keep(packet, now);
+            book_kept(&mut self.top, packet);
+            self.clock = now;
+            return Ok(Fate::Kept);
+        }
+        self.arrive_down(packet, now, sink)
+    }
+
+    // The same by the way down from the root, where an outcome comes back from below.
+    #[inline(always)]
+    fn arrive_down<S: Sink>(
+        &mut self,
+        packet: &Packet,
+        now: Moment,
+        sink: &mut S,
+    ) -> Result<Fate, AllocError>
+        requires order { self.old.clock ≤ now }
+        requires counted { CanCount self.old.tree.top.counts.arrived packet.now }
+        requires sink { length (beneath self.old.tree.root) + 1 ≤ S.room sink.old }
+        ensures fate { IfOk result (λ fate. fate ≡ fate_of (own_loss now packet.now self.old.tree.device (shape self.old.tree.root))) }
+        ensures after { OnOk result (numbers self.new ≡ record { clock = now; tree = put totals now packet.now (tree_numbers self.old.tree) }) }
+        ensures lost { OnOk result (S.losses sink.new ≡ S.losses sink.old ++ losses_in (noted_by_put now packet.now self.old.tree)) }
+        ensures room { OnOk result (S.room sink.new + length (losses_in (noted_by_put now packet.now self.old.tree)) ≡ S.room sink.old) }
+        ensures same { OnErr result (numbers self.new ≡ numbers self.old) }
+        ensures not_lost { OnErr result ((S.losses sink.new ≡ S.losses sink.old) × (S.room sink.new ≡ S.room sink.old)) }
+        ensures routes { OnErr result ((p : Descriptor) → device_route p self.new.tree.device.mtu self.new.tree.root ≡ device_route p self.old.tree.device.mtu self.old.tree.root) }
+        ensures keeps { OnErr result ((other : RouteSeen) → CanArrive other self.old → CanArrive other self.new) }
+        ensures places { (path : List ℕ) → places_at path self.old.tree.root ≤ places_at path self.new.tree.root }
+        ensures succeeds { CanArrive (route_seen packet.now self.old.tree.device.mtu self.old.tree.root) self.old → IsOk result }
+        ensures kept { S.keeps sink.old sink.new }
+    {
+        // A moment is at most 2^62 nanoseconds, and a packet has a byte at least.
+        let _ = (now.ns(), packet.len);
         let mut lost = NOTHING_LOST;
         let outcome = enqueue_below(&mut self.root, self.mtu, packet, now, &mut lost, sink)?;
         book_arrival(&mut self.top, packet, &outcome, &lost);
@@ -109,6 +145,32 @@ impl Tree {
 }
 
 impl Node {
+    /// Whether the node is a fifo that takes a packet of this length, and has a place for it.
+    #[inline(always)]
+    fn can_keep(&self, len: u16) -> bool
+        ensures { result ≡ true → CanKeep len self.now }
+    {
+        let Discipline::Fifo(fifo) = &self.discipline else {
+            return false;
+        };
+        fifo.fits(len) && fifo.has_place()
+    }
+
+    /// Keeps a packet that arrives at a fifo which takes it and has a place for it. No packet is lost for it.
+    #[inline(always)]
+    fn keep(&mut self, packet: &Packet, now: Moment)
+        requires ready { CanCome now packet.now self.old }
+        requires fifo { CanKeep packet.now.len self.old }
+        ensures after { HasCome now packet.now self.old self.new nothing_lost }
+        ensures told { (losses : List Loss) (room : ℕ) → IsToldOf (rises_along now packet.now self.old) losses losses room room }
+    {
+        let Discipline::Fifo(fifo) = &mut self.discipline else {
+            unreachable!()
+        };
+        fifo.put_from(packet, now);
+        book_kept(&mut self.row, packet);
+    }
+
     /// A packet arrives at the node, and goes down its route: a place is made where it is queued, and it is put there, or lost. It
     /// is booked at each node on the way back, and at none where memory is refused.
     #[cycle(enqueue)]
@@ -131,18 +193,15 @@ impl Node {
         ensures lost_is { IfOk result (λ outcome. lost.new ≡ outcome) }
         ensures kept { S.keeps sink.old sink.new }
     {
-        // A fifo is met with no call: most packets end in one.
-        match &mut self.discipline {
-            Discipline::Fifo(fifo) => {
-                let arrived = enqueue_in_fifo(fifo, packet, now, lost, sink)?;
-                book_arrival(&mut self.row, packet, &arrived, lost);
-                return Ok(arrived);
-            }
-            _ => return self.enqueue_further(packet, now, lost, sink),
+        // A fifo that has a place is met with no call: most packets end in one.
+        if self.can_keep(packet.len) {
+            self.keep(packet, now);
+            return Ok(Arrived::kept());
         }
+        self.enqueue_further(packet, now, lost, sink)
     }
 
-    // The same, by a call.
+    // The same by a call, and also where a fifo has to make a place or refuses the packet.
     #[cycle(enqueue)]
     #[inline(never)]
     fn enqueue_further<S: Sink>(
@@ -251,5 +310,5 @@ fn enqueue_below<S: Sink>(
     if packet.len > mtu {
         return Ok(refuse(packet, Cause::TooLong, lost, sink));
     }
-    root.enqueue(packet, now, lost, sink)
+    root.enqueue_further(packet, now, lost, sink)
 }

@@ -214,18 +214,3 @@ Node::enqueue_further-returns-clause-after g t c = come-after c.args.now c.args.
 
 pub Node::enqueue_further-returns-clause-told : goal.Node::enqueue_further-returns-clause-told
 Node::enqueue_further-returns-clause-told g t c = come-told c.args.now c.args.packet.now c.self.inside c.args.self.now c.self.invariant c.self.view_is c.requires.ready c.self.inside.filters refl c.enqueue.new.self c.in_ok-outcome.outcome (g.S.Sink.losses c.args.sink.now) (g.S.Sink.losses c.enqueue.new.sink) (g.S.Sink.room c.args.sink.now) (g.S.Sink.room c.enqueue.new.sink) c.in_ok-outcome.ensures.after
-
-pub Node::enqueue-returns-in_err-arrived-in-Fifo-clause-same : goal.Node::enqueue-returns-in_err-arrived-in-Fifo-clause-same
-Node::enqueue-returns-in_err-arrived-in-Fifo-clause-same g t c = on-err c.from_residual.result (placed-after c.self.inside c.args.self.now c.self.invariant c.self.view_is (code.Fifo c.enqueue_in_fifo.new.fifo) (subst (λ (d : Discipline). IsPlacedIn d (code.Fifo c.enqueue_in_fifo.new.fifo)) (sym c.in-Fifo.is) c.in_err-arrived-in-Fifo.ensures.same))
-
-pub Node::enqueue-book_arrival-requires-clause-lost : goal.Node::enqueue-book_arrival-requires-clause-lost
-Node::enqueue-book_arrival-requires-clause-lost g t c = come-lost c.args.now c.args.packet.now c.self.inside c.args.self.now c.self.invariant c.self.view_is c.requires.ready c.self.inside.filters refl (code.Fifo c.enqueue_in_fifo.new.fifo) c.in_ok-arrived-in-Fifo.arrived (g.S.Sink.losses c.args.sink.now) (g.S.Sink.losses c.enqueue_in_fifo.new.sink) (g.S.Sink.room c.args.sink.now) (g.S.Sink.room c.enqueue_in_fifo.new.sink) (subst (λ (d : Discipline). HasComeIn c.args.now c.args.packet.now c.self.inside.filters d (code.Fifo c.enqueue_in_fifo.new.fifo) c.in_ok-arrived-in-Fifo.arrived (g.S.Sink.losses c.args.sink.now) (g.S.Sink.losses c.enqueue_in_fifo.new.sink) (g.S.Sink.room c.args.sink.now) (g.S.Sink.room c.enqueue_in_fifo.new.sink)) (sym c.in-Fifo.is) (c.in_ok-arrived-in-Fifo.ensures.after c.self.inside.filters))
-
-pub Node::enqueue-invariant_of-self-in-Fifo : goal.Node::enqueue-invariant_of-self-in-Fifo
-Node::enqueue-invariant_of-self-in-Fifo g t c = come-kept c.args.now c.args.packet.now c.self.inside c.args.self.now c.self.invariant c.self.view_is c.requires.ready c.self.inside.filters refl (code.Fifo c.enqueue_in_fifo.new.fifo) c.in_ok-arrived-in-Fifo.arrived (g.S.Sink.losses c.args.sink.now) (g.S.Sink.losses c.enqueue_in_fifo.new.sink) (g.S.Sink.room c.args.sink.now) (g.S.Sink.room c.enqueue_in_fifo.new.sink) (subst (λ (d : Discipline). HasComeIn c.args.now c.args.packet.now c.self.inside.filters d (code.Fifo c.enqueue_in_fifo.new.fifo) c.in_ok-arrived-in-Fifo.arrived (g.S.Sink.losses c.args.sink.now) (g.S.Sink.losses c.enqueue_in_fifo.new.sink) (g.S.Sink.room c.args.sink.now) (g.S.Sink.room c.enqueue_in_fifo.new.sink)) (sym c.in-Fifo.is) (c.in_ok-arrived-in-Fifo.ensures.after c.self.inside.filters)) c.book_arrival.new.row c.book_arrival.ensures
-
-pub Node::enqueue-returns-in-Fifo-clause-after : goal.Node::enqueue-returns-in-Fifo-clause-after
-Node::enqueue-returns-in-Fifo-clause-after g t c = come-after c.args.now c.args.packet.now c.self.inside c.args.self.now c.self.invariant c.self.view_is c.requires.ready c.self.inside.filters refl (code.Fifo c.enqueue_in_fifo.new.fifo) c.in_ok-arrived-in-Fifo.arrived (g.S.Sink.losses c.args.sink.now) (g.S.Sink.losses c.enqueue_in_fifo.new.sink) (g.S.Sink.room c.args.sink.now) (g.S.Sink.room c.enqueue_in_fifo.new.sink) (subst (λ (d : Discipline). HasComeIn c.args.now c.args.packet.now c.self.inside.filters d (code.Fifo c.enqueue_in_fifo.new.fifo) c.in_ok-arrived-in-Fifo.arrived (g.S.Sink.losses c.args.sink.now) (g.S.Sink.losses c.enqueue_in_fifo.new.sink) (g.S.Sink.room c.args.sink.now) (g.S.Sink.room c.enqueue_in_fifo.new.sink)) (sym c.in-Fifo.is) (c.in_ok-arrived-in-Fifo.ensures.after c.self.inside.filters)) c.book_arrival.new.row c.book_arrival.ensures
-
-pub Node::enqueue-returns-in-Fifo-clause-told : goal.Node::enqueue-returns-in-Fifo-clause-told
-Node::enqueue-returns-in-Fifo-clause-told g t c = come-told c.args.now c.args.packet.now c.self.inside c.args.self.now c.self.invariant c.self.view_is c.requires.ready c.self.inside.filters refl (code.Fifo c.enqueue_in_fifo.new.fifo) c.in_ok-arrived-in-Fifo.arrived (g.S.Sink.losses c.args.sink.now) (g.S.Sink.losses c.enqueue_in_fifo.new.sink) (g.S.Sink.room c.args.sink.now) (g.S.Sink.room c.enqueue_in_fifo.new.sink) (subst (λ (d : Discipline). HasComeIn c.args.now c.args.packet.now c.self.inside.filters d (code.Fifo c.enqueue_in_fifo.new.fifo) c.in_ok-arrived-in-Fifo.arrived (g.S.Sink.losses c.args.sink.now) (g.S.Sink.losses c.enqueue_in_fifo.new.sink) (g.S.Sink.room c.args.sink.now) (g.S.Sink.room c.enqueue_in_fifo.new.sink)) (sym c.in-Fifo.is) (c.in_ok-arrived-in-Fifo.ensures.after c.self.inside.filters))
