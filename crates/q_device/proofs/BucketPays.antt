@@ -20,7 +20,7 @@ use Rattle.q_model.specs.Stretches.{spent_by, bytes_spent, TbfAt, tbf_in}
 use Rattle.q_model.specs.Tally.{Note, history}
 use Rattle.q_model.specs.Work.{Worked, losses_of, settled_in}
 use Rattle.q_invariants.proofs.AskStages.{IsStageOf}
-use Rattle.q_invariants.proofs.BucketMoves.{tbf-node, tbf-lawful}
+use Rattle.q_invariants.proofs.BucketMoves.{same-bucket, tbf-node, tbf-lawful}
 use Rattle.q_invariants.proofs.BucketSteps.{IsTbfStage, tbf-stage, holding-stage}
 use Rattle.q_invariants.proofs.EditComes.{IsAbove}
 use Rattle.q_invariants.proofs.EditForms.{IsForm}
@@ -73,9 +73,6 @@ paid-change b clock now rate burst old later = record {
 }
 
 -- ---- one event
-
-same-bucket : (b c : TokenBucket) (l m : ℕ) → ◌≡◌ {A = Discipline} (Tbf b l) (Tbf c m) → b ≡ c
-same-bucket b c l m e = cc
 
 -- the notes of a node of bucket b that became one of bucket c
 record Pays (clock now : ℕ) (b c : TokenBucket) (n after : Node (List Note)) : Type 0 where

@@ -1,5 +1,5 @@
 -- What an event makes of the fields of a device.
-use Rattle.std.proofs.Common.{◌≡◌, ◌∙◌, ℕ, ◌+◌, ◌++◌, length, max, min, List, [], Result, Ok, Err, refl, sym, ap, ap₂, subst}
+use Rattle.std.proofs.Common.{◌≡◌, ◌∙◌, ℕ, ◌+◌, ◌++◌, length, max, min, List, [], Result, Ok, Err, refl, sym, ap, subst}
 use Rattle.std.specs.Prelude.{Bool, Option, if◌then◌else◌, is_some, vec_capacity}
 use Rattle.q_codel.specs.declared.loss.Loss.{Loss}
 use Rattle.q_packet.specs.Descriptor.{Descriptor}

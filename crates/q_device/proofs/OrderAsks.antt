@@ -28,6 +28,7 @@ use Rattle.q_model.specs.Work.{Worked, worked, settled_class}
 use Rattle.q_model.specs.Ask.{Asked, befores, holding, Dequeue, dequeued, waits, spends, ask_tbf, is_among, head_of, service_of, place_met, gives_nothing, class_gives, class_serves, ask_drr, ask_discipline, ask_own, ask}
 use Rattle.q_invariants.proofs.Answer.{beneath-worked}
 use Rattle.q_invariants.proofs.Asks.{beneath-befores}
+use Rattle.q_invariants.proofs.AskFqCodel.{take-settings}
 use Rattle.q_invariants.proofs.AskPrio.{peeked_to, taken_at, packet_at}
 use Rattle.q_invariants.proofs.AskStages.{IsStageOf, AreStagesOf, unasked, looked-staged, set-staged, HasSoMany, so-many, each-length}
 use Rattle.q_invariants.proofs.DrrSettled.{class-settled}
@@ -36,7 +37,7 @@ use Rattle.q_invariants.proofs.Kept.{AllLawful, IsLawfulRoot}
 use Rattle.q_device.specs.Order.{flow_among}
 use Rattle.q_device.proofs.PartLemmas.{part-refl}
 use Rattle.q_device.proofs.OrderParts.{flat, IsLess, less-append, less-behind, OnlyAt, AreLess, are-less-refl, less-only, less-flat, Gives, gives-less, gives-flat}
-use Rattle.q_device.proofs.OrderFlows.{less-before, fifo-gives, flow_queues, all-flat, take-gives, take-settings}
+use Rattle.q_device.proofs.OrderFlows.{less-before, fifo-gives, flow_queues, all-flat, take-gives}
 use Rattle.q_device.proofs.OrderWays.{HasWay, less-way, way-only, IsOnWay, AllOnWay, IsRootOnWay, AreOnWay, way-worked}
 
 module _ (c : Descriptor) where

@@ -210,15 +210,7 @@ module _ (c : Descriptor) where
       let a : FqState = appended s p now in
       cut-joins p k (overflow a) (fattest a.flows) s.flows a.flows (joins p now k (flow_of s p) s.flows o same)
 
--- ---- what a take and an arrival leave of the settings
-
-pub take-settings : (now : ℕ) (s : FqState) → (after_sending now (selected s)).settings ≡ s.settings
-unfolding selected
-take-settings now s = by (front (selected s)) refl
-  where
-    by : (o : Option Entry) → front (selected s) ≡ o → (after_sending now (selected s)).settings ≡ (selected s).settings
-    by None e = let none = front_none (selected s) e in ap (λ (t : FqState). t.settings) (after_none (selected s) now none.0 none.1)
-    by (Some e) at = ap (λ (t : FqState). t.settings) (after_sending_written (selected s) e now at)
+-- ---- what an arrival leaves of the settings
 
 pub put-settings : (s : FqState) (p : Descriptor) (now : ℕ) → (after_put s p now).settings ≡ s.settings
 unfolding cut_back appended

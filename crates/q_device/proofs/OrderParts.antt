@@ -1,5 +1,5 @@
 -- The packets of one flow among those that wait in lists side by side: at the children of a node, or in the flows of an fq_codel.
-use Rattle.std.proofs.Common.{◌≡◌, ℕ, zero, suc, ◌⊎◌, inl, inr, refl, sym, ap, ap₂, subst, ◌∙◌, List, [], ◌∷◌, ◌++◌, map, set, Some}
+use Rattle.std.proofs.Common.{◌≡◌, ℕ, zero, suc, ◌⊎◌, inl, inr, refl, sym, ap, subst, ◌∙◌, List, [], ◌∷◌, ◌++◌, map, set, Some}
 use Rattle.std.specs.Prelude.{filter, slice_get}
 use Rattle.std.specs.List.{flat_map}
 use Rattle.std.proofs.lemmas.List.{append-nil, append_assoc, map-append}
@@ -49,9 +49,6 @@ module _ (c : Descriptor) where
 
   pub none-rest : (ps qs : List Descriptor) → flow_among c (ps ++ qs) ≡ [] → flow_among c qs ≡ []
   none-rest ps qs e = no-rest (flow_among c ps) (flow_among c qs) (sym (flow-append ps qs) ∙ e)
-
-  pub none-both : (ps qs : List Descriptor) → flow_among c ps ≡ [] → flow_among c qs ≡ [] → flow_among c (ps ++ qs) ≡ []
-  none-both ps qs e f = flow-append ps qs ∙ ap₂ (λ (xs ys : List Descriptor). xs ++ ys) e f
 
   pub skip-front : (ps qs : List Descriptor) → flow_among c ps ≡ [] → flow_among c (ps ++ qs) ≡ flow_among c qs
   skip-front ps qs e = flow-append ps qs ∙ ap (λ (xs : List Descriptor). xs ++ flow_among c qs) e

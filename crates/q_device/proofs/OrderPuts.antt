@@ -28,6 +28,7 @@ use Rattle.q_invariants.proofs.DrrSettled.{class-settled, settled-packets}
 use Rattle.q_invariants.proofs.Forests.{each-at}
 use Rattle.q_invariants.proofs.Kept.{IsLawfulRoot}
 use Rattle.q_invariants.proofs.Quiet.{quiets, waiting-quiet, beneath-quiets, child-lawful}
+use Rattle.q_invariants.proofs.Shuffled.{key-is}
 use Rattle.q_invariants.proofs.Ways.{CanQueue, nil-cons, way-ends, route-goes}
 use Rattle.q_device.specs.Order.{same_key, is_alike, flow_among, IsPartOf}
 use Rattle.q_device.proofs.PartLemmas.{part-refl}
@@ -36,25 +37,6 @@ use Rattle.q_device.proofs.OrderFlows.{alike-none, less-after, flow_queues, all-
 use Rattle.q_device.proofs.OrderWays.{HasWay, less-way, IsOnWay, AllOnWay, IsRootOnWay, AreOnWay, way-with_memory, way-worked, way-quiets, child-way}
 
 -- ---- packets that are alike go one way
-
-key-made : (f1 p1 s1 d1 sp1 dp1 f2 p2 s2 d2 sp2 dp2 : ℕ) → f1 ≡ f2 → p1 ≡ p2 → s1 ≡ s2 → d1 ≡ d2 → sp1 ≡ sp2 → dp1 ≡ dp2
-    → ◌≡◌ {A = Key} (record { family = f1; proto = p1; src = s1; dst = d1; sport = sp1; dport = dp1 }) (record { family = f2; proto = p2; src = s2; dst = d2; sport = sp2; dport = dp2 })
-key-made f1 p1 s1 d1 sp1 dp1 f2 p2 s2 d2 sp2 dp2 e1 e2 e3 e4 e5 e6 = cc
-
-key-is : (a b : Key) → same_key a b ≡ true → a ≡ b
-key-is a b h =
-    let h5 = and_parts ((a.family == b.family) && (a.proto == b.proto) && (a.src == b.src) && (a.dst == b.dst) && (a.sport == b.sport)) (a.dport == b.dport) h in
-    let h4 = and_parts ((a.family == b.family) && (a.proto == b.proto) && (a.src == b.src) && (a.dst == b.dst)) (a.sport == b.sport) h5.0 in
-    let h3 = and_parts ((a.family == b.family) && (a.proto == b.proto) && (a.src == b.src)) (a.dst == b.dst) h4.0 in
-    let h2 = and_parts ((a.family == b.family) && (a.proto == b.proto)) (a.src == b.src) h3.0 in
-    let h1 = and_parts (a.family == b.family) (a.proto == b.proto) h2.0 in
-    let family = eqb-true a.family b.family h1.0 in
-    let proto = eqb-true a.proto b.proto h1.1 in
-    let src = eqb-true a.src b.src h2.1 in
-    let dst = eqb-true a.dst b.dst h3.1 in
-    let sport = eqb-true a.sport b.sport h4.1 in
-    let dport = eqb-true a.dport b.dport h5.1 in
-    key-made a.family a.proto a.src a.dst a.sport a.dport b.family b.proto b.src b.dst b.sport b.dport family proto src dst sport dport
 
 record AreAlike (c p : Descriptor) : Type 0 where
   key : c.key ≡ p.key

@@ -1,5 +1,5 @@
 -- Parts of a list, in its order.
-use Rattle.std.proofs.Common.{◌≡◌, ℕ, zero, suc, inl, inr, refl, ◌∙◌, List, [], ◌∷◌, ◌++◌, drop}
+use Rattle.std.proofs.Common.{◌≡◌, inl, inr, refl, ◌∙◌, List, [], ◌∷◌, ◌++◌}
 use Rattle.q_device.specs.Order.{IsPartOf}
 
 module _ {X : Type 0} where
@@ -38,8 +38,3 @@ module _ {X : Type 0} where
   pub part-front : (xs ys : List X) → IsPartOf xs (xs ++ ys)
   part-front [] ys = tt
   part-front (x ∷ xs) ys = inl (refl, part-front xs ys)
-
-  pub part-drop : (n : ℕ) (xs : List X) → IsPartOf (drop n xs) xs
-  part-drop zero xs = part-refl xs
-  part-drop (suc n) [] = tt
-  part-drop (suc n) (x ∷ xs) = part-skip (drop n xs) x xs (part-drop n xs)

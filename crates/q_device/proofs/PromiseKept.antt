@@ -1,40 +1,38 @@
 -- What is promised is delivered: the way to a class, as a device shows it, is one of the laws of service, and the numbers are theirs.
 use Rattle.std.proofs.Common.{◌≡◌, ℕ, zero, suc, ◌+◌, ◌-◌, ◌*◌, ◌<◌, ◌≤◌, Bool, true, false, ◌||◌, inl, List, [], ◌∷◌, ◌++◌, map, length, refl, sym, ap, subst, ◌∙◌, Option, Some, None, option_map, option_and_then, arith}
-use Rattle.std.specs.Prelude.{All, slice_get, nat_le, if◌then◌else◌}
+use Rattle.std.specs.Prelude.{All, slice_get, if◌then◌else◌}
 use Rattle.std.specs.List.{list_any}
 use Rattle.std.proofs.Math.Nat.{add-mul, mul_assoc}
-use Rattle.std.proofs.lemmas.Bool.{false≢true, leb-true, or_parts}
-use Rattle.std.proofs.lemmas.List.{append-nil, append_assoc, length-map}
+use Rattle.std.proofs.lemmas.Bool.{leb-true, or_parts}
+use Rattle.std.proofs.lemmas.List.{length-map}
 use Rattle.std.proofs.lemmas.List.Elements.{All-nil, All-cons, All-head, All-tail, All-append}
 use Rattle.std.proofs.lemmas.Option.{none-some, same_Some}
-use Rattle.q_packet.specs.Descriptor.{Descriptor}
 use Rattle.q_bucket.specs.Level.{TokenBucket, units_in_byte}
 use Rattle.q_model.specs.declared.class_id.ClassId.{ClassId}
 use Rattle.q_model.specs.declared.event.Event.{Event}
-use Rattle.q_model.specs.Beneath.{beneath_own, is_empty}
+use Rattle.q_model.specs.Beneath.{beneath_own}
 use Rattle.q_model.specs.Conserved.{nodes_of}
 use Rattle.q_model.specs.Events.{IsEvent}
 use Rattle.q_model.specs.Find.{class_path}
 use Rattle.q_model.specs.Lawful.{IsLawfulDiscipline}
-use Rattle.q_model.specs.Node.{Discipline, Fifo, Prio, Tbf, Drr, FqCodel, Own, Forest, none, more, Node, nodes_in, children, each, from_below}
+use Rattle.q_model.specs.Node.{Discipline, Fifo, Prio, Tbf, Drr, FqCodel, Own, Forest, none, more, Node, children, each, from_below}
 use Rattle.q_model.specs.Settings.{DeviceSettings, IsInRange}
 use Rattle.q_model.specs.Step.{DeviceState}
-use Rattle.q_model.specs.Stretches.{tbf_of, IsBackloggedClass, Throughout}
+use Rattle.q_model.specs.Stretches.{tbf_of, Throughout}
 use Rattle.q_model.specs.Tally.{Note}
 use Rattle.q_invariants.proofs.Forests.{each-nodes}
 use Rattle.q_invariants.proofs.Replays.{IsKept, replay-kept}
 use Rattle.q_invariants.proofs.Within.{IsOf}
 use Rattle.q_tree.specs.declared.ways.Link.{Link}
-use Rattle.q_tree.specs.Ways.{DrrClass, Way, drrs_on, has_tbf, share_of, shares_of, way_below, way_from, way_to}
+use Rattle.q_tree.specs.Ways.{DrrClass, Way, drrs_on, has_tbf, share_of, way_below, way_from, way_to}
 use Rattle.q_tree.specs.Ways as ways
 use Rattle.q_device.specs.InTime.{Level, IsLinkOver, IsWay, last_level, quanta_on, sums_on, lacks_on, sent_at}
-use Rattle.q_device.specs.Promise.{Promise, IsPart, IsServed, IsSlack, GetsItsService, GetsItsShare, ServiceIsDelivered, ShareIsDelivered, SlackIsTheLaws, has_room, lack_of_link, level_of, levels_of, part_of, promise_on, rate_of, slack_on}
-use Rattle.q_device.specs.Rate.{IsDrained, IsPolledOut}
+use Rattle.q_device.specs.Promise.{Promise, IsPart, IsServed, ServiceIsDelivered, ShareIsDelivered, SlackIsTheLaws, has_room, lack_of_link, level_of, levels_of, part_of, promise_on, rate_of, slack_on}
 use Rattle.q_device.specs.Service.{all_sent}
 use Rattle.q_device.specs.Sharing.{device_after}
 use Rattle.q_device.specs.Work.{is_tbf}
 use Rattle.q_device.proofs.PromiseNumbers.{enough, no-more, rounded-down, some-sums, timed-numbers, timed-part, shared-part}
-use Rattle.q_device.proofs.PromiseWays.{WholeWay, of-child, qdisc-of, queued-above, whole-way}
+use Rattle.q_device.proofs.PromiseWays.{of-child, qdisc-of, queued-above, whole-way}
 use Rattle.q_device.proofs.WayStretches.{shares-multiply, way-shares}
 
 -- ---- beneath a tbf at the root

@@ -1,37 +1,31 @@
 -- A way to a class in a device is the way of the laws: drrs beneath one another, each class with its quantum, and all backlogged where
 -- something is queued at the end.
-use Rattle.std.proofs.Common.{◌≡◌, ℕ, zero, suc, ◌+◌, ◌≤◌, ◌<◌, Bool, true, false, eqb, ◌||◌, ◌⊎◌, inl, inr, List, [], ◌∷◌, ◌++◌, map, drop, length, refl, sym, ap, subst, ◌∙◌, Option, Some, None, option_map, option_and_then, eq-eqb, arith}
-use Rattle.std.specs.Prelude.{◌==◌, All, slice_get, find, sum_by, cond, if◌then◌else◌}
-use Rattle.std.specs.List.{position, flat_map, list_any}
+use Rattle.std.proofs.Common.{◌≡◌, ℕ, zero, suc, ◌+◌, ◌≤◌, Bool, true, false, inl, inr, List, [], ◌∷◌, ◌++◌, map, drop, length, refl, sym, ap, subst, ◌∙◌, Option, Some, None, option_map, option_and_then, eq-eqb, arith}
+use Rattle.std.specs.Prelude.{◌==◌, All, slice_get, find}
+use Rattle.std.specs.List.{flat_map}
 use Rattle.std.specs.Option.{option_map_or, option_or, option_to_list}
-use Rattle.std.proofs.lemmas.Bool.{cases_Bool, cond-true, cond-false, eqb-true, eqb-false, ne_eqb, false≢true, true≢false, leb-true, or_parts}
+use Rattle.std.proofs.lemmas.Bool.{cases_Bool, cond-true, cond-false, ne_eqb, true≢false}
 use Rattle.std.proofs.lemmas.List.{length-append}
-use Rattle.std.proofs.lemmas.List.Elements.{All-nil, All-cons, All-head, All-tail, All-append}
+use Rattle.std.proofs.lemmas.List.Elements.{All-nil, All-cons}
 use Rattle.std.proofs.lemmas.List.Folds.{find-append}
-use Rattle.std.proofs.lemmas.List.Sums.{sum_by-cons}
 use Rattle.std.proofs.lemmas.Option.{none-some, same_Some}
 use Rattle.q_packet.specs.Descriptor.{Descriptor}
-use Rattle.q_bucket.specs.Level.{TokenBucket}
-use Rattle.q_drr.specs.Schedule.{Class, Schedule, has_class, quantum_of}
-use Rattle.q_drr.proofs.DifferLemmas.{ClassesDiffer, differ_from_pairs}
-use Rattle.q_drr.proofs.LookupLemmas.{quantum_here, quantum_behind}
+use Rattle.q_drr.specs.Schedule.{Class, Schedule, quantum_of}
+use Rattle.q_drr.proofs.DifferLemmas.{differ_from_pairs}
 use Rattle.q_model.specs.Beneath.{beneath_own, beneath, packets_in, is_empty}
 use Rattle.q_model.specs.Conserved.{nodes_of, every_node}
 use Rattle.q_model.specs.Node.{Discipline, Fifo, Prio, Tbf, Drr, FqCodel, Own, Forest, none, more, Node, nodes_in, children, each}
-use Rattle.q_model.specs.Route.{class_at}
 use Rattle.q_model.specs.Step.{DeviceState}
-use Rattle.q_model.specs.Stretches.{has_major, qdisc, ClassAt, class_of, class_in, tbf_of, IsBackloggedClass}
+use Rattle.q_model.specs.Stretches.{has_major, qdisc, ClassAt, class_of, class_in, IsBackloggedClass}
 use Rattle.q_model.specs.Tally.{Note}
 use Rattle.q_invariants.proofs.ClassMoves.{drr-lawful}
-use Rattle.q_invariants.proofs.ClassSums.{position-here, position-there}
 use Rattle.q_invariants.proofs.EditHandles.{once-apart}
-use Rattle.q_invariants.proofs.Members.{All-at, passes-at}
+use Rattle.q_invariants.proofs.Members.{All-at}
 use Rattle.q_invariants.proofs.Replays.{IsKept}
 use Rattle.q_invariants.proofs.Within.{Within, IsOf, HasHandle, found, same-node}
-use Rattle.q_tree.specs.declared.ways.Share.{Share}
 use Rattle.q_tree.proofs.WayLemmas.{is-at}
 use Rattle.q_tree.specs.Ways.{DrrClass, class_of_drr, drr_class, drrs_on, share_of}
-use Rattle.q_device.specs.InTime.{Level, IsBeneath, IsWay, last_level}
+use Rattle.q_device.specs.InTime.{IsWay, last_level}
 use Rattle.q_device.specs.Promise.{IsPart, level_of, levels_of}
 use Rattle.q_device.specs.Service.{HasClasses, classes_of, quanta_of}
 
@@ -177,19 +171,6 @@ step-of i path n d ds e = by (drr_class i n.own) refl e
         → option_and_then (λ (k : DrrClass). option_map (λ (rest : List DrrClass). k ∷ rest) (option_and_then (drrs_on path) (slice_get (children n) i))) o ≡ Some (d ∷ ds) → IsStep i path n d ds
     by None class e = absurd (none-some (d ∷ ds) e)
     by (Some k) class e = next k (slice_get (children n) i) class refl e
-
--- a way ends where its path ends
-pub no-more-ways : (path : List ℕ) (n : Node (List Note)) → drrs_on path n ≡ Some [] → path ≡ []
-no-more-ways [] n e = refl
-no-more-ways (i ∷ path) n e = by (drr_class i n.own) e
-  where
-    last : (k : DrrClass) (o : Option (List DrrClass)) → option_map (λ (rest : List DrrClass). k ∷ rest) o ≡ Some [] → (i ∷ path) ≡ []
-    last k None e = absurd (none-some [] e)
-    last k (Some rest) e = absurd (let z = ap (λ (xs : List DrrClass). length xs) (same_Some (k ∷ rest) [] e) in omega (arith, z))
-
-    by : (o : Option DrrClass) → option_and_then (λ (k : DrrClass). option_map (λ (rest : List DrrClass). k ∷ rest) (option_and_then (drrs_on path) (slice_get (children n) i))) o ≡ Some [] → (i ∷ path) ≡ []
-    by None e = absurd (none-some [] e)
-    by (Some k) e = last k (option_and_then (drrs_on path) (slice_get (children n) i)) e
 
 -- ---- in a device
 

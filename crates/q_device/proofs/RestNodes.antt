@@ -14,7 +14,7 @@ use Rattle.q_model.specs.Tally.{Note, history}
 use Rattle.q_model.specs.Node.{Discipline, Fifo, Prio, Tbf, Drr, FqCodel, Own, Node, Shape, shape, each}
 use Rattle.q_model.specs.Work.{Worked, settled_in, booked}
 use Rattle.q_model.specs.Put.{queued_in}
-use Rattle.q_model.specs.Ask.{Asked, holding, Dequeue, dequeued, service_of, spends, waits, ask_child, ask_tbf, place_met, gives_nothing, class_gives, class_serves, ask_drr, ask_discipline, ask_own, ask}
+use Rattle.q_model.specs.Ask.{Asked, holding, dequeued, service_of, spends, waits, ask_child, ask_tbf, place_met, gives_nothing, class_gives, class_serves, ask_drr, ask_discipline, ask_own, ask}
 use Rattle.q_invariants.proofs.AskStages.{IsStageOf, IsAskOf}
 use Rattle.q_invariants.proofs.FlowSteps.{lists_of}
 use Rattle.q_invariants.proofs.PutKinds.{put-stage}
@@ -78,9 +78,6 @@ record AllRests (a : Asked) : Type 0 where
   before : Rests a.before.own.discipline
   peeked : Rests a.peeked.own.discipline
   taken : Rests a.taken.own.discipline
-
-dequeued-rests : (own : Own) (below : List Asked) (d : Dequeue) → Rests own.discipline → Rests d.after.discipline → AllRests (dequeued own below d)
-dequeued-rests own below d h k = record { before = h; peeked = k; taken = k }
 
 module _ (now : ℕ) (own : Own) (below : List Asked) (h : Rests own.discipline) where
   module _ (b : TokenBucket) (limit : ℕ) where

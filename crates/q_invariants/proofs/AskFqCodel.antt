@@ -82,7 +82,7 @@ sent-settings now s [] (e ∷ fs) = refl
 sent-settings now s (e ∷ es) fs = refl
 
 -- the state after a take
-take-settings : (now : ℕ) (s : FqState) → (after_sending now (selected s)).settings ≡ s.settings
+pub take-settings : (now : ℕ) (s : FqState) → (after_sending now (selected s)).settings ≡ s.settings
 unfolding after_sending selected
 take-settings now s = sent-settings now (selected s) (selected s).new_flows (selected s).old_flows
 

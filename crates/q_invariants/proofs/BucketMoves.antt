@@ -33,7 +33,7 @@ use Rattle.q_invariants.proofs.Replays.{IsKept}
 use Rattle.q_invariants.proofs.Within.{found, lawful-of}
 use Rattle.q_invariants.proofs.BucketSteps.{IsPaid, paid-nothing, paid-spend, paid-change, IsTbfStage, tbf-stage, holding-stage}
 
-same-bucket : (b c : TokenBucket) (l m : ℕ) → ◌≡◌ {A = Discipline} (Tbf b l) (Tbf c m) → b ≡ c
+pub same-bucket : (b c : TokenBucket) (l m : ℕ) → ◌≡◌ {A = Discipline} (Tbf b l) (Tbf c m) → b ≡ c
 same-bucket b c l m e = cc
 
 -- what a node of one bucket became, with another

@@ -4,7 +4,7 @@ use Rattle.std.specs.Prelude.{is_some, slice_get, ◌==◌, if◌then◌else◌}
 use Rattle.std.specs.List.{position, remove}
 use Rattle.std.specs.Option.{option_to_list}
 use Rattle.std.proofs.lemmas.Option.{none-some}
-use Rattle.q_fqcodel.specs.FqState.{FqState, FqSettings}
+use Rattle.q_fqcodel.specs.FqState.{FqSettings}
 use Rattle.q_fqcodel.specs.FqState as flows
 use Rattle.q_bucket.specs.Level.{after_change}
 use Rattle.q_drr.specs.Schedule.{Class, Schedule, added, removed, with_quantum}

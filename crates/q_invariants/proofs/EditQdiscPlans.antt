@@ -6,7 +6,7 @@ use Rattle.std.specs.Option.{option_map_or}
 use Rattle.std.proofs.lemmas.Bool.{not-false, eqb-true, ltb-false, cases_Bool}
 use Rattle.q_packet.specs.Descriptor.{Descriptor}
 use Rattle.q_codel.specs.declared.limit.Limit.TheVariants.{Packets, Bytes}
-use Rattle.q_fqcodel.specs.FqState.{FqSettings, FqState}
+use Rattle.q_fqcodel.specs.FqState.{FqState}
 use Rattle.q_fqcodel.specs.FqState as flows
 use Rattle.q_bucket.specs.Level.{after_change}
 use Rattle.q_model.specs.declared.filter.Filter.{Filter}

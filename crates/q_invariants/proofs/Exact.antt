@@ -8,7 +8,7 @@ use Rattle.std.proofs.lemmas.Option.{same_Some}
 use Rattle.std.specs.Option.{option_map_or}
 use Rattle.q_packet.specs.Choice.{Choice}
 use Rattle.q_packet.specs.Descriptor.{Descriptor}
-use Rattle.q_drr.specs.Schedule.{Class, Entry, Schedule, is_active, asleep, woken, after_grants}
+use Rattle.q_drr.specs.Schedule.{Class, Entry, Schedule, is_active, asleep, woken}
 use Rattle.q_drr.specs.Take.{granted, brought_up, prepared, sent_by, sent_in, served, choice_of}
 use Rattle.q_drr.specs.Schedule as drr
 use Rattle.q_drr.proofs.DifferLemmas.{ClassesDiffer}

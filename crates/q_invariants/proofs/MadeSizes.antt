@@ -2,9 +2,9 @@
 use Rattle.std.proofs.Common.{◌≡◌, ℕ, suc, ◌+◌, ◌-◌, ◌<◌, ◌≤◌, Bool, true, false, List, [], ◌∷◌, ◌++◌, length, replicate, refl, ap, subst, ◌∙◌, Option, Some, None, arith}
 use Rattle.std.specs.Prelude.{slice_get, option_map, option_and_then, unwrap_or, nat_le, ◌&&◌, ◌==◌, if◌then◌else◌}
 use Rattle.std.specs.List.{sum}
-use Rattle.std.proofs.lemmas.Bool.{leb-true, and_parts, false≢true}
+use Rattle.std.proofs.lemmas.Bool.{leb-true, and_parts}
 use Rattle.std.proofs.lemmas.Option.{none-some, same_Some}
-use Rattle.std.proofs.lemmas.List.{nil_from_length, length-replicate}
+use Rattle.std.proofs.lemmas.List.{length-replicate}
 use Rattle.std.proofs.lemmas.List.Quantifiers.{position-Some}
 use Rattle.q_packet.specs.Descriptor.{Descriptor}
 use Rattle.q_drr.specs.Schedule.{Class, is_active}
@@ -21,7 +21,7 @@ use Rattle.q_model.specs.Find.{greatest, depth, count_nodes, node_at, path_of, f
 use Rattle.q_model.specs.Edit.{Graft}
 use Rattle.q_model.specs.Lawful.{IsLawfulDiscipline}
 use Rattle.q_model.specs.Ranges.{IsKind}
-use Rattle.q_model.specs.Refusals.{done_unless, is_classless, most_levels, most_nodes}
+use Rattle.q_model.specs.Refusals.{done_unless, most_levels, most_nodes}
 use Rattle.q_model.specs.QdiscCommands.{qdisc_add_checks, new_qdisc}
 use Rattle.q_model.specs.TreeState.{plan}
 use Rattle.q_invariants.proofs.Kept.{IsLawfulRoot}

@@ -1,13 +1,12 @@
 -- Sums over notes: those of a longer history, and those of notes that rise through a tree, which are losses and marks alone.
-use Rattle.std.proofs.Common.{◌≡◌, ℕ, ◌+◌, List, [], ◌∷◌, ◌++◌, refl, ap, ◌∙◌, arith}
+use Rattle.std.proofs.Common.{◌≡◌, ℕ, ◌+◌, List, [], ◌∷◌, ◌++◌, refl, arith}
 use Rattle.std.specs.Prelude.{sum_by}
-use Rattle.std.proofs.lemmas.List.Sums.{sum_by-cons, sum_by-append}
+use Rattle.std.proofs.lemmas.List.Sums.{sum_by-cons}
 use Rattle.q_packet.specs.Descriptor.{Descriptor}
 use Rattle.q_packet.specs.declared.cause.Cause.{Cause}
-use Rattle.q_model.specs.Tally.{Note, Arrived, Sent, Lost, Marked, Granted, Spent, FlowGranted, FlowGave, history, noted}
+use Rattle.q_model.specs.Tally.{Note, Arrived, Sent, Lost, Marked, Granted, Spent, FlowGranted, FlowGave}
 use Rattle.q_model.specs.Work.{losses_of}
 use Rattle.q_model.specs.Stretches.{sent_by, spent_by, granted_by, flow_granted_by, given_by}
-use Rattle.q_invariants.proofs.Told.{noted-history}
 
 -- a loss or a mark: nothing else rises from a node to the one above
 abbrev pub IsRisen : Note → Type 0

@@ -1,9 +1,8 @@
 -- How deep a node with other children is, and how many nodes it has: all of them kept, bands more or fewer, a class more or less.
-use Rattle.std.proofs.Common.{◌≡◌, ℕ, zero, suc, ◌+◌, ◌-◌, ◌≤◌, min, max, Bool, true, false, List, [], ◌∷◌, ◌++◌, length, map, take, drop, replicate, refl, sym, ap, ap₂, subst, ◌∙◌, Some, inl, inr, arith}
-use Rattle.std.specs.Prelude.{slice_get, is_some, if◌then◌else◌}
+use Rattle.std.proofs.Common.{◌≡◌, ℕ, zero, suc, ◌+◌, ◌-◌, ◌≤◌, min, max, Bool, true, false, List, [], ◌∷◌, ◌++◌, length, map, take, drop, replicate, refl, sym, ap, ap₂, subst, ◌∙◌, inl, inr, arith}
+use Rattle.std.specs.Prelude.{is_some, if◌then◌else◌}
 use Rattle.std.specs.List.{remove, sum}
 use Rattle.std.proofs.lemmas.Bool.{cases_lt}
-use Rattle.std.proofs.lemmas.Option.{none-some, same_Some, slice_get_within}
 use Rattle.std.proofs.lemmas.List.FromFn.{length-map-range_with_len}
 use Rattle.std.proofs.lemmas.List.{map-append, take_all, drop_all, append-nil, take_min, take-append-drop}
 use Rattle.q_model.specs.Node.{Own, Shape, children, blank}
@@ -59,12 +58,6 @@ some-depth (c ∷ cs) h = omega arith
 -- all but one
 remove-depths : (cs : List Shape) (i : ℕ) → greatest (depths (remove cs i)) ≤ greatest (depths cs)
 remove-depths cs i = omega (arith, depths-append (take i cs) (drop (suc i) cs), take-depths cs i, drop-depths cs (suc i))
-
-pub remove-counts : (cs : List Shape) (i : ℕ) (c : Shape) → slice_get cs i ≡ Some c
-    → sum (counts (remove cs i)) + count_nodes c ≡ sum (counts cs)
-remove-counts [] i c e = absurd (none-some c e)
-remove-counts (x ∷ cs) zero c e = omega (arith, sum-cons (count_nodes x) (counts cs), ap (λ (n : Shape). count_nodes n) (same_Some x c e))
-remove-counts (x ∷ cs) (suc i) c e = omega (arith, sum-cons (count_nodes x) (counts cs), sum-cons (count_nodes x) (counts (remove cs i)), remove-counts cs i c e)
 
 fewer-counts : (cs : List Shape) (i : ℕ) → sum (counts (remove cs i)) ≤ sum (counts cs)
 fewer-counts [] zero = omega arith

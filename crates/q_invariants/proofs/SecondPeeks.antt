@@ -10,7 +10,7 @@ use Rattle.q_drr.specs.Take.{served}
 use Rattle.q_drr.proofs.ServedLemmas.{served_lawful}
 use Rattle.q_model.proofs.ShrinkLemmas.{each-each_memory}
 use Rattle.q_model.specs.declared.filter.Filter.{Filter}
-use Rattle.q_model.specs.Tally.{Tally, Note, history}
+use Rattle.q_model.specs.Tally.{Tally, Note}
 use Rattle.q_model.specs.Node.{Discipline, Fifo, Prio, Tbf, Drr, FqCodel, Own, Forest, none, more, Node, Shape, each, each_memory, shape}
 use Rattle.q_model.specs.Beneath.{beneath}
 use Rattle.q_model.specs.Conserved.{nodes_of}

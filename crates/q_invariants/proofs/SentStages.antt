@@ -19,7 +19,7 @@ use Rattle.q_model.specs.Grants.{grant_notes, granted_notes}
 use Rattle.q_model.specs.Beneath.{is_empty, packets_of}
 use Rattle.q_model.specs.Work.{settled_class}
 use Rattle.q_model.specs.Quanta.{flows_granted, flow_gave, flow_notes}
-use Rattle.q_model.specs.Ask.{Asked, Showing, showing, holding, Dequeue, dequeued, waits, spends, ask_tbf, head_of, service_of, place_met, gives_nothing, class_gives, class_serves, ask_drr, ask_discipline, ask_own, ask}
+use Rattle.q_model.specs.Ask.{Asked, holding, Dequeue, dequeued, waits, spends, ask_tbf, head_of, service_of, place_met, gives_nothing, class_gives, class_serves, ask_drr, ask_discipline, ask_own, ask}
 use Rattle.q_model.specs.Stretches.{sent_by, bytes_sent, length_held}
 use Rattle.q_invariants.proofs.NoteSums.{AreRisen, sum-risen, past-sent}
 use Rattle.q_invariants.proofs.Risen.{AllRise, rise-service, discipline-rises, all-rise}

@@ -10,7 +10,7 @@ use Rattle.q_packet.specs.Descriptor.{Descriptor}
 use Rattle.q_packet.specs.Key.{Key}
 use Rattle.q_packet.specs.declared.ecn.Ecn.TheVariants.{NotEct}
 use Rattle.q_model.specs.Tally.{Note, Arrived, Sent, Lost, Marked, Granted, Spent, FlowGranted, FlowGave}
-use Rattle.q_model.specs.Conserved.{arrival_in, sent_in, lost_in, unmarked}
+use Rattle.q_model.specs.Conserved.{arrival_in, sent_in, lost_in}
 use Rattle.q_model.specs.Conserved as node
 use Rattle.q_invariants.proofs.Weights.{plain, weigh, weigh-nil, weigh-cons, weigh-append, one_if, counting, arrived, sent, lost, arrived-nil, sent-nil, lost-nil, arrived-cons, sent-cons, lost-cons}
 use Rattle.q_invariants.proofs.Kept.{AreCounted}
@@ -31,7 +31,7 @@ packet-made : (p1 n1 b1 l1 : ℕ) (k1 : Key) (h1 q1 p2 n2 b2 l2 : ℕ) (k2 : Key
     → ◌≡◌ {A = Descriptor} (record { port = p1; number = n1; buf = b1; len = l1; key = k1; hash = h1; prio = q1; ecn = NotEct }) (record { port = p2; number = n2; buf = b2; len = l2; key = k2; hash = h2; prio = q2; ecn = NotEct })
 packet-made p1 n1 b1 l1 k1 h1 q1 p2 n2 b2 l2 k2 h2 q2 e1 e2 e3 e4 e5 e6 e7 = cc
 
-key-is : (a b : Key) → same_key a b ≡ true → a ≡ b
+pub key-is : (a b : Key) → same_key a b ≡ true → a ≡ b
 key-is a b h =
     let h5 = and_parts ((a.family == b.family) && (a.proto == b.proto) && (a.src == b.src) && (a.dst == b.dst) && (a.sport == b.sport)) (a.dport == b.dport) h in
     let h4 = and_parts ((a.family == b.family) && (a.proto == b.proto) && (a.src == b.src) && (a.dst == b.dst)) (a.sport == b.sport) h5.0 in

@@ -6,7 +6,7 @@ use Rattle.std.proofs.lemmas.List.Elements.{All-nil, All-cons, All-append}
 use Rattle.q_model.specs.Tally.{Note, counts_in, history, totals}
 use Rattle.q_model.specs.Node.{Own, Forest, none, more, Node, each_memory, with_memory}
 use Rattle.q_model.specs.Beneath.{beneath_own, beneath, row_of}
-use Rattle.q_model.specs.Conserved.{nodes_of, every_node, held_own, held_beneath, IsBalanced, AreMarksBounded}
+use Rattle.q_model.specs.Conserved.{nodes_of, held_own, held_beneath, IsBalanced, AreMarksBounded}
 use Rattle.q_model.specs.Conserved as node
 use Rattle.q_model.specs.Find.{Address, addresses_own, greatest}
 use Rattle.q_model.specs.Lawful.{IsLawfulOwn, IsLawfulNode, IsLawfulTree}

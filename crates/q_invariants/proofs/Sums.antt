@@ -1,5 +1,5 @@
 -- The packets of a node and its children, weighed part by part.
-use Rattle.std.proofs.Common.{◌≡◌, ℕ, ◌+◌, List, [], ◌∷◌, ◌++◌, map, refl, ap, arith}
+use Rattle.std.proofs.Common.{◌≡◌, ℕ, ◌+◌, List, [], ◌∷◌, ◌++◌, map, arith}
 use Rattle.std.specs.List.{flat_map}
 use Rattle.std.specs.Option.{option_to_list}
 use Rattle.q_packet.specs.Descriptor.{Descriptor}
@@ -16,14 +16,6 @@ use Rattle.q_invariants.proofs.Answer.{AreAnswers, waiting, holds}
 abbrev pub total : {A : Type 0} → (A → ℕ) → List A → ℕ
 total f [] = 0
 total f (a ∷ rest) = f a + total f rest
-
-pub total-append : {A : Type 0} (f : A → ℕ) (xs ys : List A) → total f (xs ++ ys) ≡ total f xs + total f ys
-total-append f [] ys = omega arith
-total-append f (x ∷ xs) ys = omega (arith, total-append f xs ys)
-
-pub total-map : {A B : Type 0} (f : B → ℕ) (g : A → B) (xs : List A) → total f (map g xs) ≡ total (λ a. f (g a)) xs
-total-map f g [] = refl
-total-map f g (x ∷ xs) = ap (λ n. f (g x) + n) (total-map f g xs)
 
 pub weigh-flat : {A : Type 0} (w : Descriptor → ℕ) (f : A → List Descriptor) (ns : List A) → weigh w (flat_map (λ packets. packets) (map f ns)) ≡ total (λ n. weigh w (f n)) ns
 weigh-flat w f [] = weigh-nil w

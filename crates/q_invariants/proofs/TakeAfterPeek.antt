@@ -6,16 +6,16 @@ use Rattle.std.proofs.lemmas.List.{append-nil}
 use Rattle.std.proofs.lemmas.List.Sums.{fold-append}
 use Rattle.q_packet.specs.Descriptor.{Descriptor}
 use Rattle.q_model.specs.declared.filter.Filter.{Filter}
-use Rattle.q_model.specs.Tally.{Tally, Note, Sent, history, noted}
+use Rattle.q_model.specs.Tally.{Tally, Note, Sent, noted}
 use Rattle.q_model.specs.Node.{Discipline, Fifo, Prio, Tbf, Drr, FqCodel, Own, Forest, none, more, Node, Shape, each, shape}
 use Rattle.q_model.specs.Beneath.{packets_of}
 use Rattle.q_model.specs.Work.{Worked, each_booked}
 use Rattle.q_model.specs.Ask.{Asked, holding, ask_fifo, ask_own, ask}
 use Rattle.q_model.specs.TreeState.{TreeState, with_work, peek_packet, take_packet}
-use Rattle.q_invariants.proofs.Kept.{AllLawful, IsLawfulRoot, IsKeptTree}
+use Rattle.q_invariants.proofs.Kept.{AllLawful, IsLawfulRoot}
 use Rattle.q_invariants.proofs.Told.{AllTold}
 use Rattle.q_invariants.proofs.SecondPeek.{IsSecond, again, AreStable, again-quiet, node}
-use Rattle.q_invariants.proofs.SecondPeeks.{forest-stable, ask-stable, told, asked-again, second-peek, kept-shape}
+use Rattle.q_invariants.proofs.SecondPeeks.{forest-stable, ask-stable, told, asked-again, second-peek}
 use Rattle.q_invariants.proofs.TakeJoined.{AllJoined, IsJoined, TakesSo, TakeSo, shown-so, tbf-so, drr-so, fq_codel-so}
 use Rattle.q_invariants.proofs.TakeBands.{prio-so}
 

@@ -11,7 +11,7 @@ pub struct Row {
     pub sent: Totals,
     /// Packets lost on arrival, at the node or below it.
     pub refused: Totals,
-    /// Packets lost later, at the node or below it.
+    /// Packets lost after they were queued, be it in their own arrival, at the node or below it.
     pub dropped: Totals,
     /// Packets that wait at the node or below it.
     pub queued: Totals,

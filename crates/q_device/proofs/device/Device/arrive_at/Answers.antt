@@ -9,12 +9,14 @@ use Rattle.q_model.specs.Tally.{Counts, totals, with_packet}
 use Rattle.q_model.specs.TreeState.{noted_by_put, own_loss}
 use Rattle.q_tree.specs.Places.{places_at}
 use Rattle.q_tree.specs.TreeSeen.{numbers}
+use Rattle.q_device.specs.declared.device.Device.TheInside.{Inside}
 use Rattle.q_device.specs.Counters.{HasNotFallen}
 use Rattle.q_device.specs.DeviceSeen.{DeviceSeen, HasRoomFor, with_event}
 use Rattle.q_device.specs.Keeping.{device_seen}
-use Rattle.q_device.proofs.EventLemmas.{arrived, arrived-device, event-rises, event-seen, reply-step}
+use Rattle.q_device.proofs.EventLemmas.{Happened, arrived, arrived-device, event-rises, event-seen, reply-step}
 use Rattle.q_device.proofs.KeptLemmas.{event-kept, events-after, kept-arrived, only-places, room-kept, room-still, spared-counts}
 use Rattle.q_device.proofs.RecorderLemmas.{full}
+use Rattle.q_device.proofs.device.Device.arrive_at.Goals.{In-Ok}
 use Rattle.q_device.proofs.device.Device.arrive_at.Goals as goal
 
 -- a packet may arrive with nothing asked: it can be counted, and there is room for its loss
@@ -48,32 +50,34 @@ pub returns-in_default-clause-queues : goal.returns-in_default-clause-queues
 returns-in_default-clause-queues c = λ path. omega (arith, c.arrive_counted.ensures.places path, ap (λ (d : DeviceSeen). places_at path d.memory.tree.tree.root) c.self.view_is)
 
 -- the packet has arrived, and the recorder was full
-pub invariant_of-self-2 : goal.invariant_of-self-2
-invariant_of-self-2 c =
+abbrev after : In-Ok → Inside
+after c = record c.self.inside { tree = c.arrive_counted.new.self; losses = c.arrive_counted.new.sink; spare = c.self.inside.spare - 1 }
+
+happened : (c : In-Ok) → Happened c.self.inside (event.Arrive c.args.packet.now c.args.now) (after c)
+happened c =
     let a = c.self.inside in
     let some : 1 ≤ a.spare = omega (arith, c.if-self-eq0.false) in
-    let b = record a { tree = c.arrive_counted.new.self; losses = c.arrive_counted.new.sink; spare = a.spare - 1 } in
+    let b = after c in
     let p = c.args.packet.now in
     let e = event.Arrive p c.args.now in
     let counted = events-after a c.self.invariant e b (c.packet_ranges.ensures.fields, c.moment_range.ensures) (arrived-device a b p c.args.now c.later-at.result c.later-at.ensures c.in-Ok.ensures.after) refl in
     let unrecorded = full a.settings.recorder (event.Arrive p c.later-at.result) a.recorded.items (c.self.invariant.full some) in
-    let h = arrived a b p c.args.now c.later-at.result c.later-at.ensures refl c.in-Ok.ensures.after c.in-Ok.ensures.lost refl unrecorded refl counted in
-    event-kept a c.self.invariant e b h (c.packet_ranges.ensures.fields, c.moment_range.ensures) (omega arith)
+    arrived a b p c.args.now c.later-at.result c.later-at.ensures refl c.in-Ok.ensures.after c.in-Ok.ensures.lost refl unrecorded refl counted
+
+pub invariant_of-self-2 : goal.invariant_of-self-2
+invariant_of-self-2 c =
+    let d = (goal.at.invariant_of-self-2 c).In-Ok in
+    let some : 1 ≤ c.self.inside.spare = omega (arith, c.if-self-eq0.false) in
+    event-kept c.self.inside c.self.invariant (event.Arrive c.args.packet.now c.args.now) (after d) (happened d) (c.packet_ranges.ensures.fields, c.moment_range.ensures) (omega arith)
     (omega (arith, c.self.invariant.packets, some))
     (omega (arith, c.self.invariant.bytes, some, c.packet_ranges.ensures.fields.len.1))
     (omega (arith, c.self.invariant.room, some, ap (λ (l : LossList). l.places) c.arrive_counted.ensures.kept))
 
 pub returns-clause-event : goal.returns-clause-event
 returns-clause-event c =
-    let a = c.self.inside in
-    let some : 1 ≤ a.spare = omega (arith, c.if-self-eq0.false) in
-    let b = record a { tree = c.arrive_counted.new.self; losses = c.arrive_counted.new.sink; spare = a.spare - 1 } in
-    let p = c.args.packet.now in
-    let e = event.Arrive p c.args.now in
-    let counted = events-after a c.self.invariant e b (c.packet_ranges.ensures.fields, c.moment_range.ensures) (arrived-device a b p c.args.now c.later-at.result c.later-at.ensures c.in-Ok.ensures.after) refl in
-    let unrecorded = full a.settings.recorder (event.Arrive p c.later-at.result) a.recorded.items (c.self.invariant.full some) in
-    let h = arrived a b p c.args.now c.later-at.result c.later-at.ensures refl c.in-Ok.ensures.after c.in-Ok.ensures.lost refl unrecorded refl counted in
-    event-seen a e b h ∙ ap (λ (d : DeviceSeen). record (with_event e d) { memory = (device_seen b).memory }) c.self.view_is
+    let d = (goal.at.returns-clause-event c).In-Ok in
+    let e = event.Arrive c.args.packet.now c.args.now in
+    event-seen c.self.inside e (after d) (happened d) ∙ ap (λ (x : DeviceSeen). record (with_event e x) { memory = (device_seen (after d)).memory }) c.self.view_is
 
 pub returns-clause-moment : goal.returns-clause-moment
 returns-clause-moment c = ap (λ (d : DeviceSeen). event.Arrive c.args.packet.now d.device.clock) (sym (returns-clause-event c))
@@ -90,29 +94,17 @@ returns-clause-fate c =
 
 pub returns-clause-arrived : goal.returns-clause-arrived
 returns-clause-arrived c =
-    let a = c.self.inside in
-    let some : 1 ≤ a.spare = omega (arith, c.if-self-eq0.false) in
-    let b = record a { tree = c.arrive_counted.new.self; losses = c.arrive_counted.new.sink; spare = a.spare - 1 } in
-    let p = c.args.packet.now in
-    let e = event.Arrive p c.args.now in
-    let counted = events-after a c.self.invariant e b (c.packet_ranges.ensures.fields, c.moment_range.ensures) (arrived-device a b p c.args.now c.later-at.result c.later-at.ensures c.in-Ok.ensures.after) refl in
-    let unrecorded = full a.settings.recorder (event.Arrive p c.later-at.result) a.recorded.items (c.self.invariant.full some) in
-    let h = arrived a b p c.args.now c.later-at.result c.later-at.ensures refl c.in-Ok.ensures.after c.in-Ok.ensures.lost refl unrecorded refl counted in
-    ap (λ (d : DeviceSeen). d.device.tree.top.arrived) (event-seen a e b h)
-    ∙ kept-arrived a c.self.invariant e (c.packet_ranges.ensures.fields, c.moment_range.ensures)
-    ∙ ap (λ (d : DeviceSeen). with_packet d.device.tree.top.arrived p) c.self.view_is
+    let d = (goal.at.returns-clause-arrived c).In-Ok in
+    let e = event.Arrive c.args.packet.now c.args.now in
+    ap (λ (x : DeviceSeen). x.device.tree.top.arrived) (event-seen c.self.inside e (after d) (happened d))
+    ∙ kept-arrived c.self.inside c.self.invariant e (c.packet_ranges.ensures.fields, c.moment_range.ensures)
+    ∙ ap (λ (x : DeviceSeen). with_packet x.device.tree.top.arrived c.args.packet.now) c.self.view_is
 
 pub returns-clause-counters : goal.returns-clause-counters
 returns-clause-counters c =
-    let a = c.self.inside in
-    let some : 1 ≤ a.spare = omega (arith, c.if-self-eq0.false) in
-    let b = record a { tree = c.arrive_counted.new.self; losses = c.arrive_counted.new.sink; spare = a.spare - 1 } in
-    let p = c.args.packet.now in
-    let e = event.Arrive p c.args.now in
-    let counted = events-after a c.self.invariant e b (c.packet_ranges.ensures.fields, c.moment_range.ensures) (arrived-device a b p c.args.now c.later-at.result c.later-at.ensures c.in-Ok.ensures.after) refl in
-    let unrecorded = full a.settings.recorder (event.Arrive p c.later-at.result) a.recorded.items (c.self.invariant.full some) in
-    let h = arrived a b p c.args.now c.later-at.result c.later-at.ensures refl c.in-Ok.ensures.after c.in-Ok.ensures.lost refl unrecorded refl counted in
-    subst (λ (d : DeviceSeen). HasNotFallen d.device.tree.top c.arrive_counted.new.self.tree.top.counts) c.self.view_is (event-rises a e b h)
+    let d = (goal.at.returns-clause-counters c).In-Ok in
+    subst (λ (x : DeviceSeen). HasNotFallen x.device.tree.top c.arrive_counted.new.self.tree.top.counts) c.self.view_is
+    (event-rises c.self.inside (event.Arrive c.args.packet.now c.args.now) (after d) (happened d))
 
 pub returns-clause-queues : goal.returns-clause-queues
 returns-clause-queues c = λ path. omega (arith, c.arrive_counted.ensures.places path, ap (λ (d : DeviceSeen). places_at path d.memory.tree.tree.root) c.self.view_is)

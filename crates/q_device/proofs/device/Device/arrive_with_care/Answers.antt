@@ -1,4 +1,4 @@
-use Rattle.std.proofs.Common.{◌∙◌, List, ◌++◌, length, refl, sym, ap, subst, arith}
+use Rattle.std.proofs.Common.{◌∙◌, ℕ, List, ◌++◌, length, refl, sym, ap, subst, arith}
 use Rattle.q_codel.specs.Losses.{LossList}
 use Rattle.q_packet.specs.Descriptor.{Descriptor}
 use Rattle.q_model.specs.declared.event.Event.TheVariants as event
@@ -9,11 +9,13 @@ use Rattle.q_model.specs.Tally.{Counts, totals, with_packet}
 use Rattle.q_model.specs.TreeState.{noted_by_put, own_loss}
 use Rattle.q_tree.specs.Places.{places_at}
 use Rattle.q_tree.specs.TreeSeen.{numbers}
+use Rattle.q_device.specs.declared.device.Device.TheInside.{Inside}
 use Rattle.q_device.specs.Counters.{HasNotFallen}
 use Rattle.q_device.specs.DeviceSeen.{DeviceSeen, HasRoomFor, with_event}
 use Rattle.q_device.specs.Keeping.{device_seen, IsKeptDevice}
-use Rattle.q_device.proofs.EventLemmas.{arrived, arrived-device, event-rises, event-seen, reply-step, waits-numbers}
+use Rattle.q_device.proofs.EventLemmas.{Happened, arrived, arrived-device, event-rises, event-seen, reply-step, waits-numbers}
 use Rattle.q_device.proofs.KeptLemmas.{event-kept, events-after, kept-arrived, only-places, room-kept, room-still, spared-kept}
+use Rattle.q_device.proofs.device.Device.arrive_with_care.Goals.{After-record_arrival}
 use Rattle.q_device.proofs.device.Device.arrive_with_care.Goals as goal
 
 -- memory was refused for the loss: the lost list alone may have more places
@@ -60,81 +62,50 @@ returns-in_default-arrive-clause-keeps c other there =
 pub returns-in_default-arrive-clause-queues : goal.returns-in_default-arrive-clause-queues
 returns-in_default-arrive-clause-queues c = λ path. omega (arith, c.arrive.ensures.places path, ap (λ (d : DeviceSeen). places_at path d.memory.tree.tree.root) c.self.view_is)
 
--- the packet has arrived, and before more may with nothing asked there is room for what is queued
-pub budget-self-inside-requires-clause-room_fit : goal.budget-self-inside-requires-clause-room_fit
-budget-self-inside-requires-clause-room_fit c =
+-- ---- the packet has arrived
+
+-- the device, where so many more may arrive with nothing asked
+abbrev after : After-record_arrival → ℕ → Inside
+after c n = record c.self.inside { tree = c.arrive.new.self; losses = c.arrive.new.sink; recorded = c.record_arrival.new.recorded; spare = n }
+
+happened : (c : After-record_arrival) (n : ℕ) → Happened c.self.inside (event.Arrive c.args.packet.now c.args.now) (after c n)
+happened c n =
     let a = c.self.inside in
-    let b = record a { tree = c.arrive.new.self; losses = c.arrive.new.sink; recorded = c.record_arrival.new.recorded; spare = 0 } in
+    let b = after c n in
     let p = c.args.packet.now in
     let e = event.Arrive p c.args.now in
     let lost = c.in-Ok-arrive.ensures.lost ∙ ap (λ (l : LossList). l.waiting ++ losses_in (noted_by_put c.later-at.result p a.tree.tree)) c.make_room.ensures.same in
     let counted = events-after a c.self.invariant e b (c.packet_ranges.ensures.fields, c.moment_range.ensures) (arrived-device a b p c.args.now c.later-at.result c.later-at.ensures c.in-Ok-arrive.ensures.after) refl in
-    let h = arrived a b p c.args.now c.later-at.result c.later-at.ensures refl c.in-Ok-arrive.ensures.after lost refl c.record_arrival.ensures.items c.record_arrival.ensures.capacity counted in
-    let kept : IsKeptDevice b =
-    event-kept a c.self.invariant e b h (c.packet_ranges.ensures.fields, c.moment_range.ensures) (omega arith)
+    arrived a b p c.args.now c.later-at.result c.later-at.ensures refl c.in-Ok-arrive.ensures.after lost refl c.record_arrival.ensures.items c.record_arrival.ensures.capacity counted
+
+-- before more may, there is room for what is queued
+still_kept : (c : After-record_arrival) → IsKeptDevice (after c 0)
+still_kept c =
+    event-kept c.self.inside c.self.invariant (event.Arrive c.args.packet.now c.args.now) (after c 0) (happened c 0) (c.packet_ranges.ensures.fields, c.moment_range.ensures) (omega arith)
     (omega (arith, c.in-Ok-arrive.ensures.counted.packets))
     (omega (arith, c.in-Ok-arrive.ensures.counted.bytes))
-    (omega (arith, c.in-Ok.ensures.room, ap (λ (l : LossList). l.places) c.arrive.ensures.kept)) in
-    omega (arith, kept.room)
+    (omega (arith, c.in-Ok.ensures.room, ap (λ (l : LossList). l.places) c.arrive.ensures.kept))
+
+pub budget-self-inside-requires-clause-room_fit : goal.budget-self-inside-requires-clause-room_fit
+budget-self-inside-requires-clause-room_fit c = omega (arith, (still_kept (goal.at.budget-self-inside-requires-clause-room_fit c).After-record_arrival).room)
 
 pub budget-self-inside-requires-clause-packets_fit : goal.budget-self-inside-requires-clause-packets_fit
-budget-self-inside-requires-clause-packets_fit c =
-    let a = c.self.inside in
-    let b = record a { tree = c.arrive.new.self; losses = c.arrive.new.sink; recorded = c.record_arrival.new.recorded; spare = 0 } in
-    let p = c.args.packet.now in
-    let e = event.Arrive p c.args.now in
-    let lost = c.in-Ok-arrive.ensures.lost ∙ ap (λ (l : LossList). l.waiting ++ losses_in (noted_by_put c.later-at.result p a.tree.tree)) c.make_room.ensures.same in
-    let counted = events-after a c.self.invariant e b (c.packet_ranges.ensures.fields, c.moment_range.ensures) (arrived-device a b p c.args.now c.later-at.result c.later-at.ensures c.in-Ok-arrive.ensures.after) refl in
-    let h = arrived a b p c.args.now c.later-at.result c.later-at.ensures refl c.in-Ok-arrive.ensures.after lost refl c.record_arrival.ensures.items c.record_arrival.ensures.capacity counted in
-    let kept : IsKeptDevice b =
-    event-kept a c.self.invariant e b h (c.packet_ranges.ensures.fields, c.moment_range.ensures) (omega arith)
-    (omega (arith, c.in-Ok-arrive.ensures.counted.packets))
-    (omega (arith, c.in-Ok-arrive.ensures.counted.bytes))
-    (omega (arith, c.in-Ok.ensures.room, ap (λ (l : LossList). l.places) c.arrive.ensures.kept)) in
-    omega (arith, kept.packets)
+budget-self-inside-requires-clause-packets_fit c = omega (arith, (still_kept (goal.at.budget-self-inside-requires-clause-packets_fit c).After-record_arrival).packets)
 
 pub budget-self-inside-requires-clause-bytes_fit : goal.budget-self-inside-requires-clause-bytes_fit
-budget-self-inside-requires-clause-bytes_fit c =
-    let a = c.self.inside in
-    let b = record a { tree = c.arrive.new.self; losses = c.arrive.new.sink; recorded = c.record_arrival.new.recorded; spare = 0 } in
-    let p = c.args.packet.now in
-    let e = event.Arrive p c.args.now in
-    let lost = c.in-Ok-arrive.ensures.lost ∙ ap (λ (l : LossList). l.waiting ++ losses_in (noted_by_put c.later-at.result p a.tree.tree)) c.make_room.ensures.same in
-    let counted = events-after a c.self.invariant e b (c.packet_ranges.ensures.fields, c.moment_range.ensures) (arrived-device a b p c.args.now c.later-at.result c.later-at.ensures c.in-Ok-arrive.ensures.after) refl in
-    let h = arrived a b p c.args.now c.later-at.result c.later-at.ensures refl c.in-Ok-arrive.ensures.after lost refl c.record_arrival.ensures.items c.record_arrival.ensures.capacity counted in
-    let kept : IsKeptDevice b =
-    event-kept a c.self.invariant e b h (c.packet_ranges.ensures.fields, c.moment_range.ensures) (omega arith)
-    (omega (arith, c.in-Ok-arrive.ensures.counted.packets))
-    (omega (arith, c.in-Ok-arrive.ensures.counted.bytes))
-    (omega (arith, c.in-Ok.ensures.room, ap (λ (l : LossList). l.places) c.arrive.ensures.kept)) in
-    omega (arith, kept.bytes)
+budget-self-inside-requires-clause-bytes_fit c = omega (arith, (still_kept (goal.at.budget-self-inside-requires-clause-bytes_fit c).After-record_arrival).bytes)
 
 pub invariant_of-self-2 : goal.invariant_of-self-2
 invariant_of-self-2 c =
-    let a = c.self.inside in
-    let b = record a { tree = c.arrive.new.self; losses = c.arrive.new.sink; recorded = c.record_arrival.new.recorded; spare = 0 } in
-    let p = c.args.packet.now in
-    let e = event.Arrive p c.args.now in
-    let lost = c.in-Ok-arrive.ensures.lost ∙ ap (λ (l : LossList). l.waiting ++ losses_in (noted_by_put c.later-at.result p a.tree.tree)) c.make_room.ensures.same in
-    let counted = events-after a c.self.invariant e b (c.packet_ranges.ensures.fields, c.moment_range.ensures) (arrived-device a b p c.args.now c.later-at.result c.later-at.ensures c.in-Ok-arrive.ensures.after) refl in
-    let h = arrived a b p c.args.now c.later-at.result c.later-at.ensures refl c.in-Ok-arrive.ensures.after lost refl c.record_arrival.ensures.items c.record_arrival.ensures.capacity counted in
-    let kept : IsKeptDevice b =
-    event-kept a c.self.invariant e b h (c.packet_ranges.ensures.fields, c.moment_range.ensures) (omega arith)
-    (omega (arith, c.in-Ok-arrive.ensures.counted.packets))
-    (omega (arith, c.in-Ok-arrive.ensures.counted.bytes))
-    (omega (arith, c.in-Ok.ensures.room, ap (λ (l : LossList). l.places) c.arrive.ensures.kept)) in
-    spared-kept b kept c.budget-self-inside.result c.budget-self-inside.ensures.room c.budget-self-inside.ensures.packets c.budget-self-inside.ensures.bytes c.budget-self-inside.ensures.full
+    let d = (goal.at.invariant_of-self-2 c).After-record_arrival in
+    spared-kept (after d 0) (still_kept d) c.budget-self-inside.result c.budget-self-inside.ensures.room c.budget-self-inside.ensures.packets c.budget-self-inside.ensures.bytes c.budget-self-inside.ensures.full
 
 pub returns-clause-event : goal.returns-clause-event
 returns-clause-event c =
-    let a = c.self.inside in
-    let b = record a { tree = c.arrive.new.self; losses = c.arrive.new.sink; recorded = c.record_arrival.new.recorded; spare = c.budget-self-inside.result } in
-    let p = c.args.packet.now in
-    let e = event.Arrive p c.args.now in
-    let lost = c.in-Ok-arrive.ensures.lost ∙ ap (λ (l : LossList). l.waiting ++ losses_in (noted_by_put c.later-at.result p a.tree.tree)) c.make_room.ensures.same in
-    let counted = events-after a c.self.invariant e b (c.packet_ranges.ensures.fields, c.moment_range.ensures) (arrived-device a b p c.args.now c.later-at.result c.later-at.ensures c.in-Ok-arrive.ensures.after) refl in
-    let h = arrived a b p c.args.now c.later-at.result c.later-at.ensures refl c.in-Ok-arrive.ensures.after lost refl c.record_arrival.ensures.items c.record_arrival.ensures.capacity counted in
-    event-seen a e b h ∙ ap (λ (d : DeviceSeen). record (with_event e d) { memory = (device_seen b).memory }) c.self.view_is
+    let d = (goal.at.returns-clause-event c).After-record_arrival in
+    let e = event.Arrive c.args.packet.now c.args.now in
+    let b = after d c.budget-self-inside.result in
+    event-seen c.self.inside e b (happened d c.budget-self-inside.result) ∙ ap (λ (x : DeviceSeen). record (with_event e x) { memory = (device_seen b).memory }) c.self.view_is
 
 pub returns-clause-moment : goal.returns-clause-moment
 returns-clause-moment c = ap (λ (d : DeviceSeen). event.Arrive c.args.packet.now d.device.clock) (sym (returns-clause-event c))
@@ -151,27 +122,17 @@ returns-clause-fate c =
 
 pub returns-clause-arrived : goal.returns-clause-arrived
 returns-clause-arrived c =
-    let a = c.self.inside in
-    let b = record a { tree = c.arrive.new.self; losses = c.arrive.new.sink; recorded = c.record_arrival.new.recorded; spare = c.budget-self-inside.result } in
-    let p = c.args.packet.now in
-    let e = event.Arrive p c.args.now in
-    let lost = c.in-Ok-arrive.ensures.lost ∙ ap (λ (l : LossList). l.waiting ++ losses_in (noted_by_put c.later-at.result p a.tree.tree)) c.make_room.ensures.same in
-    let counted = events-after a c.self.invariant e b (c.packet_ranges.ensures.fields, c.moment_range.ensures) (arrived-device a b p c.args.now c.later-at.result c.later-at.ensures c.in-Ok-arrive.ensures.after) refl in
-    let h = arrived a b p c.args.now c.later-at.result c.later-at.ensures refl c.in-Ok-arrive.ensures.after lost refl c.record_arrival.ensures.items c.record_arrival.ensures.capacity counted in
-    ap (λ (d : DeviceSeen). d.device.tree.top.arrived) (event-seen a e b h)
-    ∙ kept-arrived a c.self.invariant e (c.packet_ranges.ensures.fields, c.moment_range.ensures)
-    ∙ ap (λ (d : DeviceSeen). with_packet d.device.tree.top.arrived p) c.self.view_is
+    let d = (goal.at.returns-clause-arrived c).After-record_arrival in
+    let e = event.Arrive c.args.packet.now c.args.now in
+    ap (λ (x : DeviceSeen). x.device.tree.top.arrived) (event-seen c.self.inside e (after d c.budget-self-inside.result) (happened d c.budget-self-inside.result))
+    ∙ kept-arrived c.self.inside c.self.invariant e (c.packet_ranges.ensures.fields, c.moment_range.ensures)
+    ∙ ap (λ (x : DeviceSeen). with_packet x.device.tree.top.arrived c.args.packet.now) c.self.view_is
 
 pub returns-clause-counters : goal.returns-clause-counters
 returns-clause-counters c =
-    let a = c.self.inside in
-    let b = record a { tree = c.arrive.new.self; losses = c.arrive.new.sink; recorded = c.record_arrival.new.recorded; spare = c.budget-self-inside.result } in
-    let p = c.args.packet.now in
-    let e = event.Arrive p c.args.now in
-    let lost = c.in-Ok-arrive.ensures.lost ∙ ap (λ (l : LossList). l.waiting ++ losses_in (noted_by_put c.later-at.result p a.tree.tree)) c.make_room.ensures.same in
-    let counted = events-after a c.self.invariant e b (c.packet_ranges.ensures.fields, c.moment_range.ensures) (arrived-device a b p c.args.now c.later-at.result c.later-at.ensures c.in-Ok-arrive.ensures.after) refl in
-    let h = arrived a b p c.args.now c.later-at.result c.later-at.ensures refl c.in-Ok-arrive.ensures.after lost refl c.record_arrival.ensures.items c.record_arrival.ensures.capacity counted in
-    subst (λ (d : DeviceSeen). HasNotFallen d.device.tree.top c.arrive.new.self.tree.top.counts) c.self.view_is (event-rises a e b h)
+    let d = (goal.at.returns-clause-counters c).After-record_arrival in
+    subst (λ (x : DeviceSeen). HasNotFallen x.device.tree.top c.arrive.new.self.tree.top.counts) c.self.view_is
+    (event-rises c.self.inside (event.Arrive c.args.packet.now c.args.now) (after d c.budget-self-inside.result) (happened d c.budget-self-inside.result))
 
 pub returns-clause-queues : goal.returns-clause-queues
 returns-clause-queues c = λ path. omega (arith, c.arrive.ensures.places path, ap (λ (d : DeviceSeen). places_at path d.memory.tree.tree.root) c.self.view_is)

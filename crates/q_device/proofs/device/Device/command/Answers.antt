@@ -11,11 +11,13 @@ use Rattle.q_model.specs.Tally.{totals}
 use Rattle.q_tree.specs.Commands.{IsRefused, plan_of}
 use Rattle.q_tree.specs.Commanding.{MayTakeMemory, WantsMemory}
 use Rattle.q_tree.specs.TreeSeen.{numbers}
+use Rattle.q_device.specs.declared.device.Device.TheInside.{Inside}
 use Rattle.q_device.specs.Counters.{HasNotFallen}
 use Rattle.q_device.specs.DeviceSeen.{DeviceSeen, IsRefusal, IsRefusedAt, with_event}
 use Rattle.q_device.specs.Keeping.{device_seen, IsKeptDevice}
-use Rattle.q_device.proofs.EventLemmas.{commanded, commanded-device, done-reply, event-rises, may-be-refused, event-seen, refused-reply, told-nothing}
+use Rattle.q_device.proofs.EventLemmas.{Happened, commanded, commanded-device, done-reply, event-rises, may-be-refused, event-seen, refused-reply, told-nothing}
 use Rattle.q_device.proofs.KeptLemmas.{event-kept, events-after, kept-arrived}
+use Rattle.q_device.proofs.device.Device.command.Goals.{After-count_other}
 use Rattle.q_device.proofs.device.Device.command.Goals as goal
 
 -- a refused command leaves the tree and the lost list
@@ -46,24 +48,29 @@ returns-in_err-command-clause-memory c =
     subst (λ (d : DeviceSeen). IfErr c.from_residual.result (IsRefusedAt c.args.command c.args.now d)) c.self.view_is
     (passed_on c.from_residual.result c.in_err-command.field-0.0 (IsRefusedAt c.args.command c.args.now (device_seen a)) c.from_residual.ensures.1 refused)
 
+-- the command was done
+abbrev after : After-count_other → Inside
+after c = record c.self.inside { tree = c.command.new.self; losses = c.command.new.sink; recorded = c.record_command.new.recorded; others = c.count_other.new.others }
+
+happened : (c : After-count_other) → Happened c.self.inside (event.Command c.args.command c.args.now) (after c)
+happened c =
+    let a = c.self.inside in
+    let b = after c in
+    let counted = events-after a c.self.invariant (event.Command c.args.command c.args.now) b (c.ranges-2.ensures, c.moment_range.ensures) (commanded-device a b c.args.command c.args.now c.later-at.result c.later-at.ensures c.in_ok-command.ensures.answer) c.count_other.ensures in
+    commanded a b c.args.command c.args.now c.later-at.result c.later-at.ensures refl c.in_ok-command.ensures.answer c.in_ok-command.ensures.lost refl c.record_command.ensures.items c.record_command.ensures.capacity counted
+
 pub invariant_of-self-2 : goal.invariant_of-self-2
 invariant_of-self-2 c =
-    let a = c.self.inside in
-    let b = record a { tree = c.command.new.self; losses = c.command.new.sink; recorded = c.record_command.new.recorded; others = c.count_other.new.others } in
-    let counted = events-after a c.self.invariant (event.Command c.args.command c.args.now) b (c.ranges-2.ensures, c.moment_range.ensures) (commanded-device a b c.args.command c.args.now c.later-at.result c.later-at.ensures c.in_ok-command.ensures.answer) c.count_other.ensures in
-    let h = commanded a b c.args.command c.args.now c.later-at.result c.later-at.ensures refl c.in_ok-command.ensures.answer c.in_ok-command.ensures.lost refl c.record_command.ensures.items c.record_command.ensures.capacity counted in
-    event-kept a c.self.invariant (event.Command c.args.command c.args.now) b h (c.ranges-2.ensures, c.moment_range.ensures)
+    let d = (goal.at.invariant_of-self-2 c).After-count_other in
+    event-kept c.self.inside c.self.invariant (event.Command c.args.command c.args.now) (after d) (happened d) (c.ranges-2.ensures, c.moment_range.ensures)
     (omega arith) c.self.invariant.packets c.self.invariant.bytes
     (omega (arith, c.self.invariant.room, ap (λ (l : LossList). l.places) c.in_ok-command.ensures.kept))
 
 pub returns-clause-event : goal.returns-clause-event
 returns-clause-event c =
-    let a = c.self.inside in
-    let b = record a { tree = c.command.new.self; losses = c.command.new.sink; recorded = c.record_command.new.recorded; others = c.count_other.new.others } in
-    let counted = events-after a c.self.invariant (event.Command c.args.command c.args.now) b (c.ranges-2.ensures, c.moment_range.ensures) (commanded-device a b c.args.command c.args.now c.later-at.result c.later-at.ensures c.in_ok-command.ensures.answer) c.count_other.ensures in
-    let h = commanded a b c.args.command c.args.now c.later-at.result c.later-at.ensures refl c.in_ok-command.ensures.answer c.in_ok-command.ensures.lost refl c.record_command.ensures.items c.record_command.ensures.capacity counted in
+    let d = (goal.at.returns-clause-event c).After-count_other in
     let e = event.Command c.args.command c.args.now in
-    event-seen a e b h ∙ ap (λ (d : DeviceSeen). record (with_event e d) { memory = (device_seen b).memory }) c.self.view_is
+    event-seen c.self.inside e (after d) (happened d) ∙ ap (λ (x : DeviceSeen). record (with_event e x) { memory = (device_seen (after d)).memory }) c.self.view_is
 
 pub returns-clause-reply : goal.returns-clause-reply
 returns-clause-reply c =
@@ -73,20 +80,14 @@ returns-clause-reply c =
 
 pub returns-clause-arrived : goal.returns-clause-arrived
 returns-clause-arrived c =
-    let a = c.self.inside in
-    let b = record a { tree = c.command.new.self; losses = c.command.new.sink; recorded = c.record_command.new.recorded; others = c.count_other.new.others } in
-    let counted = events-after a c.self.invariant (event.Command c.args.command c.args.now) b (c.ranges-2.ensures, c.moment_range.ensures) (commanded-device a b c.args.command c.args.now c.later-at.result c.later-at.ensures c.in_ok-command.ensures.answer) c.count_other.ensures in
-    let h = commanded a b c.args.command c.args.now c.later-at.result c.later-at.ensures refl c.in_ok-command.ensures.answer c.in_ok-command.ensures.lost refl c.record_command.ensures.items c.record_command.ensures.capacity counted in
+    let d = (goal.at.returns-clause-arrived c).After-count_other in
     let e = event.Command c.args.command c.args.now in
-    ap (λ (d : DeviceSeen). d.device.tree.top.arrived) (event-seen a e b h)
-    ∙ kept-arrived a c.self.invariant e (c.ranges-2.ensures, c.moment_range.ensures)
-    ∙ ap (λ (d : DeviceSeen). d.device.tree.top.arrived) c.self.view_is
+    ap (λ (x : DeviceSeen). x.device.tree.top.arrived) (event-seen c.self.inside e (after d) (happened d))
+    ∙ kept-arrived c.self.inside c.self.invariant e (c.ranges-2.ensures, c.moment_range.ensures)
+    ∙ ap (λ (x : DeviceSeen). x.device.tree.top.arrived) c.self.view_is
 
 pub returns-clause-counters : goal.returns-clause-counters
 returns-clause-counters c =
-    let a = c.self.inside in
-    let b = record a { tree = c.command.new.self; losses = c.command.new.sink; recorded = c.record_command.new.recorded; others = c.count_other.new.others } in
-    let counted = events-after a c.self.invariant (event.Command c.args.command c.args.now) b (c.ranges-2.ensures, c.moment_range.ensures) (commanded-device a b c.args.command c.args.now c.later-at.result c.later-at.ensures c.in_ok-command.ensures.answer) c.count_other.ensures in
-    let h = commanded a b c.args.command c.args.now c.later-at.result c.later-at.ensures refl c.in_ok-command.ensures.answer c.in_ok-command.ensures.lost refl c.record_command.ensures.items c.record_command.ensures.capacity counted in
-    let e = event.Command c.args.command c.args.now in
-    subst (λ (d : DeviceSeen). HasNotFallen d.device.tree.top c.command.new.self.tree.top.counts) c.self.view_is (event-rises a e b h)
+    let d = (goal.at.returns-clause-counters c).After-count_other in
+    subst (λ (x : DeviceSeen). HasNotFallen x.device.tree.top c.command.new.self.tree.top.counts) c.self.view_is
+    (event-rises c.self.inside (event.Command c.args.command c.args.now) (after d) (happened d))

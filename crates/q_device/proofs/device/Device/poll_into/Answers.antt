@@ -11,13 +11,15 @@ use Rattle.q_model.specs.Tally.{totals}
 use Rattle.q_model.specs.TreeState.{given, take_packet}
 use Rattle.q_tree.specs.Kept.{Kept, kept}
 use Rattle.q_tree.specs.TreeSeen.{numbers}
+use Rattle.q_device.specs.declared.device.Device.TheInside.{Inside}
 use Rattle.q_device.specs.Counters.{HasNotFallen}
 use Rattle.q_device.specs.DeviceSeen.{DeviceSeen, polled_memory, with_event}
 use Rattle.q_device.specs.Giving.{given_of, polled_in}
 use Rattle.q_device.specs.Keeping.{device_seen}
-use Rattle.q_device.proofs.EventLemmas.{event-rises, event-seen, polled, polled-device, polled-others, reply-step}
+use Rattle.q_device.proofs.EventLemmas.{Happened, event-rises, event-seen, polled, polled-device, polled-others, reply-step}
 use Rattle.q_device.proofs.KeptLemmas.{event-kept, events-after, kept-arrived}
 use Rattle.q_device.proofs.ReadyNumbers.{given-numbers}
+use Rattle.q_device.proofs.device.Device.poll_into.Goals.{After-count_poll}
 use Rattle.q_device.proofs.device.Device.poll_into.Goals as goal
 
 -- the place and the answer together say what a poll gives
@@ -26,24 +28,29 @@ told-poll (Some p) before empty = refl
 told-poll None before true = refl
 told-poll None before false = refl
 
-pub invariant_of-self : goal.invariant_of-self
-invariant_of-self c =
+-- the poll has happened
+abbrev after : After-count_poll → Inside
+after c = record c.self.inside { tree = c.send-sent.new.self; losses = c.send-sent.new.sink; recorded = c.record_poll.new.recorded; others = c.count_poll.new.others }
+
+happened : (c : After-count_poll) → Happened c.self.inside (event.Poll c.args.now) (after c)
+happened c =
     let a = c.self.inside in
-    let b = record a { tree = c.send-sent.new.self; losses = c.send-sent.new.sink; recorded = c.record_poll.new.recorded; others = c.count_poll.new.others } in
+    let b = after c in
     let others = polled-others a c.args.now c.later-at.result c.count_poll.new.others c.send-sent.result c.later-at.ensures c.send-sent.ensures.sent c.count_poll.ensures in
     let counted = events-after a c.self.invariant (event.Poll c.args.now) b c.moment_range.ensures (polled-device a b c.args.now c.later-at.result c.later-at.ensures c.send-sent.ensures.after) others in
-    let h = polled a b c.args.now c.later-at.result c.later-at.ensures refl c.send-sent.ensures.after c.send-sent.ensures.lost refl c.record_poll.ensures.items c.record_poll.ensures.capacity counted in
-    event-kept a c.self.invariant (event.Poll c.args.now) b h c.moment_range.ensures (omega arith) c.self.invariant.packets c.self.invariant.bytes
+    polled a b c.args.now c.later-at.result c.later-at.ensures refl c.send-sent.ensures.after c.send-sent.ensures.lost refl c.record_poll.ensures.items c.record_poll.ensures.capacity counted
+
+pub invariant_of-self : goal.invariant_of-self
+invariant_of-self c =
+    let d = (goal.at.invariant_of-self c).After-count_poll in
+    event-kept c.self.inside c.self.invariant (event.Poll c.args.now) (after d) (happened d) c.moment_range.ensures (omega arith) c.self.invariant.packets c.self.invariant.bytes
     (omega (arith, c.self.invariant.room, ap (λ (l : LossList). l.places) c.send-sent.ensures.kept))
 
 pub returns-clause-event : goal.returns-clause-event
 returns-clause-event c =
-    let a = c.self.inside in
-    let b = record a { tree = c.send-sent.new.self; losses = c.send-sent.new.sink; recorded = c.record_poll.new.recorded; others = c.count_poll.new.others } in
-    let others = polled-others a c.args.now c.later-at.result c.count_poll.new.others c.send-sent.result c.later-at.ensures c.send-sent.ensures.sent c.count_poll.ensures in
-    let counted = events-after a c.self.invariant (event.Poll c.args.now) b c.moment_range.ensures (polled-device a b c.args.now c.later-at.result c.later-at.ensures c.send-sent.ensures.after) others in
-    let h = polled a b c.args.now c.later-at.result c.later-at.ensures refl c.send-sent.ensures.after c.send-sent.ensures.lost refl c.record_poll.ensures.items c.record_poll.ensures.capacity counted in
-    event-seen a (event.Poll c.args.now) b h ∙ ap (λ (d : DeviceSeen). record (with_event (event.Poll c.args.now) d) { memory = (device_seen b).memory }) c.self.view_is
+    let d = (goal.at.returns-clause-event c).After-count_poll in
+    let e = event.Poll c.args.now in
+    event-seen c.self.inside e (after d) (happened d) ∙ ap (λ (x : DeviceSeen). record (with_event e x) { memory = (device_seen (after d)).memory }) c.self.view_is
 
 pub returns-clause-memory : goal.returns-clause-memory
 returns-clause-memory c =
@@ -79,20 +86,13 @@ returns-clause-packet c =
 
 pub returns-clause-arrived : goal.returns-clause-arrived
 returns-clause-arrived c =
-    let a = c.self.inside in
-    let b = record a { tree = c.send-sent.new.self; losses = c.send-sent.new.sink; recorded = c.record_poll.new.recorded; others = c.count_poll.new.others } in
-    let others = polled-others a c.args.now c.later-at.result c.count_poll.new.others c.send-sent.result c.later-at.ensures c.send-sent.ensures.sent c.count_poll.ensures in
-    let counted = events-after a c.self.invariant (event.Poll c.args.now) b c.moment_range.ensures (polled-device a b c.args.now c.later-at.result c.later-at.ensures c.send-sent.ensures.after) others in
-    let h = polled a b c.args.now c.later-at.result c.later-at.ensures refl c.send-sent.ensures.after c.send-sent.ensures.lost refl c.record_poll.ensures.items c.record_poll.ensures.capacity counted in
-    ap (λ (d : DeviceSeen). d.device.tree.top.arrived) (event-seen a (event.Poll c.args.now) b h)
-    ∙ kept-arrived a c.self.invariant (event.Poll c.args.now) c.moment_range.ensures
-    ∙ ap (λ (d : DeviceSeen). d.device.tree.top.arrived) c.self.view_is
+    let d = (goal.at.returns-clause-arrived c).After-count_poll in
+    let e = event.Poll c.args.now in
+    ap (λ (x : DeviceSeen). x.device.tree.top.arrived) (event-seen c.self.inside e (after d) (happened d))
+    ∙ kept-arrived c.self.inside c.self.invariant e c.moment_range.ensures
+    ∙ ap (λ (x : DeviceSeen). x.device.tree.top.arrived) c.self.view_is
 
 pub returns-clause-counters : goal.returns-clause-counters
 returns-clause-counters c =
-    let a = c.self.inside in
-    let b = record a { tree = c.send-sent.new.self; losses = c.send-sent.new.sink; recorded = c.record_poll.new.recorded; others = c.count_poll.new.others } in
-    let others = polled-others a c.args.now c.later-at.result c.count_poll.new.others c.send-sent.result c.later-at.ensures c.send-sent.ensures.sent c.count_poll.ensures in
-    let counted = events-after a c.self.invariant (event.Poll c.args.now) b c.moment_range.ensures (polled-device a b c.args.now c.later-at.result c.later-at.ensures c.send-sent.ensures.after) others in
-    let h = polled a b c.args.now c.later-at.result c.later-at.ensures refl c.send-sent.ensures.after c.send-sent.ensures.lost refl c.record_poll.ensures.items c.record_poll.ensures.capacity counted in
-    subst (λ (d : DeviceSeen). HasNotFallen d.device.tree.top c.send-sent.new.self.tree.top.counts) c.self.view_is (event-rises a (event.Poll c.args.now) b h)
+    let d = (goal.at.returns-clause-counters c).After-count_poll in
+    subst (λ (x : DeviceSeen). HasNotFallen x.device.tree.top c.send-sent.new.self.tree.top.counts) c.self.view_is (event-rises c.self.inside (event.Poll c.args.now) (after d) (happened d))
