@@ -121,8 +121,8 @@ impl Node {
         ensures kept { S.keeps sink.old sink.new }
     {
         self.row.fit();
-        if let Some(packet) = self.held {
-            self.held = None;
+        if let Some(packet) = self.held.packet() {
+            self.held.clear();
             book_sent(&mut self.row, &packet);
             *out = packet;
             return Shown::sending(&packet, &NO_SIGNALS);
@@ -163,8 +163,8 @@ impl Node {
         ensures kept { S.keeps sink.old sink.new }
     {
         self.row.fit();
-        if let Some(packet) = self.held {
-            self.held = None;
+        if let Some(packet) = self.held.packet() {
+            self.held.clear();
             book_sent(&mut self.row, &packet);
             *out = packet;
             return Shown::sending(&packet, &NO_SIGNALS);
@@ -216,8 +216,8 @@ impl Node {
         ensures arrived { self.new.memory.counts.arrived ≡ self.old.memory.counts.arrived }
     {
         self.row.fit();
-        if let Some(packet) = self.held {
-            self.held = None;
+        if let Some(packet) = self.held.packet() {
+            self.held.clear();
             book_sent(&mut self.row, &packet);
             *out = packet;
             return true;

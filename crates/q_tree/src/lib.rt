@@ -24,6 +24,7 @@ mod filter_index;
 mod filter_shape;
 mod filters;
 mod find;
+mod held;
 pub mod laws;
 mod listed_flows;
 mod masked_filter;

@@ -8,6 +8,7 @@ use crate::counters::Counters;
 use crate::disciplines::drr::class_place;
 use crate::disciplines::prio::band;
 use crate::filters::Filters;
+use crate::held::Held;
 use crate::node_route::NodeRoute;
 use q_bucket::Bucket;
 use q_codel::Fifo;
@@ -25,7 +26,7 @@ use std::marker::Model;
 #[cycle(node)]
 #[derive(Drop)]
 pub(crate) struct Node {
-    pub(crate) held: Option<Packet>,
+    pub(crate) held: Held,
     pub(crate) row: Counters,
     pub(crate) filters: Filters,
     pub(crate) handle: Option<Handle>,

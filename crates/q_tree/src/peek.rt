@@ -16,6 +16,7 @@ use crate::disciplines::fifo::first_packet;
 use crate::disciplines::fq_codel::take_from_flows;
 use crate::disciplines::prio::{ask_bands, first_at_hand, ready_band};
 use crate::disciplines::tbf::ask_child;
+use crate::held::Held;
 use crate::node::{Discipline, Node};
 use crate::shown::Shown;
 use crate::signals::Signals;
@@ -48,7 +49,7 @@ impl Node {
     {
         self.row.fit();
         if self.held.is_some() {
-            return Shown::at_hand(&self.held);
+            return Shown::at_hand(&self.held.packet());
         }
         // A fifo is met with no call, and nothing is dropped or marked there.
         if let Discipline::Fifo(fifo) = &self.discipline {
@@ -86,7 +87,7 @@ impl Node {
         ensures { result ≡ (pop self.now).shown }
     {
         if self.held.is_some() {
-            return self.held;
+            return self.held.packet();
         }
         match &self.discipline {
             Discipline::Fifo(fifo) => return first_packet(fifo),
@@ -121,7 +122,7 @@ impl Discipline {
     #[inline(always)]
     fn ask<S: Sink>(
         &mut self,
-        held: &mut Option<Packet>,
+        held: &mut Held,
         now: Moment,
         signals: &mut Signals,
         sink: &mut S,

@@ -87,7 +87,7 @@ impl Node {
     pub(crate) fn outlook(&self, now: Moment) -> Outlook
         ensures { result ≡ outlook now self.now }
     {
-        if let Some(packet) = &self.held {
+        if let Some(packet) = self.held.packet() {
             return Outlook::at_hand(now, packet.len);
         }
         match &self.discipline {

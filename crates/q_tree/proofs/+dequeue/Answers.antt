@@ -1,4 +1,5 @@
-use Rattle.std.proofs.Common.{ℕ, ◌∙◌, [], ◌∷◌, set, length, add-one, refl, sym, ap, subst, arith}
+use Rattle.q_packet.specs.Descriptor.{Descriptor}
+use Rattle.std.proofs.Common.{ℕ, ◌∙◌, [], ◌∷◌, set, length, add-one, refl, sym, ap, subst, arith, Option}
 use Rattle.std.specs.Prelude.{slice_index_or, unwrap_or}
 use Rattle.std.proofs.lemmas.Option.{slice_get-map}
 use Rattle.q_packet.specs.declared.stamped.Stamped.{Stamped}
@@ -18,7 +19,7 @@ use Rattle.q_model.specs.Work.{Worked, booked}
 use Rattle.q_tree.specs.AskSteps.{IsToldOf, answers, own_of, signals_of}
 use Rattle.q_tree.specs.Kept.{Kept, kept}
 use Rattle.q_tree.specs.NodeCode.{forest_size}
-use Rattle.q_tree.specs.Seen.{children_seen, discipline_seen, places_seen}
+use Rattle.q_tree.specs.Seen.{children_seen, discipline_seen, places_seen, seen}
 use Rattle.q_tree.specs.declared.node.Discipline.TheVariants as code
 use Rattle.q_tree.specs.Shown.{Shown}
 use Rattle.q_tree.proofs.AskBands.{AreBandsAsked, told_to, band-at, band-once, band-passed, band-told, bands-start, bands-end, bands-rises}
@@ -240,13 +241,13 @@ node::Discipline::dequeue-returns-in-FqCodel-clause-told g t c = λ handle filte
 
 pub node::Node::dequeue-returns-in-Some-clause-after : goal.node::Node::dequeue-returns-in-Some-clause-after
 node::Node::dequeue-returns-in-Some-clause-after g t c =
-    let stays = holding-after c.args.now c.self.inside c.args.self.now c.in-Some.packet c.self.view_is c.in-Some.is in
-    held-after c.self.inside c.in-Some.packet c.in-Some.is c.book_sent.new.row c.book_sent.ensures ∙ ap (λ n. booked kept n (pop n).after) c.self.view_is
-    ∙ gave-asked c.args.now c.args.self.now c.args.self.now c.in-Some.packet c.requires.ready stays (held-answer c.args.now c.self.inside c.args.self.now c.in-Some.packet c.self.view_is c.in-Some.is).packet
+    let stays = holding-after c.args.now c.self.inside c.args.self.now c.in-Some.packet c.self.view_is (sym c.packet.ensures ∙ c.in-Some.is) in
+    ap (λ (h : Option Descriptor). seen (record c.self.inside { held = h; row = c.book_sent.new.row })) c.clear.ensures ∙ held-after c.self.inside c.in-Some.packet (sym c.packet.ensures ∙ c.in-Some.is) c.book_sent.new.row c.book_sent.ensures ∙ ap (λ n. booked kept n (pop n).after) c.self.view_is
+    ∙ gave-asked c.args.now c.args.self.now c.args.self.now c.in-Some.packet c.requires.ready stays (held-answer c.args.now c.self.inside c.args.self.now c.in-Some.packet c.self.view_is (sym c.packet.ensures ∙ c.in-Some.is)).packet
 
 pub node::Node::dequeue-returns-in-Some-clause-shown : goal.node::Node::dequeue-returns-in-Some-clause-shown
 node::Node::dequeue-returns-in-Some-clause-shown g t c =
-    held-shows c.args.now c.self.inside c.args.self.now c.in-Some.packet c.self.view_is c.in-Some.is c.sending.result c.sending.ensures
+    held-shows c.args.now c.self.inside c.args.self.now c.in-Some.packet c.self.view_is (sym c.packet.ensures ∙ c.in-Some.is) c.sending.result c.sending.ensures
 
 pub node::Node::dequeue-returns-in-Some-clause-packet : goal.node::Node::dequeue-returns-in-Some-clause-packet
 node::Node::dequeue-returns-in-Some-clause-packet g t c =
@@ -254,34 +255,34 @@ node::Node::dequeue-returns-in-Some-clause-packet g t c =
 
 pub node::Node::dequeue-invariant_of-self-then-not-has_packet : goal.node::Node::dequeue-invariant_of-self-then-not-has_packet
 node::Node::dequeue-invariant_of-self-then-not-has_packet g t c =
-    (none-sent c.args.now c.self.inside c.args.self.now c.self.invariant c.self.view_is c.requires.ready c.in_default.is (code.Fifo c.dequeue_head-shown.new.fifo) c.dequeue_head-shown.result (fifo-sent c.args.now c.self.inside.handle c.self.inside.filters c.self.inside.discipline (code.Fifo c.dequeue_head-shown.new.fifo) c.in-Fifo.fifo.limit c.in-Fifo.fifo.packets c.dequeue_head-shown.result (ap discipline_seen c.in-Fifo.is) (ap children_seen c.in-Fifo.is)
+    (none-sent c.args.now c.self.inside c.args.self.now c.self.invariant c.self.view_is c.requires.ready (sym c.packet.ensures ∙ c.in_default.is) (code.Fifo c.dequeue_head-shown.new.fifo) c.dequeue_head-shown.result (fifo-sent c.args.now c.self.inside.handle c.self.inside.filters c.self.inside.discipline (code.Fifo c.dequeue_head-shown.new.fifo) c.in-Fifo.fifo.limit c.in-Fifo.fifo.packets c.dequeue_head-shown.result (ap discipline_seen c.in-Fifo.is) (ap children_seen c.in-Fifo.is)
     (ap (λ (f : FifoState). spec.Fifo f.limit f.packets) c.dequeue_head-shown.ensures.rest) refl (ap (λ (f : FifoState). f.places) c.dequeue_head-shown.ensures.rest ∙ sym (ap places_seen c.in-Fifo.is))
-    (c.dequeue_head-shown.ensures.shown ∙ sym (slice_get-map (λ (s : Stamped). s.packet) c.in-Fifo.fifo.packets 0)) c.dequeue_head-shown.ensures.dropped c.dequeue_head-shown.ensures.marked) c.self.inside.row (can-book c.args.now c.self.inside c.args.self.now c.self.invariant c.self.view_is c.requires.ready c.in_default.is c.dequeue_head-shown.result (fifo-sent c.args.now c.self.inside.handle c.self.inside.filters c.self.inside.discipline (code.Fifo c.dequeue_head-shown.new.fifo) c.in-Fifo.fifo.limit c.in-Fifo.fifo.packets c.dequeue_head-shown.result (ap discipline_seen c.in-Fifo.is) (ap children_seen c.in-Fifo.is)
+    (c.dequeue_head-shown.ensures.shown ∙ sym (slice_get-map (λ (s : Stamped). s.packet) c.in-Fifo.fifo.packets 0)) c.dequeue_head-shown.ensures.dropped c.dequeue_head-shown.ensures.marked) c.self.inside.row (can-book c.args.now c.self.inside c.args.self.now c.self.invariant c.self.view_is c.requires.ready (sym c.packet.ensures ∙ c.in_default.is) c.dequeue_head-shown.result (fifo-sent c.args.now c.self.inside.handle c.self.inside.filters c.self.inside.discipline (code.Fifo c.dequeue_head-shown.new.fifo) c.in-Fifo.fifo.limit c.in-Fifo.fifo.packets c.dequeue_head-shown.result (ap discipline_seen c.in-Fifo.is) (ap children_seen c.in-Fifo.is)
     (ap (λ (f : FifoState). spec.Fifo f.limit f.packets) c.dequeue_head-shown.ensures.rest) refl (ap (λ (f : FifoState). f.places) c.dequeue_head-shown.ensures.rest ∙ sym (ap places_seen c.in-Fifo.is))
     (c.dequeue_head-shown.ensures.shown ∙ sym (slice_get-map (λ (s : Stamped). s.packet) c.in-Fifo.fifo.packets 0)) c.dequeue_head-shown.ensures.dropped c.dequeue_head-shown.ensures.marked).children.shown (omega (arith, c.self.ranges, c.fit.ensures.packets, c.fit.ensures.bytes)) (omega (arith, c.self.ranges, c.fit.ensures.packets, c.fit.ensures.bytes))) (shown-nothing c.dequeue_head-shown.result c.self.inside.row c.dequeue_head-shown.ensures.dropped c.dequeue_head-shown.ensures.marked) (none-held c.dequeue_head-shown.result.packet (sym c.if-not-has_packet.true ∙ c.has_packet.ensures))).stays
 
 pub node::Node::dequeue-returns-then-not-has_packet-clause-after : goal.node::Node::dequeue-returns-then-not-has_packet-clause-after
 node::Node::dequeue-returns-then-not-has_packet-clause-after g t c =
-    (none-sent c.args.now c.self.inside c.args.self.now c.self.invariant c.self.view_is c.requires.ready c.in_default.is (code.Fifo c.dequeue_head-shown.new.fifo) c.dequeue_head-shown.result (fifo-sent c.args.now c.self.inside.handle c.self.inside.filters c.self.inside.discipline (code.Fifo c.dequeue_head-shown.new.fifo) c.in-Fifo.fifo.limit c.in-Fifo.fifo.packets c.dequeue_head-shown.result (ap discipline_seen c.in-Fifo.is) (ap children_seen c.in-Fifo.is)
+    (none-sent c.args.now c.self.inside c.args.self.now c.self.invariant c.self.view_is c.requires.ready (sym c.packet.ensures ∙ c.in_default.is) (code.Fifo c.dequeue_head-shown.new.fifo) c.dequeue_head-shown.result (fifo-sent c.args.now c.self.inside.handle c.self.inside.filters c.self.inside.discipline (code.Fifo c.dequeue_head-shown.new.fifo) c.in-Fifo.fifo.limit c.in-Fifo.fifo.packets c.dequeue_head-shown.result (ap discipline_seen c.in-Fifo.is) (ap children_seen c.in-Fifo.is)
     (ap (λ (f : FifoState). spec.Fifo f.limit f.packets) c.dequeue_head-shown.ensures.rest) refl (ap (λ (f : FifoState). f.places) c.dequeue_head-shown.ensures.rest ∙ sym (ap places_seen c.in-Fifo.is))
-    (c.dequeue_head-shown.ensures.shown ∙ sym (slice_get-map (λ (s : Stamped). s.packet) c.in-Fifo.fifo.packets 0)) c.dequeue_head-shown.ensures.dropped c.dequeue_head-shown.ensures.marked) c.self.inside.row (can-book c.args.now c.self.inside c.args.self.now c.self.invariant c.self.view_is c.requires.ready c.in_default.is c.dequeue_head-shown.result (fifo-sent c.args.now c.self.inside.handle c.self.inside.filters c.self.inside.discipline (code.Fifo c.dequeue_head-shown.new.fifo) c.in-Fifo.fifo.limit c.in-Fifo.fifo.packets c.dequeue_head-shown.result (ap discipline_seen c.in-Fifo.is) (ap children_seen c.in-Fifo.is)
+    (c.dequeue_head-shown.ensures.shown ∙ sym (slice_get-map (λ (s : Stamped). s.packet) c.in-Fifo.fifo.packets 0)) c.dequeue_head-shown.ensures.dropped c.dequeue_head-shown.ensures.marked) c.self.inside.row (can-book c.args.now c.self.inside c.args.self.now c.self.invariant c.self.view_is c.requires.ready (sym c.packet.ensures ∙ c.in_default.is) c.dequeue_head-shown.result (fifo-sent c.args.now c.self.inside.handle c.self.inside.filters c.self.inside.discipline (code.Fifo c.dequeue_head-shown.new.fifo) c.in-Fifo.fifo.limit c.in-Fifo.fifo.packets c.dequeue_head-shown.result (ap discipline_seen c.in-Fifo.is) (ap children_seen c.in-Fifo.is)
     (ap (λ (f : FifoState). spec.Fifo f.limit f.packets) c.dequeue_head-shown.ensures.rest) refl (ap (λ (f : FifoState). f.places) c.dequeue_head-shown.ensures.rest ∙ sym (ap places_seen c.in-Fifo.is))
     (c.dequeue_head-shown.ensures.shown ∙ sym (slice_get-map (λ (s : Stamped). s.packet) c.in-Fifo.fifo.packets 0)) c.dequeue_head-shown.ensures.dropped c.dequeue_head-shown.ensures.marked).children.shown (omega (arith, c.self.ranges, c.fit.ensures.packets, c.fit.ensures.bytes)) (omega (arith, c.self.ranges, c.fit.ensures.packets, c.fit.ensures.bytes))) (shown-nothing c.dequeue_head-shown.result c.self.inside.row c.dequeue_head-shown.ensures.dropped c.dequeue_head-shown.ensures.marked) (none-held c.dequeue_head-shown.result.packet (sym c.if-not-has_packet.true ∙ c.has_packet.ensures))).after
 
 pub node::Node::dequeue-returns-then-not-has_packet-clause-shown : goal.node::Node::dequeue-returns-then-not-has_packet-clause-shown
 node::Node::dequeue-returns-then-not-has_packet-clause-shown g t c =
-    shown-here c.args.now c.self.inside c.args.self.now c.self.invariant c.self.view_is c.requires.ready c.in_default.is c.dequeue_head-shown.result (fifo-sent c.args.now c.self.inside.handle c.self.inside.filters c.self.inside.discipline (code.Fifo c.dequeue_head-shown.new.fifo) c.in-Fifo.fifo.limit c.in-Fifo.fifo.packets c.dequeue_head-shown.result (ap discipline_seen c.in-Fifo.is) (ap children_seen c.in-Fifo.is)
+    shown-here c.args.now c.self.inside c.args.self.now c.self.invariant c.self.view_is c.requires.ready (sym c.packet.ensures ∙ c.in_default.is) c.dequeue_head-shown.result (fifo-sent c.args.now c.self.inside.handle c.self.inside.filters c.self.inside.discipline (code.Fifo c.dequeue_head-shown.new.fifo) c.in-Fifo.fifo.limit c.in-Fifo.fifo.packets c.dequeue_head-shown.result (ap discipline_seen c.in-Fifo.is) (ap children_seen c.in-Fifo.is)
     (ap (λ (f : FifoState). spec.Fifo f.limit f.packets) c.dequeue_head-shown.ensures.rest) refl (ap (λ (f : FifoState). f.places) c.dequeue_head-shown.ensures.rest ∙ sym (ap places_seen c.in-Fifo.is))
     (c.dequeue_head-shown.ensures.shown ∙ sym (slice_get-map (λ (s : Stamped). s.packet) c.in-Fifo.fifo.packets 0)) c.dequeue_head-shown.ensures.dropped c.dequeue_head-shown.ensures.marked).children.shown
 
 pub node::Node::dequeue-returns-then-not-has_packet-clause-lost : goal.node::Node::dequeue-returns-then-not-has_packet-clause-lost
 node::Node::dequeue-returns-then-not-has_packet-clause-lost g t c =
-    (told-here c.args.now c.self.inside c.args.self.now c.self.invariant c.self.view_is c.requires.ready c.in_default.is (g.S.Sink.losses c.args.sink.now) (g.S.Sink.losses c.args.sink.now) (g.S.Sink.room c.args.sink.now) (g.S.Sink.room c.args.sink.now)
+    (told-here c.args.now c.self.inside c.args.self.now c.self.invariant c.self.view_is c.requires.ready (sym c.packet.ensures ∙ c.in_default.is) (g.S.Sink.losses c.args.sink.now) (g.S.Sink.losses c.args.sink.now) (g.S.Sink.room c.args.sink.now) (g.S.Sink.room c.args.sink.now)
     (told-in c.args.now c.self.inside.handle c.self.inside.filters c.self.inside.discipline (spec.Fifo c.in-Fifo.fifo.limit c.in-Fifo.fifo.packets) [] (g.S.Sink.losses c.args.sink.now) (g.S.Sink.losses c.args.sink.now) (g.S.Sink.room c.args.sink.now) (g.S.Sink.room c.args.sink.now) (ap discipline_seen c.in-Fifo.is) (ap children_seen c.in-Fifo.is) (told-nothing (g.S.Sink.losses c.args.sink.now) (g.S.Sink.room c.args.sink.now)))).lost
 
 pub node::Node::dequeue-returns-then-not-has_packet-clause-room : goal.node::Node::dequeue-returns-then-not-has_packet-clause-room
 node::Node::dequeue-returns-then-not-has_packet-clause-room g t c =
-    (told-here c.args.now c.self.inside c.args.self.now c.self.invariant c.self.view_is c.requires.ready c.in_default.is (g.S.Sink.losses c.args.sink.now) (g.S.Sink.losses c.args.sink.now) (g.S.Sink.room c.args.sink.now) (g.S.Sink.room c.args.sink.now)
+    (told-here c.args.now c.self.inside c.args.self.now c.self.invariant c.self.view_is c.requires.ready (sym c.packet.ensures ∙ c.in_default.is) (g.S.Sink.losses c.args.sink.now) (g.S.Sink.losses c.args.sink.now) (g.S.Sink.room c.args.sink.now) (g.S.Sink.room c.args.sink.now)
     (told-in c.args.now c.self.inside.handle c.self.inside.filters c.self.inside.discipline (spec.Fifo c.in-Fifo.fifo.limit c.in-Fifo.fifo.packets) [] (g.S.Sink.losses c.args.sink.now) (g.S.Sink.losses c.args.sink.now) (g.S.Sink.room c.args.sink.now) (g.S.Sink.room c.args.sink.now) (ap discipline_seen c.in-Fifo.is) (ap children_seen c.in-Fifo.is) (told-nothing (g.S.Sink.losses c.args.sink.now) (g.S.Sink.room c.args.sink.now)))).room_taken
 
 pub node::Node::dequeue-returns-then-not-has_packet-clause-signals : goal.node::Node::dequeue-returns-then-not-has_packet-clause-signals
@@ -290,18 +291,18 @@ node::Node::dequeue-returns-then-not-has_packet-clause-signals g t c =
 
 pub node::Node::dequeue-returns-in-Fifo-clause-shown : goal.node::Node::dequeue-returns-in-Fifo-clause-shown
 node::Node::dequeue-returns-in-Fifo-clause-shown g t c =
-    shown-here c.args.now c.self.inside c.args.self.now c.self.invariant c.self.view_is c.requires.ready c.in_default.is c.dequeue_head-shown.result (fifo-sent c.args.now c.self.inside.handle c.self.inside.filters c.self.inside.discipline (code.Fifo c.dequeue_head-shown.new.fifo) c.in-Fifo.fifo.limit c.in-Fifo.fifo.packets c.dequeue_head-shown.result (ap discipline_seen c.in-Fifo.is) (ap children_seen c.in-Fifo.is)
+    shown-here c.args.now c.self.inside c.args.self.now c.self.invariant c.self.view_is c.requires.ready (sym c.packet.ensures ∙ c.in_default.is) c.dequeue_head-shown.result (fifo-sent c.args.now c.self.inside.handle c.self.inside.filters c.self.inside.discipline (code.Fifo c.dequeue_head-shown.new.fifo) c.in-Fifo.fifo.limit c.in-Fifo.fifo.packets c.dequeue_head-shown.result (ap discipline_seen c.in-Fifo.is) (ap children_seen c.in-Fifo.is)
     (ap (λ (f : FifoState). spec.Fifo f.limit f.packets) c.dequeue_head-shown.ensures.rest) refl (ap (λ (f : FifoState). f.places) c.dequeue_head-shown.ensures.rest ∙ sym (ap places_seen c.in-Fifo.is))
     (c.dequeue_head-shown.ensures.shown ∙ sym (slice_get-map (λ (s : Stamped). s.packet) c.in-Fifo.fifo.packets 0)) c.dequeue_head-shown.ensures.dropped c.dequeue_head-shown.ensures.marked).children.shown
 
 pub node::Node::dequeue-returns-in-Fifo-clause-lost : goal.node::Node::dequeue-returns-in-Fifo-clause-lost
 node::Node::dequeue-returns-in-Fifo-clause-lost g t c =
-    (told-here c.args.now c.self.inside c.args.self.now c.self.invariant c.self.view_is c.requires.ready c.in_default.is (g.S.Sink.losses c.args.sink.now) (g.S.Sink.losses c.args.sink.now) (g.S.Sink.room c.args.sink.now) (g.S.Sink.room c.args.sink.now)
+    (told-here c.args.now c.self.inside c.args.self.now c.self.invariant c.self.view_is c.requires.ready (sym c.packet.ensures ∙ c.in_default.is) (g.S.Sink.losses c.args.sink.now) (g.S.Sink.losses c.args.sink.now) (g.S.Sink.room c.args.sink.now) (g.S.Sink.room c.args.sink.now)
     (told-in c.args.now c.self.inside.handle c.self.inside.filters c.self.inside.discipline (spec.Fifo c.in-Fifo.fifo.limit c.in-Fifo.fifo.packets) [] (g.S.Sink.losses c.args.sink.now) (g.S.Sink.losses c.args.sink.now) (g.S.Sink.room c.args.sink.now) (g.S.Sink.room c.args.sink.now) (ap discipline_seen c.in-Fifo.is) (ap children_seen c.in-Fifo.is) (told-nothing (g.S.Sink.losses c.args.sink.now) (g.S.Sink.room c.args.sink.now)))).lost
 
 pub node::Node::dequeue-returns-in-Fifo-clause-room : goal.node::Node::dequeue-returns-in-Fifo-clause-room
 node::Node::dequeue-returns-in-Fifo-clause-room g t c =
-    (told-here c.args.now c.self.inside c.args.self.now c.self.invariant c.self.view_is c.requires.ready c.in_default.is (g.S.Sink.losses c.args.sink.now) (g.S.Sink.losses c.args.sink.now) (g.S.Sink.room c.args.sink.now) (g.S.Sink.room c.args.sink.now)
+    (told-here c.args.now c.self.inside c.args.self.now c.self.invariant c.self.view_is c.requires.ready (sym c.packet.ensures ∙ c.in_default.is) (g.S.Sink.losses c.args.sink.now) (g.S.Sink.losses c.args.sink.now) (g.S.Sink.room c.args.sink.now) (g.S.Sink.room c.args.sink.now)
     (told-in c.args.now c.self.inside.handle c.self.inside.filters c.self.inside.discipline (spec.Fifo c.in-Fifo.fifo.limit c.in-Fifo.fifo.packets) [] (g.S.Sink.losses c.args.sink.now) (g.S.Sink.losses c.args.sink.now) (g.S.Sink.room c.args.sink.now) (g.S.Sink.room c.args.sink.now) (ap discipline_seen c.in-Fifo.is) (ap children_seen c.in-Fifo.is) (told-nothing (g.S.Sink.losses c.args.sink.now) (g.S.Sink.room c.args.sink.now)))).room_taken
 
 pub node::Node::dequeue-returns-in-Fifo-clause-signals : goal.node::Node::dequeue-returns-in-Fifo-clause-signals
@@ -310,30 +311,30 @@ node::Node::dequeue-returns-in-Fifo-clause-signals g t c =
 
 pub node::Node::dequeue-book_sent-requires-in-Fifo-clause-balanced : goal.node::Node::dequeue-book_sent-requires-in-Fifo-clause-balanced
 node::Node::dequeue-book_sent-requires-in-Fifo-clause-balanced g t c =
-    (sent-row c.args.now c.self.inside c.args.self.now c.self.invariant c.self.view_is c.requires.ready c.in_default.is (code.Fifo c.dequeue_head-shown.new.fifo) c.dequeue_head-shown.result (fifo-sent c.args.now c.self.inside.handle c.self.inside.filters c.self.inside.discipline (code.Fifo c.dequeue_head-shown.new.fifo) c.in-Fifo.fifo.limit c.in-Fifo.fifo.packets c.dequeue_head-shown.result (ap discipline_seen c.in-Fifo.is) (ap children_seen c.in-Fifo.is)
+    (sent-row c.args.now c.self.inside c.args.self.now c.self.invariant c.self.view_is c.requires.ready (sym c.packet.ensures ∙ c.in_default.is) (code.Fifo c.dequeue_head-shown.new.fifo) c.dequeue_head-shown.result (fifo-sent c.args.now c.self.inside.handle c.self.inside.filters c.self.inside.discipline (code.Fifo c.dequeue_head-shown.new.fifo) c.in-Fifo.fifo.limit c.in-Fifo.fifo.packets c.dequeue_head-shown.result (ap discipline_seen c.in-Fifo.is) (ap children_seen c.in-Fifo.is)
     (ap (λ (f : FifoState). spec.Fifo f.limit f.packets) c.dequeue_head-shown.ensures.rest) refl (ap (λ (f : FifoState). f.places) c.dequeue_head-shown.ensures.rest ∙ sym (ap places_seen c.in-Fifo.is))
-    (c.dequeue_head-shown.ensures.shown ∙ sym (slice_get-map (λ (s : Stamped). s.packet) c.in-Fifo.fifo.packets 0)) c.dequeue_head-shown.ensures.dropped c.dequeue_head-shown.ensures.marked) c.self.inside.row (can-book c.args.now c.self.inside c.args.self.now c.self.invariant c.self.view_is c.requires.ready c.in_default.is c.dequeue_head-shown.result (fifo-sent c.args.now c.self.inside.handle c.self.inside.filters c.self.inside.discipline (code.Fifo c.dequeue_head-shown.new.fifo) c.in-Fifo.fifo.limit c.in-Fifo.fifo.packets c.dequeue_head-shown.result (ap discipline_seen c.in-Fifo.is) (ap children_seen c.in-Fifo.is)
+    (c.dequeue_head-shown.ensures.shown ∙ sym (slice_get-map (λ (s : Stamped). s.packet) c.in-Fifo.fifo.packets 0)) c.dequeue_head-shown.ensures.dropped c.dequeue_head-shown.ensures.marked) c.self.inside.row (can-book c.args.now c.self.inside c.args.self.now c.self.invariant c.self.view_is c.requires.ready (sym c.packet.ensures ∙ c.in_default.is) c.dequeue_head-shown.result (fifo-sent c.args.now c.self.inside.handle c.self.inside.filters c.self.inside.discipline (code.Fifo c.dequeue_head-shown.new.fifo) c.in-Fifo.fifo.limit c.in-Fifo.fifo.packets c.dequeue_head-shown.result (ap discipline_seen c.in-Fifo.is) (ap children_seen c.in-Fifo.is)
     (ap (λ (f : FifoState). spec.Fifo f.limit f.packets) c.dequeue_head-shown.ensures.rest) refl (ap (λ (f : FifoState). f.places) c.dequeue_head-shown.ensures.rest ∙ sym (ap places_seen c.in-Fifo.is))
     (c.dequeue_head-shown.ensures.shown ∙ sym (slice_get-map (λ (s : Stamped). s.packet) c.in-Fifo.fifo.packets 0)) c.dequeue_head-shown.ensures.dropped c.dequeue_head-shown.ensures.marked).children.shown (omega (arith, c.self.ranges, c.fit.ensures.packets, c.fit.ensures.bytes)) (omega (arith, c.self.ranges, c.fit.ensures.packets, c.fit.ensures.bytes))) (shown-nothing c.dequeue_head-shown.result c.self.inside.row c.dequeue_head-shown.ensures.dropped c.dequeue_head-shown.ensures.marked) c.dequeue_head-shown.new.out (given-some c.dequeue_head-shown.result.packet c.args.out.now c.dequeue_head-shown.new.out (sym c.has_packet.ensures ∙ c.if-not-has_packet.false) c.dequeue_head-shown.ensures.packet)).balanced
 
 pub node::Node::dequeue-book_sent-requires-in-Fifo-clause-among : goal.node::Node::dequeue-book_sent-requires-in-Fifo-clause-among
 node::Node::dequeue-book_sent-requires-in-Fifo-clause-among g t c =
-    sent-queued c.args.now c.self.inside c.args.self.now c.self.invariant c.self.view_is c.requires.ready c.in_default.is (code.Fifo c.dequeue_head-shown.new.fifo) c.dequeue_head-shown.result (fifo-sent c.args.now c.self.inside.handle c.self.inside.filters c.self.inside.discipline (code.Fifo c.dequeue_head-shown.new.fifo) c.in-Fifo.fifo.limit c.in-Fifo.fifo.packets c.dequeue_head-shown.result (ap discipline_seen c.in-Fifo.is) (ap children_seen c.in-Fifo.is)
+    sent-queued c.args.now c.self.inside c.args.self.now c.self.invariant c.self.view_is c.requires.ready (sym c.packet.ensures ∙ c.in_default.is) (code.Fifo c.dequeue_head-shown.new.fifo) c.dequeue_head-shown.result (fifo-sent c.args.now c.self.inside.handle c.self.inside.filters c.self.inside.discipline (code.Fifo c.dequeue_head-shown.new.fifo) c.in-Fifo.fifo.limit c.in-Fifo.fifo.packets c.dequeue_head-shown.result (ap discipline_seen c.in-Fifo.is) (ap children_seen c.in-Fifo.is)
     (ap (λ (f : FifoState). spec.Fifo f.limit f.packets) c.dequeue_head-shown.ensures.rest) refl (ap (λ (f : FifoState). f.places) c.dequeue_head-shown.ensures.rest ∙ sym (ap places_seen c.in-Fifo.is))
-    (c.dequeue_head-shown.ensures.shown ∙ sym (slice_get-map (λ (s : Stamped). s.packet) c.in-Fifo.fifo.packets 0)) c.dequeue_head-shown.ensures.dropped c.dequeue_head-shown.ensures.marked) c.self.inside.row (can-book c.args.now c.self.inside c.args.self.now c.self.invariant c.self.view_is c.requires.ready c.in_default.is c.dequeue_head-shown.result (fifo-sent c.args.now c.self.inside.handle c.self.inside.filters c.self.inside.discipline (code.Fifo c.dequeue_head-shown.new.fifo) c.in-Fifo.fifo.limit c.in-Fifo.fifo.packets c.dequeue_head-shown.result (ap discipline_seen c.in-Fifo.is) (ap children_seen c.in-Fifo.is)
+    (c.dequeue_head-shown.ensures.shown ∙ sym (slice_get-map (λ (s : Stamped). s.packet) c.in-Fifo.fifo.packets 0)) c.dequeue_head-shown.ensures.dropped c.dequeue_head-shown.ensures.marked) c.self.inside.row (can-book c.args.now c.self.inside c.args.self.now c.self.invariant c.self.view_is c.requires.ready (sym c.packet.ensures ∙ c.in_default.is) c.dequeue_head-shown.result (fifo-sent c.args.now c.self.inside.handle c.self.inside.filters c.self.inside.discipline (code.Fifo c.dequeue_head-shown.new.fifo) c.in-Fifo.fifo.limit c.in-Fifo.fifo.packets c.dequeue_head-shown.result (ap discipline_seen c.in-Fifo.is) (ap children_seen c.in-Fifo.is)
     (ap (λ (f : FifoState). spec.Fifo f.limit f.packets) c.dequeue_head-shown.ensures.rest) refl (ap (λ (f : FifoState). f.places) c.dequeue_head-shown.ensures.rest ∙ sym (ap places_seen c.in-Fifo.is))
     (c.dequeue_head-shown.ensures.shown ∙ sym (slice_get-map (λ (s : Stamped). s.packet) c.in-Fifo.fifo.packets 0)) c.dequeue_head-shown.ensures.dropped c.dequeue_head-shown.ensures.marked).children.shown (omega (arith, c.self.ranges, c.fit.ensures.packets, c.fit.ensures.bytes)) (omega (arith, c.self.ranges, c.fit.ensures.packets, c.fit.ensures.bytes))) (shown-nothing c.dequeue_head-shown.result c.self.inside.row c.dequeue_head-shown.ensures.dropped c.dequeue_head-shown.ensures.marked) c.dequeue_head-shown.new.out (given-some c.dequeue_head-shown.result.packet c.args.out.now c.dequeue_head-shown.new.out (sym c.has_packet.ensures ∙ c.if-not-has_packet.false) c.dequeue_head-shown.ensures.packet)
 
 pub node::Node::dequeue-book_sent-requires-in-Fifo-clause-room : goal.node::Node::dequeue-book_sent-requires-in-Fifo-clause-room
 node::Node::dequeue-book_sent-requires-in-Fifo-clause-room g t c =
-    let row = sent-row c.args.now c.self.inside c.args.self.now c.self.invariant c.self.view_is c.requires.ready c.in_default.is (code.Fifo c.dequeue_head-shown.new.fifo) c.dequeue_head-shown.result (fifo-sent c.args.now c.self.inside.handle c.self.inside.filters c.self.inside.discipline (code.Fifo c.dequeue_head-shown.new.fifo) c.in-Fifo.fifo.limit c.in-Fifo.fifo.packets c.dequeue_head-shown.result (ap discipline_seen c.in-Fifo.is) (ap children_seen c.in-Fifo.is)
+    let row = sent-row c.args.now c.self.inside c.args.self.now c.self.invariant c.self.view_is c.requires.ready (sym c.packet.ensures ∙ c.in_default.is) (code.Fifo c.dequeue_head-shown.new.fifo) c.dequeue_head-shown.result (fifo-sent c.args.now c.self.inside.handle c.self.inside.filters c.self.inside.discipline (code.Fifo c.dequeue_head-shown.new.fifo) c.in-Fifo.fifo.limit c.in-Fifo.fifo.packets c.dequeue_head-shown.result (ap discipline_seen c.in-Fifo.is) (ap children_seen c.in-Fifo.is)
     (ap (λ (f : FifoState). spec.Fifo f.limit f.packets) c.dequeue_head-shown.ensures.rest) refl (ap (λ (f : FifoState). f.places) c.dequeue_head-shown.ensures.rest ∙ sym (ap places_seen c.in-Fifo.is))
-    (c.dequeue_head-shown.ensures.shown ∙ sym (slice_get-map (λ (s : Stamped). s.packet) c.in-Fifo.fifo.packets 0)) c.dequeue_head-shown.ensures.dropped c.dequeue_head-shown.ensures.marked) c.self.inside.row (can-book c.args.now c.self.inside c.args.self.now c.self.invariant c.self.view_is c.requires.ready c.in_default.is c.dequeue_head-shown.result (fifo-sent c.args.now c.self.inside.handle c.self.inside.filters c.self.inside.discipline (code.Fifo c.dequeue_head-shown.new.fifo) c.in-Fifo.fifo.limit c.in-Fifo.fifo.packets c.dequeue_head-shown.result (ap discipline_seen c.in-Fifo.is) (ap children_seen c.in-Fifo.is)
+    (c.dequeue_head-shown.ensures.shown ∙ sym (slice_get-map (λ (s : Stamped). s.packet) c.in-Fifo.fifo.packets 0)) c.dequeue_head-shown.ensures.dropped c.dequeue_head-shown.ensures.marked) c.self.inside.row (can-book c.args.now c.self.inside c.args.self.now c.self.invariant c.self.view_is c.requires.ready (sym c.packet.ensures ∙ c.in_default.is) c.dequeue_head-shown.result (fifo-sent c.args.now c.self.inside.handle c.self.inside.filters c.self.inside.discipline (code.Fifo c.dequeue_head-shown.new.fifo) c.in-Fifo.fifo.limit c.in-Fifo.fifo.packets c.dequeue_head-shown.result (ap discipline_seen c.in-Fifo.is) (ap children_seen c.in-Fifo.is)
     (ap (λ (f : FifoState). spec.Fifo f.limit f.packets) c.dequeue_head-shown.ensures.rest) refl (ap (λ (f : FifoState). f.places) c.dequeue_head-shown.ensures.rest ∙ sym (ap places_seen c.in-Fifo.is))
     (c.dequeue_head-shown.ensures.shown ∙ sym (slice_get-map (λ (s : Stamped). s.packet) c.in-Fifo.fifo.packets 0)) c.dequeue_head-shown.ensures.dropped c.dequeue_head-shown.ensures.marked).children.shown (omega (arith, c.self.ranges, c.fit.ensures.packets, c.fit.ensures.bytes)) (omega (arith, c.self.ranges, c.fit.ensures.packets, c.fit.ensures.bytes))) (shown-nothing c.dequeue_head-shown.result c.self.inside.row c.dequeue_head-shown.ensures.dropped c.dequeue_head-shown.ensures.marked) c.dequeue_head-shown.new.out (given-some c.dequeue_head-shown.result.packet c.args.out.now c.dequeue_head-shown.new.out (sym c.has_packet.ensures ∙ c.if-not-has_packet.false) c.dequeue_head-shown.ensures.packet) in
-    let had = sent-queued c.args.now c.self.inside c.args.self.now c.self.invariant c.self.view_is c.requires.ready c.in_default.is (code.Fifo c.dequeue_head-shown.new.fifo) c.dequeue_head-shown.result (fifo-sent c.args.now c.self.inside.handle c.self.inside.filters c.self.inside.discipline (code.Fifo c.dequeue_head-shown.new.fifo) c.in-Fifo.fifo.limit c.in-Fifo.fifo.packets c.dequeue_head-shown.result (ap discipline_seen c.in-Fifo.is) (ap children_seen c.in-Fifo.is)
+    let had = sent-queued c.args.now c.self.inside c.args.self.now c.self.invariant c.self.view_is c.requires.ready (sym c.packet.ensures ∙ c.in_default.is) (code.Fifo c.dequeue_head-shown.new.fifo) c.dequeue_head-shown.result (fifo-sent c.args.now c.self.inside.handle c.self.inside.filters c.self.inside.discipline (code.Fifo c.dequeue_head-shown.new.fifo) c.in-Fifo.fifo.limit c.in-Fifo.fifo.packets c.dequeue_head-shown.result (ap discipline_seen c.in-Fifo.is) (ap children_seen c.in-Fifo.is)
     (ap (λ (f : FifoState). spec.Fifo f.limit f.packets) c.dequeue_head-shown.ensures.rest) refl (ap (λ (f : FifoState). f.places) c.dequeue_head-shown.ensures.rest ∙ sym (ap places_seen c.in-Fifo.is))
-    (c.dequeue_head-shown.ensures.shown ∙ sym (slice_get-map (λ (s : Stamped). s.packet) c.in-Fifo.fifo.packets 0)) c.dequeue_head-shown.ensures.dropped c.dequeue_head-shown.ensures.marked) c.self.inside.row (can-book c.args.now c.self.inside c.args.self.now c.self.invariant c.self.view_is c.requires.ready c.in_default.is c.dequeue_head-shown.result (fifo-sent c.args.now c.self.inside.handle c.self.inside.filters c.self.inside.discipline (code.Fifo c.dequeue_head-shown.new.fifo) c.in-Fifo.fifo.limit c.in-Fifo.fifo.packets c.dequeue_head-shown.result (ap discipline_seen c.in-Fifo.is) (ap children_seen c.in-Fifo.is)
+    (c.dequeue_head-shown.ensures.shown ∙ sym (slice_get-map (λ (s : Stamped). s.packet) c.in-Fifo.fifo.packets 0)) c.dequeue_head-shown.ensures.dropped c.dequeue_head-shown.ensures.marked) c.self.inside.row (can-book c.args.now c.self.inside c.args.self.now c.self.invariant c.self.view_is c.requires.ready (sym c.packet.ensures ∙ c.in_default.is) c.dequeue_head-shown.result (fifo-sent c.args.now c.self.inside.handle c.self.inside.filters c.self.inside.discipline (code.Fifo c.dequeue_head-shown.new.fifo) c.in-Fifo.fifo.limit c.in-Fifo.fifo.packets c.dequeue_head-shown.result (ap discipline_seen c.in-Fifo.is) (ap children_seen c.in-Fifo.is)
     (ap (λ (f : FifoState). spec.Fifo f.limit f.packets) c.dequeue_head-shown.ensures.rest) refl (ap (λ (f : FifoState). f.places) c.dequeue_head-shown.ensures.rest ∙ sym (ap places_seen c.in-Fifo.is))
     (c.dequeue_head-shown.ensures.shown ∙ sym (slice_get-map (λ (s : Stamped). s.packet) c.in-Fifo.fifo.packets 0)) c.dequeue_head-shown.ensures.dropped c.dequeue_head-shown.ensures.marked).children.shown (omega (arith, c.self.ranges, c.fit.ensures.packets, c.fit.ensures.bytes)) (omega (arith, c.self.ranges, c.fit.ensures.packets, c.fit.ensures.bytes))) (shown-nothing c.dequeue_head-shown.result c.self.inside.row c.dequeue_head-shown.ensures.dropped c.dequeue_head-shown.ensures.marked) c.dequeue_head-shown.new.out (given-some c.dequeue_head-shown.result.packet c.args.out.now c.dequeue_head-shown.new.out (sym c.has_packet.ensures ∙ c.if-not-has_packet.false) c.dequeue_head-shown.ensures.packet) in
     record {
@@ -343,17 +344,17 @@ node::Node::dequeue-book_sent-requires-in-Fifo-clause-room g t c =
 
 pub node::Node::dequeue-invariant_of-self-in-Fifo : goal.node::Node::dequeue-invariant_of-self-in-Fifo
 node::Node::dequeue-invariant_of-self-in-Fifo g t c =
-    (one-sent c.args.now c.self.inside c.args.self.now c.self.invariant c.self.view_is c.requires.ready c.in_default.is (code.Fifo c.dequeue_head-shown.new.fifo) c.dequeue_head-shown.result (fifo-sent c.args.now c.self.inside.handle c.self.inside.filters c.self.inside.discipline (code.Fifo c.dequeue_head-shown.new.fifo) c.in-Fifo.fifo.limit c.in-Fifo.fifo.packets c.dequeue_head-shown.result (ap discipline_seen c.in-Fifo.is) (ap children_seen c.in-Fifo.is)
+    (one-sent c.args.now c.self.inside c.args.self.now c.self.invariant c.self.view_is c.requires.ready (sym c.packet.ensures ∙ c.in_default.is) (code.Fifo c.dequeue_head-shown.new.fifo) c.dequeue_head-shown.result (fifo-sent c.args.now c.self.inside.handle c.self.inside.filters c.self.inside.discipline (code.Fifo c.dequeue_head-shown.new.fifo) c.in-Fifo.fifo.limit c.in-Fifo.fifo.packets c.dequeue_head-shown.result (ap discipline_seen c.in-Fifo.is) (ap children_seen c.in-Fifo.is)
     (ap (λ (f : FifoState). spec.Fifo f.limit f.packets) c.dequeue_head-shown.ensures.rest) refl (ap (λ (f : FifoState). f.places) c.dequeue_head-shown.ensures.rest ∙ sym (ap places_seen c.in-Fifo.is))
-    (c.dequeue_head-shown.ensures.shown ∙ sym (slice_get-map (λ (s : Stamped). s.packet) c.in-Fifo.fifo.packets 0)) c.dequeue_head-shown.ensures.dropped c.dequeue_head-shown.ensures.marked) c.self.inside.row (can-book c.args.now c.self.inside c.args.self.now c.self.invariant c.self.view_is c.requires.ready c.in_default.is c.dequeue_head-shown.result (fifo-sent c.args.now c.self.inside.handle c.self.inside.filters c.self.inside.discipline (code.Fifo c.dequeue_head-shown.new.fifo) c.in-Fifo.fifo.limit c.in-Fifo.fifo.packets c.dequeue_head-shown.result (ap discipline_seen c.in-Fifo.is) (ap children_seen c.in-Fifo.is)
+    (c.dequeue_head-shown.ensures.shown ∙ sym (slice_get-map (λ (s : Stamped). s.packet) c.in-Fifo.fifo.packets 0)) c.dequeue_head-shown.ensures.dropped c.dequeue_head-shown.ensures.marked) c.self.inside.row (can-book c.args.now c.self.inside c.args.self.now c.self.invariant c.self.view_is c.requires.ready (sym c.packet.ensures ∙ c.in_default.is) c.dequeue_head-shown.result (fifo-sent c.args.now c.self.inside.handle c.self.inside.filters c.self.inside.discipline (code.Fifo c.dequeue_head-shown.new.fifo) c.in-Fifo.fifo.limit c.in-Fifo.fifo.packets c.dequeue_head-shown.result (ap discipline_seen c.in-Fifo.is) (ap children_seen c.in-Fifo.is)
     (ap (λ (f : FifoState). spec.Fifo f.limit f.packets) c.dequeue_head-shown.ensures.rest) refl (ap (λ (f : FifoState). f.places) c.dequeue_head-shown.ensures.rest ∙ sym (ap places_seen c.in-Fifo.is))
     (c.dequeue_head-shown.ensures.shown ∙ sym (slice_get-map (λ (s : Stamped). s.packet) c.in-Fifo.fifo.packets 0)) c.dequeue_head-shown.ensures.dropped c.dequeue_head-shown.ensures.marked).children.shown (omega (arith, c.self.ranges, c.fit.ensures.packets, c.fit.ensures.bytes)) (omega (arith, c.self.ranges, c.fit.ensures.packets, c.fit.ensures.bytes))) (shown-nothing c.dequeue_head-shown.result c.self.inside.row c.dequeue_head-shown.ensures.dropped c.dequeue_head-shown.ensures.marked) c.dequeue_head-shown.new.out (given-some c.dequeue_head-shown.result.packet c.args.out.now c.dequeue_head-shown.new.out (sym c.has_packet.ensures ∙ c.if-not-has_packet.false) c.dequeue_head-shown.ensures.packet) c.book_sent-in-Fifo.new.row c.book_sent-in-Fifo.ensures).stays
 
 pub node::Node::dequeue-returns-in-Fifo-clause-after : goal.node::Node::dequeue-returns-in-Fifo-clause-after
 node::Node::dequeue-returns-in-Fifo-clause-after g t c =
-    (one-sent c.args.now c.self.inside c.args.self.now c.self.invariant c.self.view_is c.requires.ready c.in_default.is (code.Fifo c.dequeue_head-shown.new.fifo) c.dequeue_head-shown.result (fifo-sent c.args.now c.self.inside.handle c.self.inside.filters c.self.inside.discipline (code.Fifo c.dequeue_head-shown.new.fifo) c.in-Fifo.fifo.limit c.in-Fifo.fifo.packets c.dequeue_head-shown.result (ap discipline_seen c.in-Fifo.is) (ap children_seen c.in-Fifo.is)
+    (one-sent c.args.now c.self.inside c.args.self.now c.self.invariant c.self.view_is c.requires.ready (sym c.packet.ensures ∙ c.in_default.is) (code.Fifo c.dequeue_head-shown.new.fifo) c.dequeue_head-shown.result (fifo-sent c.args.now c.self.inside.handle c.self.inside.filters c.self.inside.discipline (code.Fifo c.dequeue_head-shown.new.fifo) c.in-Fifo.fifo.limit c.in-Fifo.fifo.packets c.dequeue_head-shown.result (ap discipline_seen c.in-Fifo.is) (ap children_seen c.in-Fifo.is)
     (ap (λ (f : FifoState). spec.Fifo f.limit f.packets) c.dequeue_head-shown.ensures.rest) refl (ap (λ (f : FifoState). f.places) c.dequeue_head-shown.ensures.rest ∙ sym (ap places_seen c.in-Fifo.is))
-    (c.dequeue_head-shown.ensures.shown ∙ sym (slice_get-map (λ (s : Stamped). s.packet) c.in-Fifo.fifo.packets 0)) c.dequeue_head-shown.ensures.dropped c.dequeue_head-shown.ensures.marked) c.self.inside.row (can-book c.args.now c.self.inside c.args.self.now c.self.invariant c.self.view_is c.requires.ready c.in_default.is c.dequeue_head-shown.result (fifo-sent c.args.now c.self.inside.handle c.self.inside.filters c.self.inside.discipline (code.Fifo c.dequeue_head-shown.new.fifo) c.in-Fifo.fifo.limit c.in-Fifo.fifo.packets c.dequeue_head-shown.result (ap discipline_seen c.in-Fifo.is) (ap children_seen c.in-Fifo.is)
+    (c.dequeue_head-shown.ensures.shown ∙ sym (slice_get-map (λ (s : Stamped). s.packet) c.in-Fifo.fifo.packets 0)) c.dequeue_head-shown.ensures.dropped c.dequeue_head-shown.ensures.marked) c.self.inside.row (can-book c.args.now c.self.inside c.args.self.now c.self.invariant c.self.view_is c.requires.ready (sym c.packet.ensures ∙ c.in_default.is) c.dequeue_head-shown.result (fifo-sent c.args.now c.self.inside.handle c.self.inside.filters c.self.inside.discipline (code.Fifo c.dequeue_head-shown.new.fifo) c.in-Fifo.fifo.limit c.in-Fifo.fifo.packets c.dequeue_head-shown.result (ap discipline_seen c.in-Fifo.is) (ap children_seen c.in-Fifo.is)
     (ap (λ (f : FifoState). spec.Fifo f.limit f.packets) c.dequeue_head-shown.ensures.rest) refl (ap (λ (f : FifoState). f.places) c.dequeue_head-shown.ensures.rest ∙ sym (ap places_seen c.in-Fifo.is))
     (c.dequeue_head-shown.ensures.shown ∙ sym (slice_get-map (λ (s : Stamped). s.packet) c.in-Fifo.fifo.packets 0)) c.dequeue_head-shown.ensures.dropped c.dequeue_head-shown.ensures.marked).children.shown (omega (arith, c.self.ranges, c.fit.ensures.packets, c.fit.ensures.bytes)) (omega (arith, c.self.ranges, c.fit.ensures.packets, c.fit.ensures.bytes))) (shown-nothing c.dequeue_head-shown.result c.self.inside.row c.dequeue_head-shown.ensures.dropped c.dequeue_head-shown.ensures.marked) c.dequeue_head-shown.new.out (given-some c.dequeue_head-shown.result.packet c.args.out.now c.dequeue_head-shown.new.out (sym c.has_packet.ensures ∙ c.if-not-has_packet.false) c.dequeue_head-shown.ensures.packet) c.book_sent-in-Fifo.new.row c.book_sent-in-Fifo.ensures).after
 

@@ -15,7 +15,7 @@ node::Node::outlook-of_bands-requires t c =
 pub node::Node::outlook-returns-in-Prio : goal.node::Node::outlook-returns-in-Prio
 node::Node::outlook-returns-in-Prio t c =
     c.of_bands.ensures
-    ∙ outlook-is c.args.now c.self.inside c.args.self.now c.deref.result.now (spec.Prio c.in-Prio.priomap) c.self.view_is (no-held c.self.inside.held c.in_default.not-Some) (ap discipline_seen c.in-Prio.is) (c.deref.ensures.value ∙ sym (ap children_seen c.in-Prio.is))
+    ∙ outlook-is c.args.now c.self.inside c.args.self.now c.deref.result.now (spec.Prio c.in-Prio.priomap) c.self.view_is (sym c.packet.ensures ∙ no-held c.packet.result c.in_default.not-Some) (ap discipline_seen c.in-Prio.is) (c.deref.ensures.value ∙ sym (ap children_seen c.in-Prio.is))
 
 pub node::Node::outlook-of_front-requires : goal.node::Node::outlook-of_front-requires
 node::Node::outlook-of_front-requires t c =
@@ -25,7 +25,7 @@ node::Node::outlook-of_front-requires t c =
 pub node::Node::outlook-returns-in-Drr : goal.node::Node::outlook-returns-in-Drr
 node::Node::outlook-returns-in-Drr t c =
     c.of_front.ensures
-    ∙ outlook-is c.args.now c.self.inside c.args.self.now c.deref-in-Drr.result.now (spec.Drr c.in-Drr.active) c.self.view_is (no-held c.self.inside.held c.in_default.not-Some) (ap discipline_seen c.in-Drr.is) (c.deref-in-Drr.ensures.value ∙ sym (ap children_seen c.in-Drr.is))
+    ∙ outlook-is c.args.now c.self.inside c.args.self.now c.deref-in-Drr.result.now (spec.Drr c.in-Drr.active) c.self.view_is (sym c.packet.ensures ∙ no-held c.packet.result c.in_default.not-Some) (ap discipline_seen c.in-Drr.is) (c.deref-in-Drr.ensures.value ∙ sym (ap children_seen c.in-Drr.is))
 
 pub disciplines::drr::of_front-deficit-deficit-requires : goal.disciplines::drr::of_front-deficit-deficit-requires
 disciplines::drr::of_front-deficit-deficit-requires t c =

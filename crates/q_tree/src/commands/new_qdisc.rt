@@ -8,6 +8,7 @@ use crate::counters::Counters;
 use crate::disciplines::fq_codel::{new_queue, with_options};
 use crate::disciplines::tbf::{limit_bytes, new_tbf};
 use crate::filters::Filters;
+use crate::held::Held;
 use crate::node::{Discipline, Node};
 use q_bucket::Bucket;
 use q_codel::{Fifo, Limit};
@@ -31,7 +32,7 @@ impl Planner<'_> {
         let discipline = self.new_discipline(kind)?;
         Ok(Node {
             handle: Some(handle),
-            held: None,
+            held: Held::nothing(),
             filters: Filters::none(self.alloc),
             row: Counters::none(),
             discipline,

@@ -4,6 +4,7 @@ ghost use Rattle.q_model.specs.Beneath.{beneath};
 ghost use Rattle.q_tree.specs.Purging.{purged};
 ghost use Rattle.q_tree.specs.PutSteps.{packets_beneath};
 
+use crate::held::Held;
 use crate::node::{Discipline, Node};
 use q_codel::Sink;
 use q_packet::{Cause, Packet};
@@ -35,13 +36,13 @@ impl Node {
 }
 
 // Loses the packet that a node holds, if it holds one.
-fn purge_held<S: Sink>(held: Option<Packet>, sink: &mut S)
+fn purge_held<S: Sink>(held: Held, sink: &mut S)
     requires { length (option_to_list held) ≤ S.room sink.old }
     ensures lost { S.losses sink.new ≡ S.losses sink.old ++ purged (option_to_list held) }
     ensures room { S.room sink.new + length (option_to_list held) ≡ S.room sink.old }
     ensures kept { S.keeps sink.old sink.new }
 {
-    if let Some(packet) = held {
+    if let Some(packet) = held.packet() {
         sink.lost(packet, Cause::Purged);
     }
 }

@@ -21,6 +21,7 @@ ghost use Rattle.q_tree.specs.declared.commands.discipline_change.DisciplineChan
 use crate::booking::NOTHING;
 use crate::commands::discipline_change::DisciplineChange;
 use crate::filters::Filters;
+use crate::held::Held;
 use crate::node::{Discipline, Node};
 use crate::ready_at::Outlook;
 use crate::shown::Shown;
@@ -28,7 +29,7 @@ use crate::signals::{NO_SIGNALS, Signals};
 use q_codel::Sink;
 use q_drr::{Active, Turn};
 use q_model::{Minor, Quantum, Refusal, Totals};
-use q_packet::{Moment, Packet, SOME_PACKET};
+use q_packet::{Moment, Packet};
 use std::alloc::AllocError;
 
 /// The place of the class that a filter names, if there is one (tc-drr(8)).
@@ -131,7 +132,7 @@ fn give_class(active: &mut Active, classes: &mut [Node], place: usize, out: &mut
 pub(crate) fn serve<S: Sink>(
     active: &mut Active,
     classes: &mut [Node],
-    held: &mut Option<Packet>,
+    held: &mut Held,
     now: Moment,
     signals: &mut Signals,
     sink: &mut S,
@@ -147,11 +148,8 @@ pub(crate) fn serve<S: Sink>(
     ensures signals { signals.new ≡ signals_of result }
     ensures kept { S.keeps sink.old sink.new }
 {
-    let mut packet = SOME_PACKET;
-    let shown = dequeue_class(active, classes, &mut packet, now, signals, sink);
-    if shown.has_packet() {
-        *held = Some(packet);
-    }
+    let shown = dequeue_class(active, classes, &mut held.place, now, signals, sink);
+    held.holds = shown.has_packet();
     shown
 }
 

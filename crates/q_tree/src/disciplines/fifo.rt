@@ -20,6 +20,7 @@ use crate::commands::discipline_change::DisciplineChange;
 use crate::commands::planner::Planner;
 use crate::counters::Counters;
 use crate::filters::Filters;
+use crate::held::Held;
 use crate::node::{Discipline, Node};
 use crate::outcome::Outcome;
 use crate::ready_at::Outlook;
@@ -43,7 +44,7 @@ impl Node {
     {
         Node {
             handle,
-            held: None,
+            held: Held::nothing(),
             filters: Filters::none(alloc),
             row: Counters::none(),
             discipline: Discipline::Fifo(Fifo::new(alloc, limit)),

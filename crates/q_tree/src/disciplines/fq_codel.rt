@@ -24,6 +24,7 @@ ghost use Rattle.q_tree.specs.declared.commands.discipline_change.DisciplineChan
 use crate::arrived::Arrived;
 use crate::booking::{NOTHING, difference, one_packet};
 use crate::commands::discipline_change::DisciplineChange;
+use crate::held::Held;
 use crate::node::{Discipline, Node};
 use crate::outcome::Outcome;
 use crate::ready_at::Outlook;
@@ -32,7 +33,7 @@ use crate::signals::{NO_SIGNALS, Signals};
 use q_codel::Sink;
 use q_fqcodel::{FqCodel, Settings};
 use q_model::{FqCodelOptions, Refusal, Totals};
-use q_packet::{Cause, Moment, Packet, SOME_PACKET};
+use q_packet::{Cause, Moment, Packet};
 use std::alloc::{AllocError, Global};
 
 /// The queue of an fq_codel with these settings.
@@ -254,7 +255,7 @@ fn marking(is_marked: bool, packet: &Packet) -> Totals
 #[inline(never)]
 pub(crate) fn take_from_flows<S: Sink>(
     queue: &mut FqCodel,
-    held: &mut Option<Packet>,
+    held: &mut Held,
     now: Moment,
     signals: &mut Signals,
     sink: &mut S,
@@ -271,11 +272,8 @@ pub(crate) fn take_from_flows<S: Sink>(
     ensures signals { signals.new ≡ signals_of result }
     ensures kept { S.keeps sink.old sink.new }
 {
-    let mut packet = SOME_PACKET;
-    let shown = dequeue_flow(queue, &mut packet, now, signals, sink);
-    if shown.has_packet() {
-        *held = Some(packet);
-    }
+    let shown = dequeue_flow(queue, &mut held.place, now, signals, sink);
+    held.holds = shown.has_packet();
     shown
 }
 

@@ -14,6 +14,7 @@ ghost use Rattle.q_tree.specs.declared.commands.discipline_change.DisciplineChan
 
 use crate::commands::discipline_change::DisciplineChange;
 use crate::commands::planner::Planner;
+use crate::held::Held;
 use crate::node::{Discipline, Node};
 use crate::ready_at::{Outlook, is_before, later};
 use crate::shown::Shown;
@@ -21,7 +22,7 @@ use crate::signals::Signals;
 use q_bucket::Bucket;
 use q_codel::{Limit, Sink};
 use q_model::{Burst, Rate, Refusal, TbfLimit};
-use q_packet::{Moment, Packet, SOME_PACKET};
+use q_packet::{Moment, Packet};
 use std::alloc::{AllocError, Global};
 
 /// A tbf with its bucket, over an implicit bfifo of so many bytes.
@@ -93,7 +94,7 @@ pub(crate) fn dequeue_child<S: Sink>(
 pub(crate) fn ask_child<S: Sink>(
     bucket: &mut Bucket,
     child: &mut Node,
-    held: &mut Option<Packet>,
+    held: &mut Held,
     now: Moment,
     signals: &mut Signals,
     sink: &mut S,
@@ -110,11 +111,8 @@ pub(crate) fn ask_child<S: Sink>(
     ensures signals { signals.new ≡ signals_of result }
     ensures kept { S.keeps sink.old sink.new }
 {
-    let mut packet = SOME_PACKET;
-    let shown = dequeue_child(bucket, child, &mut packet, now, signals, sink);
-    if shown.has_packet() {
-        *held = Some(packet);
-    }
+    let shown = dequeue_child(bucket, child, &mut held.place, now, signals, sink);
+    held.holds = shown.has_packet();
     shown
 }
 

@@ -1,4 +1,5 @@
-use Rattle.std.proofs.Common.{List, ◌≡◌, ◌<◌, ◌∙◌, map, set, length, refl, sym, ap, subst, arith}
+use Rattle.q_packet.specs.Descriptor.{Descriptor}
+use Rattle.std.proofs.Common.{List, ◌≡◌, ◌<◌, ◌∙◌, map, set, length, refl, sym, ap, subst, arith, Option}
 use Rattle.std.specs.Prelude.{is_some, unwrap_or}
 use Rattle.std.specs.Vec.{with_item}
 use Rattle.std.proofs.lemmas.List.{length-map}
@@ -63,53 +64,53 @@ Discipline::give_further-returns-in-Drr-clause-after t c =
 
 pub Node::give-returns-in-Some-clause-after : goal.Node::give-returns-in-Some-clause-after
 Node::give-returns-in-Some-clause-after t c =
-    held-after c.self.inside c.in-Some.packet c.in-Some.is c.book_sent.new.row c.book_sent.ensures ∙ ap (λ n. booked kept n (pop n).after) c.self.view_is
+    ap (λ (h : Option Descriptor). seen (record c.self.inside { held = h; row = c.book_sent.new.row })) c.clear.ensures ∙ held-after c.self.inside c.in-Some.packet (sym c.packet.ensures ∙ c.in-Some.is) c.book_sent.new.row c.book_sent.ensures ∙ ap (λ n. booked kept n (pop n).after) c.self.view_is
 
 pub Node::give-returns-in-Some-clause-given : goal.Node::give-returns-in-Some-clause-given
 Node::give-returns-in-Some-clause-given t c =
-    sym (ap is_some (sym (ap (λ n. (pop n).shown) c.self.view_is) ∙ held-shown c.self.inside c.in-Some.packet c.in-Some.is))
+    sym (ap is_some (sym (ap (λ n. (pop n).shown) c.self.view_is) ∙ held-shown c.self.inside c.in-Some.packet (sym c.packet.ensures ∙ c.in-Some.is)))
 
 pub Node::give-returns-in-Some-clause-packet : goal.Node::give-returns-in-Some-clause-packet
 Node::give-returns-in-Some-clause-packet t c =
-    sym (ap (λ o. unwrap_or o c.args.out.now) (sym (ap (λ n. (pop n).shown) c.self.view_is) ∙ held-shown c.self.inside c.in-Some.packet c.in-Some.is))
+    sym (ap (λ o. unwrap_or o c.args.out.now) (sym (ap (λ n. (pop n).shown) c.self.view_is) ∙ held-shown c.self.inside c.in-Some.packet (sym c.packet.ensures ∙ c.in-Some.is)))
 
 pub Node::give-invariant_of-self-then-not-give : goal.Node::give-invariant_of-self-then-not-give
 Node::give-invariant_of-self-then-not-give t c =
-    (still-kept c.self.inside c.in_default.is c.give.new.self (popping_of c.self.inside.discipline).shown refl c.give.ensures.after c.self.invariant (given-none (popping_of c.self.inside.discipline).shown c.args.out.now c.give.new.out (sym c.give.ensures.given ∙ c.if-not-give.true) c.give.ensures.packet).0).stays
+    (still-kept c.self.inside (sym c.packet.ensures ∙ c.in_default.is) c.give.new.self (popping_of c.self.inside.discipline).shown refl c.give.ensures.after c.self.invariant (given-none (popping_of c.self.inside.discipline).shown c.args.out.now c.give.new.out (sym c.give.ensures.given ∙ c.if-not-give.true) c.give.ensures.packet).0).stays
 
 pub Node::give-returns-then-not-give-clause-given : goal.Node::give-returns-then-not-give-clause-given
 Node::give-returns-then-not-give-clause-given t c =
-    sym (ap is_some (sym ((still-kept c.self.inside c.in_default.is c.give.new.self (popping_of c.self.inside.discipline).shown refl c.give.ensures.after c.self.invariant (given-none (popping_of c.self.inside.discipline).shown c.args.out.now c.give.new.out (sym c.give.ensures.given ∙ c.if-not-give.true) c.give.ensures.packet).0).shown ∙ ap (λ n. (pop n).shown) c.self.view_is)))
+    sym (ap is_some (sym ((still-kept c.self.inside (sym c.packet.ensures ∙ c.in_default.is) c.give.new.self (popping_of c.self.inside.discipline).shown refl c.give.ensures.after c.self.invariant (given-none (popping_of c.self.inside.discipline).shown c.args.out.now c.give.new.out (sym c.give.ensures.given ∙ c.if-not-give.true) c.give.ensures.packet).0).shown ∙ ap (λ n. (pop n).shown) c.self.view_is)))
 
 pub Node::give-returns-then-not-give-clause-packet : goal.Node::give-returns-then-not-give-clause-packet
 Node::give-returns-then-not-give-clause-packet t c =
-    (given-none (popping_of c.self.inside.discipline).shown c.args.out.now c.give.new.out (sym c.give.ensures.given ∙ c.if-not-give.true) c.give.ensures.packet).1 ∙ ap (λ o. unwrap_or o c.args.out.now) ((still-kept c.self.inside c.in_default.is c.give.new.self (popping_of c.self.inside.discipline).shown refl c.give.ensures.after c.self.invariant (given-none (popping_of c.self.inside.discipline).shown c.args.out.now c.give.new.out (sym c.give.ensures.given ∙ c.if-not-give.true) c.give.ensures.packet).0).shown ∙ ap (λ n. (pop n).shown) c.self.view_is)
+    (given-none (popping_of c.self.inside.discipline).shown c.args.out.now c.give.new.out (sym c.give.ensures.given ∙ c.if-not-give.true) c.give.ensures.packet).1 ∙ ap (λ o. unwrap_or o c.args.out.now) ((still-kept c.self.inside (sym c.packet.ensures ∙ c.in_default.is) c.give.new.self (popping_of c.self.inside.discipline).shown refl c.give.ensures.after c.self.invariant (given-none (popping_of c.self.inside.discipline).shown c.args.out.now c.give.new.out (sym c.give.ensures.given ∙ c.if-not-give.true) c.give.ensures.packet).0).shown ∙ ap (λ n. (pop n).shown) c.self.view_is)
 
 pub Node::give-returns-then-not-give-clause-after : goal.Node::give-returns-then-not-give-clause-after
 Node::give-returns-then-not-give-clause-after t c =
-    (still-kept c.self.inside c.in_default.is c.give.new.self (popping_of c.self.inside.discipline).shown refl c.give.ensures.after c.self.invariant (given-none (popping_of c.self.inside.discipline).shown c.args.out.now c.give.new.out (sym c.give.ensures.given ∙ c.if-not-give.true) c.give.ensures.packet).0).after ∙ ap (λ n. booked kept n (pop n).after) c.self.view_is
+    (still-kept c.self.inside (sym c.packet.ensures ∙ c.in_default.is) c.give.new.self (popping_of c.self.inside.discipline).shown refl c.give.ensures.after c.self.invariant (given-none (popping_of c.self.inside.discipline).shown c.args.out.now c.give.new.out (sym c.give.ensures.given ∙ c.if-not-give.true) c.give.ensures.packet).0).after ∙ ap (λ n. booked kept n (pop n).after) c.self.view_is
 
 pub Node::give-book_sent-requires-2-clause-among : goal.Node::give-book_sent-requires-2-clause-among
 Node::give-book_sent-requires-2-clause-among t c =
-    among (seen c.self.inside) c.self.inside.row (row-of c.self.inside c.self.invariant) c.give.new.out (own-shown c.self.inside c.in_default.is c.give.new.self (popping_of c.self.inside.discipline).shown refl c.give.ensures.after ∙ (given-some (popping_of c.self.inside.discipline).shown c.args.out.now c.give.new.out (sym c.give.ensures.given ∙ c.if-not-give.false) c.give.ensures.packet))
+    among (seen c.self.inside) c.self.inside.row (row-of c.self.inside c.self.invariant) c.give.new.out (own-shown c.self.inside (sym c.packet.ensures ∙ c.in_default.is) c.give.new.self (popping_of c.self.inside.discipline).shown refl c.give.ensures.after ∙ (given-some (popping_of c.self.inside.discipline).shown c.args.out.now c.give.new.out (sym c.give.ensures.given ∙ c.if-not-give.false) c.give.ensures.packet))
 
 pub Node::give-book_sent-requires-2-clause-room : goal.Node::give-book_sent-requires-2-clause-room
 Node::give-book_sent-requires-2-clause-room t c =
-    let had = (among (seen c.self.inside) c.self.inside.row (row-of c.self.inside c.self.invariant) c.give.new.out (own-shown c.self.inside c.in_default.is c.give.new.self (popping_of c.self.inside.discipline).shown refl c.give.ensures.after ∙ (given-some (popping_of c.self.inside.discipline).shown c.args.out.now c.give.new.out (sym c.give.ensures.given ∙ c.if-not-give.false) c.give.ensures.packet))) in
+    let had = (among (seen c.self.inside) c.self.inside.row (row-of c.self.inside c.self.invariant) c.give.new.out (own-shown c.self.inside (sym c.packet.ensures ∙ c.in_default.is) c.give.new.self (popping_of c.self.inside.discipline).shown refl c.give.ensures.after ∙ (given-some (popping_of c.self.inside.discipline).shown c.args.out.now c.give.new.out (sym c.give.ensures.given ∙ c.if-not-give.false) c.give.ensures.packet))) in
     record { packets = omega (arith, c.self.invariant.balanced.packets, had.packets, c.self.ranges, c.fit.ensures.packets, c.fit.ensures.bytes); bytes = omega (arith, c.self.invariant.balanced.bytes, had.bytes, c.self.ranges, c.fit.ensures.packets, c.fit.ensures.bytes) }
 
 pub Node::give-invariant_of-self-2 : goal.Node::give-invariant_of-self-2
 Node::give-invariant_of-self-2 t c =
-    (gave c.self.inside c.in_default.is c.give.new.self (popping_of c.self.inside.discipline).shown refl c.give.ensures.after c.self.invariant c.give.new.out (given-some (popping_of c.self.inside.discipline).shown c.args.out.now c.give.new.out (sym c.give.ensures.given ∙ c.if-not-give.false) c.give.ensures.packet) c.book_sent-2.new.row c.book_sent-2.ensures).stays
+    (gave c.self.inside (sym c.packet.ensures ∙ c.in_default.is) c.give.new.self (popping_of c.self.inside.discipline).shown refl c.give.ensures.after c.self.invariant c.give.new.out (given-some (popping_of c.self.inside.discipline).shown c.args.out.now c.give.new.out (sym c.give.ensures.given ∙ c.if-not-give.false) c.give.ensures.packet) c.book_sent-2.new.row c.book_sent-2.ensures).stays
 
 pub Node::give-returns-clause-given : goal.Node::give-returns-clause-given
 Node::give-returns-clause-given t c =
-    sym (ap is_some (sym ((gave c.self.inside c.in_default.is c.give.new.self (popping_of c.self.inside.discipline).shown refl c.give.ensures.after c.self.invariant c.give.new.out (given-some (popping_of c.self.inside.discipline).shown c.args.out.now c.give.new.out (sym c.give.ensures.given ∙ c.if-not-give.false) c.give.ensures.packet) c.book_sent-2.new.row c.book_sent-2.ensures).shown ∙ ap (λ n. (pop n).shown) c.self.view_is)))
+    sym (ap is_some (sym ((gave c.self.inside (sym c.packet.ensures ∙ c.in_default.is) c.give.new.self (popping_of c.self.inside.discipline).shown refl c.give.ensures.after c.self.invariant c.give.new.out (given-some (popping_of c.self.inside.discipline).shown c.args.out.now c.give.new.out (sym c.give.ensures.given ∙ c.if-not-give.false) c.give.ensures.packet) c.book_sent-2.new.row c.book_sent-2.ensures).shown ∙ ap (λ n. (pop n).shown) c.self.view_is)))
 
 pub Node::give-returns-clause-packet : goal.Node::give-returns-clause-packet
 Node::give-returns-clause-packet t c =
-    ap (λ o. unwrap_or o c.args.out.now) ((gave c.self.inside c.in_default.is c.give.new.self (popping_of c.self.inside.discipline).shown refl c.give.ensures.after c.self.invariant c.give.new.out (given-some (popping_of c.self.inside.discipline).shown c.args.out.now c.give.new.out (sym c.give.ensures.given ∙ c.if-not-give.false) c.give.ensures.packet) c.book_sent-2.new.row c.book_sent-2.ensures).shown ∙ ap (λ n. (pop n).shown) c.self.view_is)
+    ap (λ o. unwrap_or o c.args.out.now) ((gave c.self.inside (sym c.packet.ensures ∙ c.in_default.is) c.give.new.self (popping_of c.self.inside.discipline).shown refl c.give.ensures.after c.self.invariant c.give.new.out (given-some (popping_of c.self.inside.discipline).shown c.args.out.now c.give.new.out (sym c.give.ensures.given ∙ c.if-not-give.false) c.give.ensures.packet) c.book_sent-2.new.row c.book_sent-2.ensures).shown ∙ ap (λ n. (pop n).shown) c.self.view_is)
 
 pub Node::give-returns-clause-after : goal.Node::give-returns-clause-after
 Node::give-returns-clause-after t c =
-    (gave c.self.inside c.in_default.is c.give.new.self (popping_of c.self.inside.discipline).shown refl c.give.ensures.after c.self.invariant c.give.new.out (given-some (popping_of c.self.inside.discipline).shown c.args.out.now c.give.new.out (sym c.give.ensures.given ∙ c.if-not-give.false) c.give.ensures.packet) c.book_sent-2.new.row c.book_sent-2.ensures).after ∙ ap (λ n. booked kept n (pop n).after) c.self.view_is
+    (gave c.self.inside (sym c.packet.ensures ∙ c.in_default.is) c.give.new.self (popping_of c.self.inside.discipline).shown refl c.give.ensures.after c.self.invariant c.give.new.out (given-some (popping_of c.self.inside.discipline).shown c.args.out.now c.give.new.out (sym c.give.ensures.given ∙ c.if-not-give.false) c.give.ensures.packet) c.book_sent-2.new.row c.book_sent-2.ensures).after ∙ ap (λ n. booked kept n (pop n).after) c.self.view_is

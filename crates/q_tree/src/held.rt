@@ -1,0 +1,63 @@
+ghost use Rattle.std.specs.Prelude.{◌≡◌, None, is_some};
+
+use q_packet::{Packet, SOME_PACKET};
+use std::marker::Model;
+
+/// The packet that a node has dequeued in order to show it, if it holds one.
+///
+/// It is a flag and a place: a packet is written straight into the place, and nothing is cleared when the packet leaves. A contract
+/// sees the packet, or `None`.
+#[derive(Drop)]
+pub(crate) struct Held {
+    /// Whether the place has a packet that is held.
+    pub(crate) holds: bool,
+    pub(crate) place: Packet,
+}
+
+impl Model for Held {
+    ghost use Rattle.std.specs.Prelude.{Option, Some, None, if◌then◌else◌};
+    ghost use Rattle.q_packet.specs.Descriptor.{Descriptor};
+
+    ghost Value = { Option Descriptor };
+
+    ghost view = { λ h. if h.holds then Some h.place else None };
+}
+
+impl Held {
+    /// No packet is held.
+    pub(crate) fn nothing() -> Held
+        ensures { result ≡ None }
+    {
+        Held {
+            holds: false,
+            place: SOME_PACKET,
+        }
+    }
+
+    /// Whether a packet is held.
+    #[inline(always)]
+    pub(crate) fn is_some(&self) -> bool
+        ensures { result ≡ is_some self.now }
+    {
+        self.holds
+    }
+
+    /// The packet that is held.
+    #[inline(always)]
+    pub(crate) fn packet(&self) -> Option<Packet>
+        ensures { result ≡ self.now }
+    {
+        if self.holds {
+            return Some(self.place);
+        }
+        None
+    }
+
+    /// The packet leaves.
+    #[inline(always)]
+    pub(crate) fn clear(&mut self)
+        ensures { self.new ≡ None }
+    {
+        self.holds = false;
+    }
+}
