@@ -25,9 +25,6 @@ set-shared x views seat w h here j u e =
 newcomer-knows : (x : Board) → HasBeenShown x newcomer
 newcomer-knows x k = absurd (false≢true k)
 
-pub shared-alone : (x : Board) → IsShared x (newcomer ∷ [])
-shared-alone x seat v e = ⊎_elim (λ (t : get_elem? {A = BoardView} [] seat ≡ some v). absurd cc) (λ (t : newcomer ≡ v). subst (HasBeenShown x) t (newcomer-knows x)) (at_snoc [] newcomer v seat e)
-
 pub admits : Admits IsShared newcomer
 admits x views h seat v at = ⊎_elim (h seat v) (λ (e : newcomer ≡ v). subst (HasBeenShown x) e (newcomer-knows x)) (at_snoc views newcomer v seat at)
 

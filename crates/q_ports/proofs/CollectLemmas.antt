@@ -9,7 +9,7 @@ use Rattle.q_model.specs.declared.event.Event.TheVariants.{Arrive}
 use Rattle.q_device.specs.DeviceSeen.{DeviceSeen, Memory}
 use Rattle.q_device.specs.Events.{with_memory}
 use Rattle.q_device.proofs.EventMemory.{after-memory}
-use Rattle.q_ports.specs.Collected.{Received, received_one, arrived_one, Collects, HasReceived}
+use Rattle.q_ports.specs.Collected.{Received, received_one, arrived_one, Collects}
 use Rattle.q_ports.specs.Rings.{RingSeen, received_from}
 use Rattle.q_ports.specs.Room.{KeepsPlaces, StaysButForPlaces}
 use Rattle.q_ports.specs.Stopped.{HasNoRoomForNext, Stops}
@@ -25,17 +25,6 @@ fold-memory now m d (t ∷ ts) = ap (λ (x : DeviceSeen). fold (arrived_one now)
 
 pub collects-none : (now : ℕ) (rs : List (List Descriptor)) (d : DeviceSeen) → Collects now rs rs d d 0
 collects-none now rs d = record { takes = []; counted = refl; rings = All-nil (λ (t : Received). t.ring < length rs); received = refl; arrived = refl; places = keeps-same d }
-
--- what happens to places is no event
-pub collects-memory : (now : ℕ) (rs rs' : List (List Descriptor)) (d d1 d2 : DeviceSeen) (n : ℕ) → Collects now rs rs' d d1 n → StaysButForPlaces d1 d2 → Collects now rs rs' d d2 n
-collects-memory now rs rs' d d1 d2 n c s = record {
-  takes = c.takes;
-  counted = c.counted;
-  rings = c.rings;
-  received = c.received;
-  arrived = s.stays ∙ ap (λ (x : DeviceSeen). with_memory d2.memory x) c.arrived;
-  places = keeps-then d d1 d2 c.places s.places;
-}
 
 pub collects-more : (now : ℕ) (rs rs1 rs2 : List (List Descriptor)) (d d1 d2 : DeviceSeen) (n : ℕ) (t : Received) → Collects now rs rs1 d d1 n → t.ring < length rs1 → rs2 ≡ received_one rs1 t
     → d2 ≡ with_memory d2.memory (arrived_one now d1 t) → KeepsPlaces d1 d2 → Collects now rs rs2 d d2 (n + 1)
@@ -99,7 +88,3 @@ stops-then now before middle rings device device1 device' n m collected first s 
   next = s.next;
   stays = s.stays;
 }
-
--- what was received, of what was collected
-pub received-of : (now : ℕ) (before after : List (List Descriptor)) (device device' : DeviceSeen) (n : ℕ) → Collects now before after device device' n → HasReceived before after n
-received-of now before after device device' n c = record { takes = c.takes; counted = c.counted; rings = c.rings; received = c.received }

@@ -1,6 +1,6 @@
 -- What a look at a ring, and a packet received from it, change in the list of rings.
-use Rattle.std.proofs.Common.{◌≡◌, ◌≢◌, ℕ, ◌+◌, ◌<◌, ◌≤◌, List, [], ◌∷◌, ◌++◌, length, get_or, set, drop, map, Bool, refl, sym, ap, ◌∙◌, subst, arith, append_assoc, ⊎_elim, zero-le}
-use Rattle.std.proofs.lemmas.Bool.{cases_eq, cases_lt}
+use Rattle.std.proofs.Common.{◌≡◌, ◌≢◌, ℕ, ◌+◌, ◌<◌, List, [], ◌∷◌, ◌++◌, length, get_or, set, drop, map, Bool, refl, sym, ap, ◌∙◌, subst, arith, append_assoc, ⊎_elim}
+use Rattle.std.proofs.lemmas.Bool.{cases_eq}
 use Rattle.std.proofs.lemmas.List.{map-set, set-get_or, get_or-set_same, get_or-set_other, get_or-map, length-set, length-map, length_push}
 use Rattle.std.proofs.lemmas.List.Sums.{sum_by-set, sum_by_push}
 use Rattle.std.specs.Prelude.{sum_by}
@@ -13,7 +13,7 @@ use Rattle.q_packet.specs.Descriptor.{Descriptor}
 use Rattle.q_ports.specs.Collected.{received_one, take}
 use Rattle.q_ports.specs.Held.{held, booking}
 use Rattle.q_ports.specs.Placed.{RingId, ring_at, bytes_in}
-use Rattle.q_ports.specs.Rings.{RingSeen, ring_seen, ring_id, received_from, all_of, seat_for, with_known, popped, Looks, Receives, AreEmptyWithin, AreSameFrom, AreSeenEmpty}
+use Rattle.q_ports.specs.Rings.{RingSeen, ring_seen, ring_id, received_from, all_of, seat_for, with_known, popped, Looks, Receives, AreEmptyWithin, AreSameFrom}
 
 -- some ring, to look past the end of a list
 abbrev pub no_ring : RingSeen
@@ -57,9 +57,6 @@ receives-ids at xs ys p l = ap (λ zs. map ring_id zs) (l.after_is no_ring) ∙ 
 
 pub receives-others : (at : ℕ) (xs ys : List RingSeen) (p : Descriptor) → Receives at xs ys p → (k : ℕ) (d : RingSeen) → k ≢ at → get_or ys k d ≡ get_or xs k d
 receives-others at xs ys p l k d other = ap (λ zs. get_or zs k d) (l.after_is d) ∙ get_or-set_other xs at k (popped p (get_or xs at d)) d other
-
-pub receives-length : (at : ℕ) (xs ys : List RingSeen) (p : Descriptor) → Receives at xs ys p → length ys ≡ length xs
-receives-length at xs ys p l = ap (λ zs. length zs) (l.after_is no_ring) ∙ length-set xs at (popped p (get_or xs at no_ring))
 
 pub receives-received : (at : ℕ) (xs ys : List RingSeen) (p : Descriptor) → Receives at xs ys p → at < length xs → map received_from ys ≡ received_one (map received_from xs) (take at p)
 receives-received at xs ys p l h =
@@ -162,11 +159,6 @@ pub empty-more : (from at : ℕ) (xs ys : List RingSeen) → AreEmptyWithin from
 empty-more from at xs ys before others here k d ge lt =
     ⊎_elim (λ (e : k ≡ at). subst (λ (j : ℕ). (get_or ys j d).known ≡ []) (sym e) (here d))
     (λ (n : k ≢ at). ap (λ (r : RingSeen). r.known) (others k d n) ∙ before k d ge (omega arith)) (cases_eq k at)
-
--- first the rings from one place on were seen empty, and then those before it
-pub empty-round : (start : ℕ) (xs ys : List RingSeen) → AreEmptyWithin start (length xs) xs → AreSameFrom start xs ys → AreEmptyWithin 0 start ys → length ys ≡ length xs → AreSeenEmpty ys
-empty-round start xs ys late same early long k d h =
-    ⊎_elim (λ (l : k < start). early k d zero-le l) (λ (g : start ≤ k). ap (λ (r : RingSeen). r.known) (same k d g) ∙ late k d g (omega arith)) (cases_lt k start)
 
 -- what a contract sees of a ring at its place
 pub seen-there : (items : List Ring) (now : List RingSeen) (at : ℕ) (a : Ring) → map ring_seen items ≡ now → at < length now → a ≡ get_or items at a → (d : RingSeen) → get_or now at d ≡ ring_seen a
