@@ -31,7 +31,8 @@ static void bell_ring(struct bell *bell) {
     }
 }
 
-/* A thread calls this once it has slept. If the bell rings just now, the thread wakes once more and finds nothing to do. */
+/* A thread calls this while it is awake, so that the bell does not ring. A bell_ring that has begun already may write to the eventfd after
+ * this has read it. The thread's next sleep then ends at once, perhaps with nothing to do. */
 static void bell_hush(struct bell *bell) {
     eventfd_t count;
     atomic_exchange(&bell->is_listened_to, false);
