@@ -25,7 +25,7 @@ struct bell {
  * what the other did. */
 static void bell_listen(struct bell *bell) { atomic_exchange(&bell->is_listened_to, true); }
 
-/* A thread calls this after it brought packets. It makes a system call only if the other thread sleeps, or is about to. */
+/* A thread calls this after it brought packets. bell_ring makes a system call only if the other thread sleeps, or is about to. */
 static void bell_ring(struct bell *bell) {
     if (atomic_exchange(&bell->is_listened_to, false)) {
         eventfd_write(bell->fd, 1);
