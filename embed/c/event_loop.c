@@ -33,7 +33,7 @@ static void bell_ring(struct bell *bell) {
 }
 
 /* A thread calls this while it is awake, so that the bell does not ring. If another thread is already in bell_ring, its write to the
- * eventfd may come after the read below. In this case the awake thread's next sleep ends at once, perhaps with nothing to do. */
+ * eventfd may come after the read below. In this case the awake thread's next sleep ends immediately, perhaps with nothing to do. */
 static void bell_hush(struct bell *bell) {
     eventfd_t count;
     atomic_exchange(&bell->is_listened_to, false);
