@@ -20,19 +20,20 @@ struct bell {
     atomic_bool is_listened_to;
 };
 
-/* A thread calls this before it sleeps, and then checks once more for packets: it finds those that were brought before this call, and
- * for later ones the bell rings. Both sides exchange the flag atomically, so that at least one of them sees what the other did. */
+/* A thread calls this before it sleeps, and then checks once more for packets. The check finds packets that were brought before this
+ * call. For packets that are brought later, the bell rings. Both sides exchange the flag atomically, so that at least one of them sees
+ * what the other did. */
 static void bell_listen(struct bell *bell) { atomic_exchange(&bell->is_listened_to, true); }
 
-/* A thread calls this after it brought packets. It makes a system call only if the other thread sleeps, or is about to. */
+/* A thread calls this after it brought packets. bell_ring makes a system call only if the other thread sleeps, or is about to. */
 static void bell_ring(struct bell *bell) {
     if (atomic_exchange(&bell->is_listened_to, false)) {
         eventfd_write(bell->fd, 1);
     }
 }
 
-/* A thread calls this while it is awake, so that the bell does not ring. A bell_ring that has begun already may write to the eventfd after
- * this has read it. The thread's next sleep then ends at once, perhaps with nothing to do. */
+/* A thread calls this while it is awake, so that the bell does not ring. If another thread is already in bell_ring, its write to the
+ * eventfd may come after the read below. In this case the awake thread's next sleep ends immediately, perhaps with nothing to do. */
 static void bell_hush(struct bell *bell) {
     eventfd_t count;
     atomic_exchange(&bell->is_listened_to, false);
@@ -115,7 +116,7 @@ static void sleep_until(int timer, uint64_t due) {
     poll(either, 2, -1);
 }
 
-/* Takes turns until all senders have ended and nothing is left. Returns how often it slept. */
+/* Calls turn, and sleeps when there is nothing to do, until all senders have ended and nothing is left. Returns how many times it slept. */
 static uint64_t drain(qtree_device *device, int timer) {
     for (uint64_t sleeps = 0;;) {
         do {
