@@ -5,10 +5,8 @@ pub mod Naming
 pub mod NotingLemmas
 pub mod Offering
 pub mod PlaceLemmas
-pub mod PollLemmas
 pub mod Polling
 pub mod RawBoxValues
 pub mod Readying
 pub mod Reaping
-pub mod SentPolling
 pub mod Telling

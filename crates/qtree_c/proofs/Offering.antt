@@ -3,7 +3,7 @@ use Rattle.std.proofs.Common.{◌≡◌, ℕ, ◌+◌, ◌<◌, ◌≤◌, List,
 use Rattle.std.specs.Prelude.{◌≢◌, All, drop, length, map, set, take}
 use Rattle.std.specs.List.{fold}
 use Rattle.std.proofs.Math.Seq.{take-add}
-use Rattle.std.proofs.lemmas.List.{get_or-drop, get_or-map, get_or-take, length-drop, length-map, length-take, length-take-le, map-append, map_more, take-map, take-take, take_all, take_more, take_more_set}
+use Rattle.std.proofs.lemmas.List.{get_or-drop, get_or-map, get_or-take, length-drop, length-map, length-take, length-take-le, map-append, map_more, take-map, take-take, take_more, take_more_set}
 use Rattle.std.proofs.lemmas.List.Elements.{All-append, All-cons, All-get_or, All-nil, All-same, All-take}
 use Rattle.std.proofs.lemmas.List.Sums.{fold-append}
 use Rattle.q_packet.specs.Descriptor.{Descriptor}
@@ -18,9 +18,6 @@ pub record IsOffering (i : ℕ) (packets : List CPacket) (p p' : PortSeen) : Typ
   pub placed : p' ≡ fold placing p (map descriptor (take i packets))
   pub in_range : All IsPacket (take i packets)
   pub most : i ≤ length packets
-
-pub offering-begins : (packets : List CPacket) (p : PortSeen) → IsOffering 0 packets p p
-offering-begins packets p = record { placed = refl; in_range = All-nil IsPacket; most = omega arith }
 
 -- ---- one batch
 
@@ -78,40 +75,6 @@ batch-is-full r k packets read p p' is lt placed full =
       full = λ _. subst (λ (q : Descriptor). MayBeFull p' q) there (full z);
     }
 
--- all of them were placed, and the next is out of its range
-pub batch-is-cut : (r k : ℕ) (packets : List CPacket) (read : List Descriptor) (p p' : PortSeen) → IsRead r packets read → k ≤ length read → r ≤ k → p' ≡ fold placing p (take k read)
-    → r < length packets → (IsPacket (get_or packets r zero_packet) → ⊥) → IsOffers packets 42 r p p'
-batch-is-cut r k packets read p p' is few all placed lt next =
-    let whole : take k read ≡ read = take_all k read (omega (arith, all, read-length r packets read is)) in
-    record {
-      placed = placed ∙ ap (λ (ps : List Descriptor). fold placing p ps) (whole ∙ is.read_as);
-      in_range = is.in_range;
-      most = is.most;
-      all = λ e. absurd (omega (arith, e));
-      stopped = λ _. lt;
-      answers = λ _ ne. absurd (ne refl);
-      next = λ _. next;
-      next_in_range = λ e. absurd (omega (arith, e));
-      full = λ e. absurd (omega (arith, e));
-    }
-
--- the whole batch was placed
-pub batch-is-placed : (r k : ℕ) (packets : List CPacket) (read : List Descriptor) (p p' : PortSeen) → IsRead r packets read → k ≤ length read → r ≤ k → p' ≡ fold placing p (take k read)
-    → length packets ≤ r → IsOffers packets 0 r p p'
-batch-is-placed r k packets read p p' is few all placed end =
-    let whole : take k read ≡ read = take_all k read (omega (arith, all, read-length r packets read is)) in
-    record {
-      placed = placed ∙ ap (λ (ps : List Descriptor). fold placing p ps) (whole ∙ is.read_as);
-      in_range = is.in_range;
-      most = is.most;
-      all = λ _. omega (arith, end, is.most);
-      stopped = λ ne. absurd (ne refl);
-      answers = λ ne. absurd (ne refl);
-      next = λ e. absurd (omega (arith, e));
-      next_in_range = λ e. absurd (omega (arith, e));
-      full = λ e. absurd (omega (arith, e));
-    }
-
 -- ---- one batch after others
 
 -- so many of the batch of at most `m` packets that begins at `i` were placed
@@ -151,17 +114,3 @@ offering-stops i m k code packets p p' p'' inv did ne =
       next_in_range = λ e. subst (λ (c : CPacket). IsPacket c) there (did.next_in_range e);
       full = λ e. subst (λ (c : CPacket). MayBeFull p'' (descriptor c)) there (did.full e);
     }
-
--- all of them were placed
-pub offering-ends : (i : ℕ) (packets : List CPacket) (p p' : PortSeen) → IsOffering i packets p p' → length packets ≤ i → IsOffers packets 0 i p p'
-offering-ends i packets p p' inv end = record {
-  placed = inv.placed;
-  in_range = inv.in_range;
-  most = inv.most;
-  all = λ _. omega (arith, end, inv.most);
-  stopped = λ ne. absurd (ne refl);
-  answers = λ ne. absurd (ne refl);
-  next = λ e. absurd (omega (arith, e));
-  next_in_range = λ e. absurd (omega (arith, e));
-  full = λ e. absurd (omega (arith, e));
-}

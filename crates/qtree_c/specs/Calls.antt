@@ -11,10 +11,10 @@ use Rattle.q_model.specs.Tally.{totals}
 use Rattle.q_model.specs.TreeState.{stats}
 use Rattle.q_device.specs.DeviceSeen.{DeviceSeen, HasRoomFor, reaped}
 use Rattle.q_device.specs.Events.{after_event, reply_to, with_memory}
-use Rattle.q_device.specs.Polls.{after_poll}
+use Rattle.q_device.specs.Polls.{after_poll, given_at}
 use Rattle.qtree_c.specs.Codes.{reply_number}
 use Rattle.q_ports.specs.Room.{KeepsPlaces}
-use Rattle.qtree_c.specs.Structs.{IsPacket, descriptor, event_of, given_or, loss_of, row_of}
+use Rattle.qtree_c.specs.Structs.{IsPacket, descriptor, event_of, loss_of, row_of, told_or}
 use Rattle.qtree_c.specs.declared.c_event.CEvent.{CEvent}
 use Rattle.qtree_c.specs.declared.c_loss.CLoss.{CLoss}
 use Rattle.qtree_c.specs.declared.c_packet.CPacket.{CPacket}
@@ -39,11 +39,11 @@ pub record IsArrival (c : CPacket) (now : ℕ) (code : ℕ) (d n : DeviceSeen) :
   pub places : KeepsPlaces d n
   pub keeps : 6 < code → (other : Descriptor) → HasRoomFor other d → HasRoomFor other n
 
--- a poll, which takes no memory, and the packet that it gives where one stood before
-pub record IsPoll (now code : ℕ) (before after : CPacket) (d n : DeviceSeen) : Type 0 where
+-- a poll, which takes no memory, and what is told of the packet that it gives, in the place of what was told before
+pub record IsPoll {A : Type 0} (told : Descriptor → A) (now code : ℕ) (before after : A) (d n : DeviceSeen) : Type 0 where
   pub polled : n ≡ after_poll now d
   pub answer : code ≡ reply_number (reply_to (event.Poll now) d)
-  pub packet : after ≡ given_or before (reply_to (event.Poll now) d)
+  pub packet : after ≡ told_or told before (given_at now d)
 
 -- the answer where one may be there, and what then stands in the place of what stood there before
 abbrev pub found_number : {A : Type 0} → Option A → ℕ

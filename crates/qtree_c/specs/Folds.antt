@@ -1,39 +1,32 @@
 -- What calls in a row do: each is the single call, up to the first that stops them.
 -- The calls are this project's own.
-use Rattle.std.specs.Prelude.{◌≡◌, ◌≢◌, ℕ, zero, suc, ◌+◌, ◌<◌, ◌≤◌, List, [], ◌∷◌, ◌++◌, All, map, take, drop, length, slice_index_or, Option, option_map}
+use Rattle.std.specs.Prelude.{◌≡◌, ◌≢◌, ℕ, zero, suc, ◌+◌, ◌<◌, ◌≤◌, List, [], ◌∷◌, ◌++◌, All, map, take, drop, length, slice_index_or}
 use Rattle.q_model.specs.declared.event.Event.{Event}
 use Rattle.q_model.specs.declared.event.Event.TheVariants.{Arrive, Poll}
+use Rattle.q_packet.specs.Descriptor.{Descriptor}
 use Rattle.q_device.specs.DeviceSeen.{DeviceSeen, HasRoomFor}
 use Rattle.q_device.specs.DeviceLaws.{HasItsMemory}
 use Rattle.q_device.specs.Events.{after_event, reply_to, with_memory}
-use Rattle.q_device.specs.Polls.{after_poll, or_last, polled_by}
-use Rattle.q_device.specs.Polls as polls
+use Rattle.q_device.specs.Polls.{after_poll, given_at, given_by, or_last, polled_by}
 use Rattle.qtree_c.specs.Codes.{reply_number}
 use Rattle.q_ports.specs.Room.{KeepsPlaces, StaysButForPlaces}
-use Rattle.qtree_c.specs.Structs.{IsPacket, descriptor, loss_of, packet_of, zero_packet}
+use Rattle.qtree_c.specs.Structs.{IsPacket, descriptor, loss_of, zero_packet}
 use Rattle.qtree_c.specs.declared.c_loss.CLoss.{CLoss}
 use Rattle.qtree_c.specs.declared.c_packet.CPacket.{CPacket}
 
 -- ---- polls
 
--- the packet that a poll gives, if any
-abbrev pub given_at : ℕ → DeviceSeen → Option CPacket
-given_at now d = option_map packet_of (polls.given_at now d)
-
--- the packets that so many polls at most give, and the answer to the last
-abbrev pub given_by : ℕ → ℕ → DeviceSeen → List CPacket
-given_by n now d = map packet_of (polls.given_by n now d)
-
+-- the answer to the last of so many polls at most
 abbrev pub answer_by : ℕ → ℕ → DeviceSeen → ℕ
 answer_by zero now d = 0
-answer_by (suc n) now d = or_last (polls.given_at now d) (reply_number (reply_to (Poll now) d)) (answer_by n now (after_poll now d))
+answer_by (suc n) now d = or_last (given_at now d) (reply_number (reply_to (Poll now) d)) (answer_by n now (after_poll now d))
 
--- polls into lent places, of which those behind the last packet stay as they were; they take no memory
-pub record IsPolls (now code count : ℕ) (before after : List CPacket) (d n : DeviceSeen) : Type 0 where
+-- Polls into lent places, in each of which this is told of a packet. Those behind the last packet stay as they were; the polls take no memory.
+pub record IsPolls {A : Type 0} (told : Descriptor → A) (now code count : ℕ) (before after : List A) (d n : DeviceSeen) : Type 0 where
   pub polled : n ≡ polled_by (length before) now d
   pub answer : code ≡ answer_by (length before) now d
   pub given : count ≡ length (given_by (length before) now d)
-  pub packets : after ≡ given_by (length before) now d ++ drop count before
+  pub packets : after ≡ map told (given_by (length before) now d) ++ drop count before
 
 -- ---- arrivals
 

@@ -13,6 +13,5 @@ pub mod Noting
 pub mod Readiness
 pub mod Sample
 pub mod Scripts
-pub mod Sent
 pub mod Showing
 pub mod Structs

@@ -1,6 +1,6 @@
 -- What the structs of C say, and how packets, losses and counters are written into them.
 -- The layout is this project's own.
-use Rattle.std.specs.Prelude.{◌≡◌, ℕ, ◌*◌, ◌+◌, ◌/◌, ◌%◌, ◌^◌, ◌≤◌, ◌==◌, if◌then◌else◌}
+use Rattle.std.specs.Prelude.{◌≡◌, ℕ, ◌*◌, ◌+◌, ◌/◌, ◌%◌, ◌^◌, ◌≤◌, ◌==◌, if◌then◌else◌, Option, Some, None}
 use Rattle.q_packet.specs.Cause.{cause_number}
 use Rattle.q_packet.specs.Descriptor.{Descriptor}
 use Rattle.q_packet.specs.Ecn.{codepoint, ecn_of}
@@ -14,9 +14,6 @@ use Rattle.q_model.specs.declared.event.Event.{Event}
 use Rattle.q_model.specs.declared.event.Event.TheVariants as event
 use Rattle.q_model.specs.declared.place.Place.{Place}
 use Rattle.q_model.specs.declared.place.Place.TheVariants as place
-use Rattle.q_model.specs.declared.polled.Polled.TheVariants as polled
-use Rattle.q_model.specs.declared.reply.Reply.{Reply}
-use Rattle.q_model.specs.declared.reply.Reply.TheVariants as reply
 use Rattle.q_model.specs.declared.row.Row.{Row}
 use Rattle.q_model.specs.declared.totals.Totals.{Totals}
 use Rattle.qtree_c.specs.declared.c_count.CCount.{CCount}
@@ -69,13 +66,10 @@ packet_of p = record {
   ecn = codepoint p.ecn;
 }
 
--- the packet that a poll gives, as C has it; what stood in its place where it gives none
-abbrev pub given_or : CPacket → Reply → CPacket
-given_or c (reply.Polled (polled.Packet p)) = packet_of p
-given_or c (reply.Polled polled.Idle) = c
-given_or c (reply.Polled polled.Later) = c
-given_or c (reply.Fate fate) = c
-given_or c (reply.Done result) = c
+-- what is told of the packet that a poll gives; what stood in its place where it gives none
+abbrev pub told_or : {A : Type 0} → (Descriptor → A) → A → Option Descriptor → A
+told_or told before None = before
+told_or told before (Some p) = told p
 
 abbrev pub loss_of : Loss → CLoss
 loss_of l = record { packet = packet_of l.packet; cause = cause_number l.cause }
@@ -149,6 +143,6 @@ with_head seed h c = with_fields (one_at_a_time seed (key_bytes h.key)) h c
 abbrev pub framed : ℕ → ℕ → ℕ → Head → CPacket
 framed len buf hash h = with_fields hash h (record zero_packet { len = len; buf = buf })
 
--- what is told of a packet that was sent
-abbrev pub sent_of : CPacket → CSent
-sent_of c = record { number = c.number; port = c.port; buf = c.buf; len = c.len; ecn = c.ecn }
+-- what a program needs to send a packet on
+abbrev pub sent_of : Descriptor → CSent
+sent_of p = record { number = p.number; port = p.port; buf = p.buf; len = p.len; ecn = codepoint p.ecn }

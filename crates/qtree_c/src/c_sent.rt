@@ -1,5 +1,5 @@
 ghost use Rattle.std.specs.Prelude.{◌≡◌};
-ghost use Rattle.qtree_c.specs.Structs.{packet_of, sent_of};
+ghost use Rattle.qtree_c.specs.Structs.{sent_of};
 
 use q_packet::Packet;
 
@@ -18,7 +18,7 @@ impl CSent {
     /// What is told of this packet.
     #[inline(always)]
     pub fn of(packet: &Packet) -> CSent
-        ensures { result ≡ sent_of (packet_of packet.now) }
+        ensures { result ≡ sent_of packet.now }
     {
         CSent {
             number: packet.number,

@@ -1,26 +1,21 @@
 //! The device is polled.
-ghost use Rattle.std.specs.Prelude.{◌≡◌, ◌≤◌, ◌<◌, ◌^◌, Some, None, OnErr, IfOk, IfErr};
+ghost use Rattle.std.specs.Prelude.{◌≡◌, ◌≤◌, ◌<◌, ◌^◌};
 ghost use Rattle.q_model.specs.declared.event.Event.TheVariants as event;
-ghost use Rattle.q_device.specs.Events.{reply_to};
-ghost use Rattle.q_device.specs.Polls.{after_poll};
-ghost use Rattle.q_model.specs.Step.{counts_at};
 ghost use Rattle.qtree_c.specs.Calls.{Calls, IsPoll};
-ghost use Rattle.qtree_c.specs.Codes.{reply_number};
-ghost use Rattle.qtree_c.specs.Folds.{given_at, IsPolls};
-ghost use Rattle.qtree_c.specs.Noting.{noting, one_event, poll_events, Notes};
+ghost use Rattle.qtree_c.specs.Folds.{IsPolls};
+ghost use Rattle.qtree_c.specs.Noting.{one_event, poll_events, Notes};
+ghost use Rattle.qtree_c.specs.Structs.{packet_of};
 
 use crate::c_device::CDevice;
 use crate::c_packet::CPacket;
-use crate::codes::{DONE, IDLE, IS_CLOSED, LATER, OUT_OF_RANGE};
-use crate::opened::Opened;
-use crate::steps;
-use q_device::{Given, SOME_PACKET};
-use q_packet::{Moment, Packet};
+use crate::codes::{IS_CLOSED, OUT_OF_RANGE};
+use crate::giving::{poll, poll_many};
+use q_packet::Moment;
 
 /// Takes the packet whose turn it is.
 #[unsafe(no_mangle)]
 pub extern "C" fn qtree_poll(device: &mut CDevice, now: u64, packet: &mut CPacket) -> u32
-    ensures poll { now ≤ 2 ^ 62 → Calls (IsPoll now result packet.old packet.new) result device.old.held.device device.new.held.device }
+    ensures poll { now ≤ 2 ^ 62 → Calls (IsPoll packet_of now result packet.old packet.new) result device.old.held.device device.new.held.device }
     ensures moment { 2 ^ 62 < now → (result ≡ 42) × (device.new.held.device ≡ device.old.held.device) }
     ensures kept { 42 ≤ result → packet.new ≡ packet.old }
     ensures noted { result ≤ 31 → Notes (one_event (event.Poll now)) device.old.held.device device.old.held.last device.new.held.last }
@@ -43,7 +38,7 @@ pub extern "C" fn qtree_poll_many(
     packets: &mut [CPacket],
     count: &mut usize,
 ) -> u32
-    ensures polls { now ≤ 2 ^ 62 → Calls (IsPolls now result count.new packets.old packets.new) result device.old.held.device device.new.held.device }
+    ensures polls { now ≤ 2 ^ 62 → Calls (IsPolls packet_of now result count.new packets.old packets.new) result device.old.held.device device.new.held.device }
     ensures moment { 2 ^ 62 < now → (result ≡ 42) × (device.new.held.device ≡ device.old.held.device) }
     ensures kept { 42 ≤ result → (packets.new ≡ packets.old) × (count.new ≡ 0) }
     ensures noted { result ≤ 31 → Notes (poll_events now result count.new) device.old.held.device device.old.held.last device.new.held.last }
@@ -59,61 +54,4 @@ pub extern "C" fn qtree_poll_many(
     let (given, code) = poll_many(device.held.lend(), packets, now);
     *count = given;
     code
-}
-
-/// An open device is polled.
-#[inline(always)]
-fn poll(opened: &mut Opened, now: Moment, packet: &mut CPacket) -> u32
-    ensures poll { IsPoll now result packet.old packet.new opened.old.device opened.new.device }
-    ensures codes { result ≤ 31 }
-    ensures noted { opened.new.last ≡ noting (one_event (event.Poll now) opened.old.device) opened.old.last }
-{
-    let mut given = SOME_PACKET;
-    match steps::poll(opened, now, &mut given) {
-        Given::Packet => {
-            *packet = CPacket::of(&given);
-            DONE
-        }
-        Given::Idle => IDLE,
-        Given::Later => LATER,
-    }
-}
-
-/// An open device is polled until there are as many packets as places, or to the first poll that gives none.
-fn poll_many(opened: &mut Opened, packets: &mut [CPacket], now: Moment) -> (usize, u32)
-    ensures polls { IsPolls now result.1 result.0 packets.old packets.new opened.old.device opened.new.device }
-    ensures codes { result.1 ≤ 31 }
-    ensures noted { opened.new.last ≡ noting (poll_events now result.1 result.0 opened.old.device) opened.old.last }
-{
-    let mut given = SOME_PACKET;
-    for i in 0..packets.len() {
-        match next(opened, now, &mut given) {
-            Ok(packet) => packets[i] = packet,
-            Err(code) => return (i, code),
-        }
-    }
-    (packets.len(), DONE)
-}
-
-/// The packet that a poll gives, by way of a place that the caller has.
-///
-/// # Errors
-///
-/// What the poll is answered where it gives none.
-#[inline(always)]
-fn next(opened: &mut Opened, now: Moment, place: &mut Packet) -> Result<CPacket, u32>
-    ensures polled { opened.new.device ≡ after_poll now opened.old.device }
-    ensures given { IfOk result (λ packet. given_at now opened.old.device ≡ Some packet) }
-    ensures none { OnErr result (given_at now opened.old.device ≡ None) }
-    ensures answer { IfErr result (λ code. code ≡ reply_number (reply_to (event.Poll now) opened.old.device)) }
-    ensures codes { IfErr result (λ code. code ≤ 31) }
-    ensures waits { IfErr result (λ code. 30 ≤ code) }
-    ensures noted { opened.new.last ≡ noting (one_event (event.Poll now) opened.old.device) opened.old.last }
-    ensures clock { opened.new.device.device.clock ≡ counts_at now opened.old.device.device }
-{
-    match steps::poll(opened, now, place) {
-        Given::Packet => Ok(CPacket::of(place)),
-        Given::Idle => Err(IDLE),
-        Given::Later => Err(LATER),
-    }
 }

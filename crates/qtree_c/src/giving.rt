@@ -1,0 +1,76 @@
+//! An open device is polled, and C is told of each packet that it gives.
+ghost use Rattle.std.specs.Prelude.{◌≡◌, ◌≤◌, Some, None, OnErr, OnOk, IfOk, IfErr, option_map};
+ghost use Rattle.q_model.specs.declared.event.Event.TheVariants as event;
+ghost use Rattle.q_model.specs.Step.{counts_at};
+ghost use Rattle.q_device.specs.Events.{reply_to};
+ghost use Rattle.q_device.specs.Polls.{after_poll, given_at};
+ghost use Rattle.qtree_c.specs.Calls.{IsPoll};
+ghost use Rattle.qtree_c.specs.Codes.{reply_number};
+ghost use Rattle.qtree_c.specs.Folds.{IsPolls};
+ghost use Rattle.qtree_c.specs.Noting.{noting, one_event, poll_events};
+
+use crate::codes::{DONE, IDLE, LATER};
+use crate::opened::Opened;
+use crate::steps;
+use crate::told::Told;
+use q_device::{Given, SOME_PACKET};
+use q_packet::{Moment, Packet};
+
+/// An open device is polled.
+#[inline(always)]
+pub fn poll<T: Told>(opened: &mut Opened, now: Moment, place: &mut T) -> u32
+    ensures poll { IsPoll T.told now result place.old place.new opened.old.device opened.new.device }
+    ensures codes { result ≤ 31 }
+    ensures noted { opened.new.last ≡ noting (one_event (event.Poll now) opened.old.device) opened.old.last }
+    ensures kept { 30 ≤ result → place.new ≡ place.old }
+{
+    let mut given = SOME_PACKET;
+    match next(opened, now, &mut given) {
+        Ok(told) => {
+            *place = told;
+            DONE
+        }
+        Err(code) => code,
+    }
+}
+
+/// An open device is polled until there are as many packets as places, or to the first poll that gives none.
+#[inline(always)]
+pub fn poll_many<T: Told>(opened: &mut Opened, places: &mut [T], now: Moment) -> (usize, u32)
+    ensures polls { IsPolls T.told now result.1 result.0 places.old places.new opened.old.device opened.new.device }
+    ensures codes { result.1 ≤ 31 }
+    ensures noted { opened.new.last ≡ noting (poll_events now result.1 result.0 opened.old.device) opened.old.last }
+{
+    let mut given = SOME_PACKET;
+    for i in 0..places.len() {
+        match next(opened, now, &mut given) {
+            Ok(told) => places[i] = told,
+            Err(code) => return (i, code),
+        }
+    }
+    (places.len(), DONE)
+}
+
+/// What is told of the packet that a poll gives, by way of a place that the caller has.
+///
+/// # Errors
+///
+/// What the poll is answered where it gives none.
+#[inline(always)]
+fn next<T: Told>(opened: &mut Opened, now: Moment, given: &mut Packet) -> Result<T, u32>
+    ensures polled { opened.new.device ≡ after_poll now opened.old.device }
+    ensures given { IfOk result (λ told. option_map T.told (given_at now opened.old.device) ≡ Some told) }
+    ensures done { OnOk result (reply_number (reply_to (event.Poll now) opened.old.device) ≡ 0) }
+    ensures none { OnErr result (given_at now opened.old.device ≡ None) }
+    ensures answer { IfErr result (λ code. code ≡ reply_number (reply_to (event.Poll now) opened.old.device)) }
+    ensures codes { IfErr result (λ code. code ≤ 31) }
+    ensures waits { IfErr result (λ code. 30 ≤ code) }
+    ensures noted { opened.new.last ≡ noting (one_event (event.Poll now) opened.old.device) opened.old.last }
+    ensures clock { opened.new.device.device.clock ≡ counts_at now opened.old.device.device }
+{
+    match steps::poll(opened, now, given) {
+        Given::Packet => Ok(T::told(given)),
+        Given::Idle => Err(IDLE),
+        Given::Later => Err(LATER),
+    }
+}
