@@ -67,7 +67,8 @@ impl Node {
     /// Whether the node is a fifo with a packet, so that nobody has to be asked.
     #[inline(always)]
     fn has_head(&self) -> bool
-        ensures { result ≡ true → HasHead self.now }
+        ensures means { result ≡ true → HasHead self.now }
+        ensures comes { HasHead self.now → result ≡ true }
     {
         if self.held.is_some() {
             return false;

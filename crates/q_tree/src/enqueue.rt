@@ -148,7 +148,8 @@ impl Node {
     /// Whether the node is a fifo that takes a packet of this length, and has a place for it.
     #[inline(always)]
     fn can_keep(&self, len: u16) -> bool
-        ensures { result ≡ true → CanKeep len self.now }
+        ensures means { result ≡ true → CanKeep len self.now }
+        ensures comes { CanKeep len self.now → result ≡ true }
     {
         let Discipline::Fifo(fifo) = &self.discipline else {
             return false;
