@@ -1,4 +1,3 @@
-mod BucketPays
 mod BucketStretches
 pub mod ClassStretches
 pub mod CountLemmas

@@ -8,7 +8,7 @@ use Rattle.std.proofs.lemmas.List.{length-map}
 use Rattle.std.proofs.lemmas.List.Elements.{All-append}
 use Rattle.std.proofs.lemmas.Option.{none-some, same_Some}
 use Rattle.q_packet.specs.Descriptor.{Descriptor}
-use Rattle.q_bucket.specs.Level.{TokenBucket, units_in_byte, capacity, level_at, allows}
+use Rattle.q_bucket.specs.Level.{TokenBucket, units_in_byte, level_at, allows}
 use Rattle.q_model.specs.declared.event.Event.{Event}
 use Rattle.q_model.specs.Ask.{Asked, befores, holding, ask_discipline, ask_own, ask_tbf}
 use Rattle.q_model.specs.Beneath.{beneath_own, beneath, packets_in}
@@ -25,7 +25,8 @@ use Rattle.q_model.proofs.ShrinkLemmas.{is_empty-with_memory}
 use Rattle.q_invariants.proofs.Along.{counted}
 use Rattle.q_invariants.proofs.Answer.{AreAnswers, waiting}
 use Rattle.q_invariants.proofs.Asks.{beneath-befores, forest-answers}
-use Rattle.q_invariants.proofs.BucketMoves.{tbf-node, tbf-lawful}
+use Rattle.q_invariants.proofs.BucketMoves.{tbf-node, tbf-lawful, tbf-step}
+use Rattle.q_invariants.proofs.BucketSteps.{IsUncutAt}
 use Rattle.q_invariants.proofs.DrrService.{shown-short}
 use Rattle.q_invariants.proofs.Kept.{IsLawfulRoot}
 use Rattle.q_invariants.proofs.Replays.{IsKept, step-kept, replay-kept}
@@ -35,7 +36,6 @@ use Rattle.q_tree.proofs.Foreseeing.{through}
 use Rattle.q_tree.proofs.ForeseenAsks.{tbf-shown}
 use Rattle.q_device.specs.Rate.{IsNowhereCut, IsBackloggedLink, IsInTime, IsDrained, RateIsDelivered}
 use Rattle.q_device.specs.Sharing.{device_after}
-use Rattle.q_device.proofs.BucketPays.{step-pays}
 use Rattle.q_device.proofs.ClassStretches.{at-start, at-end, mtu-stays}
 use Rattle.q_device.proofs.RateStretches.{rate-is-spent}
 use Rattle.q_device.proofs.RenewedTrees.{sees}
@@ -109,17 +109,14 @@ module _ (major rate burst : ℕ) where
     abbrev Stays : DeviceState (List Note) → Type 0
     Stays d = IsBackloggedLink major rate burst d × (d.tree.device.mtu ≡ mtu)
 
-    abbrev UncutAt : ℕ → TokenBucket → Type 0
-    UncutAt now b = b.level + b.rate * (now - b.last) ≤ capacity b
-
     short-uncut : (b : TokenBucket) (u : ℕ) → b.burst ≡ burst → level_at b u < mtu * units_in_byte → b.level + b.rate * (u - b.last) < mtu * units_in_byte
     short-uncut b u same short = omega (arith, short, room, ap (λ n. n * units_in_byte) same)
 
     -- no event comes so late that its level would be cut
-    uncut-event : (d : DeviceState (List Note)) (e : Event) → IsKept d → IsEvent e → (h : Stays d) → IsInTime d e → UncutAt d.clock (bucket d h.0) → UncutAt (step history d e).device.clock (bucket d h.0)
+    uncut-event : (d : DeviceState (List Note)) (e : Event) → IsKept d → IsEvent e → (h : Stays d) → IsInTime d e → IsUncutAt d.clock (bucket d h.0) → IsUncutAt (step history d e).device.clock (bucket d h.0)
     uncut-event d e kept event h time uncut = elim (cases_lt d.clock t) [
       | inl less ↦ waited less
-      | inr past ↦ let same : d.clock ≡ t = omega (arith, past, clock-rises d e) in subst (λ n. UncutAt n b) same uncut
+      | inr past ↦ let same : d.clock ≡ t = omega (arith, past, clock-rises d e) in subst (λ n. IsUncutAt n b) same uncut
     ]
       where
         t : ℕ
@@ -128,7 +125,7 @@ module _ (major rate burst : ℕ) where
         b : TokenBucket
         b = bucket d h.0
 
-        waited : d.clock < t → UncutAt t b
+        waited : d.clock < t → IsUncutAt t b
         waited less =
             let u : ℕ = t - 1 in
             let latest : t ≤ 2 ^ 62 = (step-kept d e kept event).moment in
@@ -150,7 +147,7 @@ module _ (major rate burst : ℕ) where
                 absurd (omega (arith, late, early, comes.past))
 
     abbrev Moves : DeviceState (List Note) → List Event → DeviceState (List Note) → Type 0
-    Moves d during end = (x : TbfAt) → tbf_in major d ≡ Some x → UncutAt d.clock x.bucket → IsDrained d during → IsNowhereCut major d during
+    Moves d during end = (x : TbfAt) → tbf_in major d ≡ Some x → IsUncutAt d.clock x.bucket → IsDrained d during → IsNowhereCut major d during
 
     still : (d : DeviceState (List Note)) → IsKept d → Stays d → Moves d [] d
     still d kept h x is uncut drained = tt
@@ -160,11 +157,11 @@ module _ (major rate burst : ℕ) where
     more d e during end kept event h k on x is uncut drained =
         let next : DeviceState (List Note) = (step history d e).device in
         let same : h.0.tbf.tbf ≡ x = same_Some h.0.tbf.tbf x (sym h.0.tbf.there ∙ is) in
-        let here : UncutAt next.clock x.bucket =
-        subst (λ (y : TbfAt). UncutAt next.clock y.bucket) same (uncut-event d e kept event h drained.0 (subst (λ (y : TbfAt). UncutAt d.clock y.bucket) (sym same) uncut)) in
+        let here : IsUncutAt next.clock x.bucket =
+        subst (λ (y : TbfAt). IsUncutAt next.clock y.bucket) same (uncut-event d e kept event h drained.0 (subst (λ (y : TbfAt). IsUncutAt d.clock y.bucket) (sym same) uncut)) in
         let y : TbfAt = k.0.tbf.tbf in
-        let s = step-pays major d e x y kept event is k.0.tbf.there in
-        (subst (λ (o : Option TbfAt). IfSome o (λ z. UncutAt next.clock z.bucket)) (sym is) here, on y k.0.tbf.there (s.paid.uncut here) drained.1)
+        let s = tbf-step major d e x y kept event is k.0.tbf.there in
+        (subst (λ (o : Option TbfAt). IfSome o (λ z. IsUncutAt next.clock z.bucket)) (sym is) here, on y k.0.tbf.there (s.paid.uncut here) drained.1)
 
 pub rate-is-delivered : (settings : DeviceSettings) → IsInRange settings → RateIsDelivered settings
 rate-is-delivered settings range before during major rate burst first last all_before all_during room stays drained polled_before polled_after is at =

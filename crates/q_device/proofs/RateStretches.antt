@@ -5,7 +5,7 @@ use Rattle.std.proofs.Math.Nat.{mul-add}
 use Rattle.std.proofs.lemmas.List.{append-nil, append_assoc}
 use Rattle.std.proofs.lemmas.List.Sums.{sum_by-append}
 use Rattle.std.proofs.lemmas.Option.{same_Some}
-use Rattle.q_bucket.specs.Level.{units_in_byte, capacity, level_at}
+use Rattle.q_bucket.specs.Level.{units_in_byte, level_at}
 use Rattle.q_model.specs.declared.event.Event.{Event}
 use Rattle.q_model.specs.Events.{IsEvent}
 use Rattle.q_model.specs.Settings.{DeviceSettings, IsInRange}
@@ -13,14 +13,15 @@ use Rattle.q_model.specs.Step.{DeviceState, step}
 use Rattle.q_model.specs.Stretches.{spent_by, bytes_spent, TbfAt, tbf_in, IsTbf}
 use Rattle.q_model.specs.Tally.{Note, history}
 use Rattle.q_invariants.proofs.Along.{counted}
-use Rattle.q_device.proofs.BucketPays.{step-pays}
+use Rattle.q_invariants.proofs.BucketMoves.{tbf-step}
+use Rattle.q_invariants.proofs.BucketSteps.{IsUncutAt}
 use Rattle.q_invariants.proofs.Replays.{IsKept}
 use Rattle.q_device.specs.Rate.{IsUncut, IsNowhereCut, RateIsSpent}
 
 -- what one that is there has at the moment of an event
 pub uncut-there : (major : ℕ) (d : DeviceState (List Note)) (e : Event) (x : TbfAt) → tbf_in major d ≡ Some x → IsUncut major d e
-    → x.bucket.level + x.bucket.rate * ((step history d e).device.clock - x.bucket.last) ≤ capacity x.bucket
-uncut-there major d e x is h = subst (λ (o : Option TbfAt). IfSome o (λ tbf. tbf.bucket.level + tbf.bucket.rate * ((step history d e).device.clock - tbf.bucket.last) ≤ capacity tbf.bucket)) is h
+    → IsUncutAt (step history d e).device.clock x.bucket
+uncut-there major d e x is h = subst (λ (o : Option TbfAt). IfSome o (λ tbf. IsUncutAt (step history d e).device.clock tbf.bucket)) is h
 
 module _ (major rate burst : ℕ) where
   abbrev Stays : DeviceState (List Note) → Type 0
@@ -59,7 +60,7 @@ module _ (major rate burst : ℕ) where
   more d e during end kept event h k on x z is at uncut =
       let next : DeviceState (List Note) = (step history d e).device in
       let y : TbfAt = k.tbf in
-      let s = step-pays major d e x y kept event is k.there in
+      let s = tbf-step major d e x y kept event is k.there in
       let same : y.bucket.burst ≡ x.bucket.burst = k.same_burst ∙ sym (burst-there d x h is) in
       let own : bytes_spent s.notes * units_in_byte + level_at y.bucket next.clock ≡ level_at x.bucket d.clock + x.bucket.rate * (next.clock - d.clock) = s.paid.exact same (uncut-there major d e x is uncut.0) in
       let rest = on y z k.there at uncut.1 in

@@ -1,5 +1,5 @@
 -- What a command makes of every fq_codel of a tree: a new one has all its flows at rest, and another one keeps them as they are.
-use Rattle.std.proofs.Common.{◌≡◌, ℕ, zero, suc, ◌⊎◌, inl, inr, List, [], ◌∷◌, set, replicate, Option, Some, None, Ok, refl, sym, ap, subst, ◌∙◌}
+use Rattle.std.proofs.Common.{◌≡◌, ℕ, zero, suc, ◌⊎◌, inl, inr, List, [], ◌∷◌, replicate, Option, Some, None, Ok, refl, sym, ap, subst, ◌∙◌}
 use Rattle.std.specs.Prelude.{Result, slice_get, option_and_then, unwrap_or, not, filter}
 use Rattle.std.specs.Option.{option_map_or}
 use Rattle.std.proofs.lemmas.Option.{none-some, same_Some}
@@ -17,7 +17,7 @@ use Rattle.q_model.specs.declared.refusal.Refusal.{Refusal}
 use Rattle.q_model.specs.declared.refusal.Refusal.TheVariants.{NoQdisc, CannotChange}
 use Rattle.q_model.specs.Filters.{with_filter}
 use Rattle.q_model.specs.Tally.{Note, history}
-use Rattle.q_model.specs.Node.{Discipline, Fifo, Prio, Tbf, Drr, FqCodel, Forest, none, more, Node, Shape, nodes_in, side_by_side, children, shape, blank}
+use Rattle.q_model.specs.Node.{Discipline, Fifo, Prio, Tbf, Drr, FqCodel, Node, Shape, children, shape, blank}
 use Rattle.q_model.specs.Beneath.{is_empty}
 use Rattle.q_model.specs.Make.{Device, node_of, implicit_pfifo, implicit_beneath, limit_bytes, default_settings, with_options, made}
 use Rattle.q_model.specs.Find.{free_handle, node_at, path_of, place_path, class_place}
@@ -28,8 +28,7 @@ use Rattle.q_model.specs.FilterCommands.{with_filters, filter_add_checks, filter
 use Rattle.q_model.specs.TreeState.{edit_of}
 use Rattle.q_invariants.proofs.EditNodes.{refused_not_done, same_edit, AtNode, AtSchedule, node_there, drr_there, schedule_there}
 use Rattle.q_invariants.proofs.EditSuits.{done_is}
-use Rattle.q_invariants.proofs.Forests.{side-nodes}
-use Rattle.q_invariants.proofs.Within.{Within, IsOf, child-within}
+use Rattle.q_invariants.proofs.Within.{Within, IsOf, child-within, within-set}
 use Rattle.q_device.specs.Rest.{IsAtRest, FlowRests}
 use Rattle.q_device.proofs.RestSteps.{retuned-rests}
 use Rattle.q_device.proofs.RestNodes.{Rests, AllRest, settled-rests}
@@ -153,20 +152,6 @@ module _ (now : ℕ) (root : Node (List Note)) where
       subst (RestsBy root) (done_is (filter_del_checks prio sh) (with_filters at.path sh left) edit at.edit_is).1 (filters-rest at.path left at.node at.node_is)
 
 -- ---- the tree that is edited
-
--- a node beneath one whose child was changed
-within-set : (n new old : Node (List Note)) (x : Forest (List Note)) (i : ℕ) → slice_get (nodes_in x) i ≡ Some old → Within n (side_by_side (set (nodes_in x) i new)) → IsOf n new ⊎ Within n x
-within-set n new old none i e w = absurd (none-some old e)
-within-set n new old (more own m below others) zero e (inl is) = inl (inl is)
-within-set n new old (more own m below others) zero e (inr (inl w)) = inl (inr w)
-within-set n new old (more own m below others) zero e (inr (inr w)) = inr (inr (inr (subst (Within n) (side-nodes others) w)))
-within-set n new old (more own m below others) (suc i) e (inl is) = inr (inl is)
-within-set n new old (more own m below others) (suc i) e (inr (inl w)) = inr (inr (inl w))
-within-set n new old (more own m below others) (suc i) e (inr (inr w)) = by (within-set n new old others i e w)
-  where
-    by : IsOf n new ⊎ Within n others → IsOf n new ⊎ Within n (more own m below others)
-    by (inl a) = inl a
-    by (inr b) = inr (inr (inr b))
 
 module _ (notes : List Note) (f : Node (List Note) → Node (List Note)) where
   above-rests : (root c : Node (List Note)) (i : ℕ) (path : List ℕ) → slice_get (children root) i ≡ Some c → AllRest root → AllRest (edited_at history notes f path c)

@@ -1,19 +1,17 @@
 -- CoDel spares a flow that joins, until it gives a packet.
-use Rattle.std.proofs.Common.{◌≡◌, ◌≢◌, ℕ, zero, suc, ◌+◌, ◌≤◌, ◌⊎◌, inl, inr, ⊎_elim, Bool, true, false, List, [], ◌∷◌, ◌++◌, drop, Option, Some, None, option_map, option_and_then, option_to_list, refl, sym, ap, ap₂, subst, ◌∙◌, arith}
+use Rattle.std.proofs.Common.{◌≡◌, ◌≢◌, ℕ, zero, suc, ◌≤◌, inl, inr, ⊎_elim, Bool, true, false, List, [], ◌∷◌, ◌++◌, drop, Option, Some, None, option_map, option_and_then, refl, sym, ap, ap₂, subst, ◌∙◌, arith}
 use Rattle.std.specs.Prelude.{All, IfSome, slice_get, if◌then◌else◌}
-use Rattle.std.specs.List.{flat_map}
 use Rattle.std.proofs.lemmas.Bool.{cases_eq, eq-eqb}
 use Rattle.std.proofs.lemmas.List.{append-nil, append_assoc}
-use Rattle.std.proofs.lemmas.List.Elements.{All-head, All-push}
+use Rattle.std.proofs.lemmas.List.Elements.{All-push}
 use Rattle.std.proofs.lemmas.List.Sums.{sum_by-cons, sum_by-append}
 use Rattle.std.proofs.lemmas.Option.{none-some, same_Some}
-use Rattle.q_packet.specs.Descriptor.{Descriptor}
 use Rattle.q_packet.specs.declared.stamped.Stamped.{Stamped}
 use Rattle.q_codel.specs.Codel.{CodelState, is_late, drops, sent, marks, leaving, begun, gone_on, control_after, above_after}
 use Rattle.q_codel.specs.declared.taken.Taken.{Taken}
 use Rattle.q_fqcodel.specs.Cleared.{adjust}
 use Rattle.q_fqcodel.specs.Entry.{Entry}
-use Rattle.q_fqcodel.specs.FqState.{Flow, FqState, all_packets}
+use Rattle.q_fqcodel.specs.FqState.{Flow, FqState}
 use Rattle.q_fqcodel.specs.Lawful.{times}
 use Rattle.q_fqcodel.specs.Put.{is_listed}
 use Rattle.q_fqcodel.specs.Take.{selected, packet_sent, flow_after, front, sent_from, after_sending}
@@ -23,21 +21,15 @@ use Rattle.q_fqcodel.proofs.SentLemmas.{sender_found, front_is, front_none, afte
 use Rattle.q_model.specs.declared.event.Event.{Event}
 use Rattle.q_model.specs.Events.{IsEvent}
 use Rattle.q_model.specs.Tally.{Note, FlowGave, history}
-use Rattle.q_model.specs.Node.{Discipline, FqCodel, Own, each}
-use Rattle.q_model.specs.Beneath.{packets_in, packets_of, beneath_own}
 use Rattle.q_model.specs.Quanta.{flow_gave}
 use Rattle.q_model.specs.Replay.{Replay, nothing_yet}
 use Rattle.q_model.specs.Settings.{DeviceSettings, IsInRange}
 use Rattle.q_model.specs.Step.{DeviceState, step}
 use Rattle.q_model.specs.Stretches.{given_by, bytes_given, FqAt, fq_in, IsBackloggedFlow}
 use Rattle.q_invariants.proofs.Along.{moves}
-use Rattle.q_invariants.proofs.FlowMoves.{FqNode, fq-node}
-use Rattle.q_invariants.proofs.FlowNotes.{take-weighs}
+use Rattle.q_invariants.proofs.FlowMoves.{sent_has_length}
 use Rattle.q_invariants.proofs.FlowSteps.{lists_of}
-use Rattle.q_invariants.proofs.Lengths.{HasLength, lengths-among}
 use Rattle.q_invariants.proofs.Replays.{IsKept, replay-kept}
-use Rattle.q_invariants.proofs.Weights.{weigh, weigh-append}
-use Rattle.q_invariants.proofs.Within.{found, lawful-of}
 use Rattle.q_device.specs.Rest.{IsAtRest, FlowRests, JoiningFlowsAreSpared}
 use Rattle.q_device.specs.Sharing.{device_after}
 use Rattle.q_device.proofs.ReplayLemmas.{replay_from-append}
@@ -116,30 +108,6 @@ sent-keeps j now s nothing long h = by (front s) refl
 
 -- ---- an event
 
--- a packet that is sent was queued there, so it has a byte
-sent-long : (mtu now : ℕ) (own : Own) (s : FqState) (below : List (List Descriptor)) → own.discipline ≡ FqCodel s → All (HasLength mtu) (beneath_own own below) → IfSome (sent_from now (selected s)) (λ t. 1 ≤ t.packet.len)
-sent-long mtu now own s below is lengths = by (sent_from now (selected s)) refl
-  where
-    by : (o : Option Taken) → sent_from now (selected s) ≡ o → IfSome o (λ t. 1 ≤ t.packet.len)
-    by None e = tt
-    by (Some t) e =
-        let fewer : (w : Descriptor → ℕ) → weigh w (t.packet ∷ []) ≤ weigh w (beneath_own own below) =
-        λ w.
-        let queued : weigh w (packets_in own.discipline) ≡ weigh w (packets_of (all_packets s.flows)) = ap (λ (k : Discipline). weigh w (packets_in k)) is in
-        let taken : weigh w (option_to_list (option_map (λ (t : Taken). t.packet) (sent_from now (selected s)))) ≡ weigh w (t.packet ∷ []) =
-        ap (λ (o : Option Taken). weigh w (option_to_list (option_map (λ (t : Taken). t.packet) o))) e in
-        let rest : List Descriptor = flat_map (λ packets. packets) below in
-        let whole : weigh w (beneath_own own below) ≡ weigh w (option_to_list own.held ++ packets_in own.discipline) + weigh w rest = weigh-append w (option_to_list own.held ++ packets_in own.discipline) rest in
-        omega (
-          arith,
-          whole,
-          weigh-append w (option_to_list own.held) (packets_in own.discipline),
-          queued,
-          take-weighs w now s,
-          taken,
-        ) in
-        (All-head (HasLength mtu) t.packet [] (lengths-among mtu (beneath_own own below) (t.packet ∷ []) fewer lengths)).0
-
 module _ (major j : ℕ) where
   -- over some events: the flow stays at rest where it gives nothing
   record Keeps (x y : FqAt) : Type 0 where
@@ -167,19 +135,11 @@ module _ (major j : ℕ) where
     event-keeps : Keeps x y
     event-keeps = record { notes = stepped.notes; is = stepped.is; keeps = λ none h. by none h stepped.by }
       where
-        node : FqNode major d x
-        node = fq-node major d x is
-
-        long : IfSome (sent_from (step history d e).device.clock (selected x.state)) (λ t. 1 ≤ t.packet.len)
-        long =
-            let f = found major d node.node node.there in
-            sent-long d.tree.device.mtu (step history d e).device.clock node.node.own x.state (each beneath_own node.node.below) node.discipline (lawful-of d.tree.device.mtu d.clock node.node d.tree.root kept.lawful f.there).0.lengths
-
         by : bytes_given j stepped.notes ≡ 0 → FlowRests j x.state.flows → Outcome j (step history d e).device.clock x.state y.state stepped.notes → FlowRests j y.state.flows
         by none h (inl stays) = stays h
         by none h (inr turns) =
             subst (λ (t : FqState). FlowRests j t.flows) (sym turns.0)
-            (sent-keeps j (step history d e).device.clock (selected x.state) (sym turns.1 ∙ none) long (selected-keeps j x.state h))
+            (sent-keeps j (step history d e).device.clock (selected x.state) (sym turns.1 ∙ none) (sent_has_length major (step history d e).device.clock d x kept is).0 (selected-keeps j x.state h))
 
     -- one that a packet joins
     event-joins : is_listed j (lists_of x.state) ≡ false → is_listed j (lists_of y.state) ≡ true → FlowRests j x.state.flows → FlowRests j y.state.flows

@@ -14,6 +14,12 @@ differ_by_member a l ns there absent = ne_eqb a l (λ e. false≢true (sym absen
 pub eqb_swap : (a b : ℕ) → eqb a b ≡ false → eqb b a ≡ false
 eqb_swap a b e = ne_eqb b a (λ q. false≢true (sym e ∙ eq-eqb a b (sym q)))
 
+pub eqb_sym : (a b : ℕ) → eqb a b ≡ eqb b a
+eqb_sym a b = elim (cases_Bool (eqb b a)) [
+  | inl e ↦ eq-eqb a b (sym (eqb-true b a e)) ∙ sym e
+  | inr e ↦ eqb_swap b a e ∙ sym e
+]
+
 pub among_itself : (n : ℕ) (ns : List ℕ) → is_among n (n ∷ ns) ≡ true
 among_itself n ns = ap (λ t. t || is_among n ns) (eq-eqb n n refl)
 

@@ -29,7 +29,7 @@ deficit_kept n x (e ∷ es) there = elim (cases_Bool (eqb n e.class)) [
   | inr q ↦ deficit_behind n e (es ++ x ∷ []) q ∙ deficit_kept n x es (sym (ap (λ t. t || is_active n es) q) ∙ there) ∙ sym (deficit_behind n e es q)
 ]
 
-deficit_last : (n : ℕ) (x : Entry) (es : List Entry) → is_active n es ≡ false → eqb n x.class ≡ true → deficit_of n (es ++ x ∷ []) ≡ x.deficit
+pub deficit_last : (n : ℕ) (x : Entry) (es : List Entry) → is_active n es ≡ false → eqb n x.class ≡ true → deficit_of n (es ++ x ∷ []) ≡ x.deficit
 deficit_last n x [] absent same = deficit_here n x [] same
 deficit_last n x (e ∷ es) absent same =
     let parts = or_parts (eqb n e.class) (is_active n es) absent in

@@ -9,10 +9,10 @@ use Rattle.q_drr.specs.Stretch.{after_turns, grant_in, bytes_in, grants, sent, s
 use Rattle.q_drr.specs.Take.{choice_of, served}
 use Rattle.q_drr.specs.Turns.{grants_at, bytes_at}
 use Rattle.q_drr.proofs.ServedLemmas.{takes_are_turns}
-use Rattle.q_drr.proofs.StretchLemmas.{list_differ, list_active}
+use Rattle.q_drr.proofs.StretchLemmas.{deficit_last, list_differ, list_active}
 use Rattle.q_drr.proofs.DifferLemmas.{EntriesDiffer, entries_apart}
 use Rattle.q_drr.proofs.LookupLemmas.{deficit_here, deficit_behind}
-use Rattle.q_invariants.proofs.SameTurns.{SameTurns, push-behind, deficit-last}
+use Rattle.q_invariants.proofs.SameTurns.{SameTurns, push-behind}
 use Rattle.q_invariants.proofs.TakeTurns.{Stands}
 
 -- What is left of a deficit until the other class is granted: all of it where the class stands before that one, and what is above
@@ -103,7 +103,7 @@ module _ (i j : ℕ) (apart : i ≢ j) where
               let absent : is_active j es ≡ false = ap (λ m. is_active m es) same ∙ d.0 in
               let there : is_active i es ≡ true = sym (ap (λ t. t || is_active i es) far) ∙ there_i in
               let after : left_before i j quantum (es ++ last ∷ []) ≡ deficit_of j (es ++ last ∷ []) - quantum = ap (λ (t : Bool). left_of t (deficit_of j (es ++ last ∷ [])) quantum) (push-behind i j last es there absent) in
-              let more : deficit_of j (es ++ last ∷ []) ≡ e.deficit + 1 * quantum_of e.class classes = deficit-last j last es absent here in
+              let more : deficit_of j (es ++ last ∷ []) ≡ e.deficit + 1 * quantum_of e.class classes = deficit_last j last es absent here in
               let before : left_before i j quantum (e ∷ es) ≡ e.deficit = ap (λ (t : Bool). left_of t (deficit_of j (e ∷ es)) quantum) (first-is here) ∙ deficit_here j e es here in
               let own : quantum ≡ quantum_of e.class classes = ap (λ m. quantum_of m classes) same in
               omega (arith, none, left, after, more, before, own)

@@ -36,7 +36,15 @@ use Rattle.q_invariants.proofs.BucketSteps.{IsPaid, paid-nothing, paid-spend, pa
 pub same-bucket : (b c : TokenBucket) (l m : ℕ) → ◌≡◌ {A = Discipline} (Tbf b l) (Tbf c m) → b ≡ c
 same-bucket b c l m e = cc
 
--- what a node of one bucket became, with another
+-- what one event makes of a node of one bucket, with another
+pub record TbfStep (clock now : ℕ) (x y : TbfAt) : Type 0 where
+  pub notes : List Note
+  pub is : y.noted ≡ x.noted ++ notes
+  pub paid : IsPaid clock now x.bucket y.bucket (bytes_spent notes)
+  pub held : bytes_sent notes + length_held y.held ≡ bytes_spent notes + length_held x.held
+  pub later : clock ≤ now
+
+-- what several events make of it
 pub record TbfMoves (clock now : ℕ) (x y : TbfAt) : Type 0 where
   pub notes : List Note
   pub is : y.noted ≡ x.noted ++ notes
@@ -49,12 +57,12 @@ at_node b n = record { bucket = b; held = n.own.held; noted = n.memory }
 
 module _ (clock now : ℕ) (b : TokenBucket) (limit : ℕ) (n : Node (List Note)) (is : n.own.discipline ≡ Tbf b limit) (old : b.last ≤ clock) (later : clock ≤ now) where
   -- nothing was spent, and nothing sent
-  quiet-moves : (c : TokenBucket) (after : Node (List Note)) (notes : List Note) → after.memory ≡ n.memory ++ notes → bytes_spent notes ≡ 0 → bytes_sent notes ≡ 0 → after.own.held ≡ n.own.held
-      → IsPaid clock now b c 0 → TbfMoves clock now (at_node b n) (at_node c after)
-  quiet-moves c after notes memory spent sent held paid = record {
+  quiet-step : (c : TokenBucket) (after : Node (List Note)) (notes : List Note) → after.memory ≡ n.memory ++ notes → bytes_spent notes ≡ 0 → bytes_sent notes ≡ 0 → after.own.held ≡ n.own.held
+      → IsPaid clock now b c 0 → TbfStep clock now (at_node b n) (at_node c after)
+  quiet-step c after notes memory spent sent held paid = record {
     notes = notes;
     is = memory;
-    level = let l = paid.level in omega (arith, spent, l);
+    paid = subst (IsPaid clock now b c) (sym spent) paid;
     held = omega (arith, spent, sent, ap length_held held);
     later = later;
   }
@@ -68,8 +76,8 @@ module _ (clock now : ℕ) (b : TokenBucket) (limit : ℕ) (n : Node (List Note)
           tbf-stage now n.own below b limit is e rises w
           (subst (λ (d : Discipline). IsStageOf (ask_discipline now n.own below d) w) is st)
 
-  asked-moves : (c : TokenBucket) (most : ℕ) (after : Node (List Note)) → after.own.discipline ≡ Tbf c most → IsAsked now n after → TbfMoves clock now (at_node b n) (at_node c after)
-  asked-moves c most after now_is asked =
+  asked-step : (c : TokenBucket) (most : ℕ) (after : Node (List Note)) → after.own.discipline ≡ Tbf c most → IsAsked now n after → TbfStep clock now (at_node b n) (at_node c after)
+  asked-step c most after now_is asked =
       let w : Worked = asked.worked in
       let st = ask-stage (each (ask_own now) (shape n).below) (all-rise now (shape n).below) w asked.stage in
       let own : w.own ≡ after.own = ap (λ (k : Node (List Note)). k.own) asked.is in
@@ -78,7 +86,7 @@ module _ (clock now : ℕ) (b : TokenBucket) (limit : ℕ) (n : Node (List Note)
       record {
         notes = w.memory;
         is = ap (λ (k : Node (List Note)). k.memory) (sym asked.is) ∙ noted-history n.memory w.memory;
-        level = let l = paid.level in omega (arith, l, st.paid_is);
+        paid = subst (IsPaid clock now b c) (sym st.paid_is) paid;
         held = omega (arith, st.held_is, st.paid_is, st.sent_is, ap (λ (o : Own). length_held o.held) own);
         later = later;
       }
@@ -88,17 +96,17 @@ module _ (clock now : ℕ) (b : TokenBucket) (limit : ℕ) (n : Node (List Note)
         where
           by : ((st.bucket ≡ b) × (st.paid ≡ 0)) ⊎ ((allows b now st.paid ≡ true) × (st.bucket ≡ after_spend b now st.paid)) → IsPaid clock now b st.bucket st.paid
           by (inl e) = subst (λ (x : TokenBucket). IsPaid clock now b x st.paid) (sym e.0) (subst (IsPaid clock now b b) (sym e.1) (paid-nothing b clock now old later))
-          by (inr e) = subst (λ (x : TokenBucket). IsPaid clock now b x st.paid) (sym e.1) (paid-spend b clock now st.paid old later e.0)
+          by (inr e) = subst (λ (x : TokenBucket). IsPaid clock now b x st.paid) (sym e.1) (paid-spend b clock now old later st.paid e.0)
 
   unpaid : (c : TokenBucket) → b ≡ c → IsPaid clock now b c 0
   unpaid c e = subst (λ (x : TokenBucket). IsPaid clock now b x 0) e (paid-nothing b clock now old later)
 
-  put-moves : (p : Descriptor) (c : TokenBucket) (most : ℕ) (after : Node (List Note)) → after.own.discipline ≡ Tbf c most → IsPut now p n after → TbfMoves clock now (at_node b n) (at_node c after)
-  put-moves p c most after now_is put =
+  put-step : (p : Descriptor) (c : TokenBucket) (most : ℕ) (after : Node (List Note)) → after.own.discipline ≡ Tbf c most → IsPut now p n after → TbfStep clock now (at_node b n) (at_node c after)
+  put-step p c most after now_is put =
       let w : Worked = put.worked in
       let st = put-stage now p put.refusal (shape n) w put.way in
       let own : w.own ≡ after.own = ap (λ (k : Node (List Note)). k.own) put.is in
-      quiet-moves c after w.memory (ap (λ (k : Node (List Note)). k.memory) (sym put.is) ∙ noted-history n.memory w.memory)
+      quiet-step c after w.memory (ap (λ (k : Node (List Note)). k.memory) (sym put.is) ∙ noted-history n.memory w.memory)
       (st.notes spent_by past-spent (λ q. refl)) (st.notes sent_by past-sent (λ q. refl))
       (ap (λ (o : Own). o.held) (sym own) ∙ st.held)
       (unpaid c (same-bucket b c limit most (sym (by st.discipline) ∙ ap (λ (o : Own). o.discipline) own ∙ now_is)))
@@ -109,13 +117,13 @@ module _ (clock now : ℕ) (b : TokenBucket) (limit : ℕ) (n : Node (List Note)
       by (inr (inl e)) = e ∙ ap (queued_in p now) is
       by (inr (inr e)) = e.2 ∙ ap (settled_in e.0 e.1) is
 
-  same-moves : (c : TokenBucket) (most : ℕ) (after : Node (List Note)) → after.own.discipline ≡ Tbf c most → after ≡ n → TbfMoves clock now (at_node b n) (at_node c after)
-  same-moves c most after now_is same =
-      quiet-moves c after [] (ap (λ (k : Node (List Note)). k.memory) same ∙ sym (append-nil n.memory)) refl refl (ap (λ (k : Node (List Note)). k.own.held) same)
+  same-step : (c : TokenBucket) (most : ℕ) (after : Node (List Note)) → after.own.discipline ≡ Tbf c most → after ≡ n → TbfStep clock now (at_node b n) (at_node c after)
+  same-step c most after now_is same =
+      quiet-step c after [] (ap (λ (k : Node (List Note)). k.memory) same ∙ sym (append-nil n.memory)) refl refl (ap (λ (k : Node (List Note)). k.own.held) same)
       (unpaid c (same-bucket b c limit most (sym is ∙ ap (λ (k : Node (List Note)). k.own.discipline) (sym same) ∙ now_is)))
 
-  edited-moves : (c : TokenBucket) (most : ℕ) (after : Node (List Note)) → after.own.discipline ≡ Tbf c most → IsEdited now n after → TbfMoves clock now (at_node b n) (at_node c after)
-  edited-moves c most after now_is edit = by edit.by
+  edited-step : (c : TokenBucket) (most : ℕ) (after : Node (List Note)) → after.own.discipline ≡ Tbf c most → IsEdited now n after → TbfStep clock now (at_node b n) (at_node c after)
+  edited-step c most after now_is edit = by edit.by
     where
       notes : List Note
       notes = losses_of Purged edit.purged
@@ -128,26 +136,26 @@ module _ (clock now : ℕ) (b : TokenBucket) (limit : ℕ) (n : Node (List Note)
 
       changed : (x : TokenBucket) → (x ≡ b) ⊎ ((rate : ℕ) × (burst : ℕ) × (x ≡ after_change b rate burst now)) → IsPaid clock now b x 0
       changed x (inl e) = unpaid x (sym e)
-      changed x (inr e) = subst (λ (y : TokenBucket). IsPaid clock now b y 0) (sym e.2) (paid-change b clock now e.0 e.1 old later)
+      changed x (inr e) = subst (λ (y : TokenBucket). IsPaid clock now b y 0) (sym e.2) (paid-change b clock now old later e.0 e.1)
 
-      by : (after ≡ n) ⊎ IsRemadeSo now (losses_of Purged edit.purged) n after ⊎ IsAbove (losses_of Purged edit.purged) edit.f n after → TbfMoves clock now (at_node b n) (at_node c after)
-      by (inl same) = same-moves c most after now_is same
+      by : (after ≡ n) ⊎ IsRemadeSo now (losses_of Purged edit.purged) n after ⊎ IsAbove (losses_of Purged edit.purged) edit.f n after → TbfStep clock now (at_node b n) (at_node c after)
+      by (inl same) = same-step c most after now_is same
       by (inr (inl r)) =
           let d : r.own.discipline ≡ Tbf c most = ap (λ (k : Node (List Note)). k.own.discipline) (sym r.is) ∙ now_is in
           let form : IsForm now (Tbf b limit) (children n) (Tbf c most) r.below =
           subst (λ (x : Discipline). IsForm now (Tbf b limit) (children n) x r.below) d (subst (λ (x : Discipline). IsForm now x (children n) r.own.discipline r.below) is r.form.form) in
-          quiet-moves c after (losses_of Purged edit.purged) (ap (λ (k : Node (List Note)). k.memory) r.is ∙ noted-history n.memory (losses_of Purged edit.purged)) spent sent
+          quiet-step c after (losses_of Purged edit.purged) (ap (λ (k : Node (List Note)). k.memory) r.is ∙ noted-history n.memory (losses_of Purged edit.purged)) spent sent
           (ap (λ (k : Node (List Note)). k.own.held) r.is ∙ r.form.held) (changed c form)
       by (inr (inr a)) =
           let d : after.own.discipline ≡ Tbf b limit = ap (λ (k : Node (List Note)). k.own.discipline) a.is ∙ ap (settled_in a.place (is_empty (edited_at history (losses_of Purged edit.purged) edit.f a.path a.child))) is in
-          quiet-moves c after (losses_of Purged edit.purged) (ap (λ (k : Node (List Note)). k.memory) a.is ∙ noted-history n.memory (losses_of Purged edit.purged)) spent sent
+          quiet-step c after (losses_of Purged edit.purged) (ap (λ (k : Node (List Note)). k.memory) a.is ∙ noted-history n.memory (losses_of Purged edit.purged)) spent sent
           (ap (λ (k : Node (List Note)). k.own.held) a.is) (unpaid c (same-bucket b c limit most (sym d ∙ now_is)))
 
-  event-moves : (e : Event) (c : TokenBucket) (most : ℕ) (after : Node (List Note)) → after.own.discipline ≡ Tbf c most → Becomes now e n after → TbfMoves clock now (at_node b n) (at_node c after)
-  event-moves (event.Arrive p moment) c most after now_is h = put-moves p c most after now_is h
-  event-moves (event.Poll moment) c most after now_is h = asked-moves c most after now_is h
-  event-moves (event.Command command moment) c most after now_is (inl same) = same-moves c most after now_is same
-  event-moves (event.Command command moment) c most after now_is (inr edit) = edited-moves c most after now_is edit
+  event-step : (e : Event) (c : TokenBucket) (most : ℕ) (after : Node (List Note)) → after.own.discipline ≡ Tbf c most → Becomes now e n after → TbfStep clock now (at_node b n) (at_node c after)
+  event-step (event.Arrive p moment) c most after now_is h = put-step p c most after now_is h
+  event-step (event.Poll moment) c most after now_is h = asked-step c most after now_is h
+  event-step (event.Command command moment) c most after now_is (inl same) = same-step c most after now_is same
+  event-step (event.Command command moment) c most after now_is (inr edit) = edited-step c most after now_is edit
 
 -- ---- what stands in a device
 
@@ -179,16 +187,22 @@ tbf-lawful major d x kept e =
     let law = (lawful-of d.tree.device.mtu d.clock t.node d.tree.root kept.lawful f.there).0.discipline in
     (subst (λ (k : Discipline). IsLawfulDiscipline d.tree.device.mtu d.clock (each beneath_own t.node.below) k) t.discipline law).last
 
-pub step-moves : (major : ℕ) (d : DeviceState (List Note)) (e : Event) (x y : TbfAt) → IsKept d → IsEvent e → tbf_in major d ≡ Some x → tbf_in major (step history d e).device ≡ Some y
-    → TbfMoves d.clock (step history d e).device.clock x y
-step-moves major d e x y kept range is at =
+pub tbf-step : (major : ℕ) (d : DeviceState (List Note)) (e : Event) (x y : TbfAt) → IsKept d → IsEvent e → tbf_in major d ≡ Some x → tbf_in major (step history d e).device ≡ Some y
+    → TbfStep d.clock (step history d e).device.clock x y
+tbf-step major d e x y kept range is at =
     let t = tbf-node major d x is in
     let u = tbf-node major (step history d e).device y at in
     let now : ℕ = (step history d e).device.clock in
-    let moved : TbfMoves d.clock now (at_node x.bucket t.node) (at_node y.bucket u.node) =
-    event-moves d.clock now x.bucket t.limit t.node t.discipline (tbf-lawful major d x kept is) (clock-rises d e) e y.bucket u.limit u.node u.discipline
+    let made : TbfStep d.clock now (at_node x.bucket t.node) (at_node y.bucket u.node) =
+    event-step d.clock now x.bucket t.limit t.node t.discipline (tbf-lawful major d x kept is) (clock-rises d e) e y.bucket u.limit u.node u.discipline
     (becomes major d e t.node u.node kept range t.there u.there) in
-    subst (λ (k : TbfAt). TbfMoves d.clock now k y) t.is (subst (λ (k : TbfAt). TbfMoves d.clock now (at_node x.bucket t.node) k) u.is moved)
+    subst (λ (k : TbfAt). TbfStep d.clock now k y) t.is (subst (λ (k : TbfAt). TbfStep d.clock now (at_node x.bucket t.node) k) u.is made)
+
+pub step-moves : (major : ℕ) (d : DeviceState (List Note)) (e : Event) (x y : TbfAt) → IsKept d → IsEvent e → tbf_in major d ≡ Some x → tbf_in major (step history d e).device ≡ Some y
+    → TbfMoves d.clock (step history d e).device.clock x y
+step-moves major d e x y kept range is at =
+    let s = tbf-step major d e x y kept range is at in
+    record { notes = s.notes; is = s.is; level = s.paid.level; held = s.held; later = s.later }
 
 -- two moves at one rate
 pub more-moves : (r s t : ℕ) (x y z : TbfAt) → y.bucket.rate ≡ x.bucket.rate → TbfMoves r s x y → TbfMoves s t y z → TbfMoves r t x z

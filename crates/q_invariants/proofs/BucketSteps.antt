@@ -1,5 +1,5 @@
 -- What one event changes of a tbf: what its bucket pays, what it sends, and the packet that it holds.
-use Rattle.std.proofs.Common.{◌≡◌, ℕ, ◌+◌, ◌-◌, ◌*◌, ◌≤◌, min, Bool, true, false, ◌⊎◌, inl, inr, List, [], ◌∷◌, ◌++◌, map, refl, sym, ap, subst, ◌∙◌, Option, Some, None, option_to_list, arith}
+use Rattle.std.proofs.Common.{◌≡◌, ℕ, ◌+◌, ◌-◌, ◌*◌, ◌≤◌, Bool, true, false, ◌⊎◌, inl, inr, List, [], ◌∷◌, ◌++◌, map, refl, sym, ap, subst, ◌∙◌, Option, Some, None, option_to_list, arith}
 use Rattle.std.specs.Prelude.{slice_get, if◌then◌else◌}
 use Rattle.std.specs.Option.{option_map_or}
 use Rattle.std.proofs.Math.Nat.{mul-add}
@@ -19,38 +19,53 @@ use Rattle.q_invariants.proofs.AskStages.{IsStageOf}
 
 -- ---- levels
 
+-- what a bucket had and what its rate has brought since, up to a moment, are within its burst
+abbrev pub IsUncutAt : ℕ → TokenBucket → Type 0
+IsUncutAt now b = b.level + b.rate * (now - b.last) ≤ capacity b
+
+-- what is paid and what is left: no more than there was and the rate brought, and just as much where the burst cuts nothing off
 pub record IsPaid (clock now : ℕ) (b c : TokenBucket) (paid : ℕ) : Type 0 where
   pub level : paid * units_in_byte + level_at c now ≤ level_at b clock + b.rate * (now - clock)
+  pub exact : c.burst ≡ b.burst → IsUncutAt now b → paid * units_in_byte + level_at c now ≡ level_at b clock + b.rate * (now - clock)
+  pub uncut : IsUncutAt now b → IsUncutAt now c
 
--- time brings no more than the rate
-pub level-later : (b : TokenBucket) (clock now : ℕ) → b.last ≤ clock → clock ≤ now → level_at b now ≤ level_at b clock + b.rate * (now - clock)
-level-later b clock now old later =
-    let split = mul-add b.rate (clock - b.last) (now - clock) in
-    let whole : (clock - b.last) + (now - clock) ≡ now - b.last = omega (arith, old, later) in
-    let brought = ap (λ n. b.rate * n) whole in
-    omega (arith, split, brought)
+module _ (b : TokenBucket) (clock now : ℕ) (old : b.last ≤ clock) (later : clock ≤ now) where
+  -- what the rate brings is brought until the clock and from then on
+  brought : b.rate * (now - b.last) ≡ b.rate * (clock - b.last) + b.rate * (now - clock)
+  brought =
+      let whole : (clock - b.last) + (now - clock) ≡ now - b.last = omega (arith, old, later) in
+      ap (λ n. b.rate * n) (sym whole) ∙ mul-add b.rate (clock - b.last) (now - clock)
 
--- at the moment at which it was brought up
-level-now : (b : TokenBucket) (now : ℕ) → b.last ≡ now → level_at b now ≡ min (capacity b) b.level
-level-now b now e =
-    let none : now - b.last ≡ 0 = omega (arith, e) in
-    let nothing : b.rate * (now - b.last) ≡ 0 = ap (λ n. b.rate * n) none ∙ omega arith in
-    omega (arith, nothing)
+  level-later : level_at b now ≤ level_at b clock + b.rate * (now - clock)
+  level-later = omega (arith, brought)
 
-pub paid-nothing : (b : TokenBucket) (clock now : ℕ) → b.last ≤ clock → clock ≤ now → IsPaid clock now b b 0
-paid-nothing b clock now old later = record { level = omega (arith, level-later b clock now old later) }
+  level-exact : IsUncutAt now b → level_at b now ≡ level_at b clock + b.rate * (now - clock)
+  level-exact uncut = omega (arith, brought, uncut)
 
-pub paid-spend : (b : TokenBucket) (clock now len : ℕ) → b.last ≤ clock → clock ≤ now → allows b now len ≡ true → IsPaid clock now b (after_spend b now len) len
-paid-spend b clock now len old later may =
-    let c : TokenBucket = record b { level = level_at b now - len * units_in_byte; last = now } in
-    let is : after_spend b now len ≡ c = cond-true (allows b now len) c b may in
-    let fits : len * units_in_byte ≤ level_at b now = leb-true (len * units_in_byte) (level_at b now) may in
-    subst (λ (x : TokenBucket). IsPaid clock now b x len) (sym is) (record { level = omega (arith, fits, level-now c now refl, level-later b clock now old later) })
+  -- time that has not passed brings nothing
+  no-time : (rate : ℕ) → rate * (now - now) ≡ 0
+  no-time rate = (let none : now - now ≡ 0 = omega arith in ap (λ n. rate * n) none) ∙ omega arith
 
-pub paid-change : (b : TokenBucket) (clock now rate burst : ℕ) → b.last ≤ clock → clock ≤ now → IsPaid clock now b (after_change b rate burst now) 0
-paid-change b clock now rate burst old later =
-    let c : TokenBucket = after_change b rate burst now in
-    record { level = omega (arith, level-now c now refl, level-later b clock now old later) }
+  pub paid-nothing : IsPaid clock now b b 0
+  paid-nothing = record { level = omega (arith, level-later); exact = λ same uncut. omega (arith, level-exact uncut); uncut = λ uncut. uncut }
+
+  pub paid-spend : (len : ℕ) → allows b now len ≡ true → IsPaid clock now b (after_spend b now len) len
+  paid-spend len may =
+      let c : TokenBucket = record b { level = level_at b now - len * units_in_byte; last = now } in
+      let is : after_spend b now len ≡ c = cond-true (allows b now len) c b may in
+      let fits : len * units_in_byte ≤ level_at b now = leb-true (len * units_in_byte) (level_at b now) may in
+      subst (λ (x : TokenBucket). IsPaid clock now b x len) (sym is) (record {
+        level = omega (arith, fits, no-time b.rate, level-later);
+        exact = λ same uncut. omega (arith, fits, no-time b.rate, level-exact uncut);
+        uncut = λ uncut. omega (arith, no-time b.rate);
+      })
+
+  pub paid-change : (rate burst : ℕ) → IsPaid clock now b (after_change b rate burst now) 0
+  paid-change rate burst = record {
+    level = omega (arith, no-time rate, level-later);
+    exact = λ same uncut. omega (arith, no-time rate, level-exact uncut, ap (λ n. n * units_in_byte) same);
+    uncut = λ uncut. omega (arith, no-time rate);
+  }
 
 -- ---- a take
 

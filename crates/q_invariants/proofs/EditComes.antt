@@ -1,14 +1,12 @@
 -- An edit changes the node at the end of a way, and those above it: of which node each node of the edited tree comes.
-use Rattle.std.proofs.Common.{◌≡◌, ℕ, zero, suc, ◌⊎◌, inl, inr, List, [], ◌∷◌, set, refl, sym, ap, subst, Option, Some, None, ◌∙◌}
+use Rattle.std.proofs.Common.{◌≡◌, ℕ, ◌⊎◌, inl, inr, List, [], ◌∷◌, refl, sym, ap, Option, Some, None, ◌∙◌}
 use Rattle.std.specs.Prelude.{slice_get, option_and_then}
 use Rattle.std.specs.Option.{option_map_or}
-use Rattle.std.proofs.lemmas.Option.{none-some}
 use Rattle.q_model.specs.Tally.{Note, history}
-use Rattle.q_model.specs.Node.{Forest, none, more, Node, nodes_in, side_by_side, children}
+use Rattle.q_model.specs.Node.{Node, children}
 use Rattle.q_model.specs.Find.{node_at}
 use Rattle.q_model.specs.Edit.{above, edited_at}
-use Rattle.q_invariants.proofs.Forests.{side-nodes}
-use Rattle.q_invariants.proofs.Within.{Within, IsOf, HasHandle, child-within}
+use Rattle.q_invariants.proofs.Within.{Within, IsOf, HasHandle, child-within, within-set}
 
 module _ (notes : List Note) (f : Node (List Note) → Node (List Note)) where
   -- a node above the one that was edited
@@ -36,20 +34,6 @@ module _ (notes : List Note) (f : Node (List Note) → Node (List Note)) where
 
     further : (h : ℕ) (P Q : Node (List Note) → Type 0) (n : Node (List Note)) → ((k : Node (List Note)) → P k → Q k) → ComesBy h P n → ComesBy h Q n
     further h P Q n g c = record { before = c.before; there = g c.before c.there; handle = c.handle; by = c.by }
-
-    -- a node beneath one whose child was changed
-    within-set : (n new old : Node (List Note)) (x : Forest (List Note)) (i : ℕ) → slice_get (nodes_in x) i ≡ Some old → Within n (side_by_side (set (nodes_in x) i new)) → IsOf n new ⊎ Within n x
-    within-set n new old none i e w = absurd (none-some old e)
-    within-set n new old (more own m below others) zero e (inl is) = inl (inl is)
-    within-set n new old (more own m below others) zero e (inr (inl w)) = inl (inr w)
-    within-set n new old (more own m below others) zero e (inr (inr w)) = inr (inr (inr (subst (Within n) (side-nodes others) w)))
-    within-set n new old (more own m below others) (suc i) e (inl is) = inr (inl is)
-    within-set n new old (more own m below others) (suc i) e (inr (inl w)) = inr (inr (inl w))
-    within-set n new old (more own m below others) (suc i) e (inr (inr w)) = by (within-set n new old others i e w)
-      where
-        by : IsOf n new ⊎ Within n others → IsOf n new ⊎ Within n (more own m below others)
-        by (inl a) = inl a
-        by (inr b) = inr (inr (inr b))
 
     pub comes-edited : (h : ℕ) (path : List ℕ) (root n : Node (List Note)) → ((old : Node (List Note)) → node_at path root ≡ Some old → IsOf old root → Ends h old)
         → IsOf n (edited_at history notes f path root) → HasHandle h n → ComesBy h (λ k. IsOf k root) n

@@ -8,7 +8,7 @@ use Rattle.std.proofs.lemmas.Option.{none-some, same_Some}
 use Rattle.q_packet.proofs.LeastLemmas.{least_le, least_holds, least_gt}
 use Rattle.q_packet.specs.Least.{least}
 use Rattle.q_drr.proofs.DifferLemmas.{Differ, differ_from_pairs, pairs_from_differ}
-use Rattle.q_drr.proofs.NameLemmas.{eqb_swap}
+use Rattle.q_drr.proofs.NameLemmas.{eqb_sym}
 use Rattle.q_drr.proofs.KeyLemmas.{has, others, has_others}
 use Rattle.q_model.specs.Node.{Forest, none, more, Node, nodes_in, side_by_side, each}
 use Rattle.q_model.specs.Find.{Address, from_parent, addresses_own, addresses, has_handle, free_handle}
@@ -126,12 +126,6 @@ pub apart-once : {M : Type 0} (n : Node M) → ((h : ℕ) → times h n ≤ 1) �
 apart-once n once = pairs_from_differ key (addresses n) (differ_from_once (addresses n) (λ h. omega (arith, among-times h n, once h)))
 
 -- ---- a handle that no node has
-
-eqb_sym : (a b : ℕ) → eqb a b ≡ eqb b a
-eqb_sym a b = elim (cases_Bool (eqb b a)) [
-  | inl e ↦ eq-eqb a b (sym (eqb-true b a e)) ∙ sym e
-  | inr e ↦ eqb_swap b a e ∙ sym e
-]
 
 has_swapped : (h : ℕ) (found : List Address) → list_any (λ (a : Address). a.handle == h) found ≡ has key h found
 has_swapped h [] = refl

@@ -1,17 +1,14 @@
 -- What one event, and then a stretch of events, lets a flow of an fq_codel give against another that stays backlogged.
-use Rattle.std.proofs.Common.{◌≡◌, ◌≢◌, ℕ, ◌+◌, ◌-◌, ◌*◌, ◌≤◌, ◌⊎◌, inl, inr, pos, ◌+ℤ◌, ◌<ℤ◌, Bool, true, false, if◌then◌else◌, List, [], ◌∷◌, ◌++◌, set, refl, sym, ap, ap₂, subst, ◌∙◌, Option, Some, None, IfSome, option_map, option_to_list, arith, eq-eqb}
-use Rattle.std.specs.Prelude.{All}
-use Rattle.std.specs.List.{flat_map}
+use Rattle.std.proofs.Common.{◌≡◌, ◌≢◌, ℕ, ◌+◌, ◌-◌, ◌*◌, ◌≤◌, ◌⊎◌, inl, inr, pos, ◌+ℤ◌, ◌<ℤ◌, Bool, true, false, if◌then◌else◌, List, [], ◌∷◌, ◌++◌, set, refl, sym, ap, ap₂, subst, ◌∙◌, Option, Some, None, IfSome, arith, eq-eqb}
 use Rattle.std.proofs.Math.Nat.{add-mul, mul-lt-mul_of_pos_left, mul_comm}
 use Rattle.std.proofs.lemmas.Bool.{cases_eq, cases_lt, ne_eqb}
 use Rattle.std.proofs.lemmas.Int.{ints}
 use Rattle.std.proofs.lemmas.List.{append-nil, append_assoc}
-use Rattle.std.proofs.lemmas.List.Elements.{All-head}
 use Rattle.std.proofs.lemmas.List.Sums.{sum_by-append}
 use Rattle.q_packet.specs.Descriptor.{Descriptor}
 use Rattle.q_codel.specs.declared.taken.Taken.{Taken}
 use Rattle.q_fqcodel.specs.Entry.{Entry}
-use Rattle.q_fqcodel.specs.FqState.{FqState, is_idle, all_packets}
+use Rattle.q_fqcodel.specs.FqState.{FqState, is_idle}
 use Rattle.q_fqcodel.specs.Lawful.{times, IsLawful}
 use Rattle.q_fqcodel.specs.Put.{flow_of, is_listed, appended, cut_back, after_put}
 use Rattle.q_fqcodel.specs.QuantaGiven.{quanta_given}
@@ -24,17 +21,11 @@ use Rattle.q_fqcodel.proofs.TurnLemmas.{first_in_front, none_in_front}
 use Rattle.q_model.specs.declared.event.Event.{Event}
 use Rattle.q_model.specs.Events.{IsEvent}
 use Rattle.q_model.specs.Tally.{Note, history}
-use Rattle.q_model.specs.Node.{Discipline, FqCodel, Own, each}
-use Rattle.q_model.specs.Beneath.{packets_of, packets_in, beneath_own}
 use Rattle.q_model.specs.Quanta.{flow_gave}
 use Rattle.q_model.specs.Step.{DeviceState, step}
 use Rattle.q_model.specs.Stretches.{flow_granted_by, given_by, flow_grants_to, bytes_given, reach, FqAt, fq_in}
-use Rattle.q_invariants.proofs.Lengths.{HasLength, lengths-among}
 use Rattle.q_invariants.proofs.Replays.{IsKept}
-use Rattle.q_invariants.proofs.Weights.{weigh, weigh-append}
-use Rattle.q_invariants.proofs.Within.{found, lawful-of}
-use Rattle.q_invariants.proofs.FlowNotes.{take-weighs}
-use Rattle.q_invariants.proofs.FlowMoves.{fq-node, fq-lawful, fq-step}
+use Rattle.q_invariants.proofs.FlowMoves.{fq-node, fq-lawful, sent_has_length, fq-step}
 use Rattle.q_invariants.proofs.FlowLists.{listed-credits, quanta-noted, paid-none}
 use Rattle.q_invariants.proofs.FlowReach.{in_lists, reach_in, lists-bound, reach-paid, lists-join, lists-joined, lists-none, front-own, front-paid, old-front-own, old-front-paid}
 use Rattle.q_invariants.proofs.FlowSteps.{lists_of, SameLists, Takes, Changes}
@@ -216,30 +207,6 @@ module _ (i j mtu : ℕ) (apart : i ≢ j) where
 
 -- ---- in a device
 
--- a packet that is sent was queued there, so it is no longer than the mtu
-pub sent-short : (mtu now : ℕ) (own : Own) (s : FqState) (below : List (List Descriptor)) → own.discipline ≡ FqCodel s → All (HasLength mtu) (beneath_own own below) → IfSome (sent_from now (selected s)) (λ t. t.packet.len ≤ mtu)
-sent-short mtu now own s below is lengths = by (sent_from now (selected s)) refl
-  where
-    by : (o : Option Taken) → sent_from now (selected s) ≡ o → IfSome o (λ t. t.packet.len ≤ mtu)
-    by None e = tt
-    by (Some t) e =
-        let fewer : (w : Descriptor → ℕ) → weigh w (t.packet ∷ []) ≤ weigh w (beneath_own own below) =
-        λ w.
-        let queued : weigh w (packets_in own.discipline) ≡ weigh w (packets_of (all_packets s.flows)) = ap (λ (k : Discipline). weigh w (packets_in k)) is in
-        let taken : weigh w (option_to_list (option_map (λ (t : Taken). t.packet) (sent_from now (selected s)))) ≡ weigh w (t.packet ∷ []) =
-        ap (λ (o : Option Taken). weigh w (option_to_list (option_map (λ (t : Taken). t.packet) o))) e in
-        let rest : List Descriptor = flat_map (λ packets. packets) below in
-        let whole : weigh w (beneath_own own below) ≡ weigh w (option_to_list own.held ++ packets_in own.discipline) + weigh w rest = weigh-append w (option_to_list own.held ++ packets_in own.discipline) rest in
-        omega (
-          arith,
-          whole,
-          weigh-append w (option_to_list own.held) (packets_in own.discipline),
-          queued,
-          take-weighs w now s,
-          taken,
-        ) in
-        (All-head (HasLength mtu) t.packet [] (lengths-among mtu (beneath_own own below) (t.packet ∷ []) fewer lengths)).1
-
 pub record FlowAgainst (i j mtu quantum : ℕ) (x y : FqAt) : Type 0 where
   pub notes : List Note
   pub is : y.noted ≡ x.noted ++ notes
@@ -259,13 +226,10 @@ no-flow-against i j mtu quantum x = record { notes = []; is = sym (append-nil x.
 pub flow-against : (major i j quantum : ℕ) (d : DeviceState (List Note)) (e : Event) (x y : FqAt) → i ≢ j → IsKept d → IsEvent e → fq_in major d ≡ Some x → fq_in major (step history d e).device ≡ Some y
     → is_idle x.state.flows i ≡ false → x.state.settings.quantum ≡ quantum → y.state.settings.quantum ≡ quantum → FlowAgainst i j d.tree.device.mtu quantum x y
 flow-against major i j quantum d e x y apart kept range is at busy before after =
-    let node = fq-node major d x is in
-    let law = fq-lawful major d x kept node in
-    let f = found major d node.node node.there in
-    let lengths = (lawful-of d.tree.device.mtu d.clock node.node d.tree.root kept.lawful f.there).0.lengths in
+    let law = fq-lawful major d x kept (fq-node major d x is) in
     let now : ℕ = (step history d e).device.clock in
     let s = fq-step major d e x y kept range is at in
-    let short = sent-short d.tree.device.mtu now node.node.own x.state (each beneath_own node.node.below) node.discipline lengths in
+    let short = (sent_has_length major now d x kept is).1 in
     let within = step-against i j d.tree.device.mtu apart now x.state law.lists law.settings.quantum_low busy y.state s.notes s.by (after ∙ sym before) short in
     record {
       notes = s.notes;
@@ -282,13 +246,10 @@ flow-against major i j quantum d e x y apart kept range is at busy before after 
 pub flow-bounded : (major i j quantum : ℕ) (d : DeviceState (List Note)) (e : Event) (x y : FqAt) → i ≢ j → IsKept d → IsEvent e → fq_in major d ≡ Some x → fq_in major (step history d e).device ≡ Some y
     → is_idle x.state.flows i ≡ false → x.state.settings.quantum ≡ quantum → y.state.settings.quantum ≡ quantum → FlowBounded i j d.tree.device.mtu quantum x y
 flow-bounded major i j quantum d e x y apart kept range is at busy before after =
-    let node = fq-node major d x is in
-    let law = fq-lawful major d x kept node in
-    let f = found major d node.node node.there in
-    let lengths = (lawful-of d.tree.device.mtu d.clock node.node d.tree.root kept.lawful f.there).0.lengths in
+    let law = fq-lawful major d x kept (fq-node major d x is) in
     let now : ℕ = (step history d e).device.clock in
     let s = fq-step major d e x y kept range is at in
-    let short = sent-short d.tree.device.mtu now node.node.own x.state (each beneath_own node.node.below) node.discipline lengths in
+    let short = (sent_has_length major now d x kept is).1 in
     record {
       notes = s.notes;
       is = s.is;

@@ -27,18 +27,15 @@ use Rattle.q_fqcodel.proofs.TurnLemmas.{LeadsOn, new_granted, new_moves, new_rea
 use Rattle.q_model.specs.declared.event.Event.{Event}
 use Rattle.q_model.specs.Events.{IsEvent}
 use Rattle.q_model.specs.Tally.{Note, history}
-use Rattle.q_model.specs.Node.{each}
-use Rattle.q_model.specs.Beneath.{beneath_own}
 use Rattle.q_model.specs.Step.{DeviceState, step}
 use Rattle.q_model.specs.Quanta.{flow_gave}
 use Rattle.q_model.specs.Stretches.{given_by, bytes_given, reach, FqAt, fq_in}
 use Rattle.q_invariants.proofs.FlowLists.{credits-here, credits-behind, paid-none}
 use Rattle.q_invariants.proofs.FlowSteps.{lists_of, SameLists, Takes, Changes}
 use Rattle.q_invariants.proofs.FlowVisits.{cases-credits}
-use Rattle.q_invariants.proofs.FlowAgainst.{gave-other, gave-own, sent-short}
-use Rattle.q_invariants.proofs.FlowMoves.{fq-node, fq-lawful, fq-step}
+use Rattle.q_invariants.proofs.FlowAgainst.{gave-other, gave-own}
+use Rattle.q_invariants.proofs.FlowMoves.{fq-node, fq-lawful, sent_has_length, fq-step}
 use Rattle.q_invariants.proofs.Replays.{IsKept}
-use Rattle.q_invariants.proofs.Within.{found, lawful-of}
 
 -- the credits of a flow that stands in front
 credits-front : (n : ℕ) (xs ys : List Entry) (z : ℤ) → credits_of n xs ≡ Some z → credits_of n (xs ++ ys) ≡ Some z
@@ -362,13 +359,10 @@ more-flow-waits j k mtu apart z x y w a b = record {
 pub flow-waits : (major j k : ℕ) (apart : j ≢ k) (z : ℤ) → pos 0 <ℤ z → (d : DeviceState (List Note)) (e : Event) (x y : FqAt) → IsKept d → IsEvent e → fq_in major d ≡ Some x → fq_in major (step history d e).device ≡ Some y
     → is_idle x.state.flows j ≡ false → FlowWaits j k d.tree.device.mtu apart z x y
 flow-waits major j k apart z high d e x y kept range is at busy =
-    let node = fq-node major d x is in
-    let law = fq-lawful major d x kept node in
-    let f = found major d node.node node.there in
-    let lengths = (lawful-of d.tree.device.mtu d.clock node.node d.tree.root kept.lawful f.there).0.lengths in
+    let law = fq-lawful major d x kept (fq-node major d x is) in
     let now : ℕ = (step history d e).device.clock in
     let s = fq-step major d e x y kept range is at in
-    let short = sent-short d.tree.device.mtu now node.node.own x.state (each beneath_own node.node.below) node.discipline lengths in
+    let short = (sent_has_length major now d x kept is).1 in
     record {
       notes = s.notes;
       is = s.is;

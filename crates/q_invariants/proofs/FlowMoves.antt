@@ -1,16 +1,18 @@
 -- What one event, and then a stretch of events, comes to at a flow of an fq_codel.
-use Rattle.std.proofs.Common.{◌≡◌, ℕ, ◌+◌, ◌*◌, ◌≤◌, ℤ, pos, ◌+ℤ◌, false, ◌⊎◌, inl, inr, List, [], ◌++◌, refl, sym, ap, subst, ◌∙◌, Option, Some, arith}
-use Rattle.std.specs.Prelude.{nat_eq}
+use Rattle.std.proofs.Common.{◌≡◌, ℕ, ◌+◌, ◌*◌, ◌≤◌, ℤ, pos, ◌+ℤ◌, false, ◌⊎◌, inl, inr, List, [], ◌∷◌, ◌++◌, refl, sym, ap, subst, ◌∙◌, Option, Some, None, option_map, option_to_list, arith}
+use Rattle.std.specs.Prelude.{All, IfSome, nat_eq}
+use Rattle.std.specs.List.{flat_map}
 use Rattle.std.proofs.Math.Nat.{add-mul}
 use Rattle.std.proofs.lemmas.Int.{ints}
 use Rattle.std.proofs.lemmas.List.{append-nil, append_assoc}
+use Rattle.std.proofs.lemmas.List.Elements.{All-head}
 use Rattle.std.proofs.lemmas.List.Sums.{sum_by-append}
 use Rattle.std.proofs.lemmas.Option.{none-some, same_Some, option_and_then_some}
 use Rattle.q_packet.specs.Descriptor.{Descriptor}
 use Rattle.q_packet.specs.Totals.{count}
 use Rattle.q_packet.specs.declared.stamped.Stamped.{Stamped}
 use Rattle.q_codel.specs.declared.taken.Taken.{Taken}
-use Rattle.q_fqcodel.specs.FqState.{FqState, is_idle}
+use Rattle.q_fqcodel.specs.FqState.{FqState, is_idle, all_packets}
 use Rattle.q_fqcodel.specs.Lawful.{IsLawful}
 use Rattle.q_fqcodel.specs.Laws.{credits_of}
 use Rattle.q_fqcodel.specs.Put.{after_put}
@@ -22,13 +24,16 @@ use Rattle.q_model.specs.declared.event.Event.{Event}
 use Rattle.q_model.specs.Events.{IsEvent}
 use Rattle.q_model.specs.Tally.{Note, history}
 use Rattle.q_model.specs.Node.{Discipline, Fifo, Prio, Tbf, Drr, FqCodel, Node, each}
-use Rattle.q_model.specs.Beneath.{beneath_own}
+use Rattle.q_model.specs.Beneath.{packets_in, packets_of, beneath_own}
 use Rattle.q_model.specs.Lawful.{IsLawfulDiscipline, IsLawfulFqCodel}
 use Rattle.q_model.specs.Step.{DeviceState, step}
 use Rattle.q_model.specs.Stretches.{flow_granted_by, given_by, flow_grants_to, bytes_given, qdisc, FqAt, fq_of, fq_in}
 use Rattle.q_invariants.proofs.StepNodes.{becomes}
+use Rattle.q_invariants.proofs.Lengths.{HasLength, lengths-among}
 use Rattle.q_invariants.proofs.Replays.{IsKept}
+use Rattle.q_invariants.proofs.Weights.{weigh, weigh-append}
 use Rattle.q_invariants.proofs.Within.{found, lawful-of}
+use Rattle.q_invariants.proofs.FlowNotes.{take-weighs}
 use Rattle.q_invariants.proofs.FlowLists.{listed-credits, credits-put, credits-sent, quanta-noted}
 use Rattle.q_invariants.proofs.FlowSteps.{lists_of, SameLists, same-whole, Takes, Changes, FqStep, event-step}
 
@@ -91,6 +96,39 @@ pub fq-lawful : (major : ℕ) (d : DeviceState (List Note)) (x : FqAt) → IsKep
 fq-lawful major d x kept at =
     let f = found major d at.node at.there in
     subst (IsLawfulDiscipline d.tree.device.mtu d.clock (each beneath_own at.node.below)) at.discipline (lawful-of d.tree.device.mtu d.clock at.node d.tree.root kept.lawful f.there).0.discipline
+
+-- a packet that is sent was queued there, so it has a byte, and is no longer than the mtu
+pub sent_has_length : (major now : ℕ) (d : DeviceState (List Note)) (x : FqAt) → IsKept d → fq_in major d ≡ Some x
+    → IfSome (sent_from now (selected x.state)) (λ t. 1 ≤ t.packet.len) × IfSome (sent_from now (selected x.state)) (λ t. t.packet.len ≤ d.tree.device.mtu)
+sent_has_length major now d x kept is = by (sent_from now (selected x.state)) refl
+  where
+    at : FqNode major d x
+    at = fq-node major d x is
+
+    queued : List Descriptor
+    queued = beneath_own at.node.own (each beneath_own at.node.below)
+
+    lengths : All (HasLength d.tree.device.mtu) queued
+    lengths = let f = found major d at.node at.there in (lawful-of d.tree.device.mtu d.clock at.node d.tree.root kept.lawful f.there).0.lengths
+
+    by : (o : Option Taken) → sent_from now (selected x.state) ≡ o → IfSome o (λ t. 1 ≤ t.packet.len) × IfSome o (λ t. t.packet.len ≤ d.tree.device.mtu)
+    by None e = (tt, tt)
+    by (Some t) e =
+        let fewer : (w : Descriptor → ℕ) → weigh w (t.packet ∷ []) ≤ weigh w queued =
+        λ w.
+        let own : weigh w (packets_in at.node.own.discipline) ≡ weigh w (packets_of (all_packets x.state.flows)) = ap (λ (k : Discipline). weigh w (packets_in k)) at.discipline in
+        let taken : weigh w (option_to_list (option_map (λ (t : Taken). t.packet) (sent_from now (selected x.state)))) ≡ weigh w (t.packet ∷ []) =
+        ap (λ (o : Option Taken). weigh w (option_to_list (option_map (λ (t : Taken). t.packet) o))) e in
+        let rest : List Descriptor = flat_map (λ packets. packets) (each beneath_own at.node.below) in
+        omega (
+          arith,
+          weigh-append w (option_to_list at.node.own.held ++ packets_in at.node.own.discipline) rest,
+          weigh-append w (option_to_list at.node.own.held) (packets_in at.node.own.discipline),
+          own,
+          take-weighs w now x.state,
+          taken,
+        ) in
+        All-head (HasLength d.tree.device.mtu) t.packet [] (lengths-among d.tree.device.mtu queued (t.packet ∷ []) fewer lengths)
 
 -- a flow with packets is listed
 pub backlogged-credits : (major n : ℕ) (d : DeviceState (List Note)) (x : FqAt) → IsKept d → fq_in major d ≡ Some x → is_idle x.state.flows n ≡ false → (z : ℤ) × (credits_of n (lists_of x.state) ≡ Some z)

@@ -11,6 +11,7 @@ use Rattle.q_drr.proofs.LookupLemmas.{quantum_here, quantum_behind, deficit_here
 use Rattle.q_drr.proofs.NameLemmas.{eqb_swap}
 use Rattle.q_drr.proofs.KeyLemmas.{others, find_push, find_others, has_others}
 use Rattle.q_drr.proofs.ChangeLemmas.{quantum_set}
+use Rattle.q_drr.proofs.StretchLemmas.{deficit_last}
 use Rattle.q_model.specs.Work.{settled_class}
 
 abbrev name_of : Entry → ℕ
@@ -117,12 +118,6 @@ order-push i j x (e ∷ es) a b = elim (cases_Bool (eqb i e.class)) [
   ]
 ]
 
-pub deficit-last : (c : ℕ) (x : Entry) (es : List Entry) → is_active c es ≡ false → eqb c x.class ≡ true → deficit_of c (es ++ x ∷ []) ≡ x.deficit
-deficit-last c x [] absent same = deficit_here c x [] same
-deficit-last c x (e ∷ es) absent same =
-    let parts = or_parts (eqb c e.class) (is_active c es) absent in
-    deficit_behind c e (es ++ x ∷ []) parts.0 ∙ deficit-last c x es parts.1 same
-
 absent-push : (c : ℕ) (x : Entry) (es : List Entry) → is_active c es ≡ false → eqb c x.class ≡ false → is_active c (es ++ x ∷ []) ≡ false
 absent-push c x [] absent apart = or_from (eqb c x.class) false apart refl
 absent-push c x (e ∷ es) absent apart =
@@ -145,7 +140,7 @@ same-more x s t e quantum = record {
   deficit = λ c before after q. ap (deficit_of c) e ∙ ap (λ (o : Option Entry). option_map_or (λ (e : Entry). e.deficit) o 0) (find_push name_of c x s.active before);
   order = λ i j a b c d. ap (stands_first i j) e ∙ order-push i j x s.active a b;
   wakes = λ c before after. elim (cases_Bool (eqb c x.class)) [
-    | inl same ↦ ap (deficit_of c) e ∙ deficit-last c x s.active before same ∙ quantum ∙ ap (λ k. quantum_of k t.classes) (sym (eqb-true c x.class same))
+    | inl same ↦ ap (deficit_of c) e ∙ deficit_last c x s.active before same ∙ quantum ∙ ap (λ k. quantum_of k t.classes) (sym (eqb-true c x.class same))
     | inr apart ↦ absurd (false≢true (sym (absent-push c x s.active before apart) ∙ ap (is_active c) (sym e) ∙ after))
   ];
   behind = λ i j there absent. ap (stands_first j i) e ∙ push-behind i j x s.active there absent;

@@ -1,15 +1,16 @@
 -- The nodes within a tree: the one that is found by its handle, which no other has, and what holds of it.
-use Rattle.std.proofs.Common.{◌≡◌, ℕ, zero, suc, ◌≤◌, Bool, true, false, ◌⊎◌, inl, inr, List, [], ◌∷◌, ◌++◌, refl, sym, ap, subst, ◌∙◌, Option, Some, None, ⊎_elim, eq-eqb, arith}
+use Rattle.std.proofs.Common.{◌≡◌, ℕ, zero, suc, ◌≤◌, Bool, true, false, ◌⊎◌, inl, inr, List, [], ◌∷◌, ◌++◌, set, refl, sym, ap, subst, ◌∙◌, Option, Some, None, ⊎_elim, eq-eqb, arith}
 use Rattle.std.specs.Prelude.{◌==◌, find, slice_get, if◌then◌else◌}
 use Rattle.std.specs.Option.{option_map_or}
 use Rattle.std.proofs.lemmas.Bool.{cases_Bool, cond-true, cond-false, eqb-true, false≢true}
 use Rattle.std.proofs.lemmas.Option.{none-some, same_Some}
 use Rattle.q_model.specs.Tally.{Note}
-use Rattle.q_model.specs.Node.{Forest, none, more, Node, nodes_in}
+use Rattle.q_model.specs.Node.{Forest, none, more, Node, nodes_in, side_by_side}
 use Rattle.q_model.specs.Conserved.{nodes_of, every_node}
 use Rattle.q_model.specs.Step.{DeviceState}
 use Rattle.q_model.specs.Stretches.{has_major, qdisc}
 use Rattle.q_invariants.proofs.Kept.{AllLawful, IsLawfulRoot}
+use Rattle.q_invariants.proofs.Forests.{side-nodes}
 use Rattle.q_invariants.proofs.EditHandles.{one, times_below, times}
 
 -- a node of a forest, at any depth
@@ -140,6 +141,20 @@ lawful-of mtu clock n root h (inl is) = subst (IsLawfulRoot mtu clock) is h
 lawful-of mtu clock n root h (inr w) = lawful-within mtu clock n root.below h.1 w
 
 -- ---- a child, and what is within it
+
+-- a node beneath one whose child was changed
+pub within-set : (n new old : Node (List Note)) (x : Forest (List Note)) (i : ℕ) → slice_get (nodes_in x) i ≡ Some old → Within n (side_by_side (set (nodes_in x) i new)) → IsOf n new ⊎ Within n x
+within-set n new old none i e w = absurd (none-some old e)
+within-set n new old (more own m below others) zero e (inl is) = inl (inl is)
+within-set n new old (more own m below others) zero e (inr (inl w)) = inl (inr w)
+within-set n new old (more own m below others) zero e (inr (inr w)) = inr (inr (inr (subst (Within n) (side-nodes others) w)))
+within-set n new old (more own m below others) (suc i) e (inl is) = inr (inl is)
+within-set n new old (more own m below others) (suc i) e (inr (inl w)) = inr (inr (inl w))
+within-set n new old (more own m below others) (suc i) e (inr (inr w)) = by (within-set n new old others i e w)
+  where
+    by : IsOf n new ⊎ Within n others → IsOf n new ⊎ Within n (more own m below others)
+    by (inl a) = inl a
+    by (inr b) = inr (inr (inr b))
 
 pub child-within : {M : Type 0} (n c : Node M) (x : Forest M) (i : ℕ) → slice_get (nodes_in x) i ≡ Some c → IsOf n c → Within n x
 child-within n c none i e h = absurd (none-some c e)

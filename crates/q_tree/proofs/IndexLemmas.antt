@@ -1,9 +1,9 @@
 -- An index of handles that is made of a tree address by address, and what is found in it.
-use Rattle.std.proofs.Common.{◌≡◌, ℕ, zero, suc, ◌+◌, ◌-◌, ◌<◌, ◌≤◌, ◌∙◌, List, [], ◌∷◌, ◌++◌, drop, length, map, refl, sym, ap, ap₂, subst, append_assoc, append-nil, eqb, Option, Some, None, option_map, inl, inr, arith}
+use Rattle.std.proofs.Common.{◌≡◌, ℕ, zero, suc, ◌+◌, ◌-◌, ◌<◌, ◌≤◌, ◌∙◌, List, [], ◌∷◌, ◌++◌, drop, length, map, refl, sym, ap, ap₂, subst, append_assoc, append-nil, eqb, Option, Some, None, option_map, arith}
 use Rattle.std.specs.Prelude.{Bool, true, false, not, nat_eq, ◌==◌, ◌||◌, cond, is_some, if◌then◌else◌, slice_index_or}
 use Rattle.std.specs.List.{enumerate_from, find, flat_map, fold, sum}
 use Rattle.std.specs.Map.{lookup}
-use Rattle.std.proofs.lemmas.Bool.{cases_Bool, eq-eqb, eqb-true, ne_eqb, or_parts}
+use Rattle.std.proofs.lemmas.Bool.{ne_eqb, or_parts}
 use Rattle.std.proofs.lemmas.List.{drop_more, drop_all, length-append, length-map, map-append}
 use Rattle.std.proofs.lemmas.List.Sums.{fold-append, sum_by-cons}
 use Rattle.arrayvec.specs.ArrayVec.{ArrayVec}
@@ -11,7 +11,7 @@ use Rattle.indexmap.specs.IndexMap.{insert_entry}
 use Rattle.q_packet.specs.Least.{least}
 use Rattle.q_drr.proofs.DifferLemmas.{Differ, differ_from_pairs}
 use Rattle.q_drr.proofs.KeyLemmas.{has}
-use Rattle.q_drr.proofs.NameLemmas.{eqb_swap}
+use Rattle.q_drr.proofs.NameLemmas.{eqb_swap, eqb_sym}
 use Rattle.q_model.specs.Find.{Address, addresses, addresses_own, count_nodes, from_parent}
 use Rattle.q_model.specs.Node.{Forest, none, more, Node, children, each}
 use Rattle.q_invariants.proofs.EditHandles.{AreApart}
@@ -24,16 +24,10 @@ key a = a.handle
 
 -- ---- what is found
 
-eqb-sym : (a b : ℕ) → eqb a b ≡ eqb b a
-eqb-sym a b = elim (cases_Bool (eqb b a)) [
-  | inl e ↦ eq-eqb a b (sym (eqb-true b a e)) ∙ sym e
-  | inr e ↦ eqb_swap b a e ∙ sym e
-]
-
 pub path-listed : (h : ℕ) (es : List (ℕ × ArrayVec ℕ)) → option_map (λ (v : ArrayVec ℕ). v.items) (lookup (nat_eq h) es) ≡ path_among h (listed es)
 path-listed h [] = refl
 path-listed h (e ∷ es) =
-    ap (λ b. option_map (λ (v : ArrayVec ℕ). v.items) (cond b (Some e.1) (lookup (nat_eq h) es))) (eqb-sym h e.0) ∙ by (e.0 == h) (path-listed h es) where
+    ap (λ b. option_map (λ (v : ArrayVec ℕ). v.items) (cond b (Some e.1) (lookup (nat_eq h) es))) (eqb_sym h e.0) ∙ by (e.0 == h) (path-listed h es) where
       by : (b : Bool) → option_map (λ (v : ArrayVec ℕ). v.items) (lookup (nat_eq h) es) ≡ path_among h (listed es)
           → option_map (λ (v : ArrayVec ℕ). v.items) (cond b (Some e.1) (lookup (nat_eq h) es)) ≡ option_map (λ (a : Address). a.path) (cond b (Some (address_of e)) (find (λ (a : Address). a.handle == h) (listed es)))
       by true same = refl
@@ -41,7 +35,7 @@ path-listed h (e ∷ es) =
 
 pub has-listed : (h : ℕ) (es : List (ℕ × ArrayVec ℕ)) → is_some (lookup (nat_eq h) es) ≡ has_among h (listed es)
 has-listed h [] = refl
-has-listed h (e ∷ es) = ap (λ b. is_some (cond b (Some e.1) (lookup (nat_eq h) es))) (eqb-sym h e.0) ∙ by (e.0 == h) (has-listed h es) where
+has-listed h (e ∷ es) = ap (λ b. is_some (cond b (Some e.1) (lookup (nat_eq h) es))) (eqb_sym h e.0) ∙ by (e.0 == h) (has-listed h es) where
   by : (b : Bool) → is_some (lookup (nat_eq h) es) ≡ has_among h (listed es) → is_some (cond b (Some e.1) (lookup (nat_eq h) es)) ≡ (b || has_among h (listed es))
   by true same = refl
   by false same = same
