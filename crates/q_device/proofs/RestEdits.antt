@@ -7,7 +7,7 @@ use Rattle.q_codel.specs.declared.limit.Limit.{Limit}
 use Rattle.q_codel.specs.declared.limit.Limit.TheVariants.{Packets, Bytes}
 use Rattle.q_fqcodel.specs.FqState.{FqSettings, first_flow}
 use Rattle.q_fqcodel.specs.FqState as flows
-use Rattle.q_drr.specs.Schedule.{added, removed}
+use Rattle.q_drr.specs.Schedule.{added}
 use Rattle.q_model.specs.declared.command.Command.{Command}
 use Rattle.q_model.specs.declared.command.Command.TheVariants.{QdiscAdd, QdiscChange, QdiscDel, ClassAdd, ClassChange, ClassDel, FilterAdd, FilterDel}
 use Rattle.q_model.specs.declared.filter.Filter.{Filter}
@@ -20,12 +20,13 @@ use Rattle.q_model.specs.Tally.{Note, history}
 use Rattle.q_model.specs.Node.{Discipline, Fifo, Prio, Tbf, Drr, FqCodel, Node, Shape, children, shape, blank}
 use Rattle.q_model.specs.Beneath.{is_empty}
 use Rattle.q_model.specs.Make.{Device, node_of, implicit_pfifo, implicit_beneath, limit_bytes, default_settings, with_options, made}
-use Rattle.q_model.specs.Find.{free_handle, node_at, path_of, place_path, class_place}
+use Rattle.q_model.specs.Find.{free_handle, node_at, path_of, place_path}
 use Rattle.q_model.specs.Edit.{Edit, Graft, Remake, above, edited_at}
 use Rattle.q_model.specs.QdiscCommands.{qdisc_add_checks, new_qdisc, target, retuned, rebanded, reshaped, bands_check, burst_check, flows_check, change_of, way_to_parent, leaf_at}
-use Rattle.q_model.specs.ClassCommands.{of_schedule, class_add_checks, class_change_checks, class_del_checks, with_class, class_added, with_new_quantum, class_changed, without_class, class_removed}
+use Rattle.q_model.specs.ClassCommands.{of_schedule, class_add_checks, class_change_checks, with_class, class_added, with_new_quantum, class_changed}
 use Rattle.q_model.specs.FilterCommands.{with_filters, filter_add_checks, filter_added, has_prio, filter_del_checks, filters_removed}
 use Rattle.q_model.specs.TreeState.{edit_of}
+use Rattle.q_invariants.proofs.EditClassPlans.{deleted_class}
 use Rattle.q_invariants.proofs.EditNodes.{refused_not_done, same_edit, AtNode, AtSchedule, node_there, drr_there, schedule_there}
 use Rattle.q_invariants.proofs.EditSuits.{done_is}
 use Rattle.q_invariants.proofs.Within.{Within, IsOf, child-within, within-set}
@@ -135,11 +136,7 @@ module _ (now : ℕ) (root : Node (List Note)) where
       let sh : Shape = shape at.node in
       let on : AtSchedule (class_changed class quantum at.path sh) at.node.own.discipline edit = schedule_there (class_changed class quantum at.path sh) at.node.own.discipline edit at.edit_is in
       subst (RestsBy root) (done_is (class_change_checks class sh) (retuned sh at.path (Drr (with_new_quantum class quantum on.schedule))) edit on.edit_is).1 (λ other there h. tt)
-  command-rests d (ClassDel parent class) edit e =
-      let at : AtNode (λ path n. of_schedule (class_removed class path n) n.own.discipline) root edit = drr_there parent class (class_removed class) root edit e in
-      let sh : Shape = shape at.node in
-      let on : AtSchedule (class_removed class at.path sh) at.node.own.discipline edit = schedule_there (class_removed class at.path sh) at.node.own.discipline edit at.edit_is in
-      subst (RestsBy root) (done_is (class_del_checks class sh) (without_class (unwrap_or (class_place class.minor sh) 0) at.path sh (removed class.minor on.schedule)) edit on.edit_is).1 (λ other there h. tt)
+  command-rests d (ClassDel parent class) edit e = subst (RestsBy root) (deleted_class parent class root edit e).edit_is (λ other there h. tt)
   command-rests d (FilterAdd parent major f) edit e =
       let at : AtNode (filter_added parent major f) root edit = node_there NoQdisc (path_of parent (shape root)) (filter_added parent major f) root edit e in
       let sh : Shape = shape at.node in

@@ -15,8 +15,34 @@ use Rattle.q_model.specs.Lawful.{IsLawfulOwn}
 use Rattle.q_model.specs.Ask.{Asked, befores, holding, ask_fifo}
 use Rattle.q_invariants.proofs.Weights.{weigh, weigh-nil, weigh-cons, weigh-one, quiet-nil, lost-nil, marked-nil}
 use Rattle.q_invariants.proofs.Lengths.{HasLength, lengths-among}
-use Rattle.q_invariants.proofs.Answer.{IsAnswer, AreAnswers, waiting, is-shown}
+use Rattle.q_invariants.proofs.Answer.{IsAnswer, AreAnswers, IsAsked, waiting, holds, is-shown}
 use Rattle.q_invariants.proofs.Sums.{weigh-waiting, weigh-holds, befores-lawful, befores-told}
+
+-- a node that shows what it has at hand, and asks no child
+asked_at_hand : (mtu now : ℕ) (own after : Own) (below : List Asked) (packet : Option Descriptor) → after.handle ≡ own.handle → AreAnswers mtu now below
+    → IsLawfulOwn mtu now own (map beneath (befores below)) → IsLawfulOwn mtu now after (map beneath (befores below))
+    → ((w : Descriptor → ℕ) → weigh w (waiting own (befores below)) ≡ weigh w (option_to_list packet) + weigh w (waiting after (befores below)))
+    → ((w : Descriptor → ℕ) → weigh w (holds own (befores below)) ≤ weigh w (option_to_list packet) + weigh w (holds after (befores below)))
+    → IsAsked mtu now own own after below (befores below) (befores below) [] packet
+asked_at_hand mtu now own after below packet handle all lawful lawful_taken gives marks_given = record {
+  handle_peeked = refl;
+  handle_taken = handle;
+  lawful = lawful;
+  lawful_peeked = lawful;
+  lawful_taken = lawful_taken;
+  all_before = befores-lawful mtu now below all;
+  all_peeked = befores-lawful mtu now below all;
+  all_taken = befores-lawful mtu now below all;
+  told_before = befores-told mtu now below all;
+  told_peeked = befores-told mtu now below all;
+  told_taken = befores-told mtu now below all;
+  quiet = quiet-nil;
+  peeks = λ w. omega (arith, lost-nil w);
+  gives = gives;
+  marks = λ w. omega (arith, lost-nil w, marked-nil w);
+  marks_given = marks_given;
+  stays = λ none. none;
+}
 
 pub holding-answers : (mtu now : ℕ) (own : Own) (below : List Asked) (p : Descriptor) → own.held ≡ Some p → IsLawfulOwn mtu now own (map beneath (befores below)) → AreAnswers mtu now below → IsAnswer mtu now (holding own below p)
 holding-answers mtu now own below p e h all =
@@ -29,32 +55,16 @@ holding-answers mtu now own below p e h all =
       taken = befores below;
       notes = [];
       packet = Some p;
-    }) (record {
-      handle_peeked = refl;
-      handle_taken = refl;
-      lawful = h;
-      lawful_peeked = h;
-      lawful_taken = record {
-        discipline = h.discipline;
-        lengths = All-tail (HasLength mtu) p rest lengths;
-        held = λ none. absurd (false≢true none);
-        filters = h.filters;
-        in_order = h.in_order;
-        named = h.named;
-      };
-      all_before = befores-lawful mtu now below all;
-      all_peeked = befores-lawful mtu now below all;
-      all_taken = befores-lawful mtu now below all;
-      told_before = befores-told mtu now below all;
-      told_peeked = befores-told mtu now below all;
-      told_taken = befores-told mtu now below all;
-      quiet = quiet-nil;
-      peeks = λ w. omega (arith, lost-nil w);
-      gives = λ w. omega (arith, weigh-waiting w own (befores below), weigh-waiting w (record own { held = None }) (befores below), ap (λ (o : Option Descriptor). weigh w (option_to_list o)) e, weigh-nil w);
-      marks = λ w. omega (arith, lost-nil w, marked-nil w);
-      marks_given = λ w. omega (arith, weigh-holds w own (befores below), weigh-holds w (record own { held = None }) (befores below), ap (λ (o : Option Descriptor). weigh w (option_to_list o)) e, weigh-nil w);
-      stays = λ none. none;
+    }) (asked_at_hand mtu now own (record own { held = None }) below (Some p) refl all h (record {
+      discipline = h.discipline;
+      lengths = All-tail (HasLength mtu) p rest lengths;
+      held = λ none. absurd (false≢true none);
+      filters = h.filters;
+      in_order = h.in_order;
+      named = h.named;
     })
+    (λ w. omega (arith, weigh-waiting w own (befores below), weigh-waiting w (record own { held = None }) (befores below), ap (λ (o : Option Descriptor). weigh w (option_to_list o)) e, weigh-nil w))
+    (λ w. omega (arith, weigh-holds w own (befores below), weigh-holds w (record own { held = None }) (befores below), ap (λ (o : Option Descriptor). weigh w (option_to_list o)) e, weigh-nil w)))
 
 -- the head and the rest of a queue
 pub weigh-head : (w : Descriptor → ℕ) (queue : List Stamped) → weigh w (packets_of queue) ≡ weigh w (option_to_list (slice_get (packets_of queue) 0)) + weigh w (packets_of (drop 1 queue))
@@ -76,29 +86,11 @@ fifo-answers mtu now handle filters limit queue below h all =
       taken = befores below;
       notes = [];
       packet = slice_get (packets_of queue) 0;
-    }) (record {
-      handle_peeked = refl;
-      handle_taken = refl;
-      lawful = h;
-      lawful_peeked = h;
-      lawful_taken = record {
-        discipline = record { stamps = All-drop (λ (s : Stamped). s.at ≤ now) 1 queue h.discipline.stamps; none = h.discipline.none };
-        lengths = lengths-among mtu (waiting own (befores below)) (waiting after (befores below)) (λ w. omega (arith, shorter w)) h.lengths;
-        held = λ none. absurd (false≢true none);
-        filters = h.filters;
-        in_order = h.in_order;
-        named = h.named;
-      };
-      all_before = befores-lawful mtu now below all;
-      all_peeked = befores-lawful mtu now below all;
-      all_taken = befores-lawful mtu now below all;
-      told_before = befores-told mtu now below all;
-      told_peeked = befores-told mtu now below all;
-      told_taken = befores-told mtu now below all;
-      quiet = quiet-nil;
-      peeks = λ w. omega (arith, lost-nil w);
-      gives = shorter;
-      marks = λ w. omega (arith, lost-nil w, marked-nil w);
-      marks_given = λ w. omega (arith, weigh-holds w own (befores below), weigh-holds w after (befores below));
-      stays = λ none. none;
-    })
+    }) (asked_at_hand mtu now own after below (slice_get (packets_of queue) 0) refl all h (record {
+      discipline = record { stamps = All-drop (λ (s : Stamped). s.at ≤ now) 1 queue h.discipline.stamps; none = h.discipline.none };
+      lengths = lengths-among mtu (waiting own (befores below)) (waiting after (befores below)) (λ w. omega (arith, shorter w)) h.lengths;
+      held = λ none. absurd (false≢true none);
+      filters = h.filters;
+      in_order = h.in_order;
+      named = h.named;
+    }) shorter (λ w. omega (arith, weigh-holds w own (befores below), weigh-holds w after (befores below))))

@@ -13,7 +13,7 @@ use Rattle.q_model.specs.Filters.{names_class}
 use Rattle.q_model.specs.Tally.{Note}
 use Rattle.q_model.specs.Node.{Drr, Discipline, Node, Shape, children, shape}
 use Rattle.q_model.specs.Make.{Device, implicit_pfifo}
-use Rattle.q_model.specs.Find.{class_in, class_place}
+use Rattle.q_model.specs.Find.{class_in, class_place, node_at}
 use Rattle.q_model.specs.Edit.{Edit}
 use Rattle.q_model.specs.QdiscCommands.{all_kept, retuned}
 use Rattle.q_model.specs.ClassCommands.{of_schedule, is_there, class_add_checks, class_change_checks, class_del_checks, with_class, class_added, class_add, with_new_quantum, class_changed, class_change, without_class, class_removed, class_del}
@@ -36,6 +36,40 @@ place_known minor n s is = ap (λ (d : Discipline). is_some (class_in (length (c
 pub position_of : (o : Option ℕ) → is_some o ≡ true → o ≡ Some (unwrap_or o 0)
 position_of None e = absurd (false≢true e)
 position_of (Some i) e = refl
+
+-- the drr whose class a command deletes, and the place of the class in it: no filter names the class
+pub record DeletedClass (class : ClassId) (root : Node (List Note)) (edit : Edit) : Type 0 where
+  pub path : List ℕ
+  pub node : Node (List Note)
+  pub node_is : node_at path root ≡ Some node
+  pub schedule : Schedule
+  pub is : node.own.discipline ≡ Drr schedule
+  pub place : ℕ
+  pub found : position (λ (c : Class). class.minor == c.name) schedule.classes ≡ Some place
+  pub unnamed : list_any (names_class class.minor) node.own.filters ≡ false
+  pub edit_is : without_class place path (shape node) (removed class.minor schedule) ≡ edit
+
+pub deleted_class : (parent : Option ℕ) (class : ClassId) (root : Node (List Note)) (edit : Edit) → class_del parent class (shape root) ≡ Ok edit → DeletedClass class root edit
+deleted_class parent class root edit e =
+    let at : AtNode (λ path n. of_schedule (class_removed class path n) n.own.discipline) root edit = drr_there parent class (class_removed class) root edit e in
+    let sh : Shape = shape at.node in
+    let on : AtSchedule (class_removed class at.path sh) at.node.own.discipline edit = schedule_there (class_removed class at.path sh) at.node.own.discipline edit at.edit_is in
+    let i : ℕ = unwrap_or (class_place class.minor sh) 0 in
+    let done = done_is (class_del_checks class sh) (without_class i at.path sh (removed class.minor on.schedule)) edit on.edit_is in
+    let named : Check = refuse Busy (list_any (names_class class.minor) at.node.own.filters) in
+    let first = check_passed (refuse NoClass (not (is_there class sh))) (named ∷ []) done.0 in
+    let place : class_place class.minor sh ≡ position (λ (c : Class). class.minor == c.name) on.schedule.classes = ap (class_in (length (children sh)) class.minor) on.is in
+    record {
+      path = at.path;
+      node = at.node;
+      node_is = at.node_is;
+      schedule = on.schedule;
+      is = on.is;
+      place = i;
+      found = sym place ∙ position_of (class_place class.minor sh) (not-false (is_there class sh) first.0);
+      unnamed = (check_passed named [] first.1).0;
+      edit_is = done.1;
+    }
 
 module _ (d : Device) (now : ℕ) (root : Node (List Note)) (once : (h : ℕ) → times h root ≤ 1) (positive : 1 ≤ d.mtu) where
   pub planned_class_add : (parent : ℕ) (class : ClassId) (quantum : Option ℕ) (edit : Edit) → IsMinor class.minor → IfSome quantum IsQuantum → class_add d parent class quantum (shape root) ≡ Ok edit → Planned d.mtu now root edit
@@ -66,20 +100,8 @@ module _ (d : Device) (now : ℕ) (root : Node (List Note)) (once : (h : ℕ) �
 
   pub planned_class_del : (parent : Option ℕ) (class : ClassId) (edit : Edit) → class_del parent class (shape root) ≡ Ok edit → Planned d.mtu now root edit
   planned_class_del parent class edit e =
-      let at : AtNode (λ path n. of_schedule (class_removed class path n) n.own.discipline) root edit = drr_there parent class (class_removed class) root edit e in
+      let at : DeletedClass class root edit = deleted_class parent class root edit e in
       let old : Node (List Note) = at.node in
-      let sh : Shape = shape old in
-      let on : AtSchedule (class_removed class at.path sh) old.own.discipline edit = schedule_there (class_removed class at.path sh) old.own.discipline edit at.edit_is in
-      let i : ℕ = unwrap_or (class_place class.minor sh) 0 in
-      let s : Schedule = on.schedule in
-      let done = done_is (class_del_checks class sh) (without_class i at.path sh (removed class.minor s)) edit on.edit_is in
-      let named : Check = refuse Busy (list_any (names_class class.minor) old.own.filters) in
-      let first = check_passed (refuse NoClass (not (is_there class sh))) (named ∷ []) done.0 in
-      let second = check_passed named [] first.1 in
-      let place : class_place class.minor sh ≡ position (λ (c : Class). class.minor == c.name) s.classes =
-      ap (class_in (length (children sh)) class.minor) on.is in
-      let found : position (λ (c : Class). class.minor == c.name) s.classes ≡ Some i =
-      sym place ∙ position_of (class_place class.minor sh) (not-false (is_there class sh) first.0) in
-      subst (Planned d.mtu now root) done.1
-      (planned_remake d.mtu now root at.path (record old.own { discipline = Drr (removed class.minor s) }) (remove (all_kept sh) i) old once at.node_is
-      (λ lawful counted. remakes_class_removed d.mtu now old lawful counted s class.minor i on.is found second.0))
+      subst (Planned d.mtu now root) at.edit_is
+      (planned_remake d.mtu now root at.path (record old.own { discipline = Drr (removed class.minor at.schedule) }) (remove (all_kept (shape old)) at.place) old once at.node_is
+      (λ lawful counted. remakes_class_removed d.mtu now old lawful counted at.schedule class.minor at.place at.is at.found at.unnamed))

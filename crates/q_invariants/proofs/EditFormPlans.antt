@@ -1,8 +1,7 @@
 -- The form of every edit that a command plans.
-use Rattle.std.proofs.Common.{◌≡◌, ℕ, ◌-◌, ◌<◌, min, not, inl, inr, List, [], ◌∷◌, ◌++◌, length, map, take, replicate, refl, sym, ap, ap₂, subst, ◌∙◌, Option, Some, None, Ok, eq-eqb, arith}
+use Rattle.std.proofs.Common.{◌≡◌, ℕ, ◌-◌, ◌<◌, min, not, inl, inr, List, [], ◌∷◌, ◌++◌, length, map, take, replicate, refl, sym, ap₂, subst, ◌∙◌, Option, Some, None, Ok, eq-eqb, arith}
 use Rattle.std.specs.Prelude.{Result, unwrap_or, ◌==◌}
-use Rattle.std.specs.List.{list_any, position, remove, filter}
-use Rattle.std.proofs.lemmas.Bool.{not-false}
+use Rattle.std.specs.List.{remove, filter}
 use Rattle.std.proofs.lemmas.Option.{same_Some}
 use Rattle.std.proofs.lemmas.List.{append-nil}
 use Rattle.std.proofs.lemmas.List.Quantifiers.{position-Some}
@@ -16,26 +15,25 @@ use Rattle.q_model.specs.declared.command.Command.TheVariants.{QdiscAdd, QdiscCh
 use Rattle.q_model.specs.declared.filter.Filter.{Filter}
 use Rattle.q_model.specs.declared.kind.Kind.{Kind}
 use Rattle.q_model.specs.declared.kind.Kind.TheVariants as kind
-use Rattle.q_model.specs.declared.refusal.Refusal.TheVariants.{NoQdisc, NoClass, Busy, CannotChange}
+use Rattle.q_model.specs.declared.refusal.Refusal.TheVariants.{NoQdisc, CannotChange}
 use Rattle.q_model.specs.declared.refusal.Refusal.{Refusal}
 use Rattle.q_model.specs.declared.place.Place.{Place}
-use Rattle.q_model.specs.Filters.{names_class, with_filter}
+use Rattle.q_model.specs.Filters.{with_filter}
 use Rattle.q_model.specs.Tally.{Note, history}
 use Rattle.q_model.specs.Node.{Discipline, Fifo, Prio, Tbf, Drr, FqCodel, Own, Node, Shape, side_by_side, children, shape, blank}
 use Rattle.q_model.specs.Make.{Device, implicit_pfifo, limit_bytes, with_options}
-use Rattle.q_model.specs.Find.{class_in, class_place, node_at, path_of, place_path}
+use Rattle.q_model.specs.Find.{node_at, path_of, place_path}
 use Rattle.q_model.specs.Edit.{Child, New, Edit, Graft, Remake, child_of}
-use Rattle.q_model.specs.Refusals.{Check, refuse}
 use Rattle.q_model.specs.QdiscCommands.{qdisc_add_checks, new_qdisc, qdisc_add, target, all_kept, retuned, rebanded, leaf_of_tbf, reshaped, bands_check, burst_check, flows_check, change_of, qdisc_change, leaf_at, qdisc_del}
-use Rattle.q_model.specs.ClassCommands.{of_schedule, is_there, class_add_checks, class_change_checks, class_del_checks, with_class, class_added, class_add, with_new_quantum, class_changed, class_change, without_class, class_removed, class_del}
+use Rattle.q_model.specs.ClassCommands.{of_schedule, class_add_checks, class_change_checks, with_class, class_added, class_add, with_new_quantum, class_changed, class_change, class_del}
 use Rattle.q_model.specs.FilterCommands.{with_filters, filter_add_checks, filter_added, filter_add, has_prio, filter_del_checks, filters_removed, filter_del}
 use Rattle.q_model.specs.TreeState.{edit_of}
 use Rattle.q_invariants.proofs.Forests.{side-nodes}
 use Rattle.q_invariants.proofs.AskStages.{HasSoMany}
 use Rattle.q_invariants.proofs.Within.{Within, IsOf, HasHandle}
 use Rattle.q_invariants.proofs.EditChildren.{kids, kids_all, kids-append, kids_removed, kids_kept, kids_new, kept_from}
-use Rattle.q_invariants.proofs.EditSuits.{length-shape, children-shape, done_is, check_passed}
-use Rattle.q_invariants.proofs.EditClassPlans.{position_of}
+use Rattle.q_invariants.proofs.EditSuits.{length-shape, children-shape, done_is}
+use Rattle.q_invariants.proofs.EditClassPlans.{DeletedClass, deleted_class}
 use Rattle.q_invariants.proofs.EditNodes.{refused_not_done, same_edit, AtNode, AtSchedule, node_there, drr_there, schedule_there}
 use Rattle.q_invariants.proofs.EditFront.{front_and_new}
 use Rattle.q_invariants.proofs.EditForms.{Stay, Retuned_one, Added_one, Removed_one, IsForm, IsRemade, FormOf, keeps-all, keeps-front, keeps-more, keeps-removed, leaf-kept}
@@ -127,29 +125,23 @@ module _ (now : ℕ) (root : Node (List Note)) where
 
   class-deleted : (parent : Option ℕ) (class : ClassId) (edit : Edit) → class_del parent class (shape root) ≡ Ok edit → FormOf now root edit
   class-deleted parent class edit e =
-      let at : AtNode (λ path n. of_schedule (class_removed class path n) n.own.discipline) root edit = drr_there parent class (class_removed class) root edit e in
+      let at : DeletedClass class root edit = deleted_class parent class root edit e in
       let old : Node (List Note) = at.node in
       let sh : Shape = shape old in
-      let on : AtSchedule (class_removed class at.path sh) old.own.discipline edit = schedule_there (class_removed class at.path sh) old.own.discipline edit at.edit_is in
-      let i : ℕ = unwrap_or (class_place class.minor sh) 0 in
-      let s : Schedule = on.schedule in
-      let done = done_is (class_del_checks class sh) (without_class i at.path sh (removed class.minor s)) edit on.edit_is in
-      let named : Check = refuse Busy (list_any (names_class class.minor) old.own.filters) in
-      let first = check_passed (refuse NoClass (not (is_there class sh))) (named ∷ []) done.0 in
-      let place : class_place class.minor sh ≡ position (λ (c : Class). class.minor == c.name) s.classes = ap (class_in (length (children sh)) class.minor) on.is in
-      let found : position (λ (c : Class). class.minor == c.name) s.classes ≡ Some i = sym place ∙ position_of (class_place class.minor sh) (not-false (is_there class sh) first.0) in
+      let i : ℕ = at.place in
+      let s : Schedule = at.schedule in
       let own : Own = record old.own { discipline = Drr (removed class.minor s) } in
-      subst (FormOf now root) done.1
+      subst (FormOf now root) at.edit_is
       (formed at.path own (remove (all_kept sh) i) old at.node_is
       (λ many.
-      let size : length s.classes ≡ length (children old) = subst (λ (x : Discipline). HasSoMany x (length (children old))) on.is many in
-      let within : i < length s.classes = (position-Some (λ (c : Class). class.minor == c.name) s.classes i (record { name = 0; quantum = 0 }) found).0 in
+      let size : length s.classes ≡ length (children old) = subst (λ (x : Discipline). HasSoMany x (length (children old))) at.is many in
+      let within : i < length s.classes = (position-Some (λ (c : Class). class.minor == c.name) s.classes i (record { name = 0; quantum = 0 }) at.found).0 in
       let same : kids history (children old) (remove (all_kept sh) i) ≡ remove (children old) i =
       kids_removed history (children old) (length (children sh)) i (length-shape old) (omega (arith, within, size, length-shape old)) in
       subst (IsRemade now old own) (sym same) (record {
         handle = refl;
         held = refl;
-        form = subst (λ (x : Discipline). IsForm now x (children old) (Drr (removed class.minor s)) (remove (children old) i)) (sym on.is) (Removed_one class.minor i, (refl, refl, found));
+        form = subst (λ (x : Discipline). IsForm now x (children old) (Drr (removed class.minor s)) (remove (children old) i)) (sym at.is) (Removed_one class.minor i, (refl, refl, at.found));
         keeps = λ h. keeps-removed h old.below i;
       })))
 

@@ -1,17 +1,16 @@
-//! What the tests share: a device, packets, and a drain over both.
-ghost use Rattle.std.specs.Prelude.{◌≡◌, ◌<◌, ◌≤◌, length, map, All, IfSome};
+//! What the tests share: devices and packets, and what they ask of a drain.
+ghost use Rattle.std.specs.Prelude.{◌≡◌, ◌<◌, ◌≤◌, length, map, IfSome};
 ghost use Rattle.q_model.specs.Tally.{no_totals};
-ghost use Rattle.q_ports.specs.Held.{held};
 ghost use Rattle.q_ports.specs.Placed.{ring_of_port};
 ghost use Rattle.q_ports.specs.Rings.{ring_id};
-ghost use Rattle.q_ports.specs.Rows.{new_gauge, shown_on, GaugeSeen};
+ghost use Rattle.q_ports.specs.Rows.{shown_on};
 
 use q_device::{Device, Row, Settings, Totals};
 use q_packet::{Ecn, FlowKey, Moment, Packet};
-use q_ports::{Booked, Drain, Full, Gate, Gauge, Port, Seat, Turn, drive, open_ports};
+use q_ports::{Booked, Drain, Full, Gate, Port, Turn, drive};
 use std::alloc::{AllocError, Global};
 use std::process::Abort;
-use std::sync::ledger::{Blank, Ledger};
+use std::sync::ledger::Ledger;
 use std::sync::{Mutex, Wait};
 use std::thread::Threads;
 
@@ -75,49 +74,6 @@ pub fn assert_count<R: Abort>(rt: &R, found: u64, wanted: u64) {
 /// The same of packets and bytes.
 pub fn assert_totals<R: Abort>(rt: &R, found: Totals, wanted: Totals) {
     assert_eq!(rt; found, wanted);
-}
-
-/// A new book of the device behind a lock, and its seat.
-pub fn locked<P: Ledger, B: Ledger>(
-    device: Device,
-    packets: Blank,
-    bytes: Blank,
-) -> (Mutex<Booked<P, B>>, Seat<P, B>)
-    requires nothing { device.device.tree.top.arrived ≡ no_totals }
-    requires packets { (packets.name ≡ P.name) × (packets.parts ≡ P.parts) × (P.parts ≡ 65) }
-    requires bytes { (bytes.name ≡ B.name) × (bytes.parts ≡ B.parts) × (B.parts ≡ 65) }
-    ensures { result.1 ≡ held 65 0 0 }
-{
-    let (booked, seat) = Booked::<P, B>::new(device, packets, bytes);
-    (Mutex::new(booked), seat)
-}
-
-/// A drain over a new book of the device, with so many ports and gauges, and rings of so many packets.
-pub fn opened<P: Ledger, B: Ledger, R: Wait + Abort>(
-    rt: &R,
-    alloc: Global,
-    device: Device,
-    counts: (usize, usize, usize),
-    packets: Blank,
-    bytes: Blank,
-) -> (Mutex<Booked<P, B>>, Drain<P, B>, Vec<Port>, Vec<Gauge>)
-    requires nothing { device.device.tree.top.arrived ≡ no_totals }
-    requires packets { (packets.name ≡ P.name) × (packets.parts ≡ P.parts) × (P.parts ≡ 65) }
-    requires bytes { (bytes.name ≡ B.name) × (bytes.parts ≡ B.parts) × (B.parts ≡ 65) }
-    ensures rings { map ring_of_port result.2.items ≡ map ring_id result.1.rings }
-    ensures ports { length result.2.items ≡ counts.0 }
-    ensures gauges { length result.3.items ≡ counts.2 }
-    ensures book { All (λ (g : GaugeSeen). g ≡ new_gauge (shown_on result.1.board)) result.3.items }
-{
-    let (ports, ring, gauges) = counts;
-    assert!(rt; 1 <= ports && ports <= 64);
-    assert!(rt; 1 <= ring && ring <= 65_536);
-    assert!(rt; gauges <= 16);
-    let (booked, seat) = locked::<P, B>(device, packets, bytes);
-    match open_ports(rt, alloc, seat, ports, ring, gauges) {
-        Ok((drain, ports, gauges)) => (booked, drain, ports, gauges),
-        Err(_) => panic!(rt; "memory"),
-    }
 }
 
 /// Offers a packet at one of the ports.

@@ -1,16 +1,15 @@
 //! A drain that ends while senders offer and gauges read.
 ghost use Rattle.std.specs.Prelude.{◌≡◌, ◌≤◌, length};
-ghost use Rattle.q_model.specs.Tally.{no_totals};
 
-use crate::common::{assert_count, device, opened, packet, row, take_turn};
+use crate::common::{assert_count, device, packet, row, take_turn};
 use crate::traffic::Traffic;
-use q_device::Device;
+use crate::unbooked::Unbooked;
 use q_packet::Packet;
 use q_ports::{Booked, Drain, Gauge, Port};
 use std::alloc::Global;
 use std::marker::Brand;
 use std::process::Abort;
-use std::sync::ledger::{Blank, Ledger};
+use std::sync::ledger::Ledger;
 use std::sync::{Arc, Mutex, Wait};
 use std::test::Fail;
 use std::thread;
@@ -28,8 +27,7 @@ fn senders_and_gauges_outlive_the_drain(rt: HostRuntime) -> Result<(), Fail> {
     let given = packet(5).expect(&rt, "a packet");
     let traffic = Arc::new(alloc, Traffic::new())?;
     let device = device(alloc, 0).expect(&rt, "memory");
-    let (packets, bytes) = (Blank::new(65), Blank::new(65));
-    outlived::<Brand, Brand, _>(&rt, alloc, device, &traffic, given, packets, bytes);
+    outlived::<Brand, Brand, _>(&rt, alloc, Unbooked::new(device), &traffic, given);
     Ok(())
 }
 
@@ -38,23 +36,16 @@ fn senders_and_gauges_outlive_the_drain(rt: HostRuntime) -> Result<(), Fail> {
 fn outlived<P: Ledger, B: Ledger, R: Threads + Wait + Abort>(
     rt: &R,
     alloc: Global,
-    device: Device,
+    unbooked: Unbooked,
     traffic: &Arc<Traffic, Global>,
     given: Packet,
-    packets: Blank,
-    bytes: Blank,
 )
-    requires nothing { device.device.tree.top.arrived ≡ no_totals }
-    requires packets { (packets.name ≡ P.name) × (packets.parts ≡ P.parts) × (P.parts ≡ 65) }
-    requires bytes { (bytes.name ≡ B.name) × (bytes.parts ≡ B.parts) × (B.parts ≡ 65) }
+    requires { (unbooked.packets.name ≡ P.name) × (P.parts ≡ 65) × (unbooked.bytes.name ≡ B.name) × (B.parts ≡ 65) }
 {
-    let (booked, mut drain, mut ports, mut gauges) = opened::<P, B, R>(
+    let (booked, mut drain, mut ports, mut gauges) = unbooked.opened::<P, B, R>(
         rt,
         alloc,
-        device,
         (2, PLACES as usize, 1),
-        packets,
-        bytes,
     );
     let reading = read_beside(rt, traffic, &mut gauges);
     let one = offer_beside(rt, traffic, &mut ports, given);

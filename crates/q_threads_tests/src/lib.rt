@@ -41,6 +41,8 @@ mod shaped;
 #[cfg(test)]
 mod traffic;
 #[cfg(test)]
+mod unbooked;
+#[cfg(test)]
 mod under_lock;
 #[cfg(test)]
 mod undrained;

@@ -1,22 +1,22 @@
 //! Ports, the drain and gauges on one thread.
 ghost use Rattle.std.specs.Prelude.{◌≡◌, ◌≤◌, ◌<◌, length, map, All};
-ghost use Rattle.q_model.specs.Tally.{no_totals};
 ghost use Rattle.q_ports.specs.Placed.{ring_of_port};
 ghost use Rattle.q_ports.specs.Rings.{ring_id};
 ghost use Rattle.q_ports.specs.Rows.{new_gauge, shown_on, GaugeSeen};
 
 use crate::common::{
     assert_count, assert_full, assert_settles, assert_totals, device, fill, hundreds, limited,
-    offer_at, opened, packet, row, turn,
+    offer_at, packet, row, turn,
 };
 use crate::rows::NO_ROW;
-use q_device::{Device, Polled, Row};
+use crate::unbooked::Unbooked;
+use q_device::{Polled, Row};
 use q_packet::{Moment, Packet};
 use q_ports::{Booked, Drain, Gauge, Port, Turn};
 use std::alloc::Global;
 use std::marker::Brand;
 use std::process::Abort;
-use std::sync::ledger::{Blank, Ledger};
+use std::sync::ledger::Ledger;
 use std::sync::{Mutex, Wait};
 use std::test::Fail;
 
@@ -25,11 +25,10 @@ fn ports_on_one_thread(rt: HostRuntime) -> Result<(), Fail> {
     let alloc = rt.alloc();
     let given = packet(77).expect(&rt, "a packet");
     let first = device(alloc, 0).expect(&rt, "memory");
-    ring_of_one::<Brand, Brand, _>(&rt, alloc, first, given, Blank::new(65), Blank::new(65));
+    ring_of_one::<Brand, Brand, _>(&rt, alloc, Unbooked::new(first), given);
     for count in &[2usize, 4] {
         let device = device(alloc, 0).expect(&rt, "memory");
-        let (packets, bytes) = (Blank::new(65), Blank::new(65));
-        going_round::<Brand, Brand, _>(&rt, alloc, device, *count, given, packets, bytes);
+        going_round::<Brand, Brand, _>(&rt, alloc, Unbooked::new(device), *count, given);
     }
     Ok(())
 }
@@ -40,8 +39,7 @@ fn a_turn_takes_1024_packets(rt: HostRuntime) -> Result<(), Fail> {
     let alloc = rt.alloc();
     let given = packet(77).expect(&rt, "a packet");
     let device = limited(alloc, 2000, 0).expect(&rt, "memory");
-    let (packets, bytes) = (Blank::new(65), Blank::new(65));
-    long_turn::<Brand, Brand, _>(&rt, alloc, device, given, packets, bytes);
+    long_turn::<Brand, Brand, _>(&rt, alloc, Unbooked::new(device), given);
     Ok(())
 }
 
@@ -49,22 +47,15 @@ fn a_turn_takes_1024_packets(rt: HostRuntime) -> Result<(), Fail> {
 fn long_turn<P: Ledger, B: Ledger, R: Wait + Abort>(
     rt: &R,
     alloc: Global,
-    device: Device,
+    unbooked: Unbooked,
     given: Packet,
-    packets: Blank,
-    bytes: Blank,
 )
-    requires nothing { device.device.tree.top.arrived ≡ no_totals }
-    requires packets { (packets.name ≡ P.name) × (packets.parts ≡ P.parts) × (P.parts ≡ 65) }
-    requires bytes { (bytes.name ≡ B.name) × (bytes.parts ≡ B.parts) × (B.parts ≡ 65) }
+    requires { (unbooked.packets.name ≡ P.name) × (P.parts ≡ 65) × (unbooked.bytes.name ≡ B.name) × (B.parts ≡ 65) }
 {
-    let (booked, mut drain, mut ports, _gauges) = opened::<P, B, R>(
+    let (booked, mut drain, mut ports, _gauges) = unbooked.opened::<P, B, R>(
         rt,
         alloc,
-        device,
         (1, 1024, 0),
-        packets,
-        bytes,
     );
     fill(rt, &mut ports, 1024, given);
     assert_tells(rt, alloc, &booked, &mut drain, 1024, 1024);
@@ -78,8 +69,7 @@ fn each_number_of_gauges_reads_and_learns(rt: HostRuntime) -> Result<(), Fail> {
     let given = packet(77).expect(&rt, "a packet");
     for count in 0..17usize {
         let device = device(alloc, 0).expect(&rt, "memory");
-        let (packets, bytes) = (Blank::new(65), Blank::new(65));
-        gauged::<Brand, Brand, _>(&rt, alloc, device, count, given, packets, bytes);
+        gauged::<Brand, Brand, _>(&rt, alloc, Unbooked::new(device), count, given);
     }
     Ok(())
 }
@@ -88,23 +78,16 @@ fn each_number_of_gauges_reads_and_learns(rt: HostRuntime) -> Result<(), Fail> {
 fn gauged<P: Ledger, B: Ledger, R: Wait + Abort>(
     rt: &R,
     alloc: Global,
-    device: Device,
+    unbooked: Unbooked,
     count: usize,
     given: Packet,
-    packets: Blank,
-    bytes: Blank,
 )
-    requires nothing { device.device.tree.top.arrived ≡ no_totals }
-    requires packets { (packets.name ≡ P.name) × (packets.parts ≡ P.parts) × (P.parts ≡ 65) }
-    requires bytes { (bytes.name ≡ B.name) × (bytes.parts ≡ B.parts) × (B.parts ≡ 65) }
+    requires { (unbooked.packets.name ≡ P.name) × (P.parts ≡ 65) × (unbooked.bytes.name ≡ B.name) × (B.parts ≡ 65) }
 {
-    let (booked, mut drain, mut ports, gauges) = opened::<P, B, R>(
+    let (booked, mut drain, mut ports, gauges) = unbooked.opened::<P, B, R>(
         rt,
         alloc,
-        device,
         (1, 1, count),
-        packets,
-        bytes,
     );
     assert_count(rt, gauges.len() as u64, count as u64);
     read_each(rt, alloc, &booked, &mut drain, &mut ports, gauges, given);
@@ -155,23 +138,12 @@ fn read_and_learn<P: Ledger, B: Ledger, R: Wait + Abort>(
 fn ring_of_one<P: Ledger, B: Ledger, R: Wait + Abort>(
     rt: &R,
     alloc: Global,
-    device: Device,
+    unbooked: Unbooked,
     given: Packet,
-    packets: Blank,
-    bytes: Blank,
 )
-    requires nothing { device.device.tree.top.arrived ≡ no_totals }
-    requires packets { (packets.name ≡ P.name) × (packets.parts ≡ P.parts) × (P.parts ≡ 65) }
-    requires bytes { (bytes.name ≡ B.name) × (bytes.parts ≡ B.parts) × (B.parts ≡ 65) }
+    requires { (unbooked.packets.name ≡ P.name) × (P.parts ≡ 65) × (unbooked.bytes.name ≡ B.name) × (B.parts ≡ 65) }
 {
-    let (booked, drain, ports, gauges) = opened::<P, B, R>(
-        rt,
-        alloc,
-        device,
-        (1, 1, 1),
-        packets,
-        bytes,
-    );
+    let (booked, drain, ports, gauges) = unbooked.opened::<P, B, R>(rt, alloc, (1, 1, 1));
     let (mut drain, mut ports, mut gauges) = (drain, ports, gauges);
     let Some(mut gauge) = gauges.pop() else {
         panic!(rt; "a gauge");
@@ -292,24 +264,13 @@ fn assert_sends<R: Abort>(rt: &R, turn: &Turn, wanted: &[(u32, u64)]) {
 fn going_round<P: Ledger, B: Ledger, R: Wait + Abort>(
     rt: &R,
     alloc: Global,
-    device: Device,
+    unbooked: Unbooked,
     count: usize,
     given: Packet,
-    packets: Blank,
-    bytes: Blank,
 )
-    requires nothing { device.device.tree.top.arrived ≡ no_totals }
-    requires packets { (packets.name ≡ P.name) × (packets.parts ≡ P.parts) × (P.parts ≡ 65) }
-    requires bytes { (bytes.name ≡ B.name) × (bytes.parts ≡ B.parts) × (B.parts ≡ 65) }
+    requires { (unbooked.packets.name ≡ P.name) × (P.parts ≡ 65) × (unbooked.bytes.name ≡ B.name) × (B.parts ≡ 65) }
 {
-    let (booked, drain, ports, gauges) = opened::<P, B, R>(
-        rt,
-        alloc,
-        device,
-        (count, 4, 1),
-        packets,
-        bytes,
-    );
+    let (booked, drain, ports, gauges) = unbooked.opened::<P, B, R>(rt, alloc, (count, 4, 1));
     let (mut drain, mut ports, mut gauges) = (drain, ports, gauges);
     let Some(mut gauge) = gauges.pop() else {
         panic!(rt; "a gauge");

@@ -1,22 +1,21 @@
 //! What gauges may see of a drain: the row after each turn, and nothing of what settles.
 ghost use Rattle.std.specs.Prelude.{◌≡◌, ◌≤◌, ◌<◌, length, map};
-ghost use Rattle.q_model.specs.Tally.{no_totals};
 ghost use Rattle.q_ports.specs.Placed.{ring_of_port};
 ghost use Rattle.q_ports.specs.Rings.{ring_id};
 
 use crate::common::{
-    assert_count, assert_settles, assert_totals, device, driven_all, fill, hundreds, loads, opened,
-    packet, take_turn,
+    assert_count, assert_settles, assert_totals, device, driven_all, fill, hundreds, loads, packet,
+    take_turn,
 };
 use crate::traffic::Traffic;
+use crate::unbooked::Unbooked;
 use crate::watch::Watch;
-use q_device::Device;
 use q_packet::Packet;
 use q_ports::{Booked, Drain, Gauge, Port};
 use std::alloc::Global;
 use std::marker::Brand;
 use std::process::Abort;
-use std::sync::ledger::{Blank, Ledger};
+use std::sync::ledger::Ledger;
 use std::sync::{Arc, Mutex, Wait};
 use std::test::Fail;
 use std::thread;
@@ -34,8 +33,7 @@ fn each_turn_of_a_drive_is_shown(rt: HostRuntime) -> Result<(), Fail> {
     let given = packet(5).expect(&rt, "a packet");
     let loads = loads(alloc, 1, PACKETS, given)?;
     let device = device(alloc, 0).expect(&rt, "memory");
-    let (packets, bytes) = (Blank::new(65), Blank::new(65));
-    watched::<Brand, Brand, _>(&rt, alloc, device, loads, packets, bytes);
+    watched::<Brand, Brand, _>(&rt, alloc, Unbooked::new(device), loads);
     Ok(())
 }
 
@@ -43,24 +41,13 @@ fn each_turn_of_a_drive_is_shown(rt: HostRuntime) -> Result<(), Fail> {
 fn watched<P: Ledger + Send + Sync, B: Ledger + Send + Sync, R: Threads + Wait + Sync + Abort>(
     rt: &R,
     alloc: Global,
-    device: Device,
+    unbooked: Unbooked,
     loads: Vec<Vec<Packet>>,
-    packets: Blank,
-    bytes: Blank,
 )
-    requires nothing { device.device.tree.top.arrived ≡ no_totals }
-    requires packets { (packets.name ≡ P.name) × (packets.parts ≡ P.parts) × (P.parts ≡ 65) }
-    requires bytes { (bytes.name ≡ B.name) × (bytes.parts ≡ B.parts) × (B.parts ≡ 65) }
+    requires { (unbooked.packets.name ≡ P.name) × (P.parts ≡ 65) × (unbooked.bytes.name ≡ B.name) × (B.parts ≡ 65) }
 {
     assert!(rt; loads.len() == 1);
-    let (booked, drain, ports, mut gauges) = opened::<P, B, R>(
-        rt,
-        alloc,
-        device,
-        (1, 4, 1),
-        packets,
-        bytes,
-    );
+    let (booked, drain, ports, mut gauges) = unbooked.opened::<P, B, R>(rt, alloc, (1, 4, 1));
     let gauge = gauges.pop().expect(rt, "a gauge");
     drive_watched(rt, alloc, &booked, drain, ports, loads, gauge);
 }
@@ -97,8 +84,7 @@ fn what_settles_is_not_shown(rt: HostRuntime) -> Result<(), Fail> {
     for _round in 0..ROUNDS {
         let traffic = Arc::new(alloc, Traffic::new())?;
         let device = device(alloc, 0).expect(&rt, "memory");
-        let (packets, bytes) = (Blank::new(65), Blank::new(65));
-        settled::<Brand, Brand, _>(&rt, alloc, device, &traffic, given, packets, bytes);
+        settled::<Brand, Brand, _>(&rt, alloc, Unbooked::new(device), &traffic, given);
     }
     Ok(())
 }
@@ -107,23 +93,16 @@ fn what_settles_is_not_shown(rt: HostRuntime) -> Result<(), Fail> {
 fn settled<P: Ledger, B: Ledger, R: Threads + Wait + Abort>(
     rt: &R,
     alloc: Global,
-    device: Device,
+    unbooked: Unbooked,
     traffic: &Arc<Traffic, Global>,
     given: Packet,
-    packets: Blank,
-    bytes: Blank,
 )
-    requires nothing { device.device.tree.top.arrived ≡ no_totals }
-    requires packets { (packets.name ≡ P.name) × (packets.parts ≡ P.parts) × (P.parts ≡ 65) }
-    requires bytes { (bytes.name ≡ B.name) × (bytes.parts ≡ B.parts) × (B.parts ≡ 65) }
+    requires { (unbooked.packets.name ≡ P.name) × (P.parts ≡ 65) × (unbooked.bytes.name ≡ B.name) × (B.parts ≡ 65) }
 {
-    let (booked, mut drain, mut ports, mut gauges) = opened::<P, B, R>(
+    let (booked, mut drain, mut ports, mut gauges) = unbooked.opened::<P, B, R>(
         rt,
         alloc,
-        device,
         (1, 4, 1),
-        packets,
-        bytes,
     );
     fill(rt, &mut ports, 3, given);
     take_turn(rt, alloc, &booked, &mut drain, 0, 1);

@@ -1,15 +1,15 @@
 //! From which moment on the device behind the lock may give its next packet.
 ghost use Rattle.std.specs.Prelude.{◌≡◌};
-ghost use Rattle.q_model.specs.Tally.{no_totals};
 
-use crate::common::{device, locked, packet};
-use q_device::{Burst, Command, Device, Kind, Place, Polled, Rate, TbfLimit};
+use crate::common::{device, packet};
+use crate::unbooked::Unbooked;
+use q_device::{Burst, Command, Kind, Place, Polled, Rate, TbfLimit};
 use q_packet::{Moment, Packet};
 use q_ports::{Booked, Seat};
 use std::marker::Brand;
 use std::process::Abort;
 use std::sync::Wait;
-use std::sync::ledger::{Blank, Ledger};
+use std::sync::ledger::Ledger;
 use std::test::Fail;
 
 /// A tbf that begins with 150 bytes of tokens, and gets a byte a second.
@@ -31,22 +31,14 @@ fn slow() -> Option<Command> {
 fn ready_once_the_bucket_has_enough(rt: HostRuntime) -> Result<(), Fail> {
     let given = packet(1).expect(&rt, "a packet");
     let device = device(rt.alloc(), 0).expect(&rt, "memory");
-    booked::<Brand, Brand, _>(&rt, device, given, Blank::new(65), Blank::new(65));
+    booked::<Brand, Brand, _>(&rt, Unbooked::new(device), given);
     Ok(())
 }
 
-fn booked<P: Ledger, B: Ledger, R: Wait + Abort>(
-    rt: &R,
-    device: Device,
-    given: Packet,
-    packets: Blank,
-    bytes: Blank,
-)
-    requires nothing { device.device.tree.top.arrived ≡ no_totals }
-    requires packets { (packets.name ≡ P.name) × (packets.parts ≡ P.parts) × (P.parts ≡ 65) }
-    requires bytes { (bytes.name ≡ B.name) × (bytes.parts ≡ B.parts) × (B.parts ≡ 65) }
+fn booked<P: Ledger, B: Ledger, R: Wait + Abort>(rt: &R, unbooked: Unbooked, given: Packet)
+    requires { (unbooked.packets.name ≡ P.name) × (P.parts ≡ 65) × (unbooked.bytes.name ≡ B.name) × (B.parts ≡ 65) }
 {
-    let (booked, mut seat) = locked::<P, B>(device, packets, bytes);
+    let (booked, mut seat) = unbooked.locked::<P, B>();
     assert_waits(rt, &mut *booked.lock(rt), &mut seat, given);
 }
 

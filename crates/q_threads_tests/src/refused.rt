@@ -3,22 +3,19 @@
 //! `rt try --test --fail-alloc N` refuses the Nth allocation of the tests, and `tools/refuse-memory` each thread too. These pass for every
 //! N: what was refused succeeds at the second call, and nothing is lost.
 ghost use Rattle.std.specs.Prelude.{◌≡◌, ◌≤◌, length, map};
-ghost use Rattle.q_model.specs.Tally.{no_totals};
 ghost use Rattle.q_ports.specs.Held.{held};
 ghost use Rattle.q_ports.specs.Placed.{ring_of_port};
 ghost use Rattle.q_ports.specs.Rings.{ring_id};
 
-use crate::common::{
-    assert_count, assert_totals, fill, hundreds, loads, locked, packet, retried, row,
-};
+use crate::common::{assert_count, assert_totals, fill, hundreds, loads, packet, retried, row};
 use crate::open_gate::OpenGate;
-use q_device::Device;
+use crate::unbooked::Unbooked;
 use q_packet::{Moment, Packet};
 use q_ports::{Booked, Drain, Driven, Gauge, Port, Seat, Share, Unsettled, drive, open_ports};
 use std::alloc::Global;
 use std::marker::Brand;
 use std::process::Abort;
-use std::sync::ledger::{Blank, Ledger};
+use std::sync::ledger::Ledger;
 use std::sync::{Mutex, Wait};
 use std::test::Fail;
 use std::thread::Threads;
@@ -57,7 +54,7 @@ fn what_was_refused_succeeds_later(rt: HostRuntime) -> Result<(), Fail> {
     let alloc = rt.alloc();
     let given = packet(5).expect(&rt, "a packet");
     let device = retried(alloc, 4).expect(&rt, "memory");
-    refused::<Brand, Brand, _>(&rt, alloc, device, given, Blank::new(65), Blank::new(65));
+    refused::<Brand, Brand, _>(&rt, alloc, Unbooked::new(device), given);
     Ok(())
 }
 
@@ -88,15 +85,7 @@ fn drive_all<R: Threads + Wait + Sync + Abort>(
     };
     assert!(rt; loads.len() == sizes.ports);
     let device = retried(alloc, 4).expect(rt, "memory");
-    driven::<Brand, Brand, _>(
-        rt,
-        alloc,
-        device,
-        sizes,
-        loads,
-        Blank::new(65),
-        Blank::new(65),
-    );
+    driven::<Brand, Brand, _>(rt, alloc, Unbooked::new(device), sizes, loads);
     Ok(())
 }
 
@@ -105,19 +94,15 @@ fn drive_all<R: Threads + Wait + Sync + Abort>(
 fn driven<P: Ledger + Send + Sync, B: Ledger + Send + Sync, R: Threads + Wait + Sync + Abort>(
     rt: &R,
     alloc: Global,
-    device: Device,
+    unbooked: Unbooked,
     sizes: Sizes,
     loads: Vec<Vec<Packet>>,
-    packets: Blank,
-    bytes: Blank,
 )
-    requires nothing { device.device.tree.top.arrived ≡ no_totals }
     requires sizes { (1 ≤ sizes.ports) × (sizes.ports ≤ 64) × (1 ≤ sizes.ring) × (sizes.ring ≤ 65_536) }
     requires loads { length loads.items ≡ sizes.ports }
-    requires packets { (packets.name ≡ P.name) × (packets.parts ≡ P.parts) × (P.parts ≡ 65) }
-    requires bytes { (bytes.name ≡ B.name) × (bytes.parts ≡ B.parts) × (B.parts ≡ 65) }
+    requires ledgers { (unbooked.packets.name ≡ P.name) × (P.parts ≡ 65) × (unbooked.bytes.name ≡ B.name) × (B.parts ≡ 65) }
 {
-    let (booked, seat) = locked::<P, B>(device, packets, bytes);
+    let (booked, seat) = unbooked.locked::<P, B>();
     let (drain, ports, _gauges) = open_all(rt, alloc, seat, sizes.ports, sizes.ring);
     let start = Moment::zero();
     let share = match drive(
@@ -186,16 +171,12 @@ fn is_full<R: Abort>(rt: &R, sizes: Sizes, port: &Port) -> bool {
 fn refused<P: Ledger, B: Ledger, R: Wait + Abort>(
     rt: &R,
     alloc: Global,
-    device: Device,
+    unbooked: Unbooked,
     given: Packet,
-    packets: Blank,
-    bytes: Blank,
 )
-    requires nothing { device.device.tree.top.arrived ≡ no_totals }
-    requires packets { (packets.name ≡ P.name) × (packets.parts ≡ P.parts) × (P.parts ≡ 65) }
-    requires bytes { (bytes.name ≡ B.name) × (bytes.parts ≡ B.parts) × (B.parts ≡ 65) }
+    requires { (unbooked.packets.name ≡ P.name) × (P.parts ≡ 65) × (unbooked.bytes.name ≡ B.name) × (B.parts ≡ 65) }
 {
-    let (booked, seat) = locked::<P, B>(device, packets, bytes);
+    let (booked, seat) = unbooked.locked::<P, B>();
     let (mut drain, mut ports, mut gauges) = open_all(rt, alloc, seat, 1, 128);
     fill(rt, &mut ports, PACKETS, given);
     turn(rt, alloc, &booked, &mut drain, &mut gauges);

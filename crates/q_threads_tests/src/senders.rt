@@ -1,21 +1,21 @@
 //! Senders in threads of their own, while the drain takes turns and gauges read.
 ghost use Rattle.std.specs.Prelude.{◌≡◌, ◌≤◌, length};
-ghost use Rattle.q_model.specs.Tally.{no_totals};
 
 use crate::common::{
-    assert_count, assert_totals, device, driven_all, hundreds, loads, opened, packet, row,
+    assert_count, assert_totals, device, driven_all, hundreds, loads, packet, row,
 };
 use crate::meeting::{Meeting, READS};
 use crate::open_gate::OpenGate;
 use crate::rows::{NO_ROW, is_balanced};
 use crate::shaped::{kinds, set_up};
-use q_device::{Device, Event, Row, Totals};
+use crate::unbooked::Unbooked;
+use q_device::{Event, Row, Totals};
 use q_packet::{Moment, Packet};
 use q_ports::{Booked, Gauge};
 use std::alloc::{AllocError, Global};
 use std::marker::Brand;
 use std::process::Abort;
-use std::sync::ledger::{Blank, Ledger};
+use std::sync::ledger::Ledger;
 use std::sync::{Arc, Mutex, Wait};
 use std::test::Fail;
 use std::thread;
@@ -35,8 +35,7 @@ fn a_packet_is_tried_as_often_as_asked_for(rt: HostRuntime) -> Result<(), Fail> 
     for wanted in &[(0u64, 0u64), (1, 16)] {
         let loads = loads(alloc, 2, 8, given)?;
         let device = device(alloc, 0).expect(&rt, "memory");
-        let (packets, bytes) = (Blank::new(65), Blank::new(65));
-        tried::<Brand, Brand, _>(&rt, alloc, device, loads, (2, 8), *wanted, packets, bytes);
+        tried::<Brand, Brand, _>(&rt, alloc, Unbooked::new(device), loads, (2, 8), *wanted);
     }
     Ok(())
 }
@@ -48,16 +47,13 @@ fn senders_that_offer_nothing_end_beside_others(rt: HostRuntime) -> Result<(), F
     let given = packet(5).expect(&rt, "a packet");
     let loads = every_other(alloc, given)?;
     let device = device(alloc, 0).expect(&rt, "memory");
-    let (packets, bytes) = (Blank::new(65), Blank::new(65));
     tried::<Brand, Brand, _>(
         &rt,
         alloc,
-        device,
+        Unbooked::new(device),
         loads,
         (64, 1),
         (TRIES, 32 * 8),
-        packets,
-        bytes,
     );
     Ok(())
 }
@@ -77,24 +73,18 @@ fn every_other(alloc: Global, given: Packet) -> Result<Vec<Vec<Packet>>, AllocEr
 fn tried<P: Ledger + Send + Sync, B: Ledger + Send + Sync, R: Threads + Wait + Sync + Abort>(
     rt: &R,
     alloc: Global,
-    device: Device,
+    unbooked: Unbooked,
     loads: Vec<Vec<Packet>>,
     counts: (usize, usize),
     wanted: (u64, u64),
-    packets: Blank,
-    bytes: Blank,
 )
-    requires nothing { device.device.tree.top.arrived ≡ no_totals }
-    requires packets { (packets.name ≡ P.name) × (packets.parts ≡ P.parts) × (P.parts ≡ 65) }
-    requires bytes { (bytes.name ≡ B.name) × (bytes.parts ≡ B.parts) × (B.parts ≡ 65) }
+    requires { (unbooked.packets.name ≡ P.name) × (P.parts ≡ 65) × (unbooked.bytes.name ≡ B.name) × (B.parts ≡ 65) }
 {
     let (tries, placed) = wanted;
     let all = packets_of(loads.as_slice());
     assert!(rt; loads.len() == counts.0);
     let counts = (counts.0, counts.1, 0);
-    let (booked, drain, ports, _gauges) = opened::<P, B, R>(
-        rt, alloc, device, counts, packets, bytes,
-    );
+    let (booked, drain, ports, _gauges) = unbooked.opened::<P, B, R>(rt, alloc, counts);
     let (settled, given_up) = driven_all(
         rt, alloc, &booked, drain, ports, loads, &OpenGate, STEP, tries,
     );
@@ -122,8 +112,7 @@ fn senders_place_all<R: Threads + Wait + Sync + Abort>(
     let gate = Arc::new(alloc, meeting)?;
     let loads = loads_of(alloc, counts)?;
     let device = device(alloc, 4096).expect(rt, "memory");
-    let (packets, bytes) = (Blank::new(65), Blank::new(65));
-    driven::<Brand, Brand, R>(rt, alloc, device, loads, &gate, counts, packets, bytes);
+    driven::<Brand, Brand, R>(rt, alloc, Unbooked::new(device), loads, &gate, counts);
     let all = all_of(counts);
     let (missed, offered, placed) = gate.counts();
     assert_count(rt, missed, 0);
@@ -175,24 +164,18 @@ fn mixed_loads(
 fn driven<P: Ledger + Send + Sync, B: Ledger + Send + Sync, R: Threads + Wait + Sync + Abort>(
     rt: &R,
     alloc: Global,
-    device: Device,
+    unbooked: Unbooked,
     loads: Vec<Vec<Packet>>,
     gate: &Arc<Meeting, Global>,
     counts: (usize, usize, usize),
-    packets: Blank,
-    bytes: Blank,
 )
-    requires nothing { device.device.tree.top.arrived ≡ no_totals }
-    requires packets { (packets.name ≡ P.name) × (packets.parts ≡ P.parts) × (P.parts ≡ 65) }
-    requires bytes { (bytes.name ≡ B.name) × (bytes.parts ≡ B.parts) × (B.parts ≡ 65) }
+    requires { (unbooked.packets.name ≡ P.name) × (P.parts ≡ 65) × (unbooked.bytes.name ≡ B.name) × (B.parts ≡ 65) }
 {
     let all = hundreds(all_of(counts));
     let is_shaped = !has_long_rings(counts);
     assert!(rt; loads.len() == counts.0);
     let counts = (counts.0, counts.2, 2);
-    let (booked, drain, ports, mut gauges) = opened::<P, B, R>(
-        rt, alloc, device, counts, packets, bytes,
-    );
+    let (booked, drain, ports, mut gauges) = unbooked.opened::<P, B, R>(rt, alloc, counts);
     if is_shaped {
         set_up(rt, &booked);
     }

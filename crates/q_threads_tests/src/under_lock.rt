@@ -1,21 +1,21 @@
 //! What turns and settling do to the device behind its lock, event by event and loss by loss. A contract can't name what is behind a
 //! lock, so that a packet that got lost there in the very call would be seen here alone.
 ghost use Rattle.std.specs.Prelude.{◌≡◌, ◌≤◌, ◌<◌, length, map};
-ghost use Rattle.q_model.specs.Tally.{no_totals};
 ghost use Rattle.q_ports.specs.Placed.{ring_of_port};
 ghost use Rattle.q_ports.specs.Rings.{ring_id};
 
 use crate::common::{
-    assert_count, assert_settles_at, assert_totals, hundreds, limited, moment, offer_at, opened,
-    packet, row, take_turn,
+    assert_count, assert_settles_at, assert_totals, hundreds, limited, moment, offer_at, packet,
+    row, take_turn,
 };
-use q_device::{Device, Event, Lost};
+use crate::unbooked::Unbooked;
+use q_device::{Event, Lost};
 use q_packet::{Cause, Packet};
 use q_ports::{Booked, Drain, Port};
 use std::alloc::Global;
 use std::marker::Brand;
 use std::process::Abort;
-use std::sync::ledger::{Blank, Ledger};
+use std::sync::ledger::Ledger;
 use std::sync::{Mutex, Wait};
 use std::test::Fail;
 
@@ -53,8 +53,7 @@ fn turns_and_settling_do_nothing_else(rt: HostRuntime) -> Result<(), Fail> {
     let alloc = rt.alloc();
     let given = packet(77).expect(&rt, "a packet");
     let device = limited(alloc, 3, 64).expect(&rt, "memory");
-    let (packets, bytes) = (Blank::new(65), Blank::new(65));
-    turned_and_settled::<Brand, Brand, _>(&rt, alloc, device, given, packets, bytes);
+    turned_and_settled::<Brand, Brand, _>(&rt, alloc, Unbooked::new(device), given);
     Ok(())
 }
 
@@ -62,23 +61,12 @@ fn turns_and_settling_do_nothing_else(rt: HostRuntime) -> Result<(), Fail> {
 fn turned_and_settled<P: Ledger, B: Ledger, R: Wait + Abort>(
     rt: &R,
     alloc: Global,
-    device: Device,
+    unbooked: Unbooked,
     given: Packet,
-    packets: Blank,
-    bytes: Blank,
 )
-    requires nothing { device.device.tree.top.arrived ≡ no_totals }
-    requires packets { (packets.name ≡ P.name) × (packets.parts ≡ P.parts) × (P.parts ≡ 65) }
-    requires bytes { (bytes.name ≡ B.name) × (bytes.parts ≡ B.parts) × (B.parts ≡ 65) }
+    requires { (unbooked.packets.name ≡ P.name) × (P.parts ≡ 65) × (unbooked.bytes.name ≡ B.name) × (B.parts ≡ 65) }
 {
-    let (booked, mut drain, mut ports, _gauges) = opened::<P, B, R>(
-        rt,
-        alloc,
-        device,
-        (2, 8, 0),
-        packets,
-        bytes,
-    );
+    let (booked, mut drain, mut ports, _gauges) = unbooked.opened::<P, B, R>(rt, alloc, (2, 8, 0));
     offer(rt, &mut ports, (3, 2), given);
     take_turn(rt, alloc, &booked, &mut drain, 5, 4);
     assert_events(rt, &booked, 8, given);

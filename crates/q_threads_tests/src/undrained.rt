@@ -1,22 +1,19 @@
 //! Loads that are longer than their rings while nobody drains, what the first turn of a drive takes after that, and that nothing else
 //! happens to the device.
 ghost use Rattle.std.specs.Prelude.{◌≡◌, ◌≤◌, length, map};
-ghost use Rattle.q_model.specs.Tally.{no_totals};
 ghost use Rattle.q_ports.specs.Placed.{ring_of_port};
 ghost use Rattle.q_ports.specs.Rings.{ring_id};
 
 use crate::blockade::Blockade;
-use crate::common::{
-    assert_count, assert_totals, driven_all, hundreds, limited, opened, packet, row,
-};
+use crate::common::{assert_count, assert_totals, driven_all, hundreds, limited, packet, row};
 use crate::drive_walk::DriveWalk;
-use q_device::Device;
+use crate::unbooked::Unbooked;
 use q_packet::Packet;
 use q_ports::{Booked, Drain, Port};
 use std::alloc::{AllocError, Global};
 use std::marker::Brand;
 use std::process::Abort;
-use std::sync::ledger::{Blank, Ledger};
+use std::sync::ledger::Ledger;
 use std::sync::{Mutex, Wait};
 use std::test::Fail;
 use std::thread::Threads;
@@ -40,8 +37,7 @@ fn what_finds_its_ring_full_is_given_up(rt: HostRuntime) -> Result<(), Fail> {
     let loads = loads(alloc, given)?;
     let device = limited(alloc, LIMIT as u32, RECORDED as u32).expect(&rt, "memory");
     let walk = DriveWalk::new(alloc, given, LIMIT, 1);
-    let (packets, bytes) = (Blank::new(65), Blank::new(65));
-    undrained::<Brand, Brand, _>(&rt, alloc, device, loads, walk, packets, bytes);
+    undrained::<Brand, Brand, _>(&rt, alloc, Unbooked::new(device), loads, walk);
     Ok(())
 }
 
@@ -59,25 +55,14 @@ fn loads(alloc: Global, given: Packet) -> Result<Vec<Vec<Packet>>, AllocError> {
 fn undrained<P: Ledger + Send + Sync, B: Ledger + Send + Sync, R: Threads + Wait + Sync + Abort>(
     rt: &R,
     alloc: Global,
-    device: Device,
+    unbooked: Unbooked,
     loads: Vec<Vec<Packet>>,
     walk: DriveWalk,
-    packets: Blank,
-    bytes: Blank,
 )
-    requires nothing { device.device.tree.top.arrived ≡ no_totals }
-    requires packets { (packets.name ≡ P.name) × (packets.parts ≡ P.parts) × (P.parts ≡ 65) }
-    requires bytes { (bytes.name ≡ B.name) × (bytes.parts ≡ B.parts) × (B.parts ≡ 65) }
+    requires { (unbooked.packets.name ≡ P.name) × (P.parts ≡ 65) × (unbooked.bytes.name ≡ B.name) × (B.parts ≡ 65) }
 {
     assert!(rt; loads.len() == 2);
-    let (booked, drain, ports, _gauges) = opened::<P, B, R>(
-        rt,
-        alloc,
-        device,
-        (2, PLACES, 0),
-        packets,
-        bytes,
-    );
+    let (booked, drain, ports, _gauges) = unbooked.opened::<P, B, R>(rt, alloc, (2, PLACES, 0));
     drive_blocked(rt, alloc, &booked, drain, ports, loads);
     let row = row(rt, &booked);
     assert_totals(rt, row.arrived, hundreds(102));

@@ -2,7 +2,7 @@ use Rattle.q_threads_tests.proofs.endings.senders_and_gauges_outlive_the_drain.G
 
 -- the two ledgers of each book that is made there
 abbrev pub ghosts-outlived-P-Ledger : goal.ghosts-outlived-P-Ledger
-ghosts-outlived-P-Ledger g a = record { name = a.packets.name; parts = a.packets.parts }
+ghosts-outlived-P-Ledger g a = record { name = a.unbooked.packets.name; parts = a.unbooked.packets.parts }
 
 abbrev pub ghosts-outlived-B-Ledger : goal.ghosts-outlived-B-Ledger
-ghosts-outlived-B-Ledger g a = record { name = a.bytes.name; parts = a.bytes.parts }
+ghosts-outlived-B-Ledger g a = record { name = a.unbooked.bytes.name; parts = a.unbooked.bytes.parts }

@@ -2,7 +2,7 @@ use Rattle.q_threads_tests.proofs.senders.a_packet_is_tried_as_often_as_asked_fo
 
 -- the two ledgers of each book that is made there
 abbrev pub ghosts-tried-P-Ledger : goal.ghosts-tried-P-Ledger
-ghosts-tried-P-Ledger g a = record { name = a.packets.name; parts = a.packets.parts }
+ghosts-tried-P-Ledger g a = record { name = a.unbooked.packets.name; parts = a.unbooked.packets.parts }
 
 abbrev pub ghosts-tried-B-Ledger : goal.ghosts-tried-B-Ledger
-ghosts-tried-B-Ledger g a = record { name = a.bytes.name; parts = a.bytes.parts }
+ghosts-tried-B-Ledger g a = record { name = a.unbooked.bytes.name; parts = a.unbooked.bytes.parts }

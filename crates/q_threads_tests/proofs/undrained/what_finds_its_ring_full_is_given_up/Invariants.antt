@@ -2,7 +2,7 @@ use Rattle.q_threads_tests.proofs.undrained.what_finds_its_ring_full_is_given_up
 
 -- the two ledgers of each book that is made there
 abbrev pub ghosts-undrained-P-Ledger : goal.ghosts-undrained-P-Ledger
-ghosts-undrained-P-Ledger g a = record { name = a.packets.name; parts = a.packets.parts }
+ghosts-undrained-P-Ledger g a = record { name = a.unbooked.packets.name; parts = a.unbooked.packets.parts }
 
 abbrev pub ghosts-undrained-B-Ledger : goal.ghosts-undrained-B-Ledger
-ghosts-undrained-B-Ledger g a = record { name = a.bytes.name; parts = a.bytes.parts }
+ghosts-undrained-B-Ledger g a = record { name = a.unbooked.bytes.name; parts = a.unbooked.bytes.parts }
