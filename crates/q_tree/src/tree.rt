@@ -11,6 +11,7 @@ ghost use Rattle.q_model.specs.declared.place.Place.TheVariants as place;
 ghost use Rattle.q_model.specs.declared.refusal.Refusal.TheVariants as refusal;
 ghost use Rattle.q_packet.specs.Descriptor.{Descriptor};
 ghost use Rattle.q_tree.specs.Arrivals.{CanPut, IsOutcome};
+ghost use Rattle.q_tree.specs.AskSteps.{IsToldOf};
 ghost use Rattle.q_tree.specs.Commanding.{WantsMemory};
 ghost use Rattle.q_tree.specs.Commands.{IsPlanOf, IsPlanned, device_edited, plan_of};
 ghost use Rattle.q_tree.specs.Editing.{LosesNothing, TakesMemory, removed_at};
@@ -361,8 +362,7 @@ fn put_on<S: Sink>(
     ensures after { root.new ≡ booked kept root.old (put_on now packet.now route.now.route (shape root.old)).node }
     ensures arrived { IsArrived packet.now root.old root.new }
     ensures outcome { IsOutcome (loss_on now packet.now route.now.route (shape root.old)) (put_on now packet.now route.now.route (shape root.old)).rises result }
-    ensures lost { S.losses sink.new ≡ S.losses sink.old ++ losses_in (put_on now packet.now route.now.route (shape root.old)).rises }
-    ensures room { S.room sink.new + length (losses_in (put_on now packet.now route.now.route (shape root.old)).rises) ≡ S.room sink.old }
+    ensures told { IsToldOf (put_on now packet.now route.now.route (shape root.old)).rises (S.losses sink.old) (S.losses sink.new) (S.room sink.old) (S.room sink.new) }
     ensures kept { S.keeps sink.old sink.new }
 {
     if route.is_too_long {

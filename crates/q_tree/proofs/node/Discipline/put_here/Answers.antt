@@ -25,14 +25,12 @@ returns-in-FqCodel-clause-after g c =
     queued-flow c.args.now c.args.packet.now c.args.refusal c.args.self.now (code.FqCodel (with_value c.in-FqCodel.queue c.put_in_flow.new.queue)) c.deref_mut.result.now.state c.put_in_flow.new.queue.state c.put_in_flow.result
     c.in_default.is is refl (sym (ap children_seen c.in-FqCodel.is)) places e.after e.loss e.refused e.dropped
 
-pub returns-in-FqCodel-clause-lost : goal.returns-in-FqCodel-clause-lost
-returns-in-FqCodel-clause-lost g c =
+pub returns-in-FqCodel-clause-told : goal.returns-in-FqCodel-clause-told
+returns-in-FqCodel-clause-told g c =
     let is = ap discipline_seen c.in-FqCodel.is ∙ ap (λ (q : FqView). spec.FqCodel q.state) (sym c.deref_mut.ensures.value) in
-    c.put_in_flow.ensures.lost
-    ∙ ap (λ ls. g.S.Sink.losses c.args.sink.now ++ ls) (sym (told-here c.args.now c.args.packet.now c.args.refusal c.args.self.now c.deref_mut.result.now.state c.in_default.is is))
-
-pub returns-in-FqCodel-clause-room : goal.returns-in-FqCodel-clause-room
-returns-in-FqCodel-clause-room g c =
-    let is = ap discipline_seen c.in-FqCodel.is ∙ ap (λ (q : FqView). spec.FqCodel q.state) (sym c.deref_mut.ensures.value) in
-    let told = told-here c.args.now c.args.packet.now c.args.refusal c.args.self.now c.deref_mut.result.now.state c.in_default.is is in
-    omega (arith, c.put_in_flow.ensures.room, ap length told, length-map {B = Loss} (lost_by_put c.deref_mut.result.now.state c.args.packet.now c.args.now) (λ (s : Stamped). record { packet = s.packet; cause = FatFlow }))
+    record {
+      lost = c.put_in_flow.ensures.lost
+          ∙ ap (λ ls. g.S.Sink.losses c.args.sink.now ++ ls) (sym (told-here c.args.now c.args.packet.now c.args.refusal c.args.self.now c.deref_mut.result.now.state c.in_default.is is));
+      room_taken = (let told = told-here c.args.now c.args.packet.now c.args.refusal c.args.self.now c.deref_mut.result.now.state c.in_default.is is in
+          omega (arith, c.put_in_flow.ensures.room, ap length told, length-map {B = Loss} (lost_by_put c.deref_mut.result.now.state c.args.packet.now c.args.now) (λ (s : Stamped). record { packet = s.packet; cause = FatFlow })));
+    }
