@@ -16,7 +16,7 @@ ghost use Rattle.q_model.specs.Work.{booked};
 ghost use Rattle.q_model.specs.declared.filter.Filter.{Filter};
 ghost use Rattle.q_model.specs.declared.kind.Kind.TheVariants as kind;
 ghost use Rattle.q_tree.specs.Arrivals.{plus};
-ghost use Rattle.q_tree.specs.AskSteps.{AreAsked, CanAskEach, CanAskOnce, IsToldOf, answers, no_signals, signals_of};
+ghost use Rattle.q_tree.specs.AskSteps.{AreAsked, CanAskEach, CanAskOnce, IsTold, IsToldOf, answers, no_signals, signals_of};
 ghost use Rattle.q_tree.specs.Changing.{IsChange, MakesChildren, leaves_answer, nodes_from};
 ghost use Rattle.q_tree.specs.Kept.{kept};
 ghost use Rattle.q_tree.specs.Making.{AreNew};
@@ -323,8 +323,7 @@ impl Discipline {
         requires sink { length (lost_with (SetBands options leaves) (discipline_seen self.old) (children_seen self.old)) ≤ S.room sink.old }
         ensures after { OnOk result (IsChangedBy (SetBands options leaves) self.old self.new) }
         ensures totals { OnOk result (result ≡ Ok (totals_in (lost_with (SetBands options leaves) (discipline_seen self.old) (children_seen self.old)))) }
-        ensures lost { OnOk result (S.losses sink.new ≡ S.losses sink.old ++ purged (lost_with (SetBands options leaves) (discipline_seen self.old) (children_seen self.old))) }
-        ensures room { OnOk result (S.room sink.new + length (lost_with (SetBands options leaves) (discipline_seen self.old) (children_seen self.old)) ≡ S.room sink.old) }
+        ensures told { OnOk result (IsTold (purged (lost_with (SetBands options leaves) (discipline_seen self.old) (children_seen self.old))) (S.losses sink.old) (S.losses sink.new) (S.room sink.old) (S.room sink.new)) }
         ensures memory { OnErr result (0 < length leaves.items) }
         ensures same { OnErr result (IsUnchanged self.old self.new) }
         ensures not_lost { OnErr result ((S.losses sink.new ≡ S.losses sink.old) × (S.room sink.new ≡ S.room sink.old)) }
@@ -365,8 +364,7 @@ fn keep_first<S: Sink>(nodes: &mut Vec<Node>, count: usize, sink: &mut S) -> Tot
     requires sink { length (packets_beneath (drop count nodes.old.items)) ≤ S.room sink.old }
     ensures after { nodes.new.items ≡ take count nodes.old.items }
     ensures totals { result ≡ totals_in (packets_beneath (drop count nodes.old.items)) }
-    ensures lost { S.losses sink.new ≡ S.losses sink.old ++ purged (packets_beneath (drop count nodes.old.items)) }
-    ensures room { S.room sink.new + length (packets_beneath (drop count nodes.old.items)) ≡ S.room sink.old }
+    ensures told { IsTold (purged (packets_beneath (drop count nodes.old.items))) (S.losses sink.old) (S.losses sink.new) (S.room sink.old) (S.room sink.new) }
     ensures kept { S.keeps sink.old sink.new }
 {
     let mut lost = NOTHING;
