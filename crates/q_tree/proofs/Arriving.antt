@@ -33,8 +33,8 @@ use Rattle.q_model.specs.Work.{settled_in}
 use Rattle.q_model.proofs.ShrinkLemmas.{each-each_memory, shape-with_memory}
 use Rattle.q_tree.specs.Ahead.{ways}
 use Rattle.q_tree.specs.Arrivals.{HasPlace, HasPlaceIn}
-use Rattle.q_tree.specs.ArriveSteps.{HasCome, HasComeIn, HasPlaceOn, IsPlaced, IsPlacedIn, IsPutOn, rises_along, way_in}
-use Rattle.q_tree.specs.AskSteps.{IsToldOf, own_of}
+use Rattle.q_tree.specs.ArriveSteps.{HasCome, HasComeIn, HasPlaceOn, IsPlaced, IsPlacedIn, IsPutOn, rises_along, way_in, IsPutInFlow}
+use Rattle.q_tree.specs.AskSteps.{IsTold, IsToldOf, own_of}
 use Rattle.q_tree.specs.Kept.{Kept}
 use Rattle.q_tree.specs.Places.{unplaced, places_under}
 use Rattle.q_tree.specs.PutSteps.{IsQueued, rises_here}
@@ -221,12 +221,10 @@ module _ (p : Descriptor) (filters : List Filter) (d : Discipline) where
 pub flows-after : (now : ℕ) (p : Descriptor) (filters : List Filter) (before placed after : Discipline) (s s2 : FqState) (places : ℕ) (res : Result Outcome AllocError) (ls ls2 : List Loss) (r r2 : ℕ)
     → discipline_seen before ≡ spec.FqCodel s → children_seen before ≡ [] → places_seen before ≤ places → discipline_seen placed ≡ spec.FqCodel s → children_seen placed ≡ [] → places_seen placed ≡ places
     → discipline_seen after ≡ spec.FqCodel s2 → children_seen after ≡ [] → places_seen after ≡ places
-    → OnOk res (s2 ≡ after_put s p now) → OnOk res (packets_of s.flows < places) → IfOk res (λ o. o.loss ≡ (if is_lost_itself s p now then Some FatFlow else None)) → IfOk res (λ o. o.refused ≡ no_totals)
-    → IfOk res (λ o. o.dropped ≡ totals_in (beneath.packets_of (lost_by_put s p now))) → OnOk res (ls2 ≡ ls ++ codel.losses_of FatFlow (lost_by_put s p now)) → OnOk res (r2 + length (lost_by_put s p now) ≡ r)
+    → OnOk res (packets_of s.flows < places) → IfOk res (λ o. IsPutInFlow now p s s2 o ls ls2 r r2)
     → IfOk res (λ o. HasComeIn now p filters before after o ls ls2 r r2)
-flows-after now p filters before placed after s s2 places (Err e) ls ls2 r r2 is kids more isP kidsP placesP isA kidsA placesA state room loss refused dropped lost taken = tt
-flows-after now p filters before placed after s s2 places (Ok o) ls ls2 r r2 is kids more isP kidsP placesP isA kidsA placesA state room loss refused dropped lost taken =
-    let told = told-here now p None placed s refl isP in
+flows-after now p filters before placed after s s2 places (Err e) ls ls2 r r2 is kids more isP kidsP placesP isA kidsA placesA room put = tt
+flows-after now p filters before placed after s s2 places (Ok o) ls ls2 r r2 is kids more isP kidsP placesP isA kidsA placesA room put =
     queued-in-flows now p filters before placed after s o (rises_here now p None (discipline_seen placed)) ls ls2 r r2 is
     (record {
       discipline = isP ∙ sym is;
@@ -235,12 +233,9 @@ flows-after now p filters before placed after s s2 places (Ok o) ls ls2 r r2 is 
       grows = λ way i. subst (λ xs. places_under way i (children_seen before) ≤ places_under way i xs) (kids ∙ sym kidsP) (omega arith);
     })
     (subst (HasPlaceIn (places_seen placed)) (sym isP) (omega (arith, room, placesP)))
-    (queued-flow now p None placed after s s2 o refl isP isA (kidsA ∙ sym kidsP) (placesA ∙ sym placesP) state loss refused dropped)
+    (queued-flow now p None placed after s s2 o refl isP isA (kidsA ∙ sym kidsP) (placesA ∙ sym placesP) put.after put.loss put.refused put.dropped)
     refl
-    (record {
-      lost = lost ∙ ap (λ xs. ls ++ xs) (sym told);
-      room_taken = omega (arith, taken, ap length told, length-map {B = Loss} (lost_by_put s p now) (λ (x : Stamped). record { packet = x.packet; cause = FatFlow }));
-    })
+    (subst (λ xs. IsTold xs ls ls2 r r2) (sym (told-here now p None placed s refl isP)) put.told)
 
 -- ---- where a child was asked, by what it answered
 

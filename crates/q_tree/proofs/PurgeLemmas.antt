@@ -20,7 +20,7 @@ use Rattle.q_tree.specs.Purging.{purged}
 use Rattle.q_tree.specs.PutSteps.{packets_beneath}
 use Rattle.q_tree.specs.Seen.{seen, children_seen, discipline_seen}
 use Rattle.q_tree.specs.declared.node.Node.TheInside.{Inside}
-use Rattle.q_tree.proofs.FlowCounts.{packets-all, packets-bare}
+use Rattle.q_tree.proofs.FlowCounts.{lost-told, packets-all, packets-bare}
 
 -- the packets at a node and beneath it: the one that it holds, its own, and those of its children
 pub own-beneath : (a : Inside) (n : Node Kept) → seen a ≡ n → beneath n ≡ option_to_list a.held ++ packets_in (discipline_seen a.discipline) ++ packets_beneath (children_seen a.discipline)
@@ -65,10 +65,7 @@ queue-purged (s ∷ queue) = ap (λ ls. record { packet = s.packet; cause = Purg
 
 -- a queue of a node's own
 pub queue-told : (queue : List Stamped) (a b : List Loss) (r s : ℕ) → b ≡ a ++ losses_of Purged queue → s + length queue ≡ r → IsTold (purged (bare queue)) a b r s
-queue-told queue a b r s lost room = record {
-  lost = lost ∙ ap (λ ls. a ++ ls) (queue-purged queue);
-  room_taken = omega (arith, room, ap (λ (ls : List Loss). length ls) (queue-purged queue), length-map {B = Loss} queue (λ (x : Stamped). record { packet = x.packet; cause = Purged }));
-}
+queue-told queue a b r s lost room = subst (λ ls. IsTold ls a b r s) (queue-purged queue) (lost-told Purged queue a b r s lost room)
 
 -- a node, whose own packets and those beneath its children these are
 pub node-told : (x : Inside) (n : Node Kept) → seen x ≡ n → (ps : List Descriptor) → packets_in (discipline_seen x.discipline) ++ packets_beneath (children_seen x.discipline) ≡ ps

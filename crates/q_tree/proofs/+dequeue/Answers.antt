@@ -237,7 +237,7 @@ node::Discipline::dequeue-returns-in-FqCodel-clause-told g t c = λ handle filte
     let is = ap discipline_seen c.in-FqCodel.is ∙ ap (λ (q : FqView). spec.FqCodel q.state) (sym c.deref_mut-in-FqCodel.ensures.value) in
     told-in c.args.now handle filters c.args.self.now (spec.FqCodel state) [] (g.S.Sink.losses c.args.sink.now) (g.S.Sink.losses c.dequeue_flow.new.sink) (g.S.Sink.room c.args.sink.now) (g.S.Sink.room c.dequeue_flow.new.sink)
     is (ap children_seen c.in-FqCodel.is)
-    (flow-told c.args.now state own [] (g.S.Sink.losses c.args.sink.now) (g.S.Sink.losses c.dequeue_flow.new.sink) (g.S.Sink.room c.args.sink.now) (g.S.Sink.room c.dequeue_flow.new.sink) e.lost e.room)
+    (flow-told c.args.now state own [] (g.S.Sink.losses c.args.sink.now) (g.S.Sink.losses c.dequeue_flow.new.sink) (g.S.Sink.room c.args.sink.now) (g.S.Sink.room c.dequeue_flow.new.sink) e.told)
 
 pub node::Node::dequeue-returns-in-Some-clause-dequeued : goal.node::Node::dequeue-returns-in-Some-clause-dequeued
 node::Node::dequeue-returns-in-Some-clause-dequeued g t c = record {

@@ -280,7 +280,7 @@ node::Discipline::ask-returns-in-FqCodel-clause-told g t c = λ handle filters.
     let is = ap discipline_seen c.in-FqCodel.is ∙ ap (λ (q : FqView). spec.FqCodel q.state) (sym c.deref_mut-in-FqCodel.ensures.value) in
     told-in c.args.now handle filters c.args.self.now (spec.FqCodel state) [] (g.S.Sink.losses c.args.sink.now) (g.S.Sink.losses c.take_from_flows.new.sink) (g.S.Sink.room c.args.sink.now) (g.S.Sink.room c.take_from_flows.new.sink)
     is (ap children_seen c.in-FqCodel.is)
-    (flow-told c.args.now state own [] (g.S.Sink.losses c.args.sink.now) (g.S.Sink.losses c.take_from_flows.new.sink) (g.S.Sink.room c.args.sink.now) (g.S.Sink.room c.take_from_flows.new.sink) e.lost e.room)
+    (flow-told c.args.now state own [] (g.S.Sink.losses c.args.sink.now) (g.S.Sink.losses c.take_from_flows.new.sink) (g.S.Sink.room c.args.sink.now) (g.S.Sink.room c.take_from_flows.new.sink) e.told)
 
 pub node::Node::peek-returns-then-is_some-clause-after :
     goal.node::Node::peek-returns-then-is_some-clause-after

@@ -1,4 +1,4 @@
-ghost use Rattle.std.specs.Prelude.{◌≡◌, ◌≤◌, ◌+◌, ◌++◌, Ok, OnErr, OnOk, length};
+ghost use Rattle.std.specs.Prelude.{◌≡◌, ◌≤◌, Ok, OnErr, OnOk, length};
 ghost use Rattle.q_model.specs.Beneath.{totals_in};
 ghost use Rattle.q_tree.specs.AskSteps.{IsTold};
 ghost use Rattle.q_tree.specs.Purging.{purged};

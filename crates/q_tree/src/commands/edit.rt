@@ -1,7 +1,6 @@
-ghost use Rattle.std.specs.Prelude.{◌≡◌, ◌≤◌, ◌+◌, ◌++◌, ◌==◌, IsSome, Ok, OnErr, OnOk, Some, length, nat_le, not, slice_get};
-ghost use Rattle.std.specs.List.{filter, take_while};
+ghost use Rattle.std.specs.Prelude.{◌≡◌, ◌≤◌, IsSome, Ok, OnErr, OnOk, Some, length, slice_get};
+ghost use Rattle.std.specs.List.{filter};
 ghost use Rattle.q_model.specs.Beneath.{totals_in};
-ghost use Rattle.q_model.specs.Filters.{with_filter};
 ghost use Rattle.q_model.specs.Find.{node_at};
 ghost use Rattle.q_model.specs.Node as spec;
 ghost use Rattle.q_model.specs.declared.filter.Filter.{Filter};

@@ -1,4 +1,4 @@
-ghost use Rattle.std.specs.Prelude.{◌≡◌, ◌≤◌, ◌+◌, ◌++◌, length};
+ghost use Rattle.std.specs.Prelude.{◌≤◌, length};
 ghost use Rattle.std.specs.Option.{option_to_list};
 ghost use Rattle.q_model.specs.Beneath.{beneath};
 ghost use Rattle.q_tree.specs.AskSteps.{IsTold};

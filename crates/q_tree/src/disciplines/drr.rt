@@ -1,5 +1,5 @@
 //! drr: how one chooses a class, dequeues, shows its packet, is ready, and changes (tc-drr(8)).
-ghost use Rattle.std.specs.Prelude.{◌≡◌, ◌<◌, ◌≤◌, ◌+◌, ◌++◌, None, OnErr, OnOk, Some, false, length, map, option_and_then, slice_get, true, unwrap_or};
+ghost use Rattle.std.specs.Prelude.{◌≡◌, ◌<◌, ◌≤◌, None, OnErr, OnOk, Some, false, length, map, option_and_then, slice_get, true, unwrap_or};
 ghost use Rattle.q_drr.specs.Schedule.{place_of};
 ghost use Rattle.q_model.specs.Ask.{ask, ask_drr};
 ghost use Rattle.q_model.specs.Beneath.{totals_in};
