@@ -3,25 +3,21 @@ use Rattle.std.proofs.Common.{◌≡◌, ℕ, ◌≤◌, ◌<◌, ◌+◌, ◌-�
 use Rattle.std.specs.Prelude.{Bool, true, false, IfOk, IfSome, OnErr, OnOk, if◌then◌else◌, slice_get, slice_index, slice_index_or, nat_lt}
 use Rattle.std.specs.Option.{option_map_or}
 use Rattle.std.proofs.lemmas.Bool.{ltb-false, ltb-true}
-use Rattle.std.proofs.lemmas.List.{append-nil, length-map, set-set}
+use Rattle.std.proofs.lemmas.List.{append-nil, set-set}
 use Rattle.std.proofs.lemmas.Option.{slice_get-map, slice_get_read}
 use Rattle.std.specs.declared.alloc.AllocError.{AllocError}
 use Rattle.q_packet.specs.Cause.{is_refusal}
 use Rattle.q_packet.specs.Descriptor.{Descriptor}
 use Rattle.q_packet.specs.declared.cause.Cause.{Cause}
-use Rattle.q_packet.specs.declared.cause.Cause.TheVariants.{FatFlow, NoClass, OverLimit, TooLong}
-use Rattle.q_packet.specs.declared.stamped.Stamped.{Stamped}
+use Rattle.q_packet.specs.declared.cause.Cause.TheVariants.{NoClass, OverLimit, TooLong}
 use Rattle.q_bucket.specs.Level.{TokenBucket}
-use Rattle.q_codel.specs.Losses as codel
 use Rattle.q_drr.specs.Schedule as drr
 use Rattle.q_drr.specs.Schedule.{Schedule}
-use Rattle.q_fqcodel.specs.Put.{after_put, is_lost_itself, lost_by_put}
 use Rattle.q_codel.specs.FifoState.{FifoState, takes}
 use Rattle.q_codel.specs.declared.loss.Loss.{Loss}
 use Rattle.q_fqcodel.specs.FqState.{FqState, packets_of}
 use Rattle.q_model.specs.declared.filter.Filter.{Filter}
-use Rattle.q_model.specs.Beneath as beneath
-use Rattle.q_model.specs.Beneath.{is_empty, totals_in}
+use Rattle.q_model.specs.Beneath.{is_empty}
 use Rattle.q_model.specs.Filters.{named_class}
 use Rattle.q_model.specs.Find.{node_at}
 use Rattle.q_model.specs.Node as spec

@@ -1,11 +1,6 @@
-use Rattle.std.proofs.Common.{◌∙◌, ◌++◌, length, ap, sym, refl, subst, arith}
-use Rattle.std.proofs.lemmas.List.{length-map}
+use Rattle.std.proofs.Common.{◌∙◌, ap, sym, refl, subst, arith}
 use Rattle.std.specs.Box.{with_value}
-use Rattle.q_packet.specs.declared.cause.Cause.TheVariants.{FatFlow}
-use Rattle.q_packet.specs.declared.stamped.Stamped.{Stamped}
-use Rattle.q_codel.specs.declared.loss.Loss.{Loss}
 use Rattle.q_fqcodel.specs.FqState.{FqView}
-use Rattle.q_fqcodel.specs.Put.{lost_by_put}
 use Rattle.q_model.specs.Node as spec
 use Rattle.q_tree.specs.AskSteps.{IsTold}
 use Rattle.q_tree.specs.Seen.{discipline_seen, children_seen, places_seen}
