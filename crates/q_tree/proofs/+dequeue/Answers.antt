@@ -72,22 +72,22 @@ pub disciplines::prio::send_first-returns-then-has_packet-clause-after : goal.di
 disciplines::prio::send_first-returns-then-has_packet-clause-after g t c =
     let band = slice_index_or c.loop-place.bands c.loop-place.place c.index-bands-place.result in
     let at = band-at c.args.now c.args.bands.now c.loop-place.bands c.loop-place.place c.loop-place.shown c.loop-place.invariant.0 c.index-bands-place.result c.loop-place-test.true in
-    let same = c.dequeue_band-shown.ensures.shown in
-    let some = given-some c.dequeue_band-shown.result.packet c.loop-place.out c.dequeue_band-shown.new.out (sym c.if-has_packet.ensures) c.dequeue_band-shown.ensures.packet in
-    let gone = c.dequeue_band-shown.ensures.after ∙ ap (λ (w : Worked). booked kept band w) (left-some c.args.now band c.dequeue_band-shown.new.out (sym same ∙ some)) in
-    band-sent c.args.now c.args.bands.now c.loop-place.bands c.loop-place.place c.loop-place.shown c.requires.ready c.loop-place.invariant.0 band at c.dequeue_band-shown.new.band (next_of c.args.now band) c.dequeue_band-shown.result c.dequeue_band-shown.new.out gone c.dequeue_band-shown.ensures.arrived (record { packet = refl; dropped = refl; marked = refl })
-    c.dequeue_band-shown.ensures.dropped c.dequeue_band-shown.ensures.marked same some
+    let same = c.dequeue_band-shown.ensures.dequeued.shown in
+    let some = given-some c.dequeue_band-shown.result.packet c.loop-place.out c.dequeue_band-shown.new.out (sym c.if-has_packet.ensures) c.dequeue_band-shown.ensures.dequeued.packet in
+    let gone = c.dequeue_band-shown.ensures.dequeued.after ∙ ap (λ (w : Worked). booked kept band w) (left-some c.args.now band c.dequeue_band-shown.new.out (sym same ∙ some)) in
+    band-sent c.args.now c.args.bands.now c.loop-place.bands c.loop-place.place c.loop-place.shown c.requires.ready c.loop-place.invariant.0 band at c.dequeue_band-shown.new.band (next_of c.args.now band) c.dequeue_band-shown.result c.dequeue_band-shown.new.out gone c.dequeue_band-shown.ensures.dequeued.arrived (record { packet = refl; dropped = refl; marked = refl })
+    c.dequeue_band-shown.ensures.dequeued.dropped c.dequeue_band-shown.ensures.dequeued.marked same some
 
 pub disciplines::prio::send_first-returns-then-has_packet-clause-told : goal.disciplines::prio::send_first-returns-then-has_packet-clause-told
 disciplines::prio::send_first-returns-then-has_packet-clause-told g t c =
     let band = slice_index_or c.loop-place.bands c.loop-place.place c.index-bands-place.result in
     let at = band-at c.args.now c.args.bands.now c.loop-place.bands c.loop-place.place c.loop-place.shown c.loop-place.invariant.0 c.index-bands-place.result c.loop-place-test.true in
-    let same = c.dequeue_band-shown.ensures.shown in
-    let some = given-some c.dequeue_band-shown.result.packet c.loop-place.out c.dequeue_band-shown.new.out (sym c.if-has_packet.ensures) c.dequeue_band-shown.ensures.packet in
-    let gone = c.dequeue_band-shown.ensures.after ∙ ap (λ (w : Worked). booked kept band w) (left-some c.args.now band c.dequeue_band-shown.new.out (sym same ∙ some)) in
+    let same = c.dequeue_band-shown.ensures.dequeued.shown in
+    let some = given-some c.dequeue_band-shown.result.packet c.loop-place.out c.dequeue_band-shown.new.out (sym c.if-has_packet.ensures) c.dequeue_band-shown.ensures.dequeued.packet in
+    let gone = c.dequeue_band-shown.ensures.dequeued.after ∙ ap (λ (w : Worked). booked kept band w) (left-some c.args.now band c.dequeue_band-shown.new.out (sym same ∙ some)) in
     λ own. subst (λ notes. IsToldOf notes (g.S.Sink.losses c.args.sink.now) (g.S.Sink.losses c.dequeue_band-shown.new.sink) (g.S.Sink.room c.args.sink.now) (g.S.Sink.room c.dequeue_band-shown.new.sink))
-    (sent-rises c.args.now c.args.bands.now c.loop-place.bands c.loop-place.place c.loop-place.shown c.requires.ready c.loop-place.invariant.0 band at c.dequeue_band-shown.new.band (next_of c.args.now band) c.dequeue_band-shown.result c.dequeue_band-shown.new.out gone c.dequeue_band-shown.ensures.arrived (record { packet = refl; dropped = refl; marked = refl })
-    c.dequeue_band-shown.ensures.dropped c.dequeue_band-shown.ensures.marked same some own)
+    (sent-rises c.args.now c.args.bands.now c.loop-place.bands c.loop-place.place c.loop-place.shown c.requires.ready c.loop-place.invariant.0 band at c.dequeue_band-shown.new.band (next_of c.args.now band) c.dequeue_band-shown.result c.dequeue_band-shown.new.out gone c.dequeue_band-shown.ensures.dequeued.arrived (record { packet = refl; dropped = refl; marked = refl })
+    c.dequeue_band-shown.ensures.dequeued.dropped c.dequeue_band-shown.ensures.dequeued.marked same some own)
     (told-then (told_to c.loop-place.place (answers c.args.now c.args.bands.now)) (ask c.args.now (shape band)).rises (g.S.Sink.losses c.args.sink.now) (g.S.Sink.losses c.loop-place.sink) (g.S.Sink.losses c.dequeue_band-shown.new.sink)
     (g.S.Sink.room c.args.sink.now) (g.S.Sink.room c.loop-place.sink) (g.S.Sink.room c.dequeue_band-shown.new.sink) c.loop-place.invariant.1 c.dequeue_band-shown.ensures.told)
 
@@ -97,18 +97,18 @@ disciplines::prio::send_first-returns-then-has_packet-clause-kept g t c =
 
 pub disciplines::prio::send_first-returns-then-has_packet-clause-packet : goal.disciplines::prio::send_first-returns-then-has_packet-clause-packet
 disciplines::prio::send_first-returns-then-has_packet-clause-packet g t c =
-    c.dequeue_band-shown.ensures.packet ∙ ap (unwrap_or c.dequeue_band-shown.result.packet) c.loop-place.invariant.3
+    c.dequeue_band-shown.ensures.dequeued.packet ∙ ap (unwrap_or c.dequeue_band-shown.result.packet) c.loop-place.invariant.3
 
 pub disciplines::prio::send_first-loop-place-preserved : goal.disciplines::prio::send_first-loop-place-preserved
 disciplines::prio::send_first-loop-place-preserved g t c =
     let band = slice_index_or c.loop-place.bands c.loop-place.place c.index-bands-place.result in
     let at = band-at c.args.now c.args.bands.now c.loop-place.bands c.loop-place.place c.loop-place.shown c.loop-place.invariant.0 c.index-bands-place.result c.loop-place-test.true in
-    let same = c.dequeue_band-shown.ensures.shown in
-    let none = given-none c.dequeue_band-shown.result.packet c.loop-place.out c.dequeue_band-shown.new.out (sym c.if-has_packet.ensures) c.dequeue_band-shown.ensures.packet in
-    let stays = c.dequeue_band-shown.ensures.after ∙ ap (λ (w : Worked). booked kept band w) (left-none c.args.now band (sym same ∙ none.0)) in (
+    let same = c.dequeue_band-shown.ensures.dequeued.shown in
+    let none = given-none c.dequeue_band-shown.result.packet c.loop-place.out c.dequeue_band-shown.new.out (sym c.if-has_packet.ensures) c.dequeue_band-shown.ensures.dequeued.packet in
+    let stays = c.dequeue_band-shown.ensures.dequeued.after ∙ ap (λ (w : Worked). booked kept band w) (left-none c.args.now band (sym same ∙ none.0)) in (
       subst (λ n. AreBandsAsked c.args.now c.args.bands.now (set c.loop-place.bands c.loop-place.place c.dequeue_band-shown.new.band) n c.dequeue_band-shown.result) (sym (add-one c.loop-place.place))
-          (band-passed c.args.now c.args.bands.now c.loop-place.bands c.loop-place.place c.loop-place.shown c.requires.ready c.loop-place.invariant.0 band at c.dequeue_band-shown.new.band (next_of c.args.now band) c.dequeue_band-shown.result stays c.dequeue_band-shown.ensures.arrived (record { packet = refl; dropped = refl; marked = refl })
-          c.dequeue_band-shown.ensures.dropped c.dequeue_band-shown.ensures.marked same (sym c.if-has_packet.ensures)),
+          (band-passed c.args.now c.args.bands.now c.loop-place.bands c.loop-place.place c.loop-place.shown c.requires.ready c.loop-place.invariant.0 band at c.dequeue_band-shown.new.band (next_of c.args.now band) c.dequeue_band-shown.result stays c.dequeue_band-shown.ensures.dequeued.arrived (record { packet = refl; dropped = refl; marked = refl })
+          c.dequeue_band-shown.ensures.dequeued.dropped c.dequeue_band-shown.ensures.dequeued.marked same (sym c.if-has_packet.ensures)),
       subst (λ n. IsToldOf (told_to n (answers c.args.now c.args.bands.now)) (g.S.Sink.losses c.args.sink.now) (g.S.Sink.losses c.dequeue_band-shown.new.sink) (g.S.Sink.room c.args.sink.now) (g.S.Sink.room c.dequeue_band-shown.new.sink)) (sym (add-one c.loop-place.place))
           (subst (λ notes. IsToldOf notes (g.S.Sink.losses c.args.sink.now) (g.S.Sink.losses c.dequeue_band-shown.new.sink) (g.S.Sink.room c.args.sink.now) (g.S.Sink.room c.dequeue_band-shown.new.sink))
           (band-told c.args.now c.args.bands.now c.loop-place.bands c.loop-place.place c.loop-place.shown c.requires.ready c.loop-place.invariant.0 band at)
@@ -116,7 +116,7 @@ disciplines::prio::send_first-loop-place-preserved g t c =
           (g.S.Sink.room c.args.sink.now) (g.S.Sink.room c.loop-place.sink) (g.S.Sink.room c.dequeue_band-shown.new.sink) c.loop-place.invariant.1 c.dequeue_band-shown.ensures.told)),
       g.met.S.Sink.keeps_on c.args.sink.now c.loop-place.sink c.dequeue_band-shown.new.sink c.loop-place.invariant.2 c.dequeue_band-shown.ensures.kept,
       none.1 ∙ c.loop-place.invariant.3,
-      c.dequeue_band-shown.ensures.signals,
+      c.dequeue_band-shown.ensures.dequeued.signals,
     )
 
 pub disciplines::prio::send_first-returns-clause-after : goal.disciplines::prio::send_first-returns-clause-after
