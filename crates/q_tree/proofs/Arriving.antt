@@ -3,25 +3,21 @@ use Rattle.std.proofs.Common.{◌≡◌, ℕ, ◌≤◌, ◌<◌, ◌+◌, ◌-�
 use Rattle.std.specs.Prelude.{Bool, true, false, IfOk, IfSome, OnErr, OnOk, if◌then◌else◌, slice_get, slice_index, slice_index_or, nat_lt}
 use Rattle.std.specs.Option.{option_map_or}
 use Rattle.std.proofs.lemmas.Bool.{ltb-false, ltb-true}
-use Rattle.std.proofs.lemmas.List.{append-nil, length-map, set-set}
+use Rattle.std.proofs.lemmas.List.{append-nil, set-set}
 use Rattle.std.proofs.lemmas.Option.{slice_get-map, slice_get_read}
 use Rattle.std.specs.declared.alloc.AllocError.{AllocError}
 use Rattle.q_packet.specs.Cause.{is_refusal}
 use Rattle.q_packet.specs.Descriptor.{Descriptor}
 use Rattle.q_packet.specs.declared.cause.Cause.{Cause}
-use Rattle.q_packet.specs.declared.cause.Cause.TheVariants.{FatFlow, NoClass, OverLimit, TooLong}
-use Rattle.q_packet.specs.declared.stamped.Stamped.{Stamped}
+use Rattle.q_packet.specs.declared.cause.Cause.TheVariants.{NoClass, OverLimit, TooLong}
 use Rattle.q_bucket.specs.Level.{TokenBucket}
-use Rattle.q_codel.specs.Losses as codel
 use Rattle.q_drr.specs.Schedule as drr
 use Rattle.q_drr.specs.Schedule.{Schedule}
-use Rattle.q_fqcodel.specs.Put.{after_put, is_lost_itself, lost_by_put}
 use Rattle.q_codel.specs.FifoState.{FifoState, takes}
 use Rattle.q_codel.specs.declared.loss.Loss.{Loss}
 use Rattle.q_fqcodel.specs.FqState.{FqState, packets_of}
 use Rattle.q_model.specs.declared.filter.Filter.{Filter}
-use Rattle.q_model.specs.Beneath as beneath
-use Rattle.q_model.specs.Beneath.{is_empty, totals_in}
+use Rattle.q_model.specs.Beneath.{is_empty}
 use Rattle.q_model.specs.Filters.{named_class}
 use Rattle.q_model.specs.Find.{node_at}
 use Rattle.q_model.specs.Node as spec
@@ -33,8 +29,8 @@ use Rattle.q_model.specs.Work.{settled_in}
 use Rattle.q_model.proofs.ShrinkLemmas.{each-each_memory, shape-with_memory}
 use Rattle.q_tree.specs.Ahead.{ways}
 use Rattle.q_tree.specs.Arrivals.{HasPlace, HasPlaceIn}
-use Rattle.q_tree.specs.ArriveSteps.{HasCome, HasComeIn, HasPlaceOn, IsPlaced, IsPlacedIn, IsPutOn, rises_along, way_in}
-use Rattle.q_tree.specs.AskSteps.{IsToldOf, own_of}
+use Rattle.q_tree.specs.ArriveSteps.{HasCome, HasComeIn, HasPlaceOn, IsPlaced, IsPlacedIn, IsPutOn, rises_along, way_in, IsPutInFlow}
+use Rattle.q_tree.specs.AskSteps.{IsTold, IsToldOf, own_of}
 use Rattle.q_tree.specs.Kept.{Kept}
 use Rattle.q_tree.specs.Places.{unplaced, places_under}
 use Rattle.q_tree.specs.PutSteps.{IsQueued, rises_here}
@@ -221,12 +217,10 @@ module _ (p : Descriptor) (filters : List Filter) (d : Discipline) where
 pub flows-after : (now : ℕ) (p : Descriptor) (filters : List Filter) (before placed after : Discipline) (s s2 : FqState) (places : ℕ) (res : Result Outcome AllocError) (ls ls2 : List Loss) (r r2 : ℕ)
     → discipline_seen before ≡ spec.FqCodel s → children_seen before ≡ [] → places_seen before ≤ places → discipline_seen placed ≡ spec.FqCodel s → children_seen placed ≡ [] → places_seen placed ≡ places
     → discipline_seen after ≡ spec.FqCodel s2 → children_seen after ≡ [] → places_seen after ≡ places
-    → OnOk res (s2 ≡ after_put s p now) → OnOk res (packets_of s.flows < places) → IfOk res (λ o. o.loss ≡ (if is_lost_itself s p now then Some FatFlow else None)) → IfOk res (λ o. o.refused ≡ no_totals)
-    → IfOk res (λ o. o.dropped ≡ totals_in (beneath.packets_of (lost_by_put s p now))) → OnOk res (ls2 ≡ ls ++ codel.losses_of FatFlow (lost_by_put s p now)) → OnOk res (r2 + length (lost_by_put s p now) ≡ r)
+    → OnOk res (packets_of s.flows < places) → IfOk res (λ o. IsPutInFlow now p s s2 o ls ls2 r r2)
     → IfOk res (λ o. HasComeIn now p filters before after o ls ls2 r r2)
-flows-after now p filters before placed after s s2 places (Err e) ls ls2 r r2 is kids more isP kidsP placesP isA kidsA placesA state room loss refused dropped lost taken = tt
-flows-after now p filters before placed after s s2 places (Ok o) ls ls2 r r2 is kids more isP kidsP placesP isA kidsA placesA state room loss refused dropped lost taken =
-    let told = told-here now p None placed s refl isP in
+flows-after now p filters before placed after s s2 places (Err e) ls ls2 r r2 is kids more isP kidsP placesP isA kidsA placesA room put = tt
+flows-after now p filters before placed after s s2 places (Ok o) ls ls2 r r2 is kids more isP kidsP placesP isA kidsA placesA room put =
     queued-in-flows now p filters before placed after s o (rises_here now p None (discipline_seen placed)) ls ls2 r r2 is
     (record {
       discipline = isP ∙ sym is;
@@ -235,12 +229,9 @@ flows-after now p filters before placed after s s2 places (Ok o) ls ls2 r r2 is 
       grows = λ way i. subst (λ xs. places_under way i (children_seen before) ≤ places_under way i xs) (kids ∙ sym kidsP) (omega arith);
     })
     (subst (HasPlaceIn (places_seen placed)) (sym isP) (omega (arith, room, placesP)))
-    (queued-flow now p None placed after s s2 o refl isP isA (kidsA ∙ sym kidsP) (placesA ∙ sym placesP) state loss refused dropped)
+    (queued-flow now p None placed after s s2 o refl isP isA (kidsA ∙ sym kidsP) (placesA ∙ sym placesP) put.after put.loss put.refused put.dropped)
     refl
-    (record {
-      lost = lost ∙ ap (λ xs. ls ++ xs) (sym told);
-      room_taken = omega (arith, taken, ap length told, length-map {B = Loss} (lost_by_put s p now) (λ (x : Stamped). record { packet = x.packet; cause = FatFlow }));
-    })
+    (subst (λ xs. IsTold xs ls ls2 r r2) (sym (told-here now p None placed s refl isP)) put.told)
 
 -- ---- where a child was asked, by what it answered
 

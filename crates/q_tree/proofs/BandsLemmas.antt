@@ -1,21 +1,22 @@
 -- Bands that go one after the other, from the first behind those that stay.
-use Rattle.std.proofs.Common.{◌≡◌, ℕ, zero, suc, ◌+◌, ◌<◌, ◌≤◌, ◌^◌, ◌∙◌, List, [], ◌∷◌, ◌++◌, append-nil, append_assoc, take, drop, length, refl, sym, ap, arith}
+use Rattle.std.proofs.Common.{◌≡◌, ℕ, zero, suc, ◌+◌, ◌<◌, ◌≤◌, ◌^◌, ◌∙◌, List, [], ◌∷◌, ◌++◌, append-nil, append_assoc, take, drop, length, refl, sym, ap, subst, arith}
 use Rattle.std.specs.Prelude.{slice_index_or}
 use Rattle.std.specs.List.{remove}
-use Rattle.std.proofs.lemmas.List.{drop_more, length-append, map-append, take_all}
+use Rattle.std.proofs.lemmas.List.{drop_more, length-append, take_all}
 use Rattle.std.proofs.lemmas.List.Sums.{sum_by-append}
 use Rattle.q_codel.specs.declared.loss.Loss.{Loss}
 use Rattle.q_packet.specs.Descriptor.{Descriptor}
-use Rattle.q_packet.specs.declared.cause.Cause.TheVariants.{Purged}
 use Rattle.q_model.specs.declared.totals.Totals.{Totals}
 use Rattle.q_model.specs.Beneath.{beneath, totals_in}
 use Rattle.q_model.specs.Node.{Node}
 use Rattle.q_model.specs.Tally.{no_totals}
+use Rattle.q_tree.specs.AskSteps.{IsTold}
 use Rattle.q_tree.specs.Arrivals.{plus}
 use Rattle.q_tree.specs.Kept.{Kept}
 use Rattle.q_tree.specs.Purging.{purged}
 use Rattle.q_tree.specs.PutSteps.{packets_beneath}
 use Rattle.q_tree.specs.DisciplineChanges.{FitsCounters}
+use Rattle.q_tree.proofs.PurgeLemmas.{room-taken, told-both}
 use Rattle.q_tree.proofs.Rows.{same-totals}
 
 drop-removed : (ns : List (Node Kept)) (i : ℕ) → drop i (remove ns i) ≡ drop (suc i) ns
@@ -35,8 +36,7 @@ pub record IsGoing (count : ℕ) (before ns : List (Node Kept)) (lost : Totals) 
   pub front : take count ns ≡ take count before
   pub back : packets_beneath (drop count before) ≡ gone ++ packets_beneath (drop count ns)
   pub totals : lost ≡ totals_in gone
-  pub told : losses ≡ losses_before ++ purged gone
-  pub rooms : room + length gone ≡ room_before
+  pub told : IsTold (purged gone) losses_before losses room_before room
 
 pub none-gone : (count : ℕ) (ns : List (Node Kept)) (losses : List Loss) (room : ℕ) → IsGoing count ns ns no_totals losses losses room room
 none-gone count ns losses room = record {
@@ -44,8 +44,7 @@ none-gone count ns losses room = record {
   front = refl;
   back = refl;
   totals = same-totals no_totals (totals_in []) (omega arith) (omega arith);
-  told = sym (append-nil losses);
-  rooms = omega arith;
+  told = record { lost = sym (append-nil losses); room_taken = omega arith };
 }
 
 totals-append : (ps qs : List Descriptor) → plus (totals_in ps) (totals_in qs) ≡ totals_in (ps ++ qs)
@@ -77,18 +76,16 @@ module _ (count : ℕ) (before ns : List (Node Kept)) (lost : Totals) (losses_be
     fits-bytes fits = omega (arith, fits.bytes, bytes, ap (λ (t : Totals). t.bytes) h.totals)
 
     pub has-room : length (packets_beneath (drop count before)) ≤ room_before → length (beneath x) ≤ room
-    has-room le = omega (arith, le, lengths, h.rooms)
+    has-room le = omega (arith, le, lengths, room-taken h.gone losses_before losses room_before room h.told)
 
-    pub one-goes : (sum : Totals) → sum ≡ plus lost (totals_in (beneath x)) → (after : List Loss) → after ≡ losses ++ purged (beneath x) → (left : ℕ) → left + length (beneath x) ≡ room
+    pub one-goes : (sum : Totals) → sum ≡ plus lost (totals_in (beneath x)) → (after : List Loss) (left : ℕ) → IsTold (purged (beneath x)) losses after room left
         → IsGoing count before (remove ns count) sum losses_before after room_before left
-    one-goes sum sum_is after after_is left left_is = record {
+    one-goes sum sum_is after left told = record {
       gone = h.gone ++ beneath x;
       front = take-removed ns count ∙ h.front;
       back = whole ∙ ap (λ xs. (h.gone ++ beneath x) ++ packets_beneath xs) (sym (drop-removed ns count));
       totals = sum_is ∙ ap (λ t. plus t (totals_in (beneath x))) h.totals ∙ totals-append h.gone (beneath x);
-      told = after_is ∙ ap (λ ls. ls ++ purged (beneath x)) h.told ∙ append_assoc losses_before (purged h.gone) (purged (beneath x))
-          ∙ ap (λ ls. losses_before ++ ls) (sym (map-append (λ (p : Descriptor). record { packet = p; cause = Purged }) h.gone (beneath x)));
-      rooms = omega (arith, h.rooms, left_is, length-append h.gone (beneath x));
+      told = told-both h.gone (beneath x) losses_before losses after room_before room left h.told told;
     }
 
   -- none is behind them
@@ -107,8 +104,5 @@ module _ (count : ℕ) (before ns : List (Node Kept)) (lost : Totals) (losses_be
     pub all-counted : lost ≡ totals_in (packets_beneath (drop count before))
     all-counted = h.totals ∙ ap totals_in (sym all-gone)
 
-    pub all-told : losses ≡ losses_before ++ purged (packets_beneath (drop count before))
-    all-told = h.told ∙ ap (λ ps. losses_before ++ purged ps) (sym all-gone)
-
-    pub all-rooms : room + length (packets_beneath (drop count before)) ≡ room_before
-    all-rooms = omega (arith, h.rooms, ap (λ xs. length xs) all-gone)
+    pub all-told : IsTold (purged (packets_beneath (drop count before))) losses_before losses room_before room
+    all-told = subst (λ ps. IsTold (purged ps) losses_before losses room_before room) (sym all-gone) h.told

@@ -1,12 +1,14 @@
 -- The packets and bytes of an fq_codel's flows, counted by its own numbers and packet by packet.
-use Rattle.std.proofs.Common.{◌≡◌, ℕ, ◌+◌, ◌∙◌, List, [], ◌∷◌, length, refl, sym, ap, arith}
+use Rattle.std.proofs.Common.{◌≡◌, ℕ, ◌+◌, ◌∙◌, List, [], ◌∷◌, ◌++◌, length, refl, sym, ap, arith}
 use Rattle.std.specs.Prelude.{sum_by, ◌<◌}
+use Rattle.std.proofs.lemmas.List.{length-map}
 use Rattle.std.proofs.lemmas.List.Sums.{sum_by-cons, sum_by-append}
 use Rattle.q_packet.specs.Totals.{size}
 use Rattle.q_packet.specs.Descriptor.{Descriptor}
 use Rattle.q_packet.specs.declared.cause.Cause.{Cause}
 use Rattle.q_packet.specs.declared.stamped.Stamped.{Stamped}
 use Rattle.q_codel.specs.Losses as codel
+use Rattle.q_codel.specs.declared.loss.Loss.{Loss}
 use Rattle.q_fqcodel.specs.FqState.{Flow, FqState, packets_of, bytes_of, all_packets}
 use Rattle.q_fqcodel.specs.Put.{after_put, lost_by_put, flow_of}
 use Rattle.q_fqcodel.proofs.FlowLemmas.{packets_of-cons, packets_of-nil}
@@ -15,6 +17,7 @@ use Rattle.q_model.specs.Beneath as beneath
 use Rattle.q_model.specs.Beneath.{totals_in}
 use Rattle.q_model.specs.Step.{losses_in}
 use Rattle.q_model.specs.Work.{losses_of}
+use Rattle.q_tree.specs.AskSteps.{IsTold}
 
 abbrev pub one : Stamped → ℕ
 one s = 1
@@ -25,6 +28,13 @@ len s = s.packet.len
 pub count-sum : (queue : List Stamped) → sum_by one queue ≡ length queue
 count-sum [] = refl
 count-sum (s ∷ queue) = omega (arith, sum_by-cons one s queue, count-sum queue)
+
+-- a sink that was told of the packets of a queue
+pub lost-told : (cause : Cause) (queue : List Stamped) (a b : List Loss) (r s : ℕ) → b ≡ a ++ codel.losses_of cause queue → s + length queue ≡ r → IsTold (codel.losses_of cause queue) a b r s
+lost-told cause queue a b r s lost room = record {
+  lost = lost;
+  room_taken = omega (arith, room, length-map {B = Loss} queue (λ (x : Stamped). record { packet = x.packet; cause = cause }));
+}
 
 none-left : all_packets [] ≡ []
 unfolding all_packets

@@ -1,8 +1,8 @@
 -- What is lost where a node is removed, part by part.
-use Rattle.std.proofs.Common.{◌≡◌, ◌+◌, ◌<◌, ◌≤◌, ◌∙◌, List, [], ◌∷◌, ◌++◌, length, refl, sym, ap, append_assoc, arith}
+use Rattle.std.proofs.Common.{◌≡◌, ℕ, ◌+◌, ◌<◌, ◌≤◌, ◌∙◌, List, [], ◌∷◌, ◌++◌, length, refl, sym, ap, subst, append_assoc, arith}
 use Rattle.std.specs.List.{flat_map}
 use Rattle.std.specs.Option.{option_to_list}
-use Rattle.std.proofs.lemmas.List.{map-append, length-append}
+use Rattle.std.proofs.lemmas.List.{map-append, length-append, length-map}
 use Rattle.q_packet.specs.Descriptor.{Descriptor}
 use Rattle.q_packet.specs.declared.cause.Cause.TheVariants.{Purged}
 use Rattle.q_packet.specs.declared.stamped.Stamped.{Stamped}
@@ -13,13 +13,14 @@ use Rattle.q_model.specs.Beneath.{beneath, beneath_own, packets_in}
 use Rattle.q_model.specs.Beneath.{packets_of as bare}
 use Rattle.q_model.specs.Node.{Node, side_by_side}
 use Rattle.q_invariants.proofs.Forests.{each-side}
+use Rattle.q_tree.specs.AskSteps.{IsTold}
 use Rattle.q_tree.specs.Kept.{Kept}
 use Rattle.q_tree.specs.NodeCode.{forest_size, node_size}
 use Rattle.q_tree.specs.Purging.{purged}
 use Rattle.q_tree.specs.PutSteps.{packets_beneath}
 use Rattle.q_tree.specs.Seen.{seen, children_seen, discipline_seen}
 use Rattle.q_tree.specs.declared.node.Node.TheInside.{Inside}
-use Rattle.q_tree.proofs.FlowCounts.{packets-all, packets-bare}
+use Rattle.q_tree.proofs.FlowCounts.{lost-told, packets-all, packets-bare}
 
 -- the packets at a node and beneath it: the one that it holds, its own, and those of its children
 pub own-beneath : (a : Inside) (n : Node Kept) → seen a ≡ n → beneath n ≡ option_to_list a.held ++ packets_in (discipline_seen a.discipline) ++ packets_beneath (children_seen a.discipline)
@@ -39,18 +40,40 @@ own-count a n view =
 pub flows-count : (flows : List Flow) → packets_of flows ≡ length (bare (all_packets flows))
 flows-count flows = omega (arith, packets-all flows, packets-bare (all_packets flows))
 
+pub flows-length : (flows : List Flow) → packets_of flows ≡ length (all_packets flows)
+flows-length flows = omega (arith, flows-count flows, length-map {B = Descriptor} (all_packets flows) (λ (s : Stamped). s.packet))
+
 pub own-size : (a : Inside) (n : Node Kept) → seen a ≡ n → forest_size (side_by_side (children_seen a.discipline)) < node_size n
 own-size a n view = omega (arith, ap node_size view)
 
--- one loss after another
-pub then-purged : (before between after : List Loss) (xs ys : List Descriptor) → between ≡ before ++ purged xs → after ≡ between ++ purged ys → after ≡ before ++ purged (xs ++ ys)
-then-purged before between after xs ys first second =
-    second ∙ ap (λ ls. ls ++ purged ys) first ∙ append_assoc before (purged xs) (purged ys)
-    ∙ ap (λ ls. before ++ ls) (sym (map-append (λ (p : Descriptor). record { packet = p; cause = Purged }) xs ys))
+-- the room that these packets have taken
+pub room-taken : (ps : List Descriptor) (a b : List Loss) (r s : ℕ) → IsTold (purged ps) a b r s → s + length ps ≡ r
+room-taken ps a b r s h = omega (arith, h.room_taken, length-map {B = Loss} ps (λ (p : Descriptor). record { packet = p; cause = Purged }))
 
-pub queue-purged : (queue : List Stamped) → losses_of Purged queue ≡ purged (bare queue)
+-- one after another
+pub told-both : (ps qs : List Descriptor) (a b c : List Loss) (r s t : ℕ) → IsTold (purged ps) a b r s → IsTold (purged qs) b c s t → IsTold (purged (ps ++ qs)) a c r t
+told-both ps qs a b c r s t h k =
+    let both = map-append (λ (p : Descriptor). record { packet = p; cause = Purged }) ps qs in
+    record {
+      lost = k.lost ∙ ap (λ ls. ls ++ purged qs) h.lost ∙ append_assoc a (purged ps) (purged qs) ∙ ap (λ ls. a ++ ls) (sym both);
+      room_taken = omega (arith, h.room_taken, k.room_taken, ap (λ (ls : List Loss). length ls) both, length-append (purged ps) (purged qs));
+    }
+
+queue-purged : (queue : List Stamped) → losses_of Purged queue ≡ purged (bare queue)
 queue-purged [] = refl
 queue-purged (s ∷ queue) = ap (λ ls. record { packet = s.packet; cause = Purged } ∷ ls) (queue-purged queue)
+
+-- a queue of a node's own
+pub queue-told : (queue : List Stamped) (a b : List Loss) (r s : ℕ) → b ≡ a ++ losses_of Purged queue → s + length queue ≡ r → IsTold (purged (bare queue)) a b r s
+queue-told queue a b r s lost room = subst (λ ls. IsTold ls a b r s) (queue-purged queue) (lost-told Purged queue a b r s lost room)
+
+-- a node, whose own packets and those beneath its children these are
+pub node-told : (x : Inside) (n : Node Kept) → seen x ≡ n → (ps : List Descriptor) → packets_in (discipline_seen x.discipline) ++ packets_beneath (children_seen x.discipline) ≡ ps
+    → (a b c : List Loss) (r s t : ℕ) → IsTold (purged (option_to_list x.held)) a b r s → IsTold (purged ps) b c s t → IsTold (purged (beneath n)) a c r t
+node-told x n view ps is a b c r s t h k =
+    subst (λ qs. IsTold (purged qs) a c r t)
+    (ap (λ qs. option_to_list x.held ++ qs) (sym is) ∙ sym (append_assoc (option_to_list x.held) (packets_in (discipline_seen x.discipline)) (packets_beneath (children_seen x.discipline))) ∙ sym (own-beneath x n view))
+    (told-both (option_to_list x.held) ps a b c r s t h k)
 
 pub beneath-split : (xs ys : List (Node Kept)) → packets_beneath (xs ++ ys) ≡ packets_beneath xs ++ packets_beneath ys
 beneath-split [] ys = refl

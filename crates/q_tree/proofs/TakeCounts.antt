@@ -2,7 +2,7 @@
 use Rattle.std.proofs.Common.{◌≡◌, ℕ, ◌+◌, ◌∙◌, List, [], ◌∷◌, ◌++◌, length, refl, sym, ap, ap₂, Option, Some, None, option_map, option_to_list, subst, arith}
 use Rattle.std.specs.Prelude.{Bool, true, false, if◌then◌else◌}
 use Rattle.std.specs.Option.{option_map_or}
-use Rattle.std.proofs.lemmas.List.{append-nil, length-map}
+use Rattle.std.proofs.lemmas.List.{append-nil}
 use Rattle.std.proofs.lemmas.List.Elements.{filter_map-append}
 use Rattle.q_packet.specs.Descriptor.{Descriptor}
 use Rattle.q_packet.specs.declared.cause.Cause.TheVariants.{CoDel}
@@ -24,7 +24,7 @@ use Rattle.q_invariants.proofs.Answer.{one}
 use Rattle.q_invariants.proofs.Counted.{bytes, all-more}
 use Rattle.q_invariants.proofs.FlowNotes.{take-weighs, nothing-dropped, lost-marks, quiet-marks}
 use Rattle.q_invariants.proofs.Weights.{weigh-count, marked, marked-nil, marked-cons, dropped-append, marked-append, dropped-losses, marked-losses}
-use Rattle.q_tree.specs.AskSteps.{IsShown, IsToldOf}
+use Rattle.q_tree.specs.AskSteps.{IsShown, IsTold, IsToldOf}
 use Rattle.q_tree.specs.Shown.{Shown}
 use Rattle.q_tree.proofs.FlowCounts.{packets-all, bytes-all, packets-bare, bytes-bare, told-losses}
 use Rattle.q_tree.proofs.Rows.{same-totals, weigh-bytes}
@@ -143,11 +143,5 @@ flow-losses now q own below =
     no-losses None = refl
     no-losses (Some t) = mark t.packet t.marked
 
-pub flow-told : (now : ℕ) (q : FqState) (own : Own) (below : List Asked) (l l2 : List Loss) (r r2 : ℕ) → l2 ≡ l ++ codel.losses_of CoDel (dropped_from now (selected q)) → r2 + length (dropped_from now (selected q)) ≡ r
-    → IsToldOf (ask_fq_codel now own below q).rises l l2 r r2
-flow-told now q own below l l2 r r2 lost room =
-    let is = flow-losses now q own below in
-    record {
-      lost = lost ∙ ap (λ xs. l ++ xs) (sym is);
-      room_taken = omega (arith, room, ap (λ (xs : List Loss). length xs) is, length-map {B = Loss} (dropped_from now (selected q)) (λ (s : Stamped). record { packet = s.packet; cause = CoDel }));
-    }
+pub flow-told : (now : ℕ) (q : FqState) (own : Own) (below : List Asked) (l l2 : List Loss) (r r2 : ℕ) → IsTold (codel.losses_of CoDel (dropped_from now (selected q))) l l2 r r2 → IsToldOf (ask_fq_codel now own below q).rises l l2 r r2
+flow-told now q own below l l2 r r2 told = subst (λ xs. IsTold xs l l2 r r2) (sym (flow-losses now q own below)) told

@@ -1,12 +1,16 @@
 -- What the arrival of a packet comes to at one node: a place is made where its route ends, if it is queued there, and the packet is
 -- put along that route. tc-prio(8), tc-drr(8), tc-tbf(8), tc-pfifo(8), tc-fq_codel(8).
-use Rattle.std.specs.Prelude.{◌≡◌, ℕ, ◌<◌, ◌≤◌, true, length, List, [], ◌∷◌, map, slice_get, Option, Some, None, IfSome}
+use Rattle.std.specs.Prelude.{◌≡◌, ℕ, ◌<◌, ◌≤◌, true, length, List, [], ◌∷◌, map, slice_get, Option, Some, None, IfSome, if◌then◌else◌}
 use Rattle.q_packet.specs.Descriptor.{Descriptor}
 use Rattle.q_packet.specs.declared.cause.Cause.{Cause}
+use Rattle.q_packet.specs.declared.cause.Cause.TheVariants.{FatFlow}
 use Rattle.q_codel.specs.FifoState.{takes}
+use Rattle.q_codel.specs.Losses.{losses_of}
 use Rattle.q_codel.specs.declared.loss.Loss.{Loss}
 use Rattle.q_fqcodel.specs.FqState.{FqState}
+use Rattle.q_fqcodel.specs.Put.{after_put, is_lost_itself, lost_by_put}
 use Rattle.q_model.specs.declared.filter.Filter.{Filter}
+use Rattle.q_model.specs.Beneath.{packets_of, totals_in}
 use Rattle.q_model.specs.Node as spec
 use Rattle.q_model.specs.Node.{shape}
 use Rattle.q_model.specs.Numbers.{IsWithin}
@@ -18,7 +22,7 @@ use Rattle.q_model.specs.Work.{booked}
 use Rattle.q_invariants.proofs.Kept.{IsLawfulRoot}
 use Rattle.q_tree.specs.Ahead.{ways}
 use Rattle.q_tree.specs.Arrivals.{CanCount, CanPut, HasPlace, HasPlaceIn, IsOutcome}
-use Rattle.q_tree.specs.AskSteps.{IsToldOf, own_of}
+use Rattle.q_tree.specs.AskSteps.{IsTold, IsToldOf, own_of}
 use Rattle.q_tree.specs.Kept.{Kept, kept}
 use Rattle.q_tree.specs.Places.{unplaced, places_at, places_under, HasPlaceAt}
 use Rattle.q_tree.specs.PutSteps.{CanFlow, IsQueued, IsPutInto, rises_here}
@@ -30,6 +34,15 @@ use Rattle.q_tree.specs.declared.outcome.Outcome.{Outcome}
 -- nothing was lost for a packet
 abbrev pub nothing_lost : Outcome
 nothing_lost = record { loss = None; refused = no_totals; dropped = no_totals }
+
+-- A packet that was put into its flow of an fq_codel: what the flows hold then, what is counted of it, and what the sink was told.
+-- Over the limit it may be lost itself, or packets of the fattest flow are; it is never refused.
+pub record IsPutInFlow (now : ℕ) (p : Descriptor) (old new : FqState) (o : Outcome) (losses losses_after : List Loss) (room room_after : ℕ) : Type 0 where
+  pub after : new ≡ after_put old p now
+  pub loss : o.loss ≡ (if is_lost_itself old p now then Some FatFlow else None)
+  pub refused : o.refused ≡ no_totals
+  pub dropped : o.dropped ≡ totals_in (packets_of (lost_by_put old p now))
+  pub told : IsTold (losses_of FatFlow (lost_by_put old p now)) losses losses_after room room_after
 
 -- a packet can arrive at the node: the tree is lawful at `now`, where no packet is longer than some mtu, and the counters have room
 pub record CanCome (now : ℕ) (p : Descriptor) (n : spec.Node Kept) : Type 0 where

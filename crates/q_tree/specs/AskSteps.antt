@@ -80,10 +80,14 @@ pub record AreAsked (a : Asked) (before after : List (spec.Node Kept)) (s : Show
   pub within : (t : Totals) → All (λ (child : spec.Node Kept). IsCountedWithin child.memory.counts.arrived t) before → All (λ (child : spec.Node Kept). IsCountedWithin child.memory.counts.arrived t) after
   pub shown : IsShown a s
 
--- a sink that was told of the losses among these notes: its losses and its room, before and after
-pub record IsToldOf (rises : List Note) (losses losses_after : List Loss) (room room_after : ℕ) : Type 0 where
-  pub lost : losses_after ≡ losses ++ losses_in rises
-  pub room_taken : room_after + length (losses_in rises) ≡ room
+-- a sink that was told of these losses: its losses and its room, before and after
+pub record IsTold (told : List Loss) (losses losses_after : List Loss) (room room_after : ℕ) : Type 0 where
+  pub lost : losses_after ≡ losses ++ told
+  pub room_taken : room_after + length told ≡ room
+
+-- the same of the losses among these notes
+abbrev pub IsToldOf : List Note → List Loss → List Loss → ℕ → ℕ → Type 0
+IsToldOf rises = IsTold (losses_in rises)
 
 -- a node that holds no packet
 abbrev pub own_of : Option ℕ → List Filter → spec.Discipline → Own

@@ -1,16 +1,20 @@
 -- What asking a node and taking the packet that it shows come to, in one walk: what its discipline and its children are then.
 -- tc-prio(8), tc-tbf(8), tc-drr(8), tc-fq_codel(8).
-use Rattle.std.specs.Prelude.{◌≡◌, List, All, length, is_some, if◌then◌else◌}
+use Rattle.std.specs.Prelude.{◌≡◌, ℕ, List, All, length, is_some, unwrap_or, if◌then◌else◌}
+use Rattle.q_packet.specs.Descriptor.{Descriptor}
 use Rattle.q_model.specs.declared.totals.Totals.{Totals}
-use Rattle.q_model.specs.Ask.{Asked}
+use Rattle.q_model.specs.Ask.{Asked, ask, take_from}
 use Rattle.q_model.specs.Node as spec
-use Rattle.q_model.specs.Node.{side_by_side}
-use Rattle.q_model.specs.Work.{Worked, each_booked}
-use Rattle.q_tree.specs.AskSteps.{IsShown}
+use Rattle.q_model.specs.Node.{shape, side_by_side}
+use Rattle.q_model.specs.Tally.{counts_in}
+use Rattle.q_model.specs.Work.{Worked, booked, each_booked}
+use Rattle.q_tree.specs.Arrivals.{plus}
+use Rattle.q_tree.specs.AskSteps.{IsShown, signals_of}
 use Rattle.q_tree.specs.Kept.{Kept, kept}
 use Rattle.q_tree.specs.Seen.{discipline_seen, children_seen, places_seen, IsCountedWithin}
 use Rattle.q_tree.specs.Shown.{Shown}
 use Rattle.q_tree.specs.declared.node.Discipline.{Discipline}
+use Rattle.q_tree.specs.declared.signals.Signals.{Signals}
 
 -- a node with this answer, once the packet that it shows was taken, if it shows one
 abbrev pub left_of : Asked → Worked
@@ -27,3 +31,24 @@ pub record IsSentIn (a : Asked) (before after : Discipline) (s : Shown) : Type 0
   pub discipline : discipline_seen after ≡ (left_of a).own.discipline
   pub children : AreSent a (children_seen before) (children_seen after) s
   pub places : places_seen after ≡ places_seen before
+
+-- A node that was asked for its packet and gave it: what the node is then, what is in the caller's two places, and what was shown.
+pub record IsDequeued (now : ℕ) (old new : spec.Node Kept) (out out_new : Descriptor) (counted : Signals) (s : Shown) : Type 0 where
+  -- the packet that it shows is taken, and what was dropped and marked for it is booked
+  pub after : new ≡ booked kept old (take_from now (shape old)).node
+  pub arrived : new.memory.counts.arrived ≡ old.memory.counts.arrived
+  pub shown : IsShown (ask now (shape old)) s
+  -- where it shows none, the place of the packet stays as it is
+  pub packet : out_new ≡ unwrap_or s.packet out
+  -- the other place has the counts that are shown
+  pub signals : counted ≡ signals_of s
+
+-- the same of a node that is asked after others, of which so much was counted
+pub record IsDequeuedNext (now : ℕ) (old new : spec.Node Kept) (so_far : Shown) (out out_new : Descriptor) (counted : Signals) (s : Shown) : Type 0 where
+  pub after : new ≡ booked kept old (take_from now (shape old)).node
+  pub arrived : new.memory.counts.arrived ≡ old.memory.counts.arrived
+  pub shown : s.packet ≡ (ask now (shape old)).shown
+  pub dropped : s.dropped ≡ plus so_far.dropped (counts_in (ask now (shape old)).rises).dropped
+  pub marked : s.marked ≡ plus so_far.marked (counts_in (ask now (shape old)).rises).marked
+  pub packet : out_new ≡ unwrap_or s.packet out
+  pub signals : counted ≡ signals_of s

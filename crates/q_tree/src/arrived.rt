@@ -1,9 +1,10 @@
-ghost use Rattle.std.specs.Prelude.{◌≡◌, ◌≤◌, ◌+◌, [], ◌∷◌, ◌++◌, Some, true};
+ghost use Rattle.std.specs.Prelude.{◌≡◌, ◌≤◌, [], ◌∷◌, Some, true};
 ghost use Rattle.q_model.specs.Conserved.{IsBalanced};
 ghost use Rattle.q_model.specs.Step.{fate_of};
 ghost use Rattle.q_model.specs.Tally.{no_totals, with_packet};
 ghost use Rattle.q_tree.specs.Arrivals.{CanCount, IsLostOf, with_arrival};
 ghost use Rattle.q_tree.specs.ArriveSteps.{nothing_lost};
+ghost use Rattle.q_tree.specs.AskSteps.{IsTold};
 
 use crate::booking::{NOTHING, book_arrival as book_outcome};
 use crate::counters::Counters;
@@ -98,8 +99,7 @@ pub(crate) fn refuse<S: Sink>(
     requires { 1 ≤ S.room sink.old }
     ensures outcome { result ≡ record { loss = Some cause; refused = with_packet no_totals packet.now; dropped = no_totals } }
     ensures lost_is { lost.new ≡ result }
-    ensures lost { S.losses sink.new ≡ S.losses sink.old ++ record { packet = packet.now; cause = cause } ∷ [] }
-    ensures room { S.room sink.new + 1 ≡ S.room sink.old }
+    ensures told { IsTold (record { packet = packet.now; cause = cause } ∷ []) (S.losses sink.old) (S.losses sink.new) (S.room sink.old) (S.room sink.new) }
     ensures kept { S.keeps sink.old sink.new }
 {
     *lost = refused(*packet, cause, sink);

@@ -1,5 +1,5 @@
 ghost use Rattle.std.specs.Prelude.{◌≡◌, ◌≤◌, ◌+◌, ◌++◌, List, None, Option, Some, is_some, length, true, unwrap_or, ℕ};
-ghost use Rattle.q_model.specs.Ask.{ask, take_from};
+ghost use Rattle.q_model.specs.Ask.{ask};
 ghost use Rattle.q_model.specs.Beneath.{beneath};
 ghost use Rattle.q_model.specs.Node.{shape};
 ghost use Rattle.q_model.specs.Pop.{pop};
@@ -7,10 +7,10 @@ ghost use Rattle.q_model.specs.Step.{losses_in};
 ghost use Rattle.q_model.specs.TreeState.{given, noted_by_take, take_packet};
 ghost use Rattle.q_model.specs.Work.{booked};
 ghost use Rattle.q_model.specs.declared.filter.Filter.{Filter};
-ghost use Rattle.q_tree.specs.AskSteps.{CanAsk, CanAskIn, IsShown, IsToldOf, answer_of, no_signals, packets_within, signals_of};
+ghost use Rattle.q_tree.specs.AskSteps.{CanAsk, CanAskIn, IsToldOf, answer_of, no_signals, packets_within, signals_of};
 ghost use Rattle.q_tree.specs.Kept.{kept};
 ghost use Rattle.q_tree.specs.PopSteps.{HasHead, IsPoppedIn, popping_of};
-ghost use Rattle.q_tree.specs.SendSteps.{IsSentIn};
+ghost use Rattle.q_tree.specs.SendSteps.{IsDequeued, IsSentIn};
 
 use crate::booking::{book_sent, book_shown};
 use crate::disciplines::drr::dequeue_class;
@@ -112,13 +112,8 @@ impl Node {
         requires ready { CanAsk now self.old }
         requires sink { length (beneath self.old) ≤ S.room sink.old }
         requires clean { signals.old ≡ no_signals }
-        ensures after { self.new ≡ booked kept self.old (take_from now (shape self.old)).node }
-        ensures arrived { self.new.memory.counts.arrived ≡ self.old.memory.counts.arrived }
-        ensures shown { IsShown (ask now (shape self.old)) result }
-        ensures packet { out.new ≡ unwrap_or result.packet out.old }
-        ensures lost { S.losses sink.new ≡ S.losses sink.old ++ losses_in (ask now (shape self.old)).rises }
-        ensures room { S.room sink.new + length (losses_in (ask now (shape self.old)).rises) ≡ S.room sink.old }
-        ensures signals { signals.new ≡ signals_of result }
+        ensures dequeued { IsDequeued now self.old self.new out.old out.new signals.new result }
+        ensures told { IsToldOf (ask now (shape self.old)).rises (S.losses sink.old) (S.losses sink.new) (S.room sink.old) (S.room sink.new) }
         ensures kept { S.keeps sink.old sink.new }
     {
         self.row.fit();
@@ -154,13 +149,8 @@ impl Node {
         requires ready { CanAsk now self.old }
         requires sink { length (beneath self.old) ≤ S.room sink.old }
         requires clean { signals.old ≡ no_signals }
-        ensures after { self.new ≡ booked kept self.old (take_from now (shape self.old)).node }
-        ensures arrived { self.new.memory.counts.arrived ≡ self.old.memory.counts.arrived }
-        ensures shown { IsShown (ask now (shape self.old)) result }
-        ensures packet { out.new ≡ unwrap_or result.packet out.old }
-        ensures lost { S.losses sink.new ≡ S.losses sink.old ++ losses_in (ask now (shape self.old)).rises }
-        ensures room { S.room sink.new + length (losses_in (ask now (shape self.old)).rises) ≡ S.room sink.old }
-        ensures signals { signals.new ≡ signals_of result }
+        ensures dequeued { IsDequeued now self.old self.new out.old out.new signals.new result }
+        ensures told { IsToldOf (ask now (shape self.old)).rises (S.losses sink.old) (S.losses sink.new) (S.room sink.old) (S.room sink.new) }
         ensures kept { S.keeps sink.old sink.new }
     {
         self.row.fit();
@@ -187,13 +177,8 @@ impl Node {
         requires ready { CanAsk now self.old }
         requires sink { length (beneath self.old) ≤ S.room sink.old }
         requires clean { signals.old ≡ no_signals }
-        ensures after { self.new ≡ booked kept self.old (take_from now (shape self.old)).node }
-        ensures arrived { self.new.memory.counts.arrived ≡ self.old.memory.counts.arrived }
-        ensures shown { IsShown (ask now (shape self.old)) result }
-        ensures packet { out.new ≡ unwrap_or result.packet out.old }
-        ensures lost { S.losses sink.new ≡ S.losses sink.old ++ losses_in (ask now (shape self.old)).rises }
-        ensures room { S.room sink.new + length (losses_in (ask now (shape self.old)).rises) ≡ S.room sink.old }
-        ensures signals { signals.new ≡ signals_of result }
+        ensures dequeued { IsDequeued now self.old self.new out.old out.new signals.new result }
+        ensures told { IsToldOf (ask now (shape self.old)).rises (S.losses sink.old) (S.losses sink.new) (S.room sink.old) (S.room sink.new) }
         ensures kept { S.keeps sink.old sink.new }
     {
         self.row.fit();

@@ -124,8 +124,7 @@ impl Tree {
         requires sink { length (beneath self.old.tree.root) + 1 ≤ S.room sink.old }
         ensures fate { IfOk result (λ fate. fate ≡ fate_of (own_loss now packet.now self.old.tree.device (shape self.old.tree.root))) }
         ensures after { OnOk result (numbers self.new ≡ record { clock = now; tree = put totals now packet.now (tree_numbers self.old.tree) }) }
-        ensures lost { OnOk result (S.losses sink.new ≡ S.losses sink.old ++ losses_in (noted_by_put now packet.now self.old.tree)) }
-        ensures room { OnOk result (S.room sink.new + length (losses_in (noted_by_put now packet.now self.old.tree)) ≡ S.room sink.old) }
+        ensures told { OnOk result (IsToldOf (noted_by_put now packet.now self.old.tree) (S.losses sink.old) (S.losses sink.new) (S.room sink.old) (S.room sink.new)) }
         ensures same { OnErr result (numbers self.new ≡ numbers self.old) }
         ensures not_lost { OnErr result ((S.losses sink.new ≡ S.losses sink.old) × (S.room sink.new ≡ S.room sink.old)) }
         ensures routes { OnErr result ((p : Descriptor) → device_route p self.new.tree.device.mtu self.new.tree.root ≡ device_route p self.old.tree.device.mtu self.old.tree.root) }

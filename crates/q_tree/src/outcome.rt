@@ -1,5 +1,6 @@
-ghost use Rattle.std.specs.Prelude.{◌≡◌, ◌≤◌, ◌+◌, [], ◌∷◌, ◌++◌, Some};
+ghost use Rattle.std.specs.Prelude.{◌≡◌, ◌≤◌, [], ◌∷◌, Some};
 ghost use Rattle.q_model.specs.Tally.{no_totals, with_packet};
+ghost use Rattle.q_tree.specs.AskSteps.{IsTold};
 
 use crate::booking::{NOTHING, one_packet};
 use q_codel::Sink;
@@ -21,8 +22,7 @@ pub(crate) struct Outcome {
 pub(crate) fn refuse<S: Sink>(packet: Packet, cause: Cause, sink: &mut S) -> Outcome
     requires { 1 ≤ S.room sink.old }
     ensures outcome { result ≡ record { loss = Some cause; refused = with_packet no_totals packet; dropped = no_totals } }
-    ensures lost { S.losses sink.new ≡ S.losses sink.old ++ record { packet = packet; cause = cause } ∷ [] }
-    ensures room { S.room sink.new + 1 ≡ S.room sink.old }
+    ensures told { IsTold (record { packet = packet; cause = cause } ∷ []) (S.losses sink.old) (S.losses sink.new) (S.room sink.old) (S.room sink.new) }
     ensures kept { S.keeps sink.old sink.new }
 {
     sink.lost(packet, cause);

@@ -1,9 +1,8 @@
-ghost use Rattle.std.specs.Prelude.{◌≡◌, ◌≤◌, ◌+◌, ◌++◌, List, None, Option, is_some, length, ℕ};
+ghost use Rattle.std.specs.Prelude.{◌≡◌, ◌≤◌, List, None, Option, is_some, length, ℕ};
 ghost use Rattle.q_model.specs.Ask.{ask};
 ghost use Rattle.q_model.specs.Beneath.{beneath};
 ghost use Rattle.q_model.specs.Node.{shape};
 ghost use Rattle.q_model.specs.Pop.{pop};
-ghost use Rattle.q_model.specs.Step.{losses_in};
 ghost use Rattle.q_model.specs.Work.{booked};
 ghost use Rattle.q_model.specs.declared.filter.Filter.{Filter};
 ghost use Rattle.q_tree.specs.AskSteps.{CanAsk, CanAskIn, IsAskedIn, IsShown, IsToldOf, answer_of, held_in, no_signals, packets_within, signals_of};
@@ -42,8 +41,7 @@ impl Node {
         ensures after { self.new ≡ booked kept self.old (ask now (shape self.old)).peeked }
         ensures arrived { self.new.memory.counts.arrived ≡ self.old.memory.counts.arrived }
         ensures shown { IsShown (ask now (shape self.old)) result }
-        ensures lost { S.losses sink.new ≡ S.losses sink.old ++ losses_in (ask now (shape self.old)).rises }
-        ensures room { S.room sink.new + length (losses_in (ask now (shape self.old)).rises) ≡ S.room sink.old }
+        ensures told { IsToldOf (ask now (shape self.old)).rises (S.losses sink.old) (S.losses sink.new) (S.room sink.old) (S.room sink.new) }
         ensures signals { signals.new ≡ signals_of result }
         ensures kept { S.keeps sink.old sink.new }
     {
@@ -69,8 +67,7 @@ impl Node {
         ensures after { self.new ≡ booked kept self.old (ask now (shape self.old)).peeked }
         ensures arrived { self.new.memory.counts.arrived ≡ self.old.memory.counts.arrived }
         ensures shown { IsShown (ask now (shape self.old)) result }
-        ensures lost { S.losses sink.new ≡ S.losses sink.old ++ losses_in (ask now (shape self.old)).rises }
-        ensures room { S.room sink.new + length (losses_in (ask now (shape self.old)).rises) ≡ S.room sink.old }
+        ensures told { IsToldOf (ask now (shape self.old)).rises (S.losses sink.old) (S.losses sink.new) (S.room sink.old) (S.room sink.new) }
         ensures signals { signals.new ≡ signals_of result }
         ensures kept { S.keeps sink.old sink.new }
     {

@@ -1,13 +1,13 @@
-ghost use Rattle.std.specs.Prelude.{◌≡◌, ◌≤◌, ◌+◌, ◌++◌, Some, length, slice_get};
+ghost use Rattle.std.specs.Prelude.{◌≡◌, ◌≤◌, ◌+◌, Some, length, slice_get};
 ghost use Rattle.q_model.specs.Beneath as beneath;
 ghost use Rattle.q_model.specs.Node as spec;
 ghost use Rattle.q_model.specs.Node.{shape};
 ghost use Rattle.q_model.specs.Put.{put_along};
-ghost use Rattle.q_model.specs.Step.{losses_in};
 ghost use Rattle.q_model.specs.Tally.{with_packet};
 ghost use Rattle.q_model.specs.TreeState.{loss_at_end};
 ghost use Rattle.q_model.specs.Work.{booked};
 ghost use Rattle.q_tree.specs.Arrivals.{CanPut, IsOutcome};
+ghost use Rattle.q_tree.specs.AskSteps.{IsToldOf};
 ghost use Rattle.q_tree.specs.Kept.{Kept, kept};
 ghost use Rattle.q_tree.specs.PutSteps.{CanPutInto, CanQueue, IsPutInto, IsQueued, packets_beneath, rises_here};
 ghost use Rattle.q_tree.specs.Seen.{children_seen, discipline_seen, places_seen};
@@ -40,8 +40,7 @@ impl Node {
         ensures arrived { self.new.memory.counts.arrived ≡ with_packet self.old.memory.counts.arrived packet.now }
         ensures outcome { IsOutcome (loss_at_end now packet.now (shape self.old) (record { path = path.now; refusal = refusal }))
             (put_along now packet.now refusal path.now (shape self.old)).rises result }
-        ensures lost { S.losses sink.new ≡ S.losses sink.old ++ losses_in (put_along now packet.now refusal path.now (shape self.old)).rises }
-        ensures room { S.room sink.new + length (losses_in (put_along now packet.now refusal path.now (shape self.old)).rises) ≡ S.room sink.old }
+        ensures told { IsToldOf (put_along now packet.now refusal path.now (shape self.old)).rises (S.losses sink.old) (S.losses sink.new) (S.room sink.old) (S.room sink.new) }
         ensures kept { S.keeps sink.old sink.new }
     {
         let Some((&place, rest)) = path.split_first() else {
@@ -69,8 +68,7 @@ impl Discipline {
         requires can { CanQueue packet.now refusal (places_seen self.old) (discipline_seen self.old) }
         requires sink { length (beneath.packets_in (discipline_seen self.old)) + 1 ≤ S.room sink.old }
         ensures after { IsQueued now packet.now refusal self.old self.new result }
-        ensures lost { S.losses sink.new ≡ S.losses sink.old ++ losses_in (rises_here now packet.now refusal (discipline_seen self.old)) }
-        ensures room { S.room sink.new + length (losses_in (rises_here now packet.now refusal (discipline_seen self.old))) ≡ S.room sink.old }
+        ensures told { IsToldOf (rises_here now packet.now refusal (discipline_seen self.old)) (S.losses sink.old) (S.losses sink.new) (S.room sink.old) (S.room sink.new) }
         ensures kept { S.keeps sink.old sink.new }
     {
         if let Some(cause) = refusal {
@@ -110,10 +108,8 @@ impl Discipline {
         requires sink { length (packets_beneath (children_seen self.old)) + 1 ≤ S.room sink.old }
         ensures after { (c : spec.Node Kept) → slice_get (children_seen self.old) place ≡ Some c
             → IsPutInto now packet.now refusal rest.now place self.old self.new c result }
-        ensures lost { (c : spec.Node Kept) → slice_get (children_seen self.old) place ≡ Some c
-            → S.losses sink.new ≡ S.losses sink.old ++ losses_in (put_along now packet.now refusal rest.now (shape c)).rises }
-        ensures room { (c : spec.Node Kept) → slice_get (children_seen self.old) place ≡ Some c
-            → S.room sink.new + length (losses_in (put_along now packet.now refusal rest.now (shape c)).rises) ≡ S.room sink.old }
+        ensures told { (c : spec.Node Kept) → slice_get (children_seen self.old) place ≡ Some c
+            → IsToldOf (put_along now packet.now refusal rest.now (shape c)).rises (S.losses sink.old) (S.losses sink.new) (S.room sink.old) (S.room sink.new) }
         ensures kept { S.keeps sink.old sink.new }
     {
         match self {

@@ -11,6 +11,7 @@ ghost use Rattle.q_model.specs.declared.place.Place.TheVariants as place;
 ghost use Rattle.q_model.specs.declared.refusal.Refusal.TheVariants as refusal;
 ghost use Rattle.q_packet.specs.Descriptor.{Descriptor};
 ghost use Rattle.q_tree.specs.Arrivals.{CanPut, IsOutcome};
+ghost use Rattle.q_tree.specs.AskSteps.{IsTold, IsToldOf};
 ghost use Rattle.q_tree.specs.Commanding.{WantsMemory};
 ghost use Rattle.q_tree.specs.Commands.{IsPlanOf, IsPlanned, device_edited, plan_of};
 ghost use Rattle.q_tree.specs.Editing.{LosesNothing, TakesMemory, removed_at};
@@ -190,8 +191,7 @@ impl Tree {
         requires planned { IsPlanned planned.edit planned.path.items now self.old.tree.device self.old.tree.root }
         requires sink { length (removed_at planned.edit planned.path.items self.old.tree.root) ≤ S.room sink.old }
         ensures after { OnOk result (self.new ≡ device_edited planned.edit planned.path.items now self.old) }
-        ensures lost { OnOk result (S.losses sink.new ≡ S.losses sink.old ++ purged (removed_at planned.edit planned.path.items self.old.tree.root)) }
-        ensures room { OnOk result (S.room sink.new + length (removed_at planned.edit planned.path.items self.old.tree.root) ≡ S.room sink.old) }
+        ensures told { OnOk result (IsTold (purged (removed_at planned.edit planned.path.items self.old.tree.root)) (S.losses sink.old) (S.losses sink.new) (S.room sink.old) (S.room sink.new)) }
         ensures memory { IfErr result (λ why. (why ≡ refusal.Memory) × TakesMemory planned.edit) }
         ensures same { OnErr result (self.new ≡ self.old) }
         ensures not_lost { OnErr result ((S.losses sink.new ≡ S.losses sink.old) × (S.room sink.new ≡ S.room sink.old)) }
@@ -361,8 +361,7 @@ fn put_on<S: Sink>(
     ensures after { root.new ≡ booked kept root.old (put_on now packet.now route.now.route (shape root.old)).node }
     ensures arrived { IsArrived packet.now root.old root.new }
     ensures outcome { IsOutcome (loss_on now packet.now route.now.route (shape root.old)) (put_on now packet.now route.now.route (shape root.old)).rises result }
-    ensures lost { S.losses sink.new ≡ S.losses sink.old ++ losses_in (put_on now packet.now route.now.route (shape root.old)).rises }
-    ensures room { S.room sink.new + length (losses_in (put_on now packet.now route.now.route (shape root.old)).rises) ≡ S.room sink.old }
+    ensures told { IsToldOf (put_on now packet.now route.now.route (shape root.old)).rises (S.losses sink.old) (S.losses sink.new) (S.room sink.old) (S.room sink.new) }
     ensures kept { S.keeps sink.old sink.new }
 {
     if route.is_too_long {

@@ -1,5 +1,5 @@
 use Rattle.q_packet.specs.Descriptor.{Descriptor}
-use Rattle.std.proofs.Common.{ℕ, ◌∙◌, [], ◌∷◌, set, length, add-one, refl, sym, ap, subst, arith, Option}
+use Rattle.std.proofs.Common.{ℕ, ◌∙◌, [], ◌∷◌, set, length, add-one, refl, sym, ap, subst, arith, Option, rules}
 use Rattle.std.specs.Prelude.{slice_index_or, unwrap_or}
 use Rattle.std.proofs.lemmas.Option.{slice_get-map}
 use Rattle.q_packet.specs.declared.stamped.Stamped.{Stamped}
@@ -41,16 +41,16 @@ abbrev next_of : ℕ → Node Kept → Shown
 next_of now band = let a = ask now (shape band) in record { packet = a.shown; dropped = (counts_in a.rises).dropped; marked = (counts_in a.rises).marked }
 
 pub disciplines::prio::dequeue_band_further-then-requires-clause-dropped_packets : goal.disciplines::prio::dequeue_band_further-then-requires-clause-dropped_packets
-disciplines::prio::dequeue_band_further-then-requires-clause-dropped_packets g t c = (fits-beside c.args.now c.args.band.now c.args.so_far c.dequeue-next.result (g.S.Sink.room c.args.sink.now) c.requires.ready c.dequeue-next.ensures.shown).dropped_packets
+disciplines::prio::dequeue_band_further-then-requires-clause-dropped_packets g t c = (fits-beside c.args.now c.args.band.now c.args.so_far c.dequeue-next.result (g.S.Sink.room c.args.sink.now) c.requires.ready c.dequeue-next.ensures.dequeued.shown).dropped_packets
 
 pub disciplines::prio::dequeue_band_further-then-requires-clause-dropped_bytes : goal.disciplines::prio::dequeue_band_further-then-requires-clause-dropped_bytes
-disciplines::prio::dequeue_band_further-then-requires-clause-dropped_bytes g t c = (fits-beside c.args.now c.args.band.now c.args.so_far c.dequeue-next.result (g.S.Sink.room c.args.sink.now) c.requires.ready c.dequeue-next.ensures.shown).dropped_bytes
+disciplines::prio::dequeue_band_further-then-requires-clause-dropped_bytes g t c = (fits-beside c.args.now c.args.band.now c.args.so_far c.dequeue-next.result (g.S.Sink.room c.args.sink.now) c.requires.ready c.dequeue-next.ensures.dequeued.shown).dropped_bytes
 
 pub disciplines::prio::dequeue_band_further-then-requires-clause-marked_packets : goal.disciplines::prio::dequeue_band_further-then-requires-clause-marked_packets
-disciplines::prio::dequeue_band_further-then-requires-clause-marked_packets g t c = (fits-beside c.args.now c.args.band.now c.args.so_far c.dequeue-next.result (g.S.Sink.room c.args.sink.now) c.requires.ready c.dequeue-next.ensures.shown).marked_packets
+disciplines::prio::dequeue_band_further-then-requires-clause-marked_packets g t c = (fits-beside c.args.now c.args.band.now c.args.so_far c.dequeue-next.result (g.S.Sink.room c.args.sink.now) c.requires.ready c.dequeue-next.ensures.dequeued.shown).marked_packets
 
 pub disciplines::prio::dequeue_band_further-then-requires-clause-marked_bytes : goal.disciplines::prio::dequeue_band_further-then-requires-clause-marked_bytes
-disciplines::prio::dequeue_band_further-then-requires-clause-marked_bytes g t c = (fits-beside c.args.now c.args.band.now c.args.so_far c.dequeue-next.result (g.S.Sink.room c.args.sink.now) c.requires.ready c.dequeue-next.ensures.shown).marked_bytes
+disciplines::prio::dequeue_band_further-then-requires-clause-marked_bytes g t c = (fits-beside c.args.now c.args.band.now c.args.so_far c.dequeue-next.result (g.S.Sink.room c.args.sink.now) c.requires.ready c.dequeue-next.ensures.dequeued.shown).marked_bytes
 
 pub disciplines::prio::send_first-loop-place-init : goal.disciplines::prio::send_first-loop-place-init
 disciplines::prio::send_first-loop-place-init g t c = (
@@ -72,22 +72,22 @@ pub disciplines::prio::send_first-returns-then-has_packet-clause-after : goal.di
 disciplines::prio::send_first-returns-then-has_packet-clause-after g t c =
     let band = slice_index_or c.loop-place.bands c.loop-place.place c.index-bands-place.result in
     let at = band-at c.args.now c.args.bands.now c.loop-place.bands c.loop-place.place c.loop-place.shown c.loop-place.invariant.0 c.index-bands-place.result c.loop-place-test.true in
-    let same = c.dequeue_band-shown.ensures.shown in
-    let some = given-some c.dequeue_band-shown.result.packet c.loop-place.out c.dequeue_band-shown.new.out (sym c.if-has_packet.ensures) c.dequeue_band-shown.ensures.packet in
-    let gone = c.dequeue_band-shown.ensures.after ∙ ap (λ (w : Worked). booked kept band w) (left-some c.args.now band c.dequeue_band-shown.new.out (sym same ∙ some)) in
-    band-sent c.args.now c.args.bands.now c.loop-place.bands c.loop-place.place c.loop-place.shown c.requires.ready c.loop-place.invariant.0 band at c.dequeue_band-shown.new.band (next_of c.args.now band) c.dequeue_band-shown.result c.dequeue_band-shown.new.out gone c.dequeue_band-shown.ensures.arrived (record { packet = refl; dropped = refl; marked = refl })
-    c.dequeue_band-shown.ensures.dropped c.dequeue_band-shown.ensures.marked same some
+    let same = c.dequeue_band-shown.ensures.dequeued.shown in
+    let some = given-some c.dequeue_band-shown.result.packet c.loop-place.out c.dequeue_band-shown.new.out (sym c.if-has_packet.ensures) c.dequeue_band-shown.ensures.dequeued.packet in
+    let gone = c.dequeue_band-shown.ensures.dequeued.after ∙ ap (λ (w : Worked). booked kept band w) (left-some c.args.now band c.dequeue_band-shown.new.out (sym same ∙ some)) in
+    band-sent c.args.now c.args.bands.now c.loop-place.bands c.loop-place.place c.loop-place.shown c.requires.ready c.loop-place.invariant.0 band at c.dequeue_band-shown.new.band (next_of c.args.now band) c.dequeue_band-shown.result c.dequeue_band-shown.new.out gone c.dequeue_band-shown.ensures.dequeued.arrived (record { packet = refl; dropped = refl; marked = refl })
+    c.dequeue_band-shown.ensures.dequeued.dropped c.dequeue_band-shown.ensures.dequeued.marked same some
 
 pub disciplines::prio::send_first-returns-then-has_packet-clause-told : goal.disciplines::prio::send_first-returns-then-has_packet-clause-told
 disciplines::prio::send_first-returns-then-has_packet-clause-told g t c =
     let band = slice_index_or c.loop-place.bands c.loop-place.place c.index-bands-place.result in
     let at = band-at c.args.now c.args.bands.now c.loop-place.bands c.loop-place.place c.loop-place.shown c.loop-place.invariant.0 c.index-bands-place.result c.loop-place-test.true in
-    let same = c.dequeue_band-shown.ensures.shown in
-    let some = given-some c.dequeue_band-shown.result.packet c.loop-place.out c.dequeue_band-shown.new.out (sym c.if-has_packet.ensures) c.dequeue_band-shown.ensures.packet in
-    let gone = c.dequeue_band-shown.ensures.after ∙ ap (λ (w : Worked). booked kept band w) (left-some c.args.now band c.dequeue_band-shown.new.out (sym same ∙ some)) in
+    let same = c.dequeue_band-shown.ensures.dequeued.shown in
+    let some = given-some c.dequeue_band-shown.result.packet c.loop-place.out c.dequeue_band-shown.new.out (sym c.if-has_packet.ensures) c.dequeue_band-shown.ensures.dequeued.packet in
+    let gone = c.dequeue_band-shown.ensures.dequeued.after ∙ ap (λ (w : Worked). booked kept band w) (left-some c.args.now band c.dequeue_band-shown.new.out (sym same ∙ some)) in
     λ own. subst (λ notes. IsToldOf notes (g.S.Sink.losses c.args.sink.now) (g.S.Sink.losses c.dequeue_band-shown.new.sink) (g.S.Sink.room c.args.sink.now) (g.S.Sink.room c.dequeue_band-shown.new.sink))
-    (sent-rises c.args.now c.args.bands.now c.loop-place.bands c.loop-place.place c.loop-place.shown c.requires.ready c.loop-place.invariant.0 band at c.dequeue_band-shown.new.band (next_of c.args.now band) c.dequeue_band-shown.result c.dequeue_band-shown.new.out gone c.dequeue_band-shown.ensures.arrived (record { packet = refl; dropped = refl; marked = refl })
-    c.dequeue_band-shown.ensures.dropped c.dequeue_band-shown.ensures.marked same some own)
+    (sent-rises c.args.now c.args.bands.now c.loop-place.bands c.loop-place.place c.loop-place.shown c.requires.ready c.loop-place.invariant.0 band at c.dequeue_band-shown.new.band (next_of c.args.now band) c.dequeue_band-shown.result c.dequeue_band-shown.new.out gone c.dequeue_band-shown.ensures.dequeued.arrived (record { packet = refl; dropped = refl; marked = refl })
+    c.dequeue_band-shown.ensures.dequeued.dropped c.dequeue_band-shown.ensures.dequeued.marked same some own)
     (told-then (told_to c.loop-place.place (answers c.args.now c.args.bands.now)) (ask c.args.now (shape band)).rises (g.S.Sink.losses c.args.sink.now) (g.S.Sink.losses c.loop-place.sink) (g.S.Sink.losses c.dequeue_band-shown.new.sink)
     (g.S.Sink.room c.args.sink.now) (g.S.Sink.room c.loop-place.sink) (g.S.Sink.room c.dequeue_band-shown.new.sink) c.loop-place.invariant.1 c.dequeue_band-shown.ensures.told)
 
@@ -97,18 +97,18 @@ disciplines::prio::send_first-returns-then-has_packet-clause-kept g t c =
 
 pub disciplines::prio::send_first-returns-then-has_packet-clause-packet : goal.disciplines::prio::send_first-returns-then-has_packet-clause-packet
 disciplines::prio::send_first-returns-then-has_packet-clause-packet g t c =
-    c.dequeue_band-shown.ensures.packet ∙ ap (unwrap_or c.dequeue_band-shown.result.packet) c.loop-place.invariant.3
+    c.dequeue_band-shown.ensures.dequeued.packet ∙ ap (unwrap_or c.dequeue_band-shown.result.packet) c.loop-place.invariant.3
 
 pub disciplines::prio::send_first-loop-place-preserved : goal.disciplines::prio::send_first-loop-place-preserved
 disciplines::prio::send_first-loop-place-preserved g t c =
     let band = slice_index_or c.loop-place.bands c.loop-place.place c.index-bands-place.result in
     let at = band-at c.args.now c.args.bands.now c.loop-place.bands c.loop-place.place c.loop-place.shown c.loop-place.invariant.0 c.index-bands-place.result c.loop-place-test.true in
-    let same = c.dequeue_band-shown.ensures.shown in
-    let none = given-none c.dequeue_band-shown.result.packet c.loop-place.out c.dequeue_band-shown.new.out (sym c.if-has_packet.ensures) c.dequeue_band-shown.ensures.packet in
-    let stays = c.dequeue_band-shown.ensures.after ∙ ap (λ (w : Worked). booked kept band w) (left-none c.args.now band (sym same ∙ none.0)) in (
+    let same = c.dequeue_band-shown.ensures.dequeued.shown in
+    let none = given-none c.dequeue_band-shown.result.packet c.loop-place.out c.dequeue_band-shown.new.out (sym c.if-has_packet.ensures) c.dequeue_band-shown.ensures.dequeued.packet in
+    let stays = c.dequeue_band-shown.ensures.dequeued.after ∙ ap (λ (w : Worked). booked kept band w) (left-none c.args.now band (sym same ∙ none.0)) in (
       subst (λ n. AreBandsAsked c.args.now c.args.bands.now (set c.loop-place.bands c.loop-place.place c.dequeue_band-shown.new.band) n c.dequeue_band-shown.result) (sym (add-one c.loop-place.place))
-          (band-passed c.args.now c.args.bands.now c.loop-place.bands c.loop-place.place c.loop-place.shown c.requires.ready c.loop-place.invariant.0 band at c.dequeue_band-shown.new.band (next_of c.args.now band) c.dequeue_band-shown.result stays c.dequeue_band-shown.ensures.arrived (record { packet = refl; dropped = refl; marked = refl })
-          c.dequeue_band-shown.ensures.dropped c.dequeue_band-shown.ensures.marked same (sym c.if-has_packet.ensures)),
+          (band-passed c.args.now c.args.bands.now c.loop-place.bands c.loop-place.place c.loop-place.shown c.requires.ready c.loop-place.invariant.0 band at c.dequeue_band-shown.new.band (next_of c.args.now band) c.dequeue_band-shown.result stays c.dequeue_band-shown.ensures.dequeued.arrived (record { packet = refl; dropped = refl; marked = refl })
+          c.dequeue_band-shown.ensures.dequeued.dropped c.dequeue_band-shown.ensures.dequeued.marked same (sym c.if-has_packet.ensures)),
       subst (λ n. IsToldOf (told_to n (answers c.args.now c.args.bands.now)) (g.S.Sink.losses c.args.sink.now) (g.S.Sink.losses c.dequeue_band-shown.new.sink) (g.S.Sink.room c.args.sink.now) (g.S.Sink.room c.dequeue_band-shown.new.sink)) (sym (add-one c.loop-place.place))
           (subst (λ notes. IsToldOf notes (g.S.Sink.losses c.args.sink.now) (g.S.Sink.losses c.dequeue_band-shown.new.sink) (g.S.Sink.room c.args.sink.now) (g.S.Sink.room c.dequeue_band-shown.new.sink))
           (band-told c.args.now c.args.bands.now c.loop-place.bands c.loop-place.place c.loop-place.shown c.requires.ready c.loop-place.invariant.0 band at)
@@ -116,7 +116,7 @@ disciplines::prio::send_first-loop-place-preserved g t c =
           (g.S.Sink.room c.args.sink.now) (g.S.Sink.room c.loop-place.sink) (g.S.Sink.room c.dequeue_band-shown.new.sink) c.loop-place.invariant.1 c.dequeue_band-shown.ensures.told)),
       g.met.S.Sink.keeps_on c.args.sink.now c.loop-place.sink c.dequeue_band-shown.new.sink c.loop-place.invariant.2 c.dequeue_band-shown.ensures.kept,
       none.1 ∙ c.loop-place.invariant.3,
-      c.dequeue_band-shown.ensures.signals,
+      c.dequeue_band-shown.ensures.dequeued.signals,
     )
 
 pub disciplines::prio::send_first-returns-clause-after : goal.disciplines::prio::send_first-returns-clause-after
@@ -237,21 +237,18 @@ node::Discipline::dequeue-returns-in-FqCodel-clause-told g t c = λ handle filte
     let is = ap discipline_seen c.in-FqCodel.is ∙ ap (λ (q : FqView). spec.FqCodel q.state) (sym c.deref_mut-in-FqCodel.ensures.value) in
     told-in c.args.now handle filters c.args.self.now (spec.FqCodel state) [] (g.S.Sink.losses c.args.sink.now) (g.S.Sink.losses c.dequeue_flow.new.sink) (g.S.Sink.room c.args.sink.now) (g.S.Sink.room c.dequeue_flow.new.sink)
     is (ap children_seen c.in-FqCodel.is)
-    (flow-told c.args.now state own [] (g.S.Sink.losses c.args.sink.now) (g.S.Sink.losses c.dequeue_flow.new.sink) (g.S.Sink.room c.args.sink.now) (g.S.Sink.room c.dequeue_flow.new.sink) e.lost e.room)
+    (flow-told c.args.now state own [] (g.S.Sink.losses c.args.sink.now) (g.S.Sink.losses c.dequeue_flow.new.sink) (g.S.Sink.room c.args.sink.now) (g.S.Sink.room c.dequeue_flow.new.sink) e.told)
 
-pub node::Node::dequeue-returns-in-Some-clause-after : goal.node::Node::dequeue-returns-in-Some-clause-after
-node::Node::dequeue-returns-in-Some-clause-after g t c =
-    let stays = holding-after c.args.now c.self.inside c.args.self.now c.in-Some.packet c.self.view_is (sym c.packet.ensures ∙ c.in-Some.is) in
-    ap (λ (h : Option Descriptor). seen (record c.self.inside { held = h; row = c.book_sent.new.row })) c.clear.ensures ∙ held-after c.self.inside c.in-Some.packet (sym c.packet.ensures ∙ c.in-Some.is) c.book_sent.new.row c.book_sent.ensures ∙ ap (λ n. booked kept n (pop n).after) c.self.view_is
-    ∙ gave-asked c.args.now c.args.self.now c.args.self.now c.in-Some.packet c.requires.ready stays (held-answer c.args.now c.self.inside c.args.self.now c.in-Some.packet c.self.view_is (sym c.packet.ensures ∙ c.in-Some.is)).packet
-
-pub node::Node::dequeue-returns-in-Some-clause-shown : goal.node::Node::dequeue-returns-in-Some-clause-shown
-node::Node::dequeue-returns-in-Some-clause-shown g t c =
-    held-shows c.args.now c.self.inside c.args.self.now c.in-Some.packet c.self.view_is (sym c.packet.ensures ∙ c.in-Some.is) c.sending.result c.sending.ensures
-
-pub node::Node::dequeue-returns-in-Some-clause-packet : goal.node::Node::dequeue-returns-in-Some-clause-packet
-node::Node::dequeue-returns-in-Some-clause-packet g t c =
-    ap (λ (s : Shown). unwrap_or s.packet c.args.out.now) (sym c.sending.ensures)
+pub node::Node::dequeue-returns-in-Some-clause-dequeued : goal.node::Node::dequeue-returns-in-Some-clause-dequeued
+node::Node::dequeue-returns-in-Some-clause-dequeued g t c = record {
+  after = (let stays = holding-after c.args.now c.self.inside c.args.self.now c.in-Some.packet c.self.view_is (sym c.packet.ensures ∙ c.in-Some.is) in
+      ap (λ (h : Option Descriptor). seen (record c.self.inside { held = h; row = c.book_sent.new.row })) c.clear.ensures ∙ held-after c.self.inside c.in-Some.packet (sym c.packet.ensures ∙ c.in-Some.is) c.book_sent.new.row c.book_sent.ensures ∙ ap (λ n. booked kept n (pop n).after) c.self.view_is
+      ∙ gave-asked c.args.now c.args.self.now c.args.self.now c.in-Some.packet c.requires.ready stays (held-answer c.args.now c.self.inside c.args.self.now c.in-Some.packet c.self.view_is (sym c.packet.ensures ∙ c.in-Some.is)).packet);
+  arrived = search rules;
+  shown = held-shows c.args.now c.self.inside c.args.self.now c.in-Some.packet c.self.view_is (sym c.packet.ensures ∙ c.in-Some.is) c.sending.result c.sending.ensures;
+  packet = ap (λ (s : Shown). unwrap_or s.packet c.args.out.now) (sym c.sending.ensures);
+  signals = search rules;
+}
 
 pub node::Node::dequeue-invariant_of-self-then-not-has_packet : goal.node::Node::dequeue-invariant_of-self-then-not-has_packet
 node::Node::dequeue-invariant_of-self-then-not-has_packet g t c =
@@ -261,53 +258,45 @@ node::Node::dequeue-invariant_of-self-then-not-has_packet g t c =
     (ap (λ (f : FifoState). spec.Fifo f.limit f.packets) c.dequeue_head-shown.ensures.rest) refl (ap (λ (f : FifoState). f.places) c.dequeue_head-shown.ensures.rest ∙ sym (ap places_seen c.in-Fifo.is))
     (c.dequeue_head-shown.ensures.shown ∙ sym (slice_get-map (λ (s : Stamped). s.packet) c.in-Fifo.fifo.packets 0)) c.dequeue_head-shown.ensures.dropped c.dequeue_head-shown.ensures.marked).children.shown (omega (arith, c.self.ranges, c.fit.ensures.packets, c.fit.ensures.bytes)) (omega (arith, c.self.ranges, c.fit.ensures.packets, c.fit.ensures.bytes))) (shown-nothing c.dequeue_head-shown.result c.self.inside.row c.dequeue_head-shown.ensures.dropped c.dequeue_head-shown.ensures.marked) (none-held c.dequeue_head-shown.result.packet (sym c.if-not-has_packet.true ∙ c.has_packet.ensures))).stays
 
-pub node::Node::dequeue-returns-then-not-has_packet-clause-after : goal.node::Node::dequeue-returns-then-not-has_packet-clause-after
-node::Node::dequeue-returns-then-not-has_packet-clause-after g t c =
-    (none-sent c.args.now c.self.inside c.args.self.now c.self.invariant c.self.view_is c.requires.ready (sym c.packet.ensures ∙ c.in_default.is) (code.Fifo c.dequeue_head-shown.new.fifo) c.dequeue_head-shown.result (fifo-sent c.args.now c.self.inside.handle c.self.inside.filters c.self.inside.discipline (code.Fifo c.dequeue_head-shown.new.fifo) c.in-Fifo.fifo.limit c.in-Fifo.fifo.packets c.dequeue_head-shown.result (ap discipline_seen c.in-Fifo.is) (ap children_seen c.in-Fifo.is)
-    (ap (λ (f : FifoState). spec.Fifo f.limit f.packets) c.dequeue_head-shown.ensures.rest) refl (ap (λ (f : FifoState). f.places) c.dequeue_head-shown.ensures.rest ∙ sym (ap places_seen c.in-Fifo.is))
-    (c.dequeue_head-shown.ensures.shown ∙ sym (slice_get-map (λ (s : Stamped). s.packet) c.in-Fifo.fifo.packets 0)) c.dequeue_head-shown.ensures.dropped c.dequeue_head-shown.ensures.marked) c.self.inside.row (can-book c.args.now c.self.inside c.args.self.now c.self.invariant c.self.view_is c.requires.ready (sym c.packet.ensures ∙ c.in_default.is) c.dequeue_head-shown.result (fifo-sent c.args.now c.self.inside.handle c.self.inside.filters c.self.inside.discipline (code.Fifo c.dequeue_head-shown.new.fifo) c.in-Fifo.fifo.limit c.in-Fifo.fifo.packets c.dequeue_head-shown.result (ap discipline_seen c.in-Fifo.is) (ap children_seen c.in-Fifo.is)
-    (ap (λ (f : FifoState). spec.Fifo f.limit f.packets) c.dequeue_head-shown.ensures.rest) refl (ap (λ (f : FifoState). f.places) c.dequeue_head-shown.ensures.rest ∙ sym (ap places_seen c.in-Fifo.is))
-    (c.dequeue_head-shown.ensures.shown ∙ sym (slice_get-map (λ (s : Stamped). s.packet) c.in-Fifo.fifo.packets 0)) c.dequeue_head-shown.ensures.dropped c.dequeue_head-shown.ensures.marked).children.shown (omega (arith, c.self.ranges, c.fit.ensures.packets, c.fit.ensures.bytes)) (omega (arith, c.self.ranges, c.fit.ensures.packets, c.fit.ensures.bytes))) (shown-nothing c.dequeue_head-shown.result c.self.inside.row c.dequeue_head-shown.ensures.dropped c.dequeue_head-shown.ensures.marked) (none-held c.dequeue_head-shown.result.packet (sym c.if-not-has_packet.true ∙ c.has_packet.ensures))).after
+pub node::Node::dequeue-returns-then-not-has_packet-clause-dequeued : goal.node::Node::dequeue-returns-then-not-has_packet-clause-dequeued
+node::Node::dequeue-returns-then-not-has_packet-clause-dequeued g t c = record {
+  after = (none-sent c.args.now c.self.inside c.args.self.now c.self.invariant c.self.view_is c.requires.ready (sym c.packet.ensures ∙ c.in_default.is) (code.Fifo c.dequeue_head-shown.new.fifo) c.dequeue_head-shown.result (fifo-sent c.args.now c.self.inside.handle c.self.inside.filters c.self.inside.discipline (code.Fifo c.dequeue_head-shown.new.fifo) c.in-Fifo.fifo.limit c.in-Fifo.fifo.packets c.dequeue_head-shown.result (ap discipline_seen c.in-Fifo.is) (ap children_seen c.in-Fifo.is)
+      (ap (λ (f : FifoState). spec.Fifo f.limit f.packets) c.dequeue_head-shown.ensures.rest) refl (ap (λ (f : FifoState). f.places) c.dequeue_head-shown.ensures.rest ∙ sym (ap places_seen c.in-Fifo.is))
+      (c.dequeue_head-shown.ensures.shown ∙ sym (slice_get-map (λ (s : Stamped). s.packet) c.in-Fifo.fifo.packets 0)) c.dequeue_head-shown.ensures.dropped c.dequeue_head-shown.ensures.marked) c.self.inside.row (can-book c.args.now c.self.inside c.args.self.now c.self.invariant c.self.view_is c.requires.ready (sym c.packet.ensures ∙ c.in_default.is) c.dequeue_head-shown.result (fifo-sent c.args.now c.self.inside.handle c.self.inside.filters c.self.inside.discipline (code.Fifo c.dequeue_head-shown.new.fifo) c.in-Fifo.fifo.limit c.in-Fifo.fifo.packets c.dequeue_head-shown.result (ap discipline_seen c.in-Fifo.is) (ap children_seen c.in-Fifo.is)
+      (ap (λ (f : FifoState). spec.Fifo f.limit f.packets) c.dequeue_head-shown.ensures.rest) refl (ap (λ (f : FifoState). f.places) c.dequeue_head-shown.ensures.rest ∙ sym (ap places_seen c.in-Fifo.is))
+      (c.dequeue_head-shown.ensures.shown ∙ sym (slice_get-map (λ (s : Stamped). s.packet) c.in-Fifo.fifo.packets 0)) c.dequeue_head-shown.ensures.dropped c.dequeue_head-shown.ensures.marked).children.shown (omega (arith, c.self.ranges, c.fit.ensures.packets, c.fit.ensures.bytes)) (omega (arith, c.self.ranges, c.fit.ensures.packets, c.fit.ensures.bytes))) (shown-nothing c.dequeue_head-shown.result c.self.inside.row c.dequeue_head-shown.ensures.dropped c.dequeue_head-shown.ensures.marked) (none-held c.dequeue_head-shown.result.packet (sym c.if-not-has_packet.true ∙ c.has_packet.ensures))).after;
+  arrived = search rules;
+  shown = shown-here c.args.now c.self.inside c.args.self.now c.self.invariant c.self.view_is c.requires.ready (sym c.packet.ensures ∙ c.in_default.is) c.dequeue_head-shown.result (fifo-sent c.args.now c.self.inside.handle c.self.inside.filters c.self.inside.discipline (code.Fifo c.dequeue_head-shown.new.fifo) c.in-Fifo.fifo.limit c.in-Fifo.fifo.packets c.dequeue_head-shown.result (ap discipline_seen c.in-Fifo.is) (ap children_seen c.in-Fifo.is)
+      (ap (λ (f : FifoState). spec.Fifo f.limit f.packets) c.dequeue_head-shown.ensures.rest) refl (ap (λ (f : FifoState). f.places) c.dequeue_head-shown.ensures.rest ∙ sym (ap places_seen c.in-Fifo.is))
+      (c.dequeue_head-shown.ensures.shown ∙ sym (slice_get-map (λ (s : Stamped). s.packet) c.in-Fifo.fifo.packets 0)) c.dequeue_head-shown.ensures.dropped c.dequeue_head-shown.ensures.marked).children.shown;
+  packet = search rules;
+  signals = c.requires.clean ∙ sym (signals-nothing c.dequeue_head-shown.result c.dequeue_head-shown.ensures.dropped c.dequeue_head-shown.ensures.marked);
+}
 
-pub node::Node::dequeue-returns-then-not-has_packet-clause-shown : goal.node::Node::dequeue-returns-then-not-has_packet-clause-shown
-node::Node::dequeue-returns-then-not-has_packet-clause-shown g t c =
-    shown-here c.args.now c.self.inside c.args.self.now c.self.invariant c.self.view_is c.requires.ready (sym c.packet.ensures ∙ c.in_default.is) c.dequeue_head-shown.result (fifo-sent c.args.now c.self.inside.handle c.self.inside.filters c.self.inside.discipline (code.Fifo c.dequeue_head-shown.new.fifo) c.in-Fifo.fifo.limit c.in-Fifo.fifo.packets c.dequeue_head-shown.result (ap discipline_seen c.in-Fifo.is) (ap children_seen c.in-Fifo.is)
-    (ap (λ (f : FifoState). spec.Fifo f.limit f.packets) c.dequeue_head-shown.ensures.rest) refl (ap (λ (f : FifoState). f.places) c.dequeue_head-shown.ensures.rest ∙ sym (ap places_seen c.in-Fifo.is))
-    (c.dequeue_head-shown.ensures.shown ∙ sym (slice_get-map (λ (s : Stamped). s.packet) c.in-Fifo.fifo.packets 0)) c.dequeue_head-shown.ensures.dropped c.dequeue_head-shown.ensures.marked).children.shown
+pub node::Node::dequeue-returns-then-not-has_packet-clause-told : goal.node::Node::dequeue-returns-then-not-has_packet-clause-told
+node::Node::dequeue-returns-then-not-has_packet-clause-told g t c =
+    told-here c.args.now c.self.inside c.args.self.now c.self.invariant c.self.view_is c.requires.ready (sym c.packet.ensures ∙ c.in_default.is) (g.S.Sink.losses c.args.sink.now) (g.S.Sink.losses c.args.sink.now) (g.S.Sink.room c.args.sink.now) (g.S.Sink.room c.args.sink.now)
+    (told-in c.args.now c.self.inside.handle c.self.inside.filters c.self.inside.discipline (spec.Fifo c.in-Fifo.fifo.limit c.in-Fifo.fifo.packets) [] (g.S.Sink.losses c.args.sink.now) (g.S.Sink.losses c.args.sink.now) (g.S.Sink.room c.args.sink.now) (g.S.Sink.room c.args.sink.now) (ap discipline_seen c.in-Fifo.is) (ap children_seen c.in-Fifo.is) (told-nothing (g.S.Sink.losses c.args.sink.now) (g.S.Sink.room c.args.sink.now)))
 
-pub node::Node::dequeue-returns-then-not-has_packet-clause-lost : goal.node::Node::dequeue-returns-then-not-has_packet-clause-lost
-node::Node::dequeue-returns-then-not-has_packet-clause-lost g t c =
-    (told-here c.args.now c.self.inside c.args.self.now c.self.invariant c.self.view_is c.requires.ready (sym c.packet.ensures ∙ c.in_default.is) (g.S.Sink.losses c.args.sink.now) (g.S.Sink.losses c.args.sink.now) (g.S.Sink.room c.args.sink.now) (g.S.Sink.room c.args.sink.now)
-    (told-in c.args.now c.self.inside.handle c.self.inside.filters c.self.inside.discipline (spec.Fifo c.in-Fifo.fifo.limit c.in-Fifo.fifo.packets) [] (g.S.Sink.losses c.args.sink.now) (g.S.Sink.losses c.args.sink.now) (g.S.Sink.room c.args.sink.now) (g.S.Sink.room c.args.sink.now) (ap discipline_seen c.in-Fifo.is) (ap children_seen c.in-Fifo.is) (told-nothing (g.S.Sink.losses c.args.sink.now) (g.S.Sink.room c.args.sink.now)))).lost
+pub node::Node::dequeue-returns-in-Fifo-clause-dequeued : goal.node::Node::dequeue-returns-in-Fifo-clause-dequeued
+node::Node::dequeue-returns-in-Fifo-clause-dequeued g t c = record {
+  after = (one-sent c.args.now c.self.inside c.args.self.now c.self.invariant c.self.view_is c.requires.ready (sym c.packet.ensures ∙ c.in_default.is) (code.Fifo c.dequeue_head-shown.new.fifo) c.dequeue_head-shown.result (fifo-sent c.args.now c.self.inside.handle c.self.inside.filters c.self.inside.discipline (code.Fifo c.dequeue_head-shown.new.fifo) c.in-Fifo.fifo.limit c.in-Fifo.fifo.packets c.dequeue_head-shown.result (ap discipline_seen c.in-Fifo.is) (ap children_seen c.in-Fifo.is)
+      (ap (λ (f : FifoState). spec.Fifo f.limit f.packets) c.dequeue_head-shown.ensures.rest) refl (ap (λ (f : FifoState). f.places) c.dequeue_head-shown.ensures.rest ∙ sym (ap places_seen c.in-Fifo.is))
+      (c.dequeue_head-shown.ensures.shown ∙ sym (slice_get-map (λ (s : Stamped). s.packet) c.in-Fifo.fifo.packets 0)) c.dequeue_head-shown.ensures.dropped c.dequeue_head-shown.ensures.marked) c.self.inside.row (can-book c.args.now c.self.inside c.args.self.now c.self.invariant c.self.view_is c.requires.ready (sym c.packet.ensures ∙ c.in_default.is) c.dequeue_head-shown.result (fifo-sent c.args.now c.self.inside.handle c.self.inside.filters c.self.inside.discipline (code.Fifo c.dequeue_head-shown.new.fifo) c.in-Fifo.fifo.limit c.in-Fifo.fifo.packets c.dequeue_head-shown.result (ap discipline_seen c.in-Fifo.is) (ap children_seen c.in-Fifo.is)
+      (ap (λ (f : FifoState). spec.Fifo f.limit f.packets) c.dequeue_head-shown.ensures.rest) refl (ap (λ (f : FifoState). f.places) c.dequeue_head-shown.ensures.rest ∙ sym (ap places_seen c.in-Fifo.is))
+      (c.dequeue_head-shown.ensures.shown ∙ sym (slice_get-map (λ (s : Stamped). s.packet) c.in-Fifo.fifo.packets 0)) c.dequeue_head-shown.ensures.dropped c.dequeue_head-shown.ensures.marked).children.shown (omega (arith, c.self.ranges, c.fit.ensures.packets, c.fit.ensures.bytes)) (omega (arith, c.self.ranges, c.fit.ensures.packets, c.fit.ensures.bytes))) (shown-nothing c.dequeue_head-shown.result c.self.inside.row c.dequeue_head-shown.ensures.dropped c.dequeue_head-shown.ensures.marked) c.dequeue_head-shown.new.out (given-some c.dequeue_head-shown.result.packet c.args.out.now c.dequeue_head-shown.new.out (sym c.has_packet.ensures ∙ c.if-not-has_packet.false) c.dequeue_head-shown.ensures.packet) c.book_sent-in-Fifo.new.row c.book_sent-in-Fifo.ensures).after;
+  arrived = search rules;
+  shown = shown-here c.args.now c.self.inside c.args.self.now c.self.invariant c.self.view_is c.requires.ready (sym c.packet.ensures ∙ c.in_default.is) c.dequeue_head-shown.result (fifo-sent c.args.now c.self.inside.handle c.self.inside.filters c.self.inside.discipline (code.Fifo c.dequeue_head-shown.new.fifo) c.in-Fifo.fifo.limit c.in-Fifo.fifo.packets c.dequeue_head-shown.result (ap discipline_seen c.in-Fifo.is) (ap children_seen c.in-Fifo.is)
+      (ap (λ (f : FifoState). spec.Fifo f.limit f.packets) c.dequeue_head-shown.ensures.rest) refl (ap (λ (f : FifoState). f.places) c.dequeue_head-shown.ensures.rest ∙ sym (ap places_seen c.in-Fifo.is))
+      (c.dequeue_head-shown.ensures.shown ∙ sym (slice_get-map (λ (s : Stamped). s.packet) c.in-Fifo.fifo.packets 0)) c.dequeue_head-shown.ensures.dropped c.dequeue_head-shown.ensures.marked).children.shown;
+  packet = search rules;
+  signals = c.requires.clean ∙ sym (signals-nothing c.dequeue_head-shown.result c.dequeue_head-shown.ensures.dropped c.dequeue_head-shown.ensures.marked);
+}
 
-pub node::Node::dequeue-returns-then-not-has_packet-clause-room : goal.node::Node::dequeue-returns-then-not-has_packet-clause-room
-node::Node::dequeue-returns-then-not-has_packet-clause-room g t c =
-    (told-here c.args.now c.self.inside c.args.self.now c.self.invariant c.self.view_is c.requires.ready (sym c.packet.ensures ∙ c.in_default.is) (g.S.Sink.losses c.args.sink.now) (g.S.Sink.losses c.args.sink.now) (g.S.Sink.room c.args.sink.now) (g.S.Sink.room c.args.sink.now)
-    (told-in c.args.now c.self.inside.handle c.self.inside.filters c.self.inside.discipline (spec.Fifo c.in-Fifo.fifo.limit c.in-Fifo.fifo.packets) [] (g.S.Sink.losses c.args.sink.now) (g.S.Sink.losses c.args.sink.now) (g.S.Sink.room c.args.sink.now) (g.S.Sink.room c.args.sink.now) (ap discipline_seen c.in-Fifo.is) (ap children_seen c.in-Fifo.is) (told-nothing (g.S.Sink.losses c.args.sink.now) (g.S.Sink.room c.args.sink.now)))).room_taken
-
-pub node::Node::dequeue-returns-then-not-has_packet-clause-signals : goal.node::Node::dequeue-returns-then-not-has_packet-clause-signals
-node::Node::dequeue-returns-then-not-has_packet-clause-signals g t c =
-    c.requires.clean ∙ sym (signals-nothing c.dequeue_head-shown.result c.dequeue_head-shown.ensures.dropped c.dequeue_head-shown.ensures.marked)
-
-pub node::Node::dequeue-returns-in-Fifo-clause-shown : goal.node::Node::dequeue-returns-in-Fifo-clause-shown
-node::Node::dequeue-returns-in-Fifo-clause-shown g t c =
-    shown-here c.args.now c.self.inside c.args.self.now c.self.invariant c.self.view_is c.requires.ready (sym c.packet.ensures ∙ c.in_default.is) c.dequeue_head-shown.result (fifo-sent c.args.now c.self.inside.handle c.self.inside.filters c.self.inside.discipline (code.Fifo c.dequeue_head-shown.new.fifo) c.in-Fifo.fifo.limit c.in-Fifo.fifo.packets c.dequeue_head-shown.result (ap discipline_seen c.in-Fifo.is) (ap children_seen c.in-Fifo.is)
-    (ap (λ (f : FifoState). spec.Fifo f.limit f.packets) c.dequeue_head-shown.ensures.rest) refl (ap (λ (f : FifoState). f.places) c.dequeue_head-shown.ensures.rest ∙ sym (ap places_seen c.in-Fifo.is))
-    (c.dequeue_head-shown.ensures.shown ∙ sym (slice_get-map (λ (s : Stamped). s.packet) c.in-Fifo.fifo.packets 0)) c.dequeue_head-shown.ensures.dropped c.dequeue_head-shown.ensures.marked).children.shown
-
-pub node::Node::dequeue-returns-in-Fifo-clause-lost : goal.node::Node::dequeue-returns-in-Fifo-clause-lost
-node::Node::dequeue-returns-in-Fifo-clause-lost g t c =
-    (told-here c.args.now c.self.inside c.args.self.now c.self.invariant c.self.view_is c.requires.ready (sym c.packet.ensures ∙ c.in_default.is) (g.S.Sink.losses c.args.sink.now) (g.S.Sink.losses c.args.sink.now) (g.S.Sink.room c.args.sink.now) (g.S.Sink.room c.args.sink.now)
-    (told-in c.args.now c.self.inside.handle c.self.inside.filters c.self.inside.discipline (spec.Fifo c.in-Fifo.fifo.limit c.in-Fifo.fifo.packets) [] (g.S.Sink.losses c.args.sink.now) (g.S.Sink.losses c.args.sink.now) (g.S.Sink.room c.args.sink.now) (g.S.Sink.room c.args.sink.now) (ap discipline_seen c.in-Fifo.is) (ap children_seen c.in-Fifo.is) (told-nothing (g.S.Sink.losses c.args.sink.now) (g.S.Sink.room c.args.sink.now)))).lost
-
-pub node::Node::dequeue-returns-in-Fifo-clause-room : goal.node::Node::dequeue-returns-in-Fifo-clause-room
-node::Node::dequeue-returns-in-Fifo-clause-room g t c =
-    (told-here c.args.now c.self.inside c.args.self.now c.self.invariant c.self.view_is c.requires.ready (sym c.packet.ensures ∙ c.in_default.is) (g.S.Sink.losses c.args.sink.now) (g.S.Sink.losses c.args.sink.now) (g.S.Sink.room c.args.sink.now) (g.S.Sink.room c.args.sink.now)
-    (told-in c.args.now c.self.inside.handle c.self.inside.filters c.self.inside.discipline (spec.Fifo c.in-Fifo.fifo.limit c.in-Fifo.fifo.packets) [] (g.S.Sink.losses c.args.sink.now) (g.S.Sink.losses c.args.sink.now) (g.S.Sink.room c.args.sink.now) (g.S.Sink.room c.args.sink.now) (ap discipline_seen c.in-Fifo.is) (ap children_seen c.in-Fifo.is) (told-nothing (g.S.Sink.losses c.args.sink.now) (g.S.Sink.room c.args.sink.now)))).room_taken
-
-pub node::Node::dequeue-returns-in-Fifo-clause-signals : goal.node::Node::dequeue-returns-in-Fifo-clause-signals
-node::Node::dequeue-returns-in-Fifo-clause-signals g t c =
-    c.requires.clean ∙ sym (signals-nothing c.dequeue_head-shown.result c.dequeue_head-shown.ensures.dropped c.dequeue_head-shown.ensures.marked)
+pub node::Node::dequeue-returns-in-Fifo-clause-told : goal.node::Node::dequeue-returns-in-Fifo-clause-told
+node::Node::dequeue-returns-in-Fifo-clause-told g t c =
+    told-here c.args.now c.self.inside c.args.self.now c.self.invariant c.self.view_is c.requires.ready (sym c.packet.ensures ∙ c.in_default.is) (g.S.Sink.losses c.args.sink.now) (g.S.Sink.losses c.args.sink.now) (g.S.Sink.room c.args.sink.now) (g.S.Sink.room c.args.sink.now)
+    (told-in c.args.now c.self.inside.handle c.self.inside.filters c.self.inside.discipline (spec.Fifo c.in-Fifo.fifo.limit c.in-Fifo.fifo.packets) [] (g.S.Sink.losses c.args.sink.now) (g.S.Sink.losses c.args.sink.now) (g.S.Sink.room c.args.sink.now) (g.S.Sink.room c.args.sink.now) (ap discipline_seen c.in-Fifo.is) (ap children_seen c.in-Fifo.is) (told-nothing (g.S.Sink.losses c.args.sink.now) (g.S.Sink.room c.args.sink.now)))
 
 pub node::Node::dequeue-book_sent-requires-in-Fifo-clause-balanced : goal.node::Node::dequeue-book_sent-requires-in-Fifo-clause-balanced
 node::Node::dequeue-book_sent-requires-in-Fifo-clause-balanced g t c =
@@ -350,14 +339,6 @@ node::Node::dequeue-invariant_of-self-in-Fifo g t c =
     (ap (λ (f : FifoState). spec.Fifo f.limit f.packets) c.dequeue_head-shown.ensures.rest) refl (ap (λ (f : FifoState). f.places) c.dequeue_head-shown.ensures.rest ∙ sym (ap places_seen c.in-Fifo.is))
     (c.dequeue_head-shown.ensures.shown ∙ sym (slice_get-map (λ (s : Stamped). s.packet) c.in-Fifo.fifo.packets 0)) c.dequeue_head-shown.ensures.dropped c.dequeue_head-shown.ensures.marked).children.shown (omega (arith, c.self.ranges, c.fit.ensures.packets, c.fit.ensures.bytes)) (omega (arith, c.self.ranges, c.fit.ensures.packets, c.fit.ensures.bytes))) (shown-nothing c.dequeue_head-shown.result c.self.inside.row c.dequeue_head-shown.ensures.dropped c.dequeue_head-shown.ensures.marked) c.dequeue_head-shown.new.out (given-some c.dequeue_head-shown.result.packet c.args.out.now c.dequeue_head-shown.new.out (sym c.has_packet.ensures ∙ c.if-not-has_packet.false) c.dequeue_head-shown.ensures.packet) c.book_sent-in-Fifo.new.row c.book_sent-in-Fifo.ensures).stays
 
-pub node::Node::dequeue-returns-in-Fifo-clause-after : goal.node::Node::dequeue-returns-in-Fifo-clause-after
-node::Node::dequeue-returns-in-Fifo-clause-after g t c =
-    (one-sent c.args.now c.self.inside c.args.self.now c.self.invariant c.self.view_is c.requires.ready (sym c.packet.ensures ∙ c.in_default.is) (code.Fifo c.dequeue_head-shown.new.fifo) c.dequeue_head-shown.result (fifo-sent c.args.now c.self.inside.handle c.self.inside.filters c.self.inside.discipline (code.Fifo c.dequeue_head-shown.new.fifo) c.in-Fifo.fifo.limit c.in-Fifo.fifo.packets c.dequeue_head-shown.result (ap discipline_seen c.in-Fifo.is) (ap children_seen c.in-Fifo.is)
-    (ap (λ (f : FifoState). spec.Fifo f.limit f.packets) c.dequeue_head-shown.ensures.rest) refl (ap (λ (f : FifoState). f.places) c.dequeue_head-shown.ensures.rest ∙ sym (ap places_seen c.in-Fifo.is))
-    (c.dequeue_head-shown.ensures.shown ∙ sym (slice_get-map (λ (s : Stamped). s.packet) c.in-Fifo.fifo.packets 0)) c.dequeue_head-shown.ensures.dropped c.dequeue_head-shown.ensures.marked) c.self.inside.row (can-book c.args.now c.self.inside c.args.self.now c.self.invariant c.self.view_is c.requires.ready (sym c.packet.ensures ∙ c.in_default.is) c.dequeue_head-shown.result (fifo-sent c.args.now c.self.inside.handle c.self.inside.filters c.self.inside.discipline (code.Fifo c.dequeue_head-shown.new.fifo) c.in-Fifo.fifo.limit c.in-Fifo.fifo.packets c.dequeue_head-shown.result (ap discipline_seen c.in-Fifo.is) (ap children_seen c.in-Fifo.is)
-    (ap (λ (f : FifoState). spec.Fifo f.limit f.packets) c.dequeue_head-shown.ensures.rest) refl (ap (λ (f : FifoState). f.places) c.dequeue_head-shown.ensures.rest ∙ sym (ap places_seen c.in-Fifo.is))
-    (c.dequeue_head-shown.ensures.shown ∙ sym (slice_get-map (λ (s : Stamped). s.packet) c.in-Fifo.fifo.packets 0)) c.dequeue_head-shown.ensures.dropped c.dequeue_head-shown.ensures.marked).children.shown (omega (arith, c.self.ranges, c.fit.ensures.packets, c.fit.ensures.bytes)) (omega (arith, c.self.ranges, c.fit.ensures.packets, c.fit.ensures.bytes))) (shown-nothing c.dequeue_head-shown.result c.self.inside.row c.dequeue_head-shown.ensures.dropped c.dequeue_head-shown.ensures.marked) c.dequeue_head-shown.new.out (given-some c.dequeue_head-shown.result.packet c.args.out.now c.dequeue_head-shown.new.out (sym c.has_packet.ensures ∙ c.if-not-has_packet.false) c.dequeue_head-shown.ensures.packet) c.book_sent-in-Fifo.new.row c.book_sent-in-Fifo.ensures).after
-
 pub node::Node::dequeue_further-dequeue-shown-requires : goal.node::Node::dequeue_further-dequeue-shown-requires
 node::Node::dequeue_further-dequeue-shown-requires g t c κs within = (
   omega (arith, children-size c.self.inside c.args.self.now (children_seen c.self.inside.discipline) c.self.view_is refl, c.decreases),
@@ -378,33 +359,31 @@ pub node::Node::dequeue_further-invariant_of-self : goal.node::Node::dequeue_fur
 node::Node::dequeue_further-invariant_of-self g t c =
     (none-sent c.args.now c.self.inside c.args.self.now c.self.invariant c.self.view_is c.requires.ready (ap (λ (n : Node Kept). n.own.held) c.self.view_is ∙ c.requires.none) c.dequeue-shown.new.self c.dequeue-shown.result (c.dequeue-shown.ensures.after c.self.inside.handle c.self.inside.filters) c.book_shown.new.row (can-book c.args.now c.self.inside c.args.self.now c.self.invariant c.self.view_is c.requires.ready (ap (λ (n : Node Kept). n.own.held) c.self.view_is ∙ c.requires.none) c.dequeue-shown.result (c.dequeue-shown.ensures.after c.self.inside.handle c.self.inside.filters).children.shown (omega (arith, c.self.ranges, c.fit.ensures.packets, c.fit.ensures.bytes)) (omega (arith, c.self.ranges, c.fit.ensures.packets, c.fit.ensures.bytes))) c.book_shown.ensures (none-held c.dequeue-shown.result.packet (sym c.if-not-has_packet.true ∙ c.has_packet.ensures))).stays
 
-pub node::Node::dequeue_further-returns-then-not-has_packet-clause-after : goal.node::Node::dequeue_further-returns-then-not-has_packet-clause-after
-node::Node::dequeue_further-returns-then-not-has_packet-clause-after g t c =
-    (none-sent c.args.now c.self.inside c.args.self.now c.self.invariant c.self.view_is c.requires.ready (ap (λ (n : Node Kept). n.own.held) c.self.view_is ∙ c.requires.none) c.dequeue-shown.new.self c.dequeue-shown.result (c.dequeue-shown.ensures.after c.self.inside.handle c.self.inside.filters) c.book_shown.new.row (can-book c.args.now c.self.inside c.args.self.now c.self.invariant c.self.view_is c.requires.ready (ap (λ (n : Node Kept). n.own.held) c.self.view_is ∙ c.requires.none) c.dequeue-shown.result (c.dequeue-shown.ensures.after c.self.inside.handle c.self.inside.filters).children.shown (omega (arith, c.self.ranges, c.fit.ensures.packets, c.fit.ensures.bytes)) (omega (arith, c.self.ranges, c.fit.ensures.packets, c.fit.ensures.bytes))) c.book_shown.ensures (none-held c.dequeue-shown.result.packet (sym c.if-not-has_packet.true ∙ c.has_packet.ensures))).after
+pub node::Node::dequeue_further-returns-then-not-has_packet-clause-dequeued : goal.node::Node::dequeue_further-returns-then-not-has_packet-clause-dequeued
+node::Node::dequeue_further-returns-then-not-has_packet-clause-dequeued g t c = record {
+  after = (none-sent c.args.now c.self.inside c.args.self.now c.self.invariant c.self.view_is c.requires.ready (ap (λ (n : Node Kept). n.own.held) c.self.view_is ∙ c.requires.none) c.dequeue-shown.new.self c.dequeue-shown.result (c.dequeue-shown.ensures.after c.self.inside.handle c.self.inside.filters) c.book_shown.new.row (can-book c.args.now c.self.inside c.args.self.now c.self.invariant c.self.view_is c.requires.ready (ap (λ (n : Node Kept). n.own.held) c.self.view_is ∙ c.requires.none) c.dequeue-shown.result (c.dequeue-shown.ensures.after c.self.inside.handle c.self.inside.filters).children.shown (omega (arith, c.self.ranges, c.fit.ensures.packets, c.fit.ensures.bytes)) (omega (arith, c.self.ranges, c.fit.ensures.packets, c.fit.ensures.bytes))) c.book_shown.ensures (none-held c.dequeue-shown.result.packet (sym c.if-not-has_packet.true ∙ c.has_packet.ensures))).after;
+  arrived = search rules;
+  shown = shown-here c.args.now c.self.inside c.args.self.now c.self.invariant c.self.view_is c.requires.ready (ap (λ (n : Node Kept). n.own.held) c.self.view_is ∙ c.requires.none) c.dequeue-shown.result (c.dequeue-shown.ensures.after c.self.inside.handle c.self.inside.filters).children.shown;
+  packet = search rules;
+  signals = search rules;
+}
 
-pub node::Node::dequeue_further-returns-then-not-has_packet-clause-shown : goal.node::Node::dequeue_further-returns-then-not-has_packet-clause-shown
-node::Node::dequeue_further-returns-then-not-has_packet-clause-shown g t c =
-    shown-here c.args.now c.self.inside c.args.self.now c.self.invariant c.self.view_is c.requires.ready (ap (λ (n : Node Kept). n.own.held) c.self.view_is ∙ c.requires.none) c.dequeue-shown.result (c.dequeue-shown.ensures.after c.self.inside.handle c.self.inside.filters).children.shown
+pub node::Node::dequeue_further-returns-then-not-has_packet-clause-told : goal.node::Node::dequeue_further-returns-then-not-has_packet-clause-told
+node::Node::dequeue_further-returns-then-not-has_packet-clause-told g t c =
+    told-here c.args.now c.self.inside c.args.self.now c.self.invariant c.self.view_is c.requires.ready (ap (λ (n : Node Kept). n.own.held) c.self.view_is ∙ c.requires.none) (g.S.Sink.losses c.args.sink.now) (g.S.Sink.losses c.dequeue-shown.new.sink) (g.S.Sink.room c.args.sink.now) (g.S.Sink.room c.dequeue-shown.new.sink) (c.dequeue-shown.ensures.told c.self.inside.handle c.self.inside.filters)
 
-pub node::Node::dequeue_further-returns-clause-shown : goal.node::Node::dequeue_further-returns-clause-shown
-node::Node::dequeue_further-returns-clause-shown g t c =
-    shown-here c.args.now c.self.inside c.args.self.now c.self.invariant c.self.view_is c.requires.ready (ap (λ (n : Node Kept). n.own.held) c.self.view_is ∙ c.requires.none) c.dequeue-shown.result (c.dequeue-shown.ensures.after c.self.inside.handle c.self.inside.filters).children.shown
+pub node::Node::dequeue_further-returns-clause-dequeued : goal.node::Node::dequeue_further-returns-clause-dequeued
+node::Node::dequeue_further-returns-clause-dequeued g t c = record {
+  after = (one-sent c.args.now c.self.inside c.args.self.now c.self.invariant c.self.view_is c.requires.ready (ap (λ (n : Node Kept). n.own.held) c.self.view_is ∙ c.requires.none) c.dequeue-shown.new.self c.dequeue-shown.result (c.dequeue-shown.ensures.after c.self.inside.handle c.self.inside.filters) c.book_shown.new.row (can-book c.args.now c.self.inside c.args.self.now c.self.invariant c.self.view_is c.requires.ready (ap (λ (n : Node Kept). n.own.held) c.self.view_is ∙ c.requires.none) c.dequeue-shown.result (c.dequeue-shown.ensures.after c.self.inside.handle c.self.inside.filters).children.shown (omega (arith, c.self.ranges, c.fit.ensures.packets, c.fit.ensures.bytes)) (omega (arith, c.self.ranges, c.fit.ensures.packets, c.fit.ensures.bytes))) c.book_shown.ensures c.dequeue-shown.new.out (given-some c.dequeue-shown.result.packet c.args.out.now c.dequeue-shown.new.out (sym c.has_packet.ensures ∙ c.if-not-has_packet.false) c.dequeue-shown.ensures.packet) c.book_sent.new.row c.book_sent.ensures).after;
+  arrived = search rules;
+  shown = shown-here c.args.now c.self.inside c.args.self.now c.self.invariant c.self.view_is c.requires.ready (ap (λ (n : Node Kept). n.own.held) c.self.view_is ∙ c.requires.none) c.dequeue-shown.result (c.dequeue-shown.ensures.after c.self.inside.handle c.self.inside.filters).children.shown;
+  packet = search rules;
+  signals = search rules;
+}
 
-pub node::Node::dequeue_further-returns-then-not-has_packet-clause-lost : goal.node::Node::dequeue_further-returns-then-not-has_packet-clause-lost
-node::Node::dequeue_further-returns-then-not-has_packet-clause-lost g t c =
-    (told-here c.args.now c.self.inside c.args.self.now c.self.invariant c.self.view_is c.requires.ready (ap (λ (n : Node Kept). n.own.held) c.self.view_is ∙ c.requires.none) (g.S.Sink.losses c.args.sink.now) (g.S.Sink.losses c.dequeue-shown.new.sink) (g.S.Sink.room c.args.sink.now) (g.S.Sink.room c.dequeue-shown.new.sink) (c.dequeue-shown.ensures.told c.self.inside.handle c.self.inside.filters)).lost
-
-pub node::Node::dequeue_further-returns-then-not-has_packet-clause-room : goal.node::Node::dequeue_further-returns-then-not-has_packet-clause-room
-node::Node::dequeue_further-returns-then-not-has_packet-clause-room g t c =
-    (told-here c.args.now c.self.inside c.args.self.now c.self.invariant c.self.view_is c.requires.ready (ap (λ (n : Node Kept). n.own.held) c.self.view_is ∙ c.requires.none) (g.S.Sink.losses c.args.sink.now) (g.S.Sink.losses c.dequeue-shown.new.sink) (g.S.Sink.room c.args.sink.now) (g.S.Sink.room c.dequeue-shown.new.sink) (c.dequeue-shown.ensures.told c.self.inside.handle c.self.inside.filters)).room_taken
-
-pub node::Node::dequeue_further-returns-clause-lost : goal.node::Node::dequeue_further-returns-clause-lost
-node::Node::dequeue_further-returns-clause-lost g t c =
-    (told-here c.args.now c.self.inside c.args.self.now c.self.invariant c.self.view_is c.requires.ready (ap (λ (n : Node Kept). n.own.held) c.self.view_is ∙ c.requires.none) (g.S.Sink.losses c.args.sink.now) (g.S.Sink.losses c.dequeue-shown.new.sink) (g.S.Sink.room c.args.sink.now) (g.S.Sink.room c.dequeue-shown.new.sink) (c.dequeue-shown.ensures.told c.self.inside.handle c.self.inside.filters)).lost
-
-pub node::Node::dequeue_further-returns-clause-room : goal.node::Node::dequeue_further-returns-clause-room
-node::Node::dequeue_further-returns-clause-room g t c =
-    (told-here c.args.now c.self.inside c.args.self.now c.self.invariant c.self.view_is c.requires.ready (ap (λ (n : Node Kept). n.own.held) c.self.view_is ∙ c.requires.none) (g.S.Sink.losses c.args.sink.now) (g.S.Sink.losses c.dequeue-shown.new.sink) (g.S.Sink.room c.args.sink.now) (g.S.Sink.room c.dequeue-shown.new.sink) (c.dequeue-shown.ensures.told c.self.inside.handle c.self.inside.filters)).room_taken
+pub node::Node::dequeue_further-returns-clause-told : goal.node::Node::dequeue_further-returns-clause-told
+node::Node::dequeue_further-returns-clause-told g t c =
+    told-here c.args.now c.self.inside c.args.self.now c.self.invariant c.self.view_is c.requires.ready (ap (λ (n : Node Kept). n.own.held) c.self.view_is ∙ c.requires.none) (g.S.Sink.losses c.args.sink.now) (g.S.Sink.losses c.dequeue-shown.new.sink) (g.S.Sink.room c.args.sink.now) (g.S.Sink.room c.dequeue-shown.new.sink) (c.dequeue-shown.ensures.told c.self.inside.handle c.self.inside.filters)
 
 pub node::Node::dequeue_further-book_sent-requires-clause-balanced : goal.node::Node::dequeue_further-book_sent-requires-clause-balanced
 node::Node::dequeue_further-book_sent-requires-clause-balanced g t c =
@@ -427,7 +406,3 @@ node::Node::dequeue_further-book_sent-requires-clause-room g t c =
 pub node::Node::dequeue_further-invariant_of-self-2 : goal.node::Node::dequeue_further-invariant_of-self-2
 node::Node::dequeue_further-invariant_of-self-2 g t c =
     (one-sent c.args.now c.self.inside c.args.self.now c.self.invariant c.self.view_is c.requires.ready (ap (λ (n : Node Kept). n.own.held) c.self.view_is ∙ c.requires.none) c.dequeue-shown.new.self c.dequeue-shown.result (c.dequeue-shown.ensures.after c.self.inside.handle c.self.inside.filters) c.book_shown.new.row (can-book c.args.now c.self.inside c.args.self.now c.self.invariant c.self.view_is c.requires.ready (ap (λ (n : Node Kept). n.own.held) c.self.view_is ∙ c.requires.none) c.dequeue-shown.result (c.dequeue-shown.ensures.after c.self.inside.handle c.self.inside.filters).children.shown (omega (arith, c.self.ranges, c.fit.ensures.packets, c.fit.ensures.bytes)) (omega (arith, c.self.ranges, c.fit.ensures.packets, c.fit.ensures.bytes))) c.book_shown.ensures c.dequeue-shown.new.out (given-some c.dequeue-shown.result.packet c.args.out.now c.dequeue-shown.new.out (sym c.has_packet.ensures ∙ c.if-not-has_packet.false) c.dequeue-shown.ensures.packet) c.book_sent.new.row c.book_sent.ensures).stays
-
-pub node::Node::dequeue_further-returns-clause-after : goal.node::Node::dequeue_further-returns-clause-after
-node::Node::dequeue_further-returns-clause-after g t c =
-    (one-sent c.args.now c.self.inside c.args.self.now c.self.invariant c.self.view_is c.requires.ready (ap (λ (n : Node Kept). n.own.held) c.self.view_is ∙ c.requires.none) c.dequeue-shown.new.self c.dequeue-shown.result (c.dequeue-shown.ensures.after c.self.inside.handle c.self.inside.filters) c.book_shown.new.row (can-book c.args.now c.self.inside c.args.self.now c.self.invariant c.self.view_is c.requires.ready (ap (λ (n : Node Kept). n.own.held) c.self.view_is ∙ c.requires.none) c.dequeue-shown.result (c.dequeue-shown.ensures.after c.self.inside.handle c.self.inside.filters).children.shown (omega (arith, c.self.ranges, c.fit.ensures.packets, c.fit.ensures.bytes)) (omega (arith, c.self.ranges, c.fit.ensures.packets, c.fit.ensures.bytes))) c.book_shown.ensures c.dequeue-shown.new.out (given-some c.dequeue-shown.result.packet c.args.out.now c.dequeue-shown.new.out (sym c.has_packet.ensures ∙ c.if-not-has_packet.false) c.dequeue-shown.ensures.packet) c.book_sent.new.row c.book_sent.ensures).after

@@ -280,7 +280,7 @@ node::Discipline::ask-returns-in-FqCodel-clause-told g t c = λ handle filters.
     let is = ap discipline_seen c.in-FqCodel.is ∙ ap (λ (q : FqView). spec.FqCodel q.state) (sym c.deref_mut-in-FqCodel.ensures.value) in
     told-in c.args.now handle filters c.args.self.now (spec.FqCodel state) [] (g.S.Sink.losses c.args.sink.now) (g.S.Sink.losses c.take_from_flows.new.sink) (g.S.Sink.room c.args.sink.now) (g.S.Sink.room c.take_from_flows.new.sink)
     is (ap children_seen c.in-FqCodel.is)
-    (flow-told c.args.now state own [] (g.S.Sink.losses c.args.sink.now) (g.S.Sink.losses c.take_from_flows.new.sink) (g.S.Sink.room c.args.sink.now) (g.S.Sink.room c.take_from_flows.new.sink) e.lost e.room)
+    (flow-told c.args.now state own [] (g.S.Sink.losses c.args.sink.now) (g.S.Sink.losses c.take_from_flows.new.sink) (g.S.Sink.room c.args.sink.now) (g.S.Sink.room c.take_from_flows.new.sink) e.told)
 
 pub node::Node::peek-returns-then-is_some-clause-after :
     goal.node::Node::peek-returns-then-is_some-clause-after
@@ -302,15 +302,10 @@ node::Node::peek-returns-in-Fifo-clause-shown g t c =
     (ap discipline_seen c.in-Fifo.is) (ap children_seen c.in-Fifo.is) (ap discipline_seen c.in-Fifo.is) (ap children_seen c.in-Fifo.is) refl refl
     (record { long = refl; nodes = refl; within = λ t h. h; shown = record { packet = ap (λ (s : Shown). s.packet) c.at_hand-in-Fifo.ensures ∙ c.first_packet.ensures; dropped = ap (λ (s : Shown). s.dropped) c.at_hand-in-Fifo.ensures; marked = ap (λ (s : Shown). s.marked) c.at_hand-in-Fifo.ensures } })).children.shown
 
-pub node::Node::peek-returns-in-Fifo-clause-lost : goal.node::Node::peek-returns-in-Fifo-clause-lost
-node::Node::peek-returns-in-Fifo-clause-lost g t c =
-    (told-here c.args.now c.self.inside c.args.self.now c.self.invariant c.self.view_is c.requires.ready (none-held c.self.inside.held c.if-is_some.ensures) (g.S.Sink.losses c.args.sink.now) (g.S.Sink.losses c.args.sink.now) (g.S.Sink.room c.args.sink.now) (g.S.Sink.room c.args.sink.now)
-    (told-in c.args.now c.self.inside.handle c.self.inside.filters c.self.inside.discipline (spec.Fifo c.in-Fifo.fifo.limit c.in-Fifo.fifo.packets) [] (g.S.Sink.losses c.args.sink.now) (g.S.Sink.losses c.args.sink.now) (g.S.Sink.room c.args.sink.now) (g.S.Sink.room c.args.sink.now) (ap discipline_seen c.in-Fifo.is) (ap children_seen c.in-Fifo.is) (told-nothing (g.S.Sink.losses c.args.sink.now) (g.S.Sink.room c.args.sink.now)))).lost
-
-pub node::Node::peek-returns-in-Fifo-clause-room : goal.node::Node::peek-returns-in-Fifo-clause-room
-node::Node::peek-returns-in-Fifo-clause-room g t c =
-    (told-here c.args.now c.self.inside c.args.self.now c.self.invariant c.self.view_is c.requires.ready (none-held c.self.inside.held c.if-is_some.ensures) (g.S.Sink.losses c.args.sink.now) (g.S.Sink.losses c.args.sink.now) (g.S.Sink.room c.args.sink.now) (g.S.Sink.room c.args.sink.now)
-    (told-in c.args.now c.self.inside.handle c.self.inside.filters c.self.inside.discipline (spec.Fifo c.in-Fifo.fifo.limit c.in-Fifo.fifo.packets) [] (g.S.Sink.losses c.args.sink.now) (g.S.Sink.losses c.args.sink.now) (g.S.Sink.room c.args.sink.now) (g.S.Sink.room c.args.sink.now) (ap discipline_seen c.in-Fifo.is) (ap children_seen c.in-Fifo.is) (told-nothing (g.S.Sink.losses c.args.sink.now) (g.S.Sink.room c.args.sink.now)))).room_taken
+pub node::Node::peek-returns-in-Fifo-clause-told : goal.node::Node::peek-returns-in-Fifo-clause-told
+node::Node::peek-returns-in-Fifo-clause-told g t c =
+    told-here c.args.now c.self.inside c.args.self.now c.self.invariant c.self.view_is c.requires.ready (none-held c.self.inside.held c.if-is_some.ensures) (g.S.Sink.losses c.args.sink.now) (g.S.Sink.losses c.args.sink.now) (g.S.Sink.room c.args.sink.now) (g.S.Sink.room c.args.sink.now)
+    (told-in c.args.now c.self.inside.handle c.self.inside.filters c.self.inside.discipline (spec.Fifo c.in-Fifo.fifo.limit c.in-Fifo.fifo.packets) [] (g.S.Sink.losses c.args.sink.now) (g.S.Sink.losses c.args.sink.now) (g.S.Sink.room c.args.sink.now) (g.S.Sink.room c.args.sink.now) (ap discipline_seen c.in-Fifo.is) (ap children_seen c.in-Fifo.is) (told-nothing (g.S.Sink.losses c.args.sink.now) (g.S.Sink.room c.args.sink.now)))
 
 pub node::Node::peek-returns-in-Fifo-clause-signals : goal.node::Node::peek-returns-in-Fifo-clause-signals
 node::Node::peek-returns-in-Fifo-clause-signals g t c =
@@ -355,15 +350,9 @@ pub node::Node::peek_further-returns-clause-shown :
 node::Node::peek_further-returns-clause-shown g t c =
     shown-here c.args.now c.self.inside c.args.self.now c.self.invariant c.self.view_is c.requires.ready (ap (λ (n : Node Kept). n.own.held) c.self.view_is ∙ c.requires.none) c.ask-shown.result (c.ask-shown.ensures.after c.self.inside.handle c.self.inside.filters).children.shown
 
-pub node::Node::peek_further-returns-clause-lost :
-    goal.node::Node::peek_further-returns-clause-lost
-node::Node::peek_further-returns-clause-lost g t c =
-    (told-here c.args.now c.self.inside c.args.self.now c.self.invariant c.self.view_is c.requires.ready (ap (λ (n : Node Kept). n.own.held) c.self.view_is ∙ c.requires.none) (g.S.Sink.losses c.args.sink.now) (g.S.Sink.losses c.ask-shown.new.sink) (g.S.Sink.room c.args.sink.now) (g.S.Sink.room c.ask-shown.new.sink) (c.ask-shown.ensures.told c.self.inside.handle c.self.inside.filters)).lost
-
-pub node::Node::peek_further-returns-clause-room :
-    goal.node::Node::peek_further-returns-clause-room
-node::Node::peek_further-returns-clause-room g t c =
-    (told-here c.args.now c.self.inside c.args.self.now c.self.invariant c.self.view_is c.requires.ready (ap (λ (n : Node Kept). n.own.held) c.self.view_is ∙ c.requires.none) (g.S.Sink.losses c.args.sink.now) (g.S.Sink.losses c.ask-shown.new.sink) (g.S.Sink.room c.args.sink.now) (g.S.Sink.room c.ask-shown.new.sink) (c.ask-shown.ensures.told c.self.inside.handle c.self.inside.filters)).room_taken
+pub node::Node::peek_further-returns-clause-told : goal.node::Node::peek_further-returns-clause-told
+node::Node::peek_further-returns-clause-told g t c =
+    told-here c.args.now c.self.inside c.args.self.now c.self.invariant c.self.view_is c.requires.ready (ap (λ (n : Node Kept). n.own.held) c.self.view_is ∙ c.requires.none) (g.S.Sink.losses c.args.sink.now) (g.S.Sink.losses c.ask-shown.new.sink) (g.S.Sink.room c.args.sink.now) (g.S.Sink.room c.ask-shown.new.sink) (c.ask-shown.ensures.told c.self.inside.handle c.self.inside.filters)
 
 pub disciplines::prio::ask_bands-loop-place-init : goal.disciplines::prio::ask_bands-loop-place-init
 disciplines::prio::ask_bands-loop-place-init g t c = (
@@ -416,7 +405,7 @@ disciplines::prio::ask_bands-returns-then-has_packet-clause-told g t c = λ own.
     (band-rises c.args.now c.args.bands.now c.loop-place.bands c.loop-place.place c.loop-place.shown c.requires.ready c.loop-place.invariant.0 (slice_index_or c.loop-place.bands c.loop-place.place c.index-bands-place.result) (band-at c.args.now c.args.bands.now c.loop-place.bands c.loop-place.place c.loop-place.shown c.loop-place.invariant.0 c.index-bands-place.result c.loop-place-test.true) c.peek-next.new.self c.peek-next.result c.then-shown.result c.peek-next.ensures.after c.peek-next.ensures.arrived c.peek-next.ensures.shown
     (ap (λ (s : Shown). s.dropped) c.then-shown.ensures.asked) (ap (λ (s : Shown). s.marked) c.then-shown.ensures.asked) (ap (λ (s : Shown). s.packet) c.then-shown.ensures.asked) (sym c.if-has_packet.ensures) own)
     (told-then (told_to c.loop-place.place (answers c.args.now c.args.bands.now)) (ask c.args.now (shape (slice_index_or c.loop-place.bands c.loop-place.place c.index-bands-place.result))).rises (g.S.Sink.losses c.args.sink.now) (g.S.Sink.losses c.loop-place.sink) (g.S.Sink.losses c.peek-next.new.sink)
-    (g.S.Sink.room c.args.sink.now) (g.S.Sink.room c.loop-place.sink) (g.S.Sink.room c.peek-next.new.sink) c.loop-place.invariant.1 (record { lost = c.peek-next.ensures.lost; room_taken = c.peek-next.ensures.room }))
+    (g.S.Sink.room c.args.sink.now) (g.S.Sink.room c.loop-place.sink) (g.S.Sink.room c.peek-next.new.sink) c.loop-place.invariant.1 c.peek-next.ensures.told)
 
 pub disciplines::prio::ask_bands-returns-then-has_packet-clause-kept :
     goal.disciplines::prio::ask_bands-returns-then-has_packet-clause-kept
@@ -431,7 +420,7 @@ disciplines::prio::ask_bands-loop-place-preserved g t c = (
       (subst (λ notes. IsToldOf notes (g.S.Sink.losses c.args.sink.now) (g.S.Sink.losses c.peek-next.new.sink) (g.S.Sink.room c.args.sink.now) (g.S.Sink.room c.peek-next.new.sink))
       (band-told c.args.now c.args.bands.now c.loop-place.bands c.loop-place.place c.loop-place.shown c.requires.ready c.loop-place.invariant.0 (slice_index_or c.loop-place.bands c.loop-place.place c.index-bands-place.result) (band-at c.args.now c.args.bands.now c.loop-place.bands c.loop-place.place c.loop-place.shown c.loop-place.invariant.0 c.index-bands-place.result c.loop-place-test.true))
       (told-then (told_to c.loop-place.place (answers c.args.now c.args.bands.now)) (ask c.args.now (shape (slice_index_or c.loop-place.bands c.loop-place.place c.index-bands-place.result))).rises (g.S.Sink.losses c.args.sink.now) (g.S.Sink.losses c.loop-place.sink) (g.S.Sink.losses c.peek-next.new.sink)
-      (g.S.Sink.room c.args.sink.now) (g.S.Sink.room c.loop-place.sink) (g.S.Sink.room c.peek-next.new.sink) c.loop-place.invariant.1 (record { lost = c.peek-next.ensures.lost; room_taken = c.peek-next.ensures.room }))),
+      (g.S.Sink.room c.args.sink.now) (g.S.Sink.room c.loop-place.sink) (g.S.Sink.room c.peek-next.new.sink) c.loop-place.invariant.1 c.peek-next.ensures.told)),
   g.met.S.Sink.keeps_on c.args.sink.now c.loop-place.sink c.peek-next.new.sink c.loop-place.invariant.2 c.peek-next.ensures.kept,
   c.then-shown.ensures.signals,
 )

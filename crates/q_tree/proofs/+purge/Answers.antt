@@ -5,87 +5,47 @@ use Rattle.q_model.specs.Beneath.{packets_in, packets_of}
 use Rattle.q_model.specs.Node.{FqCodel, side_by_side}
 use Rattle.q_fqcodel.specs.FqState.{FqView, all_packets}
 use Rattle.q_tree.specs.NodeCode.{forest_size}
-use Rattle.q_tree.specs.Purging.{purged}
 use Rattle.q_tree.specs.PutSteps.{packets_beneath}
 use Rattle.q_tree.specs.Seen.{children_seen, discipline_seen}
-use Rattle.q_tree.proofs.PurgeLemmas.{own-beneath, own-count, own-size, flows-count, then-purged, queue-purged, left-count, left-size}
+use Rattle.q_tree.proofs.PurgeLemmas.{own-count, own-size, flows-count, flows-length, room-taken, queue-told, node-told, left-count, left-size}
 use Rattle.q_tree.proofs.+purge.Goals as goal
 
-pub node::Node::purge-returns-in-Fifo-clause-lost :
-    goal.node::Node::purge-returns-in-Fifo-clause-lost
-node::Node::purge-returns-in-Fifo-clause-lost g t c =
-    then-purged (g.S.Sink.losses c.args.sink.now) (g.S.Sink.losses c.purge_held.new.sink) (g.S.Sink.losses c.purge.new.sink) (option_to_list c.self.inside.held) (packets_of c.in-Fifo.fifo.packets)
-    c.purge_held.ensures.lost (c.purge.ensures.lost ∙ ap (λ ls. g.S.Sink.losses c.purge_held.new.sink ++ ls) (queue-purged c.in-Fifo.fifo.packets))
-    ∙ ap (λ ps. g.S.Sink.losses c.args.sink.now ++ purged ps)
-    (sym (own-beneath c.self.inside c.args.self c.self.view_is ∙ ap (λ d. option_to_list c.self.inside.held ++ packets_in (discipline_seen d) ++ packets_beneath (children_seen d)) c.in-Fifo.is
-    ∙ append-nil (option_to_list c.self.inside.held ++ packets_of c.in-Fifo.fifo.packets)))
+pub node::Node::purge-returns-in-Fifo-clause-told : goal.node::Node::purge-returns-in-Fifo-clause-told
+node::Node::purge-returns-in-Fifo-clause-told g t c =
+    node-told c.self.inside c.args.self c.self.view_is (packets_of c.in-Fifo.fifo.packets) (ap (λ d. packets_in (discipline_seen d) ++ packets_beneath (children_seen d)) c.in-Fifo.is ∙ append-nil (packets_of c.in-Fifo.fifo.packets)) (g.S.Sink.losses c.args.sink.now) (g.S.Sink.losses c.purge_held.new.sink) (g.S.Sink.losses c.purge.new.sink) (g.S.Sink.room c.args.sink.now) (g.S.Sink.room c.purge_held.new.sink) (g.S.Sink.room c.purge.new.sink)
+    c.purge_held.ensures.told (queue-told c.in-Fifo.fifo.packets (g.S.Sink.losses c.purge_held.new.sink) (g.S.Sink.losses c.purge.new.sink) (g.S.Sink.room c.purge_held.new.sink) (g.S.Sink.room c.purge.new.sink) c.purge.ensures.lost c.purge.ensures.room)
 
 pub node::Node::purge-purge-requires-in-FqCodel : goal.node::Node::purge-purge-requires-in-FqCodel
 node::Node::purge-purge-requires-in-FqCodel g t c =
     omega (
       arith,
       c.requires,
-      c.purge_held.ensures.room,
+      room-taken (option_to_list c.self.inside.held) (g.S.Sink.losses c.args.sink.now) (g.S.Sink.losses c.purge_held.new.sink) (g.S.Sink.room c.args.sink.now) (g.S.Sink.room c.purge_held.new.sink) c.purge_held.ensures.told,
       own-count c.self.inside c.args.self c.self.view_is,
       ap (λ d. length (packets_in (discipline_seen d))) c.in-FqCodel.is,
       ap (λ (q : FqView). length (packets_in (FqCodel q.state))) c.deref_mut.ensures.value,
       flows-count c.deref_mut.result.now.state.flows,
     )
 
-pub node::Node::purge-returns-in-FqCodel-clause-lost :
-    goal.node::Node::purge-returns-in-FqCodel-clause-lost
-node::Node::purge-returns-in-FqCodel-clause-lost g t c =
+pub node::Node::purge-returns-in-FqCodel-clause-told : goal.node::Node::purge-returns-in-FqCodel-clause-told
+node::Node::purge-returns-in-FqCodel-clause-told g t c =
     let flows = c.deref_mut.result.now.state.flows in
-    then-purged (g.S.Sink.losses c.args.sink.now) (g.S.Sink.losses c.purge_held.new.sink) (g.S.Sink.losses c.purge-in-FqCodel.new.sink) (option_to_list c.self.inside.held) (packets_of (all_packets flows))
-    c.purge_held.ensures.lost (c.purge-in-FqCodel.ensures.lost ∙ ap (λ ls. g.S.Sink.losses c.purge_held.new.sink ++ ls) (queue-purged (all_packets flows)))
-    ∙ ap (λ ps. g.S.Sink.losses c.args.sink.now ++ purged ps)
-    (sym (own-beneath c.self.inside c.args.self c.self.view_is ∙ ap (λ d. option_to_list c.self.inside.held ++ packets_in (discipline_seen d) ++ packets_beneath (children_seen d)) c.in-FqCodel.is
-    ∙ append-nil (option_to_list c.self.inside.held ++ packets_of (all_packets c.in-FqCodel.queue.value.state.flows))
-    ∙ ap (λ (q : FqView). option_to_list c.self.inside.held ++ packets_of (all_packets q.state.flows)) (sym c.deref_mut.ensures.value)))
-
-pub node::Node::purge-returns-in-FqCodel-clause-room :
-    goal.node::Node::purge-returns-in-FqCodel-clause-room
-node::Node::purge-returns-in-FqCodel-clause-room g t c =
-    omega (
-      arith,
-      c.purge-in-FqCodel.ensures.room,
-      c.purge_held.ensures.room,
-      own-count c.self.inside c.args.self c.self.view_is,
-      ap (λ d. length (packets_in (discipline_seen d))) c.in-FqCodel.is,
-      ap (λ d. length (packets_beneath (children_seen d))) c.in-FqCodel.is,
-      ap (λ (q : FqView). length (packets_in (FqCodel q.state))) c.deref_mut.ensures.value,
-      flows-count c.deref_mut.result.now.state.flows,
-    )
+    let own = ap (λ d. packets_in (discipline_seen d) ++ packets_beneath (children_seen d)) c.in-FqCodel.is ∙ append-nil (packets_of (all_packets c.in-FqCodel.queue.value.state.flows)) ∙ ap (λ (q : FqView). packets_of (all_packets q.state.flows)) (sym c.deref_mut.ensures.value) in
+    node-told c.self.inside c.args.self c.self.view_is (packets_of (all_packets flows)) own (g.S.Sink.losses c.args.sink.now) (g.S.Sink.losses c.purge_held.new.sink) (g.S.Sink.losses c.purge-in-FqCodel.new.sink) (g.S.Sink.room c.args.sink.now) (g.S.Sink.room c.purge_held.new.sink) (g.S.Sink.room c.purge-in-FqCodel.new.sink)
+    c.purge_held.ensures.told (queue-told (all_packets flows) (g.S.Sink.losses c.purge_held.new.sink) (g.S.Sink.losses c.purge-in-FqCodel.new.sink) (g.S.Sink.room c.purge_held.new.sink) (g.S.Sink.room c.purge-in-FqCodel.new.sink) c.purge-in-FqCodel.ensures.lost (omega (arith, c.purge-in-FqCodel.ensures.room, flows-length flows)))
 
 pub node::Node::purge-purge_each-requires : goal.node::Node::purge-purge_each-requires
 node::Node::purge-purge_each-requires g t c κs within = (
   omega (arith, own-size c.self.inside c.args.self c.self.view_is, ap (λ d. forest_size (side_by_side (children_seen d))) c.in-Prio.is, c.decreases),
   (
     within,
-    omega (arith, c.requires, c.purge_held.ensures.room, own-count c.self.inside c.args.self c.self.view_is, ap (λ d. length (packets_beneath (children_seen d))) c.in-Prio.is),
+    omega (arith, c.requires, room-taken (option_to_list c.self.inside.held) (g.S.Sink.losses c.args.sink.now) (g.S.Sink.losses c.purge_held.new.sink) (g.S.Sink.room c.args.sink.now) (g.S.Sink.room c.purge_held.new.sink) c.purge_held.ensures.told, own-count c.self.inside c.args.self c.self.view_is, ap (λ d. length (packets_beneath (children_seen d))) c.in-Prio.is),
   ),
 )
 
-pub node::Node::purge-returns-in-Prio-clause-lost :
-    goal.node::Node::purge-returns-in-Prio-clause-lost
-node::Node::purge-returns-in-Prio-clause-lost g t c =
-    then-purged (g.S.Sink.losses c.args.sink.now) (g.S.Sink.losses c.purge_held.new.sink) (g.S.Sink.losses c.purge_each.new.sink) (option_to_list c.self.inside.held) (packets_beneath c.in-Prio.bands.items)
-    c.purge_held.ensures.lost c.purge_each.ensures.lost
-    ∙ ap (λ ps. g.S.Sink.losses c.args.sink.now ++ purged ps)
-    (sym (own-beneath c.self.inside c.args.self c.self.view_is ∙ ap (λ d. option_to_list c.self.inside.held ++ packets_in (discipline_seen d) ++ packets_beneath (children_seen d)) c.in-Prio.is
-    ∙ ap (λ ps. ps ++ packets_beneath c.in-Prio.bands.items) (append-nil (option_to_list c.self.inside.held))))
-
-pub node::Node::purge-returns-in-Prio-clause-room :
-    goal.node::Node::purge-returns-in-Prio-clause-room
-node::Node::purge-returns-in-Prio-clause-room g t c =
-    omega (
-      arith,
-      c.purge_each.ensures.room,
-      c.purge_held.ensures.room,
-      own-count c.self.inside c.args.self c.self.view_is,
-      ap (λ d. length (packets_in (discipline_seen d))) c.in-Prio.is,
-      ap (λ d. length (packets_beneath (children_seen d))) c.in-Prio.is,
-    )
+pub node::Node::purge-returns-in-Prio-clause-told : goal.node::Node::purge-returns-in-Prio-clause-told
+node::Node::purge-returns-in-Prio-clause-told g t c =
+    node-told c.self.inside c.args.self c.self.view_is (packets_beneath c.in-Prio.bands.items) (ap (λ d. packets_in (discipline_seen d) ++ packets_beneath (children_seen d)) c.in-Prio.is) (g.S.Sink.losses c.args.sink.now) (g.S.Sink.losses c.purge_held.new.sink) (g.S.Sink.losses c.purge_each.new.sink) (g.S.Sink.room c.args.sink.now) (g.S.Sink.room c.purge_held.new.sink) (g.S.Sink.room c.purge_each.new.sink) c.purge_held.ensures.told c.purge_each.ensures.told
 
 pub node::Node::purge-purge_each-requires-in-Drr :
     goal.node::Node::purge-purge_each-requires-in-Drr
@@ -93,28 +53,13 @@ node::Node::purge-purge_each-requires-in-Drr g t c κs within = (
   omega (arith, own-size c.self.inside c.args.self c.self.view_is, ap (λ d. forest_size (side_by_side (children_seen d))) c.in-Drr.is, c.decreases),
   (
     within,
-    omega (arith, c.requires, c.purge_held.ensures.room, own-count c.self.inside c.args.self c.self.view_is, ap (λ d. length (packets_beneath (children_seen d))) c.in-Drr.is),
+    omega (arith, c.requires, room-taken (option_to_list c.self.inside.held) (g.S.Sink.losses c.args.sink.now) (g.S.Sink.losses c.purge_held.new.sink) (g.S.Sink.room c.args.sink.now) (g.S.Sink.room c.purge_held.new.sink) c.purge_held.ensures.told, own-count c.self.inside c.args.self c.self.view_is, ap (λ d. length (packets_beneath (children_seen d))) c.in-Drr.is),
   ),
 )
 
-pub node::Node::purge-returns-clause-lost : goal.node::Node::purge-returns-clause-lost
-node::Node::purge-returns-clause-lost g t c =
-    then-purged (g.S.Sink.losses c.args.sink.now) (g.S.Sink.losses c.purge_held.new.sink) (g.S.Sink.losses c.purge_each-in-Drr.new.sink) (option_to_list c.self.inside.held) (packets_beneath c.in-Drr.classes.items)
-    c.purge_held.ensures.lost c.purge_each-in-Drr.ensures.lost
-    ∙ ap (λ ps. g.S.Sink.losses c.args.sink.now ++ purged ps)
-    (sym (own-beneath c.self.inside c.args.self c.self.view_is ∙ ap (λ d. option_to_list c.self.inside.held ++ packets_in (discipline_seen d) ++ packets_beneath (children_seen d)) c.in-Drr.is
-    ∙ ap (λ ps. ps ++ packets_beneath c.in-Drr.classes.items) (append-nil (option_to_list c.self.inside.held))))
-
-pub node::Node::purge-returns-clause-room : goal.node::Node::purge-returns-clause-room
-node::Node::purge-returns-clause-room g t c =
-    omega (
-      arith,
-      c.purge_each-in-Drr.ensures.room,
-      c.purge_held.ensures.room,
-      own-count c.self.inside c.args.self c.self.view_is,
-      ap (λ d. length (packets_in (discipline_seen d))) c.in-Drr.is,
-      ap (λ d. length (packets_beneath (children_seen d))) c.in-Drr.is,
-    )
+pub node::Node::purge-returns-clause-told : goal.node::Node::purge-returns-clause-told
+node::Node::purge-returns-clause-told g t c =
+    node-told c.self.inside c.args.self c.self.view_is (packets_beneath c.in-Drr.classes.items) (ap (λ d. packets_in (discipline_seen d) ++ packets_beneath (children_seen d)) c.in-Drr.is) (g.S.Sink.losses c.args.sink.now) (g.S.Sink.losses c.purge_held.new.sink) (g.S.Sink.losses c.purge_each-in-Drr.new.sink) (g.S.Sink.room c.args.sink.now) (g.S.Sink.room c.purge_held.new.sink) (g.S.Sink.room c.purge_each-in-Drr.new.sink) c.purge_held.ensures.told c.purge_each-in-Drr.ensures.told
 
 pub commands::purge::purge_each-purge-requires : goal.commands::purge::purge_each-purge-requires
 commands::purge::purge_each-purge-requires g t c κs within =

@@ -1,5 +1,6 @@
-ghost use Rattle.std.specs.Prelude.{◌≡◌, ◌≤◌, ◌+◌, ◌++◌, Ok, OnErr, OnOk, length};
+ghost use Rattle.std.specs.Prelude.{◌≡◌, ◌≤◌, Ok, OnErr, OnOk, length};
 ghost use Rattle.q_model.specs.Beneath.{totals_in};
+ghost use Rattle.q_tree.specs.AskSteps.{IsTold};
 ghost use Rattle.q_tree.specs.Purging.{purged};
 ghost use Rattle.q_tree.specs.DisciplineChanges.{FitsCounters, IsChangedBy, IsUnchanged, TakesMore, adds_children, lost_with};
 ghost use Rattle.q_tree.specs.Seen.{children_seen, discipline_seen};
@@ -65,8 +66,7 @@ impl Discipline {
         requires sink { length (lost_with change (discipline_seen self.old) (children_seen self.old)) ≤ S.room sink.old }
         ensures after { OnOk result (IsChangedBy change self.old self.new) }
         ensures totals { OnOk result (result ≡ Ok (totals_in (lost_with change (discipline_seen self.old) (children_seen self.old)))) }
-        ensures lost { OnOk result (S.losses sink.new ≡ S.losses sink.old ++ purged (lost_with change (discipline_seen self.old) (children_seen self.old))) }
-        ensures room { OnOk result (S.room sink.new + length (lost_with change (discipline_seen self.old) (children_seen self.old)) ≡ S.room sink.old) }
+        ensures told { OnOk result (IsTold (purged (lost_with change (discipline_seen self.old) (children_seen self.old))) (S.losses sink.old) (S.losses sink.new) (S.room sink.old) (S.room sink.new)) }
         ensures memory { OnErr result (TakesMore change) }
         ensures same { OnErr result (IsUnchanged self.old self.new) }
         ensures not_lost { OnErr result ((S.losses sink.new ≡ S.losses sink.old) × (S.room sink.new ≡ S.room sink.old)) }

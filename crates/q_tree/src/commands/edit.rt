@@ -1,10 +1,10 @@
-ghost use Rattle.std.specs.Prelude.{◌≡◌, ◌≤◌, ◌+◌, ◌++◌, ◌==◌, IsSome, Ok, OnErr, OnOk, Some, length, nat_le, not, slice_get};
-ghost use Rattle.std.specs.List.{filter, take_while};
+ghost use Rattle.std.specs.Prelude.{◌≡◌, ◌≤◌, IsSome, Ok, OnErr, OnOk, Some, length, slice_get};
+ghost use Rattle.std.specs.List.{filter};
 ghost use Rattle.q_model.specs.Beneath.{totals_in};
-ghost use Rattle.q_model.specs.Filters.{with_filter};
 ghost use Rattle.q_model.specs.Find.{node_at};
 ghost use Rattle.q_model.specs.Node as spec;
 ghost use Rattle.q_model.specs.declared.filter.Filter.{Filter};
+ghost use Rattle.q_tree.specs.AskSteps.{IsTold};
 ghost use Rattle.q_tree.specs.Editing.{IsEditedBeneath, IsReady, TakesMemory, adds_nodes, edited_by, effect, removed, removed_at};
 ghost use Rattle.q_tree.specs.Kept.{Kept};
 ghost use Rattle.q_tree.specs.Places.{Leads};
@@ -64,8 +64,7 @@ impl Node {
         requires sink { length (removed_at edit path.now self.old) ≤ S.room sink.old }
         ensures after { OnOk result (self.new ≡ edited_by edit path.now self.old) }
         ensures totals { OnOk result (result ≡ Ok (totals_in (removed_at edit path.now self.old))) }
-        ensures lost { OnOk result (S.losses sink.new ≡ S.losses sink.old ++ purged (removed_at edit path.now self.old)) }
-        ensures room { OnOk result (S.room sink.new + length (removed_at edit path.now self.old) ≡ S.room sink.old) }
+        ensures told { OnOk result (IsTold (purged (removed_at edit path.now self.old)) (S.losses sink.old) (S.losses sink.new) (S.room sink.old) (S.room sink.new)) }
         ensures memory { OnErr result (TakesMemory edit) }
         ensures same { OnErr result (self.new ≡ self.old) }
         ensures not_lost { OnErr result ((S.losses sink.new ≡ S.losses sink.old) × (S.room sink.new ≡ S.room sink.old)) }
@@ -86,8 +85,7 @@ impl Node {
         requires sink { length (removed edit self.old) ≤ S.room sink.old }
         ensures after { OnOk result (self.new ≡ effect edit self.old) }
         ensures totals { OnOk result (result ≡ Ok (totals_in (removed edit self.old))) }
-        ensures lost { OnOk result (S.losses sink.new ≡ S.losses sink.old ++ purged (removed edit self.old)) }
-        ensures room { OnOk result (S.room sink.new + length (removed edit self.old) ≡ S.room sink.old) }
+        ensures told { OnOk result (IsTold (purged (removed edit self.old)) (S.losses sink.old) (S.losses sink.new) (S.room sink.old) (S.room sink.new)) }
         ensures memory { OnErr result (TakesMemory edit) }
         ensures same { OnErr result (self.new ≡ self.old) }
         ensures not_lost { OnErr result ((S.losses sink.new ≡ S.losses sink.old) × (S.room sink.new ≡ S.room sink.old)) }
@@ -133,8 +131,7 @@ impl Discipline {
         requires sink { (c : spec.Node Kept) → slice_get (children_seen self.old) place ≡ Some c → length (removed_at edit rest.now c) ≤ S.room sink.old }
         ensures after { OnOk result ((c : spec.Node Kept) → slice_get (children_seen self.old) place ≡ Some c → IsEditedBeneath edit rest.now place c self.old self.new) }
         ensures totals { OnOk result ((c : spec.Node Kept) → slice_get (children_seen self.old) place ≡ Some c → result ≡ Ok (totals_in (removed_at edit rest.now c))) }
-        ensures lost { OnOk result ((c : spec.Node Kept) → slice_get (children_seen self.old) place ≡ Some c → S.losses sink.new ≡ S.losses sink.old ++ purged (removed_at edit rest.now c)) }
-        ensures room { OnOk result ((c : spec.Node Kept) → slice_get (children_seen self.old) place ≡ Some c → S.room sink.new + length (removed_at edit rest.now c) ≡ S.room sink.old) }
+        ensures told { OnOk result ((c : spec.Node Kept) → slice_get (children_seen self.old) place ≡ Some c → IsTold (purged (removed_at edit rest.now c)) (S.losses sink.old) (S.losses sink.new) (S.room sink.old) (S.room sink.new)) }
         ensures memory { OnErr result (TakesMemory edit) }
         ensures same { OnErr result (IsUnchanged self.old self.new) }
         ensures not_lost { OnErr result ((S.losses sink.new ≡ S.losses sink.old) × (S.room sink.new ≡ S.room sink.old)) }

@@ -1,6 +1,7 @@
-ghost use Rattle.std.specs.Prelude.{◌≡◌, ◌≤◌, ◌+◌, ◌++◌, length};
+ghost use Rattle.std.specs.Prelude.{◌≤◌, length};
 ghost use Rattle.std.specs.Option.{option_to_list};
 ghost use Rattle.q_model.specs.Beneath.{beneath};
+ghost use Rattle.q_tree.specs.AskSteps.{IsTold};
 ghost use Rattle.q_tree.specs.Purging.{purged};
 ghost use Rattle.q_tree.specs.PutSteps.{packets_beneath};
 
@@ -15,8 +16,7 @@ impl Node {
     #[cycle(purge)]
     pub(crate) fn purge<S: Sink>(self, sink: &mut S)
         requires { length (beneath self) ≤ S.room sink.old }
-        ensures lost { S.losses sink.new ≡ S.losses sink.old ++ purged (beneath self) }
-        ensures room { S.room sink.new + length (beneath self) ≡ S.room sink.old }
+        ensures told { IsTold (purged (beneath self)) (S.losses sink.old) (S.losses sink.new) (S.room sink.old) (S.room sink.new) }
         ensures kept { S.keeps sink.old sink.new }
     {
         let Node {
@@ -38,8 +38,7 @@ impl Node {
 // Loses the packet that a node holds, if it holds one.
 fn purge_held<S: Sink>(held: Held, sink: &mut S)
     requires { length (option_to_list held) ≤ S.room sink.old }
-    ensures lost { S.losses sink.new ≡ S.losses sink.old ++ purged (option_to_list held) }
-    ensures room { S.room sink.new + length (option_to_list held) ≡ S.room sink.old }
+    ensures told { IsTold (purged (option_to_list held)) (S.losses sink.old) (S.losses sink.new) (S.room sink.old) (S.room sink.new) }
     ensures kept { S.keeps sink.old sink.new }
 {
     if let Some(packet) = held.packet() {
@@ -51,8 +50,7 @@ fn purge_held<S: Sink>(held: Held, sink: &mut S)
 #[cycle(purge)]
 fn purge_each<S: Sink>(nodes: Vec<Node>, sink: &mut S)
     requires { length (packets_beneath nodes.items) ≤ S.room sink.old }
-    ensures lost { S.losses sink.new ≡ S.losses sink.old ++ purged (packets_beneath nodes.items) }
-    ensures room { S.room sink.new + length (packets_beneath nodes.items) ≡ S.room sink.old }
+    ensures told { IsTold (purged (packets_beneath nodes.items)) (S.losses sink.old) (S.losses sink.new) (S.room sink.old) (S.room sink.new) }
     ensures kept { S.keeps sink.old sink.new }
 {
     for node in nodes {

@@ -1,5 +1,5 @@
 //! drr: how one chooses a class, dequeues, shows its packet, is ready, and changes (tc-drr(8)).
-ghost use Rattle.std.specs.Prelude.{◌≡◌, ◌<◌, ◌≤◌, ◌+◌, ◌++◌, None, OnErr, OnOk, Some, false, length, map, option_and_then, slice_get, true, unwrap_or};
+ghost use Rattle.std.specs.Prelude.{◌≡◌, ◌<◌, ◌≤◌, None, OnErr, OnOk, Some, false, length, map, option_and_then, slice_get, true, unwrap_or};
 ghost use Rattle.q_drr.specs.Schedule.{place_of};
 ghost use Rattle.q_model.specs.Ask.{ask, ask_drr};
 ghost use Rattle.q_model.specs.Beneath.{totals_in};
@@ -8,7 +8,7 @@ ghost use Rattle.q_model.specs.Node as spec;
 ghost use Rattle.q_model.specs.Node.{Own, shape};
 ghost use Rattle.q_model.specs.Pop.{pop};
 ghost use Rattle.q_model.specs.Work.{settled_class};
-ghost use Rattle.q_tree.specs.AskSteps.{AreAsked, CanAskOnce, CanServe, IsAskedOnce, IsGivenBy, IsToldOf, answers, no_signals, signals_of};
+ghost use Rattle.q_tree.specs.AskSteps.{AreAsked, CanAskOnce, CanServe, IsAskedOnce, IsGivenBy, IsTold, IsToldOf, answers, no_signals, signals_of};
 ghost use Rattle.q_tree.specs.Changing.{drr_same};
 ghost use Rattle.q_tree.specs.Kept.{Kept};
 ghost use Rattle.q_tree.specs.Purging.{purged};
@@ -305,8 +305,7 @@ impl Discipline {
         requires sink { length (lost_with (RemoveClass class) (discipline_seen self.old) (children_seen self.old)) ≤ S.room sink.old }
         ensures after { IsChangedBy (RemoveClass class) self.old self.new }
         ensures totals { result ≡ totals_in (lost_with (RemoveClass class) (discipline_seen self.old) (children_seen self.old)) }
-        ensures lost { S.losses sink.new ≡ S.losses sink.old ++ purged (lost_with (RemoveClass class) (discipline_seen self.old) (children_seen self.old)) }
-        ensures room { S.room sink.new + length (lost_with (RemoveClass class) (discipline_seen self.old) (children_seen self.old)) ≡ S.room sink.old }
+        ensures told { IsTold (purged (lost_with (RemoveClass class) (discipline_seen self.old) (children_seen self.old))) (S.losses sink.old) (S.losses sink.new) (S.room sink.old) (S.room sink.new) }
         ensures kept { S.keeps sink.old sink.new }
     {
         let Discipline::Drr { active, classes } = self else {

@@ -1,8 +1,7 @@
 //! fq_codel: how one is made, enqueues, dequeues, shows its packet, is ready, and changes (tc-fq_codel(8)).
-ghost use Rattle.std.specs.Prelude.{◌≡◌, ◌<◌, ◌≤◌, ◌+◌, ◌++◌, IfOk, IsOk, List, None, OnErr, OnOk, Some, length, option_map, unwrap_or, if◌then◌else◌};
+ghost use Rattle.std.specs.Prelude.{◌≡◌, ◌<◌, ◌≤◌, ◌+◌, IfOk, IsOk, List, None, OnErr, OnOk, Some, option_map, unwrap_or, if◌then◌else◌};
 ghost use Rattle.q_codel.specs.Losses.{losses_of};
 ghost use Rattle.q_fqcodel.specs.FqState.{first_state, packets_of};
-ghost use Rattle.q_fqcodel.specs.Put.{after_put, is_lost_itself, lost_by_put};
 ghost use Rattle.q_codel.specs.declared.taken.Taken.{Taken};
 ghost use Rattle.q_fqcodel.specs.Take.{IsFrontLate, after_sending, dropped_from, selected, sent_from};
 ghost use Rattle.q_fqcodel.specs.Turns.{IsSettled};
@@ -13,8 +12,8 @@ ghost use Rattle.q_model.specs.Beneath.{beneath};
 ghost use Rattle.q_model.specs.Make.{with_options};
 ghost use Rattle.q_model.specs.Node.{Own};
 ghost use Rattle.q_model.specs.Tally.{no_totals, with_packet};
-ghost use Rattle.q_tree.specs.ArriveSteps.{nothing_lost};
-ghost use Rattle.q_tree.specs.AskSteps.{IsShown, no_signals, signals_of};
+ghost use Rattle.q_tree.specs.ArriveSteps.{IsPutInFlow, nothing_lost};
+ghost use Rattle.q_tree.specs.AskSteps.{IsShown, IsTold, no_signals, signals_of};
 ghost use Rattle.q_tree.specs.Changing.{fq_codel_answer};
 ghost use Rattle.q_tree.specs.PutSteps.{CanFlow};
 ghost use Rattle.q_tree.specs.ReadyAt.{of_flows};
@@ -74,13 +73,8 @@ pub(crate) fn enqueue_in_flows<S: Sink>(
     requires flow { CanFlow packet.now queue.old.state }
     requires sink { packets_of queue.old.state.flows + 1 ≤ S.room sink.old }
     requires clean { lost.old ≡ nothing_lost }
-    ensures after { OnOk result (queue.new.state ≡ after_put queue.old.state packet.now now) }
+    ensures put { IfOk result (λ outcome. IsPutInFlow now packet.now queue.old.state queue.new.state outcome (S.losses sink.old) (S.losses sink.new) (S.room sink.old) (S.room sink.new)) }
     ensures place { OnOk result (packets_of queue.old.state.flows < queue.new.places) }
-    ensures loss { IfOk result (λ outcome. outcome.loss ≡ (if is_lost_itself queue.old.state packet.now now then Some Cause.FatFlow else None)) }
-    ensures refused { IfOk result (λ outcome. outcome.refused ≡ no_totals) }
-    ensures dropped { IfOk result (λ outcome. outcome.dropped ≡ beneath.totals_in (beneath.packets_of (lost_by_put queue.old.state packet.now now))) }
-    ensures lost { OnOk result (S.losses sink.new ≡ S.losses sink.old ++ losses_of Cause.FatFlow (lost_by_put queue.old.state packet.now now)) }
-    ensures room { OnOk result (S.room sink.new + length (lost_by_put queue.old.state packet.now now) ≡ S.room sink.old) }
     ensures same { OnErr result (queue.new.state ≡ queue.old.state) }
     ensures not_lost { OnErr result ((S.losses sink.new ≡ S.losses sink.old) × (S.room sink.new ≡ S.room sink.old)) }
     ensures grows { queue.old.places ≤ queue.new.places }
@@ -109,13 +103,8 @@ fn enqueue_over<S: Sink>(
     requires place { packets_of queue.old.state.flows < queue.old.places }
     requires flow { CanFlow packet.now queue.old.state }
     requires sink { packets_of queue.old.state.flows + 1 ≤ S.room sink.old }
-    ensures after { queue.new.state ≡ after_put queue.old.state packet.now now }
+    ensures put { IsPutInFlow now packet.now queue.old.state queue.new.state result (S.losses sink.old) (S.losses sink.new) (S.room sink.old) (S.room sink.new) }
     ensures places { queue.new.places ≡ queue.old.places }
-    ensures loss { result.loss ≡ (if is_lost_itself queue.old.state packet.now now then Some Cause.FatFlow else None) }
-    ensures refused { result.refused ≡ no_totals }
-    ensures dropped { result.dropped ≡ beneath.totals_in (beneath.packets_of (lost_by_put queue.old.state packet.now now)) }
-    ensures lost { S.losses sink.new ≡ S.losses sink.old ++ losses_of Cause.FatFlow (lost_by_put queue.old.state packet.now now) }
-    ensures room { S.room sink.new + length (lost_by_put queue.old.state packet.now now) ≡ S.room sink.old }
     ensures lost_is { lost.new ≡ result }
     ensures kept { S.keeps sink.old sink.new }
 {
@@ -134,13 +123,8 @@ pub(crate) fn put_in_flow<S: Sink>(
     requires place { packets_of queue.old.state.flows < queue.old.places }
     requires flow { CanFlow packet.now queue.old.state }
     requires sink { packets_of queue.old.state.flows + 1 ≤ S.room sink.old }
-    ensures after { queue.new.state ≡ after_put queue.old.state packet.now now }
+    ensures put { IsPutInFlow now packet.now queue.old.state queue.new.state result (S.losses sink.old) (S.losses sink.new) (S.room sink.old) (S.room sink.new) }
     ensures places { queue.new.places ≡ queue.old.places }
-    ensures loss { result.loss ≡ (if is_lost_itself queue.old.state packet.now now then Some Cause.FatFlow else None) }
-    ensures refused { result.refused ≡ no_totals }
-    ensures dropped { result.dropped ≡ beneath.totals_in (beneath.packets_of (lost_by_put queue.old.state packet.now now)) }
-    ensures lost { S.losses sink.new ≡ S.losses sink.old ++ losses_of Cause.FatFlow (lost_by_put queue.old.state packet.now now) }
-    ensures room { S.room sink.new + length (lost_by_put queue.old.state packet.now now) ≡ S.room sink.old }
     ensures kept { S.keeps sink.old sink.new }
 {
     let dropped = queue.put_counted(packet, now, sink);
@@ -168,8 +152,7 @@ pub(crate) fn dequeue_flow<S: Sink>(
     ensures places { queue.new.places ≡ queue.old.places }
     ensures shown { (own : Own) (below : List Asked) → IsShown (ask_fq_codel now own below queue.old.state) result }
     ensures packet { out.new ≡ unwrap_or result.packet out.old }
-    ensures lost { S.losses sink.new ≡ S.losses sink.old ++ losses_of Cause.CoDel (dropped_from now (selected queue.old.state)) }
-    ensures room { S.room sink.new + length (dropped_from now (selected queue.old.state)) ≡ S.room sink.old }
+    ensures told { IsTold (losses_of Cause.CoDel (dropped_from now (selected queue.old.state))) (S.losses sink.old) (S.losses sink.new) (S.room sink.old) (S.room sink.new) }
     ensures signals { signals.new ≡ signals_of result }
     ensures kept { S.keeps sink.old sink.new }
 {
@@ -201,8 +184,7 @@ fn dequeue_late<S: Sink>(
     ensures dropped { result.dropped ≡ beneath.totals_in (beneath.packets_of (dropped_from now queue.old.state)) }
     ensures marked { result.marked ≡ option_map_or (λ (t : Taken). if t.marked then with_packet no_totals t.packet else no_totals) (sent_from now queue.old.state) no_totals }
     ensures packet { out.new ≡ unwrap_or result.packet out.old }
-    ensures lost { S.losses sink.new ≡ S.losses sink.old ++ losses_of Cause.CoDel (dropped_from now queue.old.state) }
-    ensures room { S.room sink.new + length (dropped_from now queue.old.state) ≡ S.room sink.old }
+    ensures told { IsTold (losses_of Cause.CoDel (dropped_from now queue.old.state)) (S.losses sink.old) (S.losses sink.new) (S.room sink.old) (S.room sink.new) }
     ensures signals { signals.new ≡ signals_of result }
     ensures kept { S.keeps sink.old sink.new }
 {
@@ -267,8 +249,7 @@ pub(crate) fn take_from_flows<S: Sink>(
     ensures places { queue.new.places ≡ queue.old.places }
     ensures shown { (own : Own) (below : List Asked) → IsShown (ask_fq_codel now own below queue.old.state) result }
     ensures held { held.new ≡ result.packet }
-    ensures lost { S.losses sink.new ≡ S.losses sink.old ++ losses_of Cause.CoDel (dropped_from now (selected queue.old.state)) }
-    ensures room { S.room sink.new + length (dropped_from now (selected queue.old.state)) ≡ S.room sink.old }
+    ensures told { IsTold (losses_of Cause.CoDel (dropped_from now (selected queue.old.state))) (S.losses sink.old) (S.losses sink.new) (S.room sink.old) (S.room sink.new) }
     ensures signals { signals.new ≡ signals_of result }
     ensures kept { S.keeps sink.old sink.new }
 {

@@ -1,9 +1,9 @@
 //! prio: how one is made, chooses a band, dequeues, shows its packet, is ready, and changes (tc-prio(8)).
-ghost use Rattle.std.specs.Prelude.{◌≡◌, ◌<◌, ◌≤◌, ◌+◌, ◌-◌, ◌++◌, IfOk, Ok, OnErr, OnOk, drop, length, map, nat_lt, replicate, slice_index, take, unwrap_or, ℕ};
+ghost use Rattle.std.specs.Prelude.{◌≡◌, ◌<◌, ◌≤◌, ◌+◌, ◌-◌, IfOk, Ok, OnErr, OnOk, drop, length, map, nat_lt, replicate, slice_index, take, unwrap_or};
 ghost use Rattle.std.specs.List.{list_any};
 ghost use Rattle.std.specs.Option.{option_map_or};
 ghost use Rattle.q_invariants.proofs.SizedChanges.{change_sized};
-ghost use Rattle.q_model.specs.Ask.{ask, ask_prio, take_from};
+ghost use Rattle.q_model.specs.Ask.{ask, ask_prio};
 ghost use Rattle.q_model.specs.Beneath.{totals_in};
 ghost use Rattle.q_model.specs.Filters.{named_class};
 ghost use Rattle.q_model.specs.Find.{count_nodes};
@@ -11,14 +11,10 @@ ghost use Rattle.q_model.specs.Make.{implicit_pfifo};
 ghost use Rattle.q_model.specs.Node.{Own, shape};
 ghost use Rattle.q_model.specs.Pop.{first_shown, pop};
 ghost use Rattle.q_model.specs.Refusals.{most_nodes};
-ghost use Rattle.q_model.specs.Tally.{counts_in};
-ghost use Rattle.q_model.specs.Work.{booked};
 ghost use Rattle.q_model.specs.declared.filter.Filter.{Filter};
 ghost use Rattle.q_model.specs.declared.kind.Kind.TheVariants as kind;
-ghost use Rattle.q_tree.specs.Arrivals.{plus};
-ghost use Rattle.q_tree.specs.AskSteps.{AreAsked, CanAskEach, CanAskOnce, IsToldOf, answers, no_signals, signals_of};
+ghost use Rattle.q_tree.specs.AskSteps.{AreAsked, CanAskEach, CanAskOnce, IsTold, IsToldOf, answers, no_signals, signals_of};
 ghost use Rattle.q_tree.specs.Changing.{IsChange, MakesChildren, leaves_answer, nodes_from};
-ghost use Rattle.q_tree.specs.Kept.{kept};
 ghost use Rattle.q_tree.specs.Making.{AreNew};
 ghost use Rattle.q_tree.specs.Planning.{device_of, root_of};
 ghost use Rattle.q_tree.specs.PopSteps.{IsFirstReady};
@@ -27,7 +23,7 @@ ghost use Rattle.q_tree.specs.PutSteps.{packets_beneath};
 ghost use Rattle.q_tree.specs.ReadyAt.{no_packet, outlook, with_band, with_bands};
 ghost use Rattle.q_tree.specs.DisciplineChanges.{FitsCounters, IsChangedBy, IsUnchanged, lost_with, remapped};
 ghost use Rattle.q_tree.specs.Seen.{children_seen, discipline_seen, places_seen};
-ghost use Rattle.q_tree.specs.SendSteps.{AreSent};
+ghost use Rattle.q_tree.specs.SendSteps.{AreSent, IsDequeuedNext};
 ghost use Rattle.q_tree.specs.declared.commands.discipline_change.DisciplineChange.TheVariants.{SetBands};
 
 use crate::booking::{NOTHING, sum};
@@ -110,14 +106,8 @@ fn dequeue_band<S: Sink>(
 ) -> Shown
     requires ready { CanAskOnce now band.old so_far (S.room sink.old) }
     requires counted { signals.old ≡ signals_of so_far }
-    ensures after { band.new ≡ booked kept band.old (take_from now (shape band.old)).node }
-    ensures arrived { band.new.memory.counts.arrived ≡ band.old.memory.counts.arrived }
-    ensures shown { result.packet ≡ (ask now (shape band.old)).shown }
-    ensures dropped { result.dropped ≡ plus so_far.dropped (counts_in (ask now (shape band.old)).rises).dropped }
-    ensures marked { result.marked ≡ plus so_far.marked (counts_in (ask now (shape band.old)).rises).marked }
-    ensures packet { out.new ≡ unwrap_or result.packet out.old }
+    ensures dequeued { IsDequeuedNext now band.old band.new so_far out.old out.new signals.new result }
     ensures told { IsToldOf (ask now (shape band.old)).rises (S.losses sink.old) (S.losses sink.new) (S.room sink.old) (S.room sink.new) }
-    ensures signals { signals.new ≡ signals_of result }
     ensures kept { S.keeps sink.old sink.new }
 {
     // Mostly nothing was dropped or marked so far, and the place is clean.
@@ -141,14 +131,8 @@ fn dequeue_band_further<S: Sink>(
 ) -> Shown
     requires ready { CanAskOnce now band.old so_far (S.room sink.old) }
     requires counted { signals.old ≡ signals_of so_far }
-    ensures after { band.new ≡ booked kept band.old (take_from now (shape band.old)).node }
-    ensures arrived { band.new.memory.counts.arrived ≡ band.old.memory.counts.arrived }
-    ensures shown { result.packet ≡ (ask now (shape band.old)).shown }
-    ensures dropped { result.dropped ≡ plus so_far.dropped (counts_in (ask now (shape band.old)).rises).dropped }
-    ensures marked { result.marked ≡ plus so_far.marked (counts_in (ask now (shape band.old)).rises).marked }
-    ensures packet { out.new ≡ unwrap_or result.packet out.old }
+    ensures dequeued { IsDequeuedNext now band.old band.new so_far out.old out.new signals.new result }
     ensures told { IsToldOf (ask now (shape band.old)).rises (S.losses sink.old) (S.losses sink.new) (S.room sink.old) (S.room sink.new) }
-    ensures signals { signals.new ≡ signals_of result }
     ensures kept { S.keeps sink.old sink.new }
 {
     let mut asked = NO_SIGNALS;
@@ -323,8 +307,7 @@ impl Discipline {
         requires sink { length (lost_with (SetBands options leaves) (discipline_seen self.old) (children_seen self.old)) ≤ S.room sink.old }
         ensures after { OnOk result (IsChangedBy (SetBands options leaves) self.old self.new) }
         ensures totals { OnOk result (result ≡ Ok (totals_in (lost_with (SetBands options leaves) (discipline_seen self.old) (children_seen self.old)))) }
-        ensures lost { OnOk result (S.losses sink.new ≡ S.losses sink.old ++ purged (lost_with (SetBands options leaves) (discipline_seen self.old) (children_seen self.old))) }
-        ensures room { OnOk result (S.room sink.new + length (lost_with (SetBands options leaves) (discipline_seen self.old) (children_seen self.old)) ≡ S.room sink.old) }
+        ensures told { OnOk result (IsTold (purged (lost_with (SetBands options leaves) (discipline_seen self.old) (children_seen self.old))) (S.losses sink.old) (S.losses sink.new) (S.room sink.old) (S.room sink.new)) }
         ensures memory { OnErr result (0 < length leaves.items) }
         ensures same { OnErr result (IsUnchanged self.old self.new) }
         ensures not_lost { OnErr result ((S.losses sink.new ≡ S.losses sink.old) × (S.room sink.new ≡ S.room sink.old)) }
@@ -365,8 +348,7 @@ fn keep_first<S: Sink>(nodes: &mut Vec<Node>, count: usize, sink: &mut S) -> Tot
     requires sink { length (packets_beneath (drop count nodes.old.items)) ≤ S.room sink.old }
     ensures after { nodes.new.items ≡ take count nodes.old.items }
     ensures totals { result ≡ totals_in (packets_beneath (drop count nodes.old.items)) }
-    ensures lost { S.losses sink.new ≡ S.losses sink.old ++ purged (packets_beneath (drop count nodes.old.items)) }
-    ensures room { S.room sink.new + length (packets_beneath (drop count nodes.old.items)) ≡ S.room sink.old }
+    ensures told { IsTold (purged (packets_beneath (drop count nodes.old.items))) (S.losses sink.old) (S.losses sink.new) (S.room sink.old) (S.room sink.new) }
     ensures kept { S.keeps sink.old sink.new }
 {
     let mut lost = NOTHING;

@@ -1,4 +1,4 @@
-use Rattle.std.proofs.Common.{◌≡◌, ◌+◌, ◌∙◌, [], ◌∷◌, ◌++◌, length, refl, sym, ap, subst, arith}
+use Rattle.std.proofs.Common.{◌≡◌, ◌∙◌, [], ◌∷◌, length, refl, sym, ap, subst, arith}
 use Rattle.std.specs.Prelude.{IsSome, slice_get, Ok}
 use Rattle.std.proofs.lemmas.List.{get_or-set_same}
 use Rattle.std.proofs.lemmas.Option.{slice_get_within}
@@ -9,6 +9,7 @@ use Rattle.q_model.specs.Find.{node_at}
 use Rattle.q_model.specs.Node as spec
 use Rattle.q_model.specs.Node.{Node}
 use Rattle.q_model.specs.Work.{settled_class, settled_in}
+use Rattle.q_tree.specs.AskSteps.{IsTold}
 use Rattle.q_tree.specs.Editing.{removed_at}
 use Rattle.q_tree.specs.Kept.{Kept}
 use Rattle.q_tree.specs.Purging.{purged}
@@ -50,15 +51,11 @@ Discipline::edit_beneath-returns-in-Prio-clause-totals g t c = on-ok c.edit.resu
     let same = same-child c.in-Prio.bands.items c.args.place c.index_mut.result.now child c.index_mut.ensures.value (ap (λ xs. slice_get xs c.args.place) (sym (ap children_seen c.in-Prio.is)) ∙ at) in
     e ∙ ap (λ (n : Node Kept). Ok (totals_in (removed_at c.args.edit c.args.rest.now n))) same) c.edit.ensures.totals
 
-pub Discipline::edit_beneath-returns-in-Prio-clause-lost : goal.Discipline::edit_beneath-returns-in-Prio-clause-lost
-Discipline::edit_beneath-returns-in-Prio-clause-lost g t c = on-ok c.edit.result (λ e child at.
+pub Discipline::edit_beneath-returns-in-Prio-clause-told : goal.Discipline::edit_beneath-returns-in-Prio-clause-told
+Discipline::edit_beneath-returns-in-Prio-clause-told g t c =
+    on-ok c.edit.result (λ e child at.
     let same = same-child c.in-Prio.bands.items c.args.place c.index_mut.result.now child c.index_mut.ensures.value (ap (λ xs. slice_get xs c.args.place) (sym (ap children_seen c.in-Prio.is)) ∙ at) in
-    e ∙ ap (λ (n : Node Kept). g.S.Sink.losses c.args.sink.now ++ purged (removed_at c.args.edit c.args.rest.now n)) same) c.edit.ensures.lost
-
-pub Discipline::edit_beneath-returns-in-Prio-clause-room : goal.Discipline::edit_beneath-returns-in-Prio-clause-room
-Discipline::edit_beneath-returns-in-Prio-clause-room g t c = on-ok c.edit.result (λ e child at.
-    let same = same-child c.in-Prio.bands.items c.args.place c.index_mut.result.now child c.index_mut.ensures.value (ap (λ xs. slice_get xs c.args.place) (sym (ap children_seen c.in-Prio.is)) ∙ at) in
-    omega (arith, e, ap (λ (n : Node Kept). length (removed_at c.args.edit c.args.rest.now n)) same)) c.edit.ensures.room
+    subst (λ (n : Node Kept). IsTold (purged (removed_at c.args.edit c.args.rest.now n)) (g.S.Sink.losses c.args.sink.now) (g.S.Sink.losses c.edit.new.sink) (g.S.Sink.room c.args.sink.now) (g.S.Sink.room c.edit.new.sink)) same e) c.edit.ensures.told
 
 pub Discipline::edit_beneath-index_mut-requires-in-Drr : goal.Discipline::edit_beneath-index_mut-requires-in-Drr
 Discipline::edit_beneath-index_mut-requires-in-Drr g t c =
@@ -99,15 +96,11 @@ Discipline::edit_beneath-returns-in-Drr-clause-totals g t c = λ child at.
     let same = same-child c.in-Drr.classes.items c.args.place c.index_mut-in-Drr.result.now child c.index_mut-in-Drr.ensures.value (ap (λ xs. slice_get xs c.args.place) (sym (ap children_seen c.in-Drr.is)) ∙ at) in
     c.in_ok-lost-in-Drr.ensures.totals ∙ ap (λ (n : Node Kept). Ok (totals_in (removed_at c.args.edit c.args.rest.now n))) same
 
-pub Discipline::edit_beneath-returns-in-Drr-clause-lost : goal.Discipline::edit_beneath-returns-in-Drr-clause-lost
-Discipline::edit_beneath-returns-in-Drr-clause-lost g t c = λ child at.
+pub Discipline::edit_beneath-returns-in-Drr-clause-told : goal.Discipline::edit_beneath-returns-in-Drr-clause-told
+Discipline::edit_beneath-returns-in-Drr-clause-told g t c =
+    λ child at.
     let same = same-child c.in-Drr.classes.items c.args.place c.index_mut-in-Drr.result.now child c.index_mut-in-Drr.ensures.value (ap (λ xs. slice_get xs c.args.place) (sym (ap children_seen c.in-Drr.is)) ∙ at) in
-    c.in_ok-lost-in-Drr.ensures.lost ∙ ap (λ (n : Node Kept). g.S.Sink.losses c.args.sink.now ++ purged (removed_at c.args.edit c.args.rest.now n)) same
-
-pub Discipline::edit_beneath-returns-in-Drr-clause-room : goal.Discipline::edit_beneath-returns-in-Drr-clause-room
-Discipline::edit_beneath-returns-in-Drr-clause-room g t c = λ child at.
-    let same = same-child c.in-Drr.classes.items c.args.place c.index_mut-in-Drr.result.now child c.index_mut-in-Drr.ensures.value (ap (λ xs. slice_get xs c.args.place) (sym (ap children_seen c.in-Drr.is)) ∙ at) in
-    omega (arith, c.in_ok-lost-in-Drr.ensures.room, ap (λ (n : Node Kept). length (removed_at c.args.edit c.args.rest.now n)) same)
+    subst (λ (n : Node Kept). IsTold (purged (removed_at c.args.edit c.args.rest.now n)) (g.S.Sink.losses c.args.sink.now) (g.S.Sink.losses c.edit-in-Drr.new.sink) (g.S.Sink.room c.args.sink.now) (g.S.Sink.room c.edit-in-Drr.new.sink)) same c.in_ok-lost-in-Drr.ensures.told
 
 pub Node::edit-edit_beneath-requires : goal.Node::edit-edit_beneath-requires
 Node::edit-edit_beneath-requires g t c κs within = (
@@ -146,12 +139,7 @@ Node::edit-returns-clause-totals g t c =
     of-child c.args.edit c.self.inside c.args.self.now c.self.view_is c.self.invariant c.args.path.now c.in-Some.field-0-0.now c.in-Some.rest.now c.in-Some.ensures.cases.0 c.requires.ready c.requires.there
     (λ ps. IsAnswer c.in_ok-lost.lost (totals_in ps)) c.in_ok-lost.ensures.totals
 
-pub Node::edit-returns-clause-lost : goal.Node::edit-returns-clause-lost
-Node::edit-returns-clause-lost g t c =
+pub Node::edit-returns-clause-told : goal.Node::edit-returns-clause-told
+Node::edit-returns-clause-told g t c =
     of-child c.args.edit c.self.inside c.args.self.now c.self.view_is c.self.invariant c.args.path.now c.in-Some.field-0-0.now c.in-Some.rest.now c.in-Some.ensures.cases.0 c.requires.ready c.requires.there
-    (λ ps. g.S.Sink.losses c.edit_beneath.new.sink ≡ g.S.Sink.losses c.args.sink.now ++ purged ps) c.in_ok-lost.ensures.lost
-
-pub Node::edit-returns-clause-room : goal.Node::edit-returns-clause-room
-Node::edit-returns-clause-room g t c =
-    of-child c.args.edit c.self.inside c.args.self.now c.self.view_is c.self.invariant c.args.path.now c.in-Some.field-0-0.now c.in-Some.rest.now c.in-Some.ensures.cases.0 c.requires.ready c.requires.there
-    (λ ps. g.S.Sink.room c.edit_beneath.new.sink + length ps ≡ g.S.Sink.room c.args.sink.now) c.in_ok-lost.ensures.room
+    (λ ps. IsTold (purged ps) (g.S.Sink.losses c.args.sink.now) (g.S.Sink.losses c.edit_beneath.new.sink) (g.S.Sink.room c.args.sink.now) (g.S.Sink.room c.edit_beneath.new.sink)) c.in_ok-lost.ensures.told

@@ -57,7 +57,7 @@ Discipline::enqueue-returns-in-FqCodel-clause-after g t c =
     let places : places_seen c.args.self.now ≡ c.deref_mut.result.now.places = (ap places_seen c.in-FqCodel.is ∙ ap (λ (q : FqView). q.places) (sym c.deref_mut.ensures.value)) in
     flows-after c.args.now c.args.packet.now c.args.filters.now c.args.self.now (code.FqCodel (with_value c.in-FqCodel.queue (record { state = c.deref_mut.result.now.state; places = c.enqueue_in_flows.new.queue.places }))) (code.FqCodel (with_value c.in-FqCodel.queue c.enqueue_in_flows.new.queue))
     c.deref_mut.result.now.state c.enqueue_in_flows.new.queue.state c.enqueue_in_flows.new.queue.places c.enqueue_in_flows.result (g.S.Sink.losses c.args.sink.now) (g.S.Sink.losses c.enqueue_in_flows.new.sink) (g.S.Sink.room c.args.sink.now) (g.S.Sink.room c.enqueue_in_flows.new.sink)
-    is (ap children_seen c.in-FqCodel.is) (omega (arith, places, e.grows)) refl refl refl refl refl refl e.after e.place e.loss e.refused e.dropped e.lost e.room
+    is (ap children_seen c.in-FqCodel.is) (omega (arith, places, e.grows)) refl refl refl refl refl refl e.place e.put
 
 pub Discipline::enqueue-returns-in-FqCodel-clause-succeeds : goal.Discipline::enqueue-returns-in-FqCodel-clause-succeeds
 Discipline::enqueue-returns-in-FqCodel-clause-succeeds g t c = λ h. c.enqueue_in_flows.ensures.succeeds (flows-place c.args.packet.now c.args.filters.now c.args.self.now c.deref_mut.result.now.state c.deref_mut.result.now.places (ap discipline_seen c.in-FqCodel.is ∙ ap (λ (q : FqView). spec.FqCodel q.state) (sym c.deref_mut.ensures.value)) (ap places_seen c.in-FqCodel.is ∙ ap (λ (q : FqView). q.places) (sym c.deref_mut.ensures.value)) h)
@@ -66,7 +66,7 @@ pub Discipline::enqueue-returns-then-place-len-clause-after : goal.Discipline::e
 Discipline::enqueue-returns-then-place-len-clause-after g t c =
     subst (λ (d : Discipline). HasComeIn c.args.now c.args.packet.now c.args.filters.now c.args.self.now d c.refuse.result (g.S.Sink.losses c.args.sink.now) (g.S.Sink.losses c.refuse.new.sink) (g.S.Sink.room c.args.sink.now) (g.S.Sink.room c.refuse.new.sink)) (c.in-Prio.is ∙ c.in-Prio-self.is)
     (refused-in c.args.now c.args.packet.now NoClass c.args.filters.now c.args.self.now c.refuse.result (g.S.Sink.losses c.args.sink.now) (g.S.Sink.losses c.refuse.new.sink) (g.S.Sink.room c.args.sink.now) (g.S.Sink.room c.refuse.new.sink) refl
-    (prio-way c.args.packet.now c.args.filters.now c.args.self.now c.in-Prio.priomap c.in-Prio-self.bands.items c.band-place.result (ap discipline_seen c.in-Prio.is) (ap children_seen (c.in-Prio.is ∙ c.in-Prio-self.is)) c.band-place.ensures ∙ through-past c.args.packet.now c.in-Prio-self.bands.items c.band-place.result (slice_get_past c.in-Prio-self.bands.items c.band-place.result (omega (arith, c.len.ensures, c.in-Prio-self.bands.ok, c.if-place-len.true)))) _ refl c.refuse.ensures.outcome c.refuse.ensures.lost c.refuse.ensures.room)
+    (prio-way c.args.packet.now c.args.filters.now c.args.self.now c.in-Prio.priomap c.in-Prio-self.bands.items c.band-place.result (ap discipline_seen c.in-Prio.is) (ap children_seen (c.in-Prio.is ∙ c.in-Prio-self.is)) c.band-place.ensures ∙ through-past c.args.packet.now c.in-Prio-self.bands.items c.band-place.result (slice_get_past c.in-Prio-self.bands.items c.band-place.result (omega (arith, c.len.ensures, c.in-Prio-self.bands.ok, c.if-place-len.true)))) _ refl c.refuse.ensures.outcome c.refuse.ensures.told.lost c.refuse.ensures.told.room_taken)
 
 pub Discipline::enqueue-index_mut-requires : goal.Discipline::enqueue-index_mut-requires
 Discipline::enqueue-index_mut-requires g t c = omega (arith, c.len.ensures, c.in-Prio-self.bands.ok, c.if-place-len.false)
@@ -101,7 +101,7 @@ pub Discipline::enqueue-returns-then-from-burst-clause-after : goal.Discipline::
 Discipline::enqueue-returns-then-from-burst-clause-after g t c =
     subst (λ (d : Discipline). HasComeIn c.args.now c.args.packet.now c.args.filters.now c.args.self.now d c.refuse-then-from-burst.result (g.S.Sink.losses c.args.sink.now) (g.S.Sink.losses c.refuse-then-from-burst.new.sink) (g.S.Sink.room c.args.sink.now) (g.S.Sink.room c.refuse-then-from-burst.new.sink)) c.in-Tbf.is
     (refused-in c.args.now c.args.packet.now TooLong c.args.filters.now c.args.self.now c.refuse-then-from-burst.result (g.S.Sink.losses c.args.sink.now) (g.S.Sink.losses c.refuse-then-from-burst.new.sink) (g.S.Sink.room c.args.sink.now) (g.S.Sink.room c.refuse-then-from-burst.new.sink) refl
-    (tbf-way c.args.packet.now c.args.filters.now c.args.self.now c.in-Tbf.bucket c.in-Tbf.limit (children_seen c.args.self.now) (ap discipline_seen c.in-Tbf.is) refl ∙ ap (λ b. if b then refused TooLong else through (ways c.args.packet.now (children_seen c.args.self.now)) 0) (lt-true c.in-Tbf.bucket.burst c.args.packet.now.len (omega (arith, c.if-from-burst.true, c.from.ensures, c.burst.ensures.value, ap (λ (q : Descriptor). q.len) c.packet.view_is)))) _ refl c.refuse-then-from-burst.ensures.outcome c.refuse-then-from-burst.ensures.lost c.refuse-then-from-burst.ensures.room)
+    (tbf-way c.args.packet.now c.args.filters.now c.args.self.now c.in-Tbf.bucket c.in-Tbf.limit (children_seen c.args.self.now) (ap discipline_seen c.in-Tbf.is) refl ∙ ap (λ b. if b then refused TooLong else through (ways c.args.packet.now (children_seen c.args.self.now)) 0) (lt-true c.in-Tbf.bucket.burst c.args.packet.now.len (omega (arith, c.if-from-burst.true, c.from.ensures, c.burst.ensures.value, ap (λ (q : Descriptor). q.len) c.packet.view_is)))) _ refl c.refuse-then-from-burst.ensures.outcome c.refuse-then-from-burst.ensures.told.lost c.refuse-then-from-burst.ensures.told.room_taken)
 
 pub Discipline::enqueue-enqueue-requires-in-Tbf : goal.Discipline::enqueue-enqueue-requires-in-Tbf
 Discipline::enqueue-enqueue-requires-in-Tbf g t c κs within =
@@ -133,13 +133,13 @@ pub Discipline::enqueue-returns-in_default-class_place-clause-after : goal.Disci
 Discipline::enqueue-returns-in_default-class_place-clause-after g t c =
     subst (λ (d : Discipline). HasComeIn c.args.now c.args.packet.now c.args.filters.now c.args.self.now d c.refuse-in_default-class_place.result (g.S.Sink.losses c.args.sink.now) (g.S.Sink.losses c.refuse-in_default-class_place.new.sink) (g.S.Sink.room c.args.sink.now) (g.S.Sink.room c.refuse-in_default-class_place.new.sink)) c.in-Drr.is
     (refused-in c.args.now c.args.packet.now NoClass c.args.filters.now c.args.self.now c.refuse-in_default-class_place.result (g.S.Sink.losses c.args.sink.now) (g.S.Sink.losses c.refuse-in_default-class_place.new.sink) (g.S.Sink.room c.args.sink.now) (g.S.Sink.room c.refuse-in_default-class_place.new.sink) refl
-    (drr-way c.args.packet.now c.args.filters.now c.args.self.now c.in-Drr.active c.in-Drr.classes.items c.class_place.result (ap discipline_seen c.in-Drr.is) (ap children_seen c.in-Drr.is) c.class_place.ensures ∙ ap (λ (o : Option ℕ). option_map_or (through (ways c.args.packet.now c.in-Drr.classes.items)) o (refused NoClass)) c.in_default-class_place.is) _ refl c.refuse-in_default-class_place.ensures.outcome c.refuse-in_default-class_place.ensures.lost c.refuse-in_default-class_place.ensures.room)
+    (drr-way c.args.packet.now c.args.filters.now c.args.self.now c.in-Drr.active c.in-Drr.classes.items c.class_place.result (ap discipline_seen c.in-Drr.is) (ap children_seen c.in-Drr.is) c.class_place.ensures ∙ ap (λ (o : Option ℕ). option_map_or (through (ways c.args.packet.now c.in-Drr.classes.items)) o (refused NoClass)) c.in_default-class_place.is) _ refl c.refuse-in_default-class_place.ensures.outcome c.refuse-in_default-class_place.ensures.told.lost c.refuse-in_default-class_place.ensures.told.room_taken)
 
 pub Discipline::enqueue-returns-then-place-len-2-clause-after : goal.Discipline::enqueue-returns-then-place-len-2-clause-after
 Discipline::enqueue-returns-then-place-len-2-clause-after g t c =
     subst (λ (d : Discipline). HasComeIn c.args.now c.args.packet.now c.args.filters.now c.args.self.now d c.refuse-then-place-len-2.result (g.S.Sink.losses c.args.sink.now) (g.S.Sink.losses c.refuse-then-place-len-2.new.sink) (g.S.Sink.room c.args.sink.now) (g.S.Sink.room c.refuse-then-place-len-2.new.sink)) c.in-Drr.is
     (refused-in c.args.now c.args.packet.now NoClass c.args.filters.now c.args.self.now c.refuse-then-place-len-2.result (g.S.Sink.losses c.args.sink.now) (g.S.Sink.losses c.refuse-then-place-len-2.new.sink) (g.S.Sink.room c.args.sink.now) (g.S.Sink.room c.refuse-then-place-len-2.new.sink) refl
-    (drr-way c.args.packet.now c.args.filters.now c.args.self.now c.in-Drr.active c.in-Drr.classes.items c.class_place.result (ap discipline_seen c.in-Drr.is) (ap children_seen c.in-Drr.is) c.class_place.ensures ∙ ap (λ (o : Option ℕ). option_map_or (through (ways c.args.packet.now c.in-Drr.classes.items)) o (refused NoClass)) c.in-Some.is ∙ through-past c.args.packet.now c.in-Drr.classes.items c.in-Some.place (slice_get_past c.in-Drr.classes.items c.in-Some.place (omega (arith, c.len-in-Drr.ensures, c.in-Drr.classes.ok, c.if-place-len-2.true)))) _ refl c.refuse-then-place-len-2.ensures.outcome c.refuse-then-place-len-2.ensures.lost c.refuse-then-place-len-2.ensures.room)
+    (drr-way c.args.packet.now c.args.filters.now c.args.self.now c.in-Drr.active c.in-Drr.classes.items c.class_place.result (ap discipline_seen c.in-Drr.is) (ap children_seen c.in-Drr.is) c.class_place.ensures ∙ ap (λ (o : Option ℕ). option_map_or (through (ways c.args.packet.now c.in-Drr.classes.items)) o (refused NoClass)) c.in-Some.is ∙ through-past c.args.packet.now c.in-Drr.classes.items c.in-Some.place (slice_get_past c.in-Drr.classes.items c.in-Some.place (omega (arith, c.len-in-Drr.ensures, c.in-Drr.classes.ok, c.if-place-len-2.true)))) _ refl c.refuse-then-place-len-2.ensures.outcome c.refuse-then-place-len-2.ensures.told.lost c.refuse-then-place-len-2.ensures.told.room_taken)
 
 pub Discipline::enqueue-index_mut-requires-in-Drr : goal.Discipline::enqueue-index_mut-requires-in-Drr
 Discipline::enqueue-index_mut-requires-in-Drr g t c = omega (arith, c.len-in-Drr.ensures, c.in-Drr.classes.ok, c.if-place-len-2.false)

@@ -1,4 +1,4 @@
-use Rattle.std.proofs.Common.{◌≡◌, ℕ, ◌∙◌, ◌++◌, length, refl, sym, ap, subst, arith}
+use Rattle.std.proofs.Common.{◌≡◌, ℕ, ◌∙◌, length, refl, sym, ap, subst, arith}
 use Rattle.std.specs.Prelude.{slice_get}
 use Rattle.std.proofs.lemmas.List.{get_or-set_same, nil_from_length}
 use Rattle.std.proofs.lemmas.Option.{slice_get_within}
@@ -9,8 +9,8 @@ use Rattle.q_model.specs.Node.{Node, shape}
 use Rattle.q_model.specs.Work.{settled_class, settled_in}
 use Rattle.q_tree.specs.declared.node.Discipline.TheVariants as code
 use Rattle.q_model.specs.Put.{put_along}
-use Rattle.q_model.specs.Step.{losses_in}
 use Rattle.q_tree.specs.Arrivals.{CanPut}
+use Rattle.q_tree.specs.AskSteps.{IsToldOf}
 use Rattle.q_tree.specs.Kept.{Kept}
 use Rattle.q_tree.specs.Seen.{children_seen, places_seen, discipline_seen}
 use Rattle.q_tree.proofs.Puts.{IsDone, same-child, put-into, child-packets, all-packets, is-empty-put, here-can, here-lost, here-at, here-rises, on-into, on-lost, on-at, on-rises}
@@ -40,17 +40,11 @@ Discipline::put_beneath-returns-in-Prio-clause-after g t c = λ child at.
     refl (sym (ap places_seen c.in-Prio.is))
     (sym (ap (λ d. settled_in c.args.place (is_empty (put_along c.args.now c.args.packet.now c.args.refusal c.args.rest.now (shape c.index_mut.result.now)).node) (discipline_seen d)) c.in-Prio.is))
 
-pub Discipline::put_beneath-returns-in-Prio-clause-lost :
-    goal.Discipline::put_beneath-returns-in-Prio-clause-lost
-Discipline::put_beneath-returns-in-Prio-clause-lost g t c = λ child at.
+pub Discipline::put_beneath-returns-in-Prio-clause-told : goal.Discipline::put_beneath-returns-in-Prio-clause-told
+Discipline::put_beneath-returns-in-Prio-clause-told g t c =
+    λ child at.
     let same = same-child c.in-Prio.bands.items c.args.place c.index_mut.result.now child c.index_mut.ensures.value (ap (λ xs. slice_get xs c.args.place) (sym (ap children_seen c.in-Prio.is)) ∙ at) in
-    c.put.ensures.lost ∙ ap (λ (n : Node Kept). g.S.Sink.losses c.args.sink.now ++ losses_in (put_along c.args.now c.args.packet.now c.args.refusal c.args.rest.now (shape n)).rises) same
-
-pub Discipline::put_beneath-returns-in-Prio-clause-room :
-    goal.Discipline::put_beneath-returns-in-Prio-clause-room
-Discipline::put_beneath-returns-in-Prio-clause-room g t c = λ child at.
-    let same = same-child c.in-Prio.bands.items c.args.place c.index_mut.result.now child c.index_mut.ensures.value (ap (λ xs. slice_get xs c.args.place) (sym (ap children_seen c.in-Prio.is)) ∙ at) in
-    omega (arith, c.put.ensures.room, ap (λ (n : Node Kept). length (losses_in (put_along c.args.now c.args.packet.now c.args.refusal c.args.rest.now (shape n)).rises)) same)
+    subst (λ (n : Node Kept). IsToldOf (put_along c.args.now c.args.packet.now c.args.refusal c.args.rest.now (shape n)).rises (g.S.Sink.losses c.args.sink.now) (g.S.Sink.losses c.put.new.sink) (g.S.Sink.room c.args.sink.now) (g.S.Sink.room c.put.new.sink)) same c.put.ensures.told
 
 pub Discipline::put_beneath-index_mut-requires-in-Drr :
     goal.Discipline::put_beneath-index_mut-requires-in-Drr
@@ -92,17 +86,11 @@ Discipline::put_beneath-returns-in-Drr-clause-after g t c = λ child at.
     (ap spec.Drr (c.settle.ensures ∙ ap (λ b. settled_class c.args.place b c.in-Drr.active) emptied)
     ∙ sym (ap (λ d. settled_in c.args.place (is_empty (put_along c.args.now c.args.packet.now c.args.refusal c.args.rest.now (shape c.index_mut-in-Drr.result.now)).node) (discipline_seen d)) c.in-Drr.is))
 
-pub Discipline::put_beneath-returns-in-Drr-clause-lost :
-    goal.Discipline::put_beneath-returns-in-Drr-clause-lost
-Discipline::put_beneath-returns-in-Drr-clause-lost g t c = λ child at.
+pub Discipline::put_beneath-returns-in-Drr-clause-told : goal.Discipline::put_beneath-returns-in-Drr-clause-told
+Discipline::put_beneath-returns-in-Drr-clause-told g t c =
+    λ child at.
     let same = same-child c.in-Drr.classes.items c.args.place c.index_mut-in-Drr.result.now child c.index_mut-in-Drr.ensures.value (ap (λ xs. slice_get xs c.args.place) (sym (ap children_seen c.in-Drr.is)) ∙ at) in
-    c.put-outcome.ensures.lost ∙ ap (λ (n : Node Kept). g.S.Sink.losses c.args.sink.now ++ losses_in (put_along c.args.now c.args.packet.now c.args.refusal c.args.rest.now (shape n)).rises) same
-
-pub Discipline::put_beneath-returns-in-Drr-clause-room :
-    goal.Discipline::put_beneath-returns-in-Drr-clause-room
-Discipline::put_beneath-returns-in-Drr-clause-room g t c = λ child at.
-    let same = same-child c.in-Drr.classes.items c.args.place c.index_mut-in-Drr.result.now child c.index_mut-in-Drr.ensures.value (ap (λ xs. slice_get xs c.args.place) (sym (ap children_seen c.in-Drr.is)) ∙ at) in
-    omega (arith, c.put-outcome.ensures.room, ap (λ (n : Node Kept). length (losses_in (put_along c.args.now c.args.packet.now c.args.refusal c.args.rest.now (shape n)).rises)) same)
+    subst (λ (n : Node Kept). IsToldOf (put_along c.args.now c.args.packet.now c.args.refusal c.args.rest.now (shape n)).rises (g.S.Sink.losses c.args.sink.now) (g.S.Sink.losses c.put-outcome.new.sink) (g.S.Sink.room c.args.sink.now) (g.S.Sink.room c.put-outcome.new.sink)) same c.put-outcome.ensures.told
 
 pub Node::put-put_here-outcome-requires-clause-can :
     goal.Node::put-put_here-outcome-requires-clause-can
@@ -125,13 +113,11 @@ Node::put-returns-in_default-clause-after g t c = (ended g t c).after
 pub Node::put-returns-in_default-clause-outcome : goal.Node::put-returns-in_default-clause-outcome
 Node::put-returns-in_default-clause-outcome g t c = (ended g t c).outcome
 
-pub Node::put-returns-in_default-clause-lost : goal.Node::put-returns-in_default-clause-lost
-Node::put-returns-in_default-clause-lost g t c =
-    c.put_here-outcome.ensures.lost
-    ∙ ap (λ notes. g.S.Sink.losses c.args.sink.now ++ losses_in notes) (sym (here-rises c.args.now c.args.packet.now c.args.refusal c.self.inside c.args.self.now c.args.path.now c.self.invariant c.self.view_is c.requires.ready (nil_from_length c.args.path.now c.in_default.ensures.cases)))
-
-pub Node::put-returns-in_default-clause-room : goal.Node::put-returns-in_default-clause-room
-Node::put-returns-in_default-clause-room g t c = omega (arith, c.put_here-outcome.ensures.room, ap (λ notes. length (losses_in notes)) (here-rises c.args.now c.args.packet.now c.args.refusal c.self.inside c.args.self.now c.args.path.now c.self.invariant c.self.view_is c.requires.ready (nil_from_length c.args.path.now c.in_default.ensures.cases)))
+pub Node::put-returns-in_default-clause-told : goal.Node::put-returns-in_default-clause-told
+Node::put-returns-in_default-clause-told g t c =
+    subst (λ notes. IsToldOf notes (g.S.Sink.losses c.args.sink.now) (g.S.Sink.losses c.put_here-outcome.new.sink) (g.S.Sink.room c.args.sink.now) (g.S.Sink.room c.put_here-outcome.new.sink))
+    (sym (here-rises c.args.now c.args.packet.now c.args.refusal c.self.inside c.args.self.now c.args.path.now c.self.invariant c.self.view_is c.requires.ready (nil_from_length c.args.path.now c.in_default.ensures.cases)))
+    c.put_here-outcome.ensures.told
 
 pub Node::put-put_beneath-outcome-requires : goal.Node::put-put_beneath-outcome-requires
 Node::put-put_beneath-outcome-requires g t c κs within = (
@@ -163,12 +149,9 @@ Node::put-returns-clause-after g t c = (passed g t c).after
 pub Node::put-returns-clause-outcome : goal.Node::put-returns-clause-outcome
 Node::put-returns-clause-outcome g t c = (passed g t c).outcome
 
-pub Node::put-returns-clause-lost : goal.Node::put-returns-clause-lost
-Node::put-returns-clause-lost g t c =
+pub Node::put-returns-clause-told : goal.Node::put-returns-clause-told
+Node::put-returns-clause-told g t c =
     let into = on-into c.args.now c.args.packet.now c.args.refusal c.self.inside c.args.self.now c.args.path.now c.self.invariant c.self.view_is c.requires.ready c.in-Some.field-0-0.now c.in-Some.rest.now c.in-Some.ensures.cases.0 in
-    c.put_beneath-outcome.ensures.lost into.child into.there ∙ ap (λ notes. g.S.Sink.losses c.args.sink.now ++ losses_in notes) (sym (on-rises c.args.now c.args.packet.now c.args.refusal c.self.inside c.args.self.now c.args.path.now c.self.invariant c.self.view_is c.requires.ready c.in-Some.field-0-0.now c.in-Some.rest.now c.in-Some.ensures.cases.0))
-
-pub Node::put-returns-clause-room : goal.Node::put-returns-clause-room
-Node::put-returns-clause-room g t c =
-    let into = on-into c.args.now c.args.packet.now c.args.refusal c.self.inside c.args.self.now c.args.path.now c.self.invariant c.self.view_is c.requires.ready c.in-Some.field-0-0.now c.in-Some.rest.now c.in-Some.ensures.cases.0 in
-    omega (arith, c.put_beneath-outcome.ensures.room into.child into.there, ap (λ notes. length (losses_in notes)) (on-rises c.args.now c.args.packet.now c.args.refusal c.self.inside c.args.self.now c.args.path.now c.self.invariant c.self.view_is c.requires.ready c.in-Some.field-0-0.now c.in-Some.rest.now c.in-Some.ensures.cases.0))
+    subst (λ notes. IsToldOf notes (g.S.Sink.losses c.args.sink.now) (g.S.Sink.losses c.put_beneath-outcome.new.sink) (g.S.Sink.room c.args.sink.now) (g.S.Sink.room c.put_beneath-outcome.new.sink))
+    (sym (on-rises c.args.now c.args.packet.now c.args.refusal c.self.inside c.args.self.now c.args.path.now c.self.invariant c.self.view_is c.requires.ready c.in-Some.field-0-0.now c.in-Some.rest.now c.in-Some.ensures.cases.0))
+    (c.put_beneath-outcome.ensures.told into.child into.there)

@@ -12,7 +12,7 @@ pub returns-then-not-fits-clause-after : goal.returns-then-not-fits-clause-after
 returns-then-not-fits-clause-after g c = λ filters.
     let fits = ap (λ (q : Descriptor). takes c.args.fifo.now.limit c.args.fifo.now.packets q.len) (sym c.packet.view_is) ∙ sym c.fits.ensures ∙ c.if-not-fits.true in
     refused-in c.args.now c.args.packet.now OverLimit filters (code.Fifo c.args.fifo.now) c.refuse.result (g.S.Sink.losses c.args.sink.now) (g.S.Sink.losses c.refuse.new.sink) (g.S.Sink.room c.args.sink.now) (g.S.Sink.room c.refuse.new.sink) refl
-    (ap (λ b. if b then ends else refused OverLimit) fits) _ refl c.refuse.ensures.outcome c.refuse.ensures.lost c.refuse.ensures.room
+    (ap (λ b. if b then ends else refused OverLimit) fits) _ refl c.refuse.ensures.outcome c.refuse.ensures.told.lost c.refuse.ensures.told.room_taken
 
 pub returns-clause-after : goal.returns-clause-after
 returns-clause-after g c = λ filters.

@@ -1,14 +1,21 @@
-use Rattle.std.proofs.Common.{◌≡◌, List, arith}
+use Rattle.std.proofs.Common.{◌≡◌, List, arith, rules}
+use Rattle.q_packet.specs.declared.cause.Cause.TheVariants.{FatFlow}
 use Rattle.q_packet.specs.declared.stamped.Stamped.{Stamped}
 use Rattle.q_fqcodel.specs.Put.{lost_by_put}
 use Rattle.q_model.specs.Beneath as beneath
 use Rattle.q_model.specs.Beneath.{totals_in}
-use Rattle.q_tree.proofs.FlowCounts.{count-sum, packets-bare, bytes-bare}
+use Rattle.q_tree.proofs.FlowCounts.{count-sum, lost-told, packets-bare, bytes-bare}
 use Rattle.q_tree.proofs.disciplines.fq_codel.put_in_flow.Goals as goal
 
-pub returns-clause-dropped : goal.returns-clause-dropped
-returns-clause-dropped g c =
+pub returns-clause-put : goal.returns-clause-put
+returns-clause-put g c =
     let lost : List Stamped = lost_by_put c.args.queue.now.state c.args.packet.now c.args.now in
     let packets : c.put_counted-dropped.result.packets ≡ (totals_in (beneath.packets_of lost)).packets = omega (arith, c.put_counted-dropped.ensures.packets, packets-bare lost, count-sum lost) in
     let bytes : c.put_counted-dropped.result.bytes ≡ (totals_in (beneath.packets_of lost)).bytes = omega (arith, c.put_counted-dropped.ensures.bytes, bytes-bare lost) in
-    λ i. record { packets = packets i; bytes = bytes i }
+    record {
+      after = search rules;
+      loss = search rules;
+      refused = search rules;
+      dropped = λ i. record { packets = packets i; bytes = bytes i };
+      told = lost-told FatFlow lost (g.S.Sink.losses c.args.sink.now) (g.S.Sink.losses c.put_counted-dropped.new.sink) (g.S.Sink.room c.args.sink.now) (g.S.Sink.room c.put_counted-dropped.new.sink) c.put_counted-dropped.ensures.lost c.put_counted-dropped.ensures.room;
+    }

@@ -1,4 +1,4 @@
-use Rattle.std.proofs.Common.{ℕ, List, [], ◌∙◌, ◌++◌, Option, append-nil, length, sym, ap, arith}
+use Rattle.std.proofs.Common.{ℕ, List, [], ◌∙◌, Option, length, sym, ap, subst, arith}
 use Rattle.std.specs.List.{remove}
 use Rattle.std.specs.Option.{option_map_or}
 use Rattle.std.proofs.lemmas.Option.{slice_get_past}
@@ -8,10 +8,12 @@ use Rattle.q_model.specs.Beneath.{beneath, totals_in}
 use Rattle.q_model.specs.Node as spec
 use Rattle.q_model.specs.Node.{Node}
 use Rattle.q_packet.specs.Descriptor.{Descriptor}
+use Rattle.q_tree.specs.AskSteps.{IsTold}
 use Rattle.q_tree.specs.Kept.{Kept}
 use Rattle.q_tree.specs.Purging.{purged}
 use Rattle.q_tree.specs.DisciplineChanges.{rescheduled}
 use Rattle.q_tree.specs.Seen.{children_seen, discipline_seen, places_seen}
+use Rattle.q_tree.proofs.AskOnce.{told-nothing}
 use Rattle.q_tree.proofs.ClassLemmas.{class-is-there, found-class, past-class}
 use Rattle.q_tree.proofs.node.Discipline.remove_class.Goals as goal
 
@@ -19,19 +21,12 @@ use Rattle.q_tree.proofs.node.Discipline.remove_class.Goals as goal
 abbrev gone : Option (ℕ × Node Kept) → List Descriptor
 gone o = option_map_or (λ (x : ℕ × Node Kept). beneath x.1) o []
 
-pub returns-then-place-len-clause-lost : goal.returns-then-place-len-clause-lost
-returns-then-place-len-clause-lost g c =
+pub returns-then-place-len-clause-told : goal.returns-then-place-len-clause-told
+returns-then-place-len-clause-told g c =
     let place = c.in-Some.ensures.value ∙ ap (λ n. place_of n c.in-Drr.active.classes) c.number.ensures.value in
     let none = past-class c.args.class (discipline_seen c.args.self.now) c.in-Drr.active (children_seen c.args.self.now) c.in-Drr.classes.items (ap discipline_seen c.in-Drr.is) (ap children_seen c.in-Drr.is) c.in-Some.place place
     (slice_get_past c.in-Drr.classes.items c.in-Some.place (omega (arith, c.len.ensures, c.in-Drr.classes.ok, c.if-place-len.true))) in
-    sym (append-nil (g.S.Sink.losses c.args.sink.now)) ∙ sym (ap (λ o. g.S.Sink.losses c.args.sink.now ++ purged (gone o)) none)
-
-pub returns-then-place-len-clause-room : goal.returns-then-place-len-clause-room
-returns-then-place-len-clause-room g c =
-    let place = c.in-Some.ensures.value ∙ ap (λ n. place_of n c.in-Drr.active.classes) c.number.ensures.value in
-    let none = past-class c.args.class (discipline_seen c.args.self.now) c.in-Drr.active (children_seen c.args.self.now) c.in-Drr.classes.items (ap discipline_seen c.in-Drr.is) (ap children_seen c.in-Drr.is) c.in-Some.place place
-    (slice_get_past c.in-Drr.classes.items c.in-Some.place (omega (arith, c.len.ensures, c.in-Drr.classes.ok, c.if-place-len.true))) in
-    omega (arith, ap (λ o. length (gone o)) none)
+    subst (λ o. IsTold (purged (gone o)) (g.S.Sink.losses c.args.sink.now) (g.S.Sink.losses c.args.sink.now) (g.S.Sink.room c.args.sink.now) (g.S.Sink.room c.args.sink.now)) (sym none) (told-nothing (g.S.Sink.losses c.args.sink.now) (g.S.Sink.room c.args.sink.now))
 
 pub remove-requires : goal.remove-requires
 remove-requires g c =
@@ -66,16 +61,9 @@ returns-clause-totals g c =
     (omega (arith, c.len.ensures, c.in-Drr.classes.ok, c.if-place-len.false)) c.remove-child.ensures.value in
     c.queued-lost.ensures ∙ sym (ap (λ o. totals_in (gone o)) found)
 
-pub returns-clause-lost : goal.returns-clause-lost
-returns-clause-lost g c =
+pub returns-clause-told : goal.returns-clause-told
+returns-clause-told g c =
     let place = c.in-Some.ensures.value ∙ ap (λ n. place_of n c.in-Drr.active.classes) c.number.ensures.value in
     let found = found-class c.args.class (discipline_seen c.args.self.now) c.in-Drr.active (children_seen c.args.self.now) c.in-Drr.classes.items (ap discipline_seen c.in-Drr.is) (ap children_seen c.in-Drr.is) c.in-Some.place c.remove-child.result place
     (omega (arith, c.len.ensures, c.in-Drr.classes.ok, c.if-place-len.false)) c.remove-child.ensures.value in
-    c.purge.ensures.lost ∙ sym (ap (λ o. g.S.Sink.losses c.args.sink.now ++ purged (gone o)) found)
-
-pub returns-clause-room : goal.returns-clause-room
-returns-clause-room g c =
-    let place = c.in-Some.ensures.value ∙ ap (λ n. place_of n c.in-Drr.active.classes) c.number.ensures.value in
-    let found = found-class c.args.class (discipline_seen c.args.self.now) c.in-Drr.active (children_seen c.args.self.now) c.in-Drr.classes.items (ap discipline_seen c.in-Drr.is) (ap children_seen c.in-Drr.is) c.in-Some.place c.remove-child.result place
-    (omega (arith, c.len.ensures, c.in-Drr.classes.ok, c.if-place-len.false)) c.remove-child.ensures.value in
-    omega (arith, c.purge.ensures.room, ap (λ o. length (gone o)) found)
+    subst (λ o. IsTold (purged (gone o)) (g.S.Sink.losses c.args.sink.now) (g.S.Sink.losses c.purge.new.sink) (g.S.Sink.room c.args.sink.now) (g.S.Sink.room c.purge.new.sink)) (sym found) c.purge.ensures.told

@@ -1,6 +1,6 @@
-use Rattle.std.proofs.Common.{◌∙◌, ◌++◌, List, Ok, length, sym, ap, subst, arith}
+use Rattle.std.proofs.Common.{◌∙◌, Ok, sym, ap, subst, arith}
 use Rattle.q_model.specs.Beneath.{totals_in}
-use Rattle.q_packet.specs.Descriptor.{Descriptor}
+use Rattle.q_tree.specs.AskSteps.{IsTold}
 use Rattle.q_tree.specs.Editing.{CanDrop, with_dropped}
 use Rattle.q_tree.specs.Purging.{purged}
 use Rattle.q_tree.specs.DisciplineChanges.{lost_with}
@@ -45,11 +45,8 @@ returns-in-DisciplineChange-clause-totals g c =
     c.in_ok-lost-in-DisciplineChange.ensures.totals
     ∙ ap (λ ps. Ok (totals_in ps)) (goes-is c.in-DisciplineChange.change c.args.edit c.in-DisciplineChange.is c.self-in-DisciplineChange.inside c.args.self.now c.self-in-DisciplineChange.view_is c.self-in-DisciplineChange.invariant c.requires.ready)
 
-pub returns-in-DisciplineChange-clause-lost : goal.returns-in-DisciplineChange-clause-lost
-returns-in-DisciplineChange-clause-lost g c =
-    c.in_ok-lost-in-DisciplineChange.ensures.lost
-    ∙ ap (λ ps. g.S.Sink.losses c.args.sink.now ++ purged ps) (goes-is c.in-DisciplineChange.change c.args.edit c.in-DisciplineChange.is c.self-in-DisciplineChange.inside c.args.self.now c.self-in-DisciplineChange.view_is c.self-in-DisciplineChange.invariant c.requires.ready)
-
-pub returns-in-DisciplineChange-clause-room : goal.returns-in-DisciplineChange-clause-room
-returns-in-DisciplineChange-clause-room g c =
-    omega (arith, c.in_ok-lost-in-DisciplineChange.ensures.room, ap (λ (ps : List Descriptor). length ps) (goes-is c.in-DisciplineChange.change c.args.edit c.in-DisciplineChange.is c.self-in-DisciplineChange.inside c.args.self.now c.self-in-DisciplineChange.view_is c.self-in-DisciplineChange.invariant c.requires.ready))
+pub returns-in-DisciplineChange-clause-told : goal.returns-in-DisciplineChange-clause-told
+returns-in-DisciplineChange-clause-told g c =
+    subst (λ ps. IsTold (purged ps) (g.S.Sink.losses c.args.sink.now) (g.S.Sink.losses c.change.new.sink) (g.S.Sink.room c.args.sink.now) (g.S.Sink.room c.change.new.sink))
+    (goes-is c.in-DisciplineChange.change c.args.edit c.in-DisciplineChange.is c.self-in-DisciplineChange.inside c.args.self.now c.self-in-DisciplineChange.view_is c.self-in-DisciplineChange.invariant c.requires.ready)
+    c.in_ok-lost-in-DisciplineChange.ensures.told

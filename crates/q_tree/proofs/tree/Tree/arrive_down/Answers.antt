@@ -1,13 +1,14 @@
-use Rattle.std.proofs.Common.{◌≤◌, ◌^◌, ◌∙◌, ◌++◌, length, sym, ap, subst, arith}
+use Rattle.std.proofs.Common.{◌≤◌, ◌^◌, ◌∙◌, length, sym, ap, subst, arith}
 use Rattle.std.proofs.lemmas.Bool.{false≢true}
 use Rattle.q_packet.specs.Descriptor.{Descriptor}
 use Rattle.q_model.specs.Beneath.{beneath}
 use Rattle.q_model.specs.Node.{shape}
 use Rattle.q_model.specs.Route.{device_route}
-use Rattle.q_model.specs.Step.{DeviceState, fate_of, losses_in}
+use Rattle.q_model.specs.Step.{DeviceState, fate_of}
 use Rattle.q_model.specs.Tally.{totals}
 use Rattle.q_model.specs.TreeState.{noted_by_put, own_loss, put}
 use Rattle.q_tree.specs.Arrivals.{CanCount}
+use Rattle.q_tree.specs.AskSteps.{IsToldOf}
 use Rattle.q_tree.specs.Kept.{Kept}
 use Rattle.q_tree.specs.Places.{places_at}
 use Rattle.q_tree.specs.RouteSeen.{route_seen}
@@ -75,21 +76,14 @@ returns-clause-after g c =
     let room : CanCount c.self.inside.top.arrived c.args.packet.now = subst (λ (d : DeviceState Kept). CanCount d.tree.top.counts.arrived c.args.packet.now) (sym c.self.view_is) c.requires.counted in
     tree-after c.self.inside c.self.invariant c.args.now c.args.packet.now later low byte room c.in_ok-outcome.outcome c.enqueue_below.new.root c.in_ok-outcome.ensures.after c.book_arrival.new.row c.book_arrival.ensures ∙ ap (λ (d : DeviceState Kept). record { clock = c.args.now; tree = put totals c.args.now c.args.packet.now (tree_numbers d.tree) }) c.self.view_is
 
-pub returns-clause-lost : goal.returns-clause-lost
-returns-clause-lost g c =
+pub returns-clause-told : goal.returns-clause-told
+returns-clause-told g c =
     let later : c.self.inside.clock ≤ c.args.now = omega (arith, ap (λ (d : DeviceState Kept). d.clock) c.self.view_is, c.requires.order) in
     let low : c.args.now ≤ 2 ^ 62 = omega (arith, c.ns.ensures.in_range, c.ns.ensures.value) in
     let byte : 1 ≤ c.args.packet.now.len = omega (arith, c.packet.invariant.0, ap (λ (p : Descriptor). p.len) c.packet.view_is) in
     let room : CanCount c.self.inside.top.arrived c.args.packet.now = subst (λ (d : DeviceState Kept). CanCount d.tree.top.counts.arrived c.args.packet.now) (sym c.self.view_is) c.requires.counted in
-    (told-tree c.self.inside c.self.invariant c.args.now c.args.packet.now later low byte room (g.S.Sink.losses c.args.sink.now) (g.S.Sink.losses c.enqueue_below.new.sink) (g.S.Sink.room c.args.sink.now) (g.S.Sink.room c.enqueue_below.new.sink) c.in_ok-outcome.ensures.told).lost ∙ ap (λ (d : DeviceState Kept). g.S.Sink.losses c.args.sink.now ++ losses_in (noted_by_put c.args.now c.args.packet.now d.tree)) c.self.view_is
-
-pub returns-clause-room : goal.returns-clause-room
-returns-clause-room g c =
-    let later : c.self.inside.clock ≤ c.args.now = omega (arith, ap (λ (d : DeviceState Kept). d.clock) c.self.view_is, c.requires.order) in
-    let low : c.args.now ≤ 2 ^ 62 = omega (arith, c.ns.ensures.in_range, c.ns.ensures.value) in
-    let byte : 1 ≤ c.args.packet.now.len = omega (arith, c.packet.invariant.0, ap (λ (p : Descriptor). p.len) c.packet.view_is) in
-    let room : CanCount c.self.inside.top.arrived c.args.packet.now = subst (λ (d : DeviceState Kept). CanCount d.tree.top.counts.arrived c.args.packet.now) (sym c.self.view_is) c.requires.counted in
-    omega (arith, (told-tree c.self.inside c.self.invariant c.args.now c.args.packet.now later low byte room (g.S.Sink.losses c.args.sink.now) (g.S.Sink.losses c.enqueue_below.new.sink) (g.S.Sink.room c.args.sink.now) (g.S.Sink.room c.enqueue_below.new.sink) c.in_ok-outcome.ensures.told).room_taken, ap (λ (d : DeviceState Kept). length (losses_in (noted_by_put c.args.now c.args.packet.now d.tree))) c.self.view_is)
+    subst (λ (d : DeviceState Kept). IsToldOf (noted_by_put c.args.now c.args.packet.now d.tree) (g.S.Sink.losses c.args.sink.now) (g.S.Sink.losses c.enqueue_below.new.sink) (g.S.Sink.room c.args.sink.now) (g.S.Sink.room c.enqueue_below.new.sink)) c.self.view_is
+    (told-tree c.self.inside c.self.invariant c.args.now c.args.packet.now later low byte room (g.S.Sink.losses c.args.sink.now) (g.S.Sink.losses c.enqueue_below.new.sink) (g.S.Sink.room c.args.sink.now) (g.S.Sink.room c.enqueue_below.new.sink) c.in_ok-outcome.ensures.told)
 
 pub returns-clause-places : goal.returns-clause-places
 returns-clause-places g c =

@@ -72,7 +72,7 @@ returns-clause-lost g c =
     let byte : 1 ≤ c.args.packet.len = omega (arith, c.packet.invariant.0, ap (λ (p : Descriptor). p.len) c.packet.view_is) in
     let is : c.args.route.now.route ≡ device_route c.args.packet c.self.inside.mtu c.self.inside.root = ap (λ (r : RouteSeen). r.route) c.requires.route ∙ ap (λ (d : DeviceState Kept). device_route c.args.packet d.tree.device.mtu d.tree.root) (sym c.self.view_is) in
     let ready : CanArrive (record { len = c.args.packet.len; route = c.args.route.now.route }) (tree_seen c.self.inside) = ready-for c.args.route.now c.args.packet c.args.self.now.tree.device.mtu c.args.self.now.tree.root (tree_seen c.self.inside) c.args.self.now c.requires.route c.self.view_is c.requires.ready in
-    c.put_on-outcome.ensures.lost ∙ ap (λ (w : Work). g.S.Sink.losses c.args.sink.now ++ losses_in w.rises) (sym (work-is c.self.inside c.self.invariant.device c.args.packet c.args.now later low byte c.args.route.now.route is ready))
+    c.put_on-outcome.ensures.told.lost ∙ ap (λ (w : Work). g.S.Sink.losses c.args.sink.now ++ losses_in w.rises) (sym (work-is c.self.inside c.self.invariant.device c.args.packet c.args.now later low byte c.args.route.now.route is ready))
     ∙ ap (λ (d : DeviceState Kept). g.S.Sink.losses c.args.sink.now ++ losses_in (noted_by_put c.args.now c.args.packet d.tree)) c.self.view_is
 
 pub returns-clause-room : goal.returns-clause-room
@@ -84,7 +84,7 @@ returns-clause-room g c =
     let ready : CanArrive (record { len = c.args.packet.len; route = c.args.route.now.route }) (tree_seen c.self.inside) = ready-for c.args.route.now c.args.packet c.args.self.now.tree.device.mtu c.args.self.now.tree.root (tree_seen c.self.inside) c.args.self.now c.requires.route c.self.view_is c.requires.ready in
     omega (
       arith,
-      c.put_on-outcome.ensures.room,
+      c.put_on-outcome.ensures.told.room_taken,
       ap (λ (w : Work). length (losses_in w.rises)) (work-is c.self.inside c.self.invariant.device c.args.packet c.args.now later low byte c.args.route.now.route is ready),
       ap (λ (d : DeviceState Kept). length (losses_in (noted_by_put c.args.now c.args.packet d.tree))) c.self.view_is,
     )

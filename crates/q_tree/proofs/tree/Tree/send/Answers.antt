@@ -30,7 +30,7 @@ book_shown-requires-clause-room g c =
     let e = ap (λ (d : DeviceState Kept). d.clock) c.self.view_is in
     let later : c.self.inside.clock ≤ c.args.now = omega (arith, e, c.requires.order) in
     let low : c.args.now ≤ 2 ^ 62 = omega (arith, c.ns.ensures.in_range, c.ns.ensures.value) in
-    let shown = c.dequeue_asked-shown.ensures.shown in
+    let shown = c.dequeue_asked-shown.ensures.dequeued.shown in
     can-book-top c.self.inside c.self.invariant.device c.args.now later low c.dequeue_asked-shown.result shown (booked kept c.self.inside.root (ask c.args.now (shape c.self.inside.root)).peeked) refl (omega (arith, c.self.ranges, c.fit.ensures.packets, c.fit.ensures.bytes)) (omega (arith, c.self.ranges, c.fit.ensures.packets, c.fit.ensures.bytes))
 
 pub invariant_of-self-then-not-has_packet : goal.invariant_of-self-then-not-has_packet
@@ -38,18 +38,18 @@ invariant_of-self-then-not-has_packet g c =
     let e = ap (λ (d : DeviceState Kept). d.clock) c.self.view_is in
     let later : c.self.inside.clock ≤ c.args.now = omega (arith, e, c.requires.order) in
     let low : c.args.now ≤ 2 ^ 62 = omega (arith, c.ns.ensures.in_range, c.ns.ensures.value) in
-    let shown = c.dequeue_asked-shown.ensures.shown in
+    let shown = c.dequeue_asked-shown.ensures.dequeued.shown in
     still-indexed c.self.inside (record c.self.inside { clock = c.args.now; top = c.book_shown.new.row; root = c.dequeue_asked-shown.new.self }) c.self.invariant
-    (none-kept c.self.inside c.self.invariant.device c.args.now later low c.dequeue_asked-shown.result shown c.dequeue_asked-shown.new.self (root-still c.self.inside c.self.invariant.device c.args.now later low c.dequeue_asked-shown.result shown c.dequeue_asked-shown.new.self c.dequeue_asked-shown.ensures.after (none-held c.dequeue_asked-shown.result.packet (sym c.if-not-has_packet.true ∙ c.has_packet.ensures))) (can-book-top c.self.inside c.self.invariant.device c.args.now later low c.dequeue_asked-shown.result shown (booked kept c.self.inside.root (ask c.args.now (shape c.self.inside.root)).peeked) refl (omega (arith, c.self.ranges, c.fit.ensures.packets, c.fit.ensures.bytes)) (omega (arith, c.self.ranges, c.fit.ensures.packets, c.fit.ensures.bytes))) c.book_shown.new.row c.book_shown.ensures (none-held c.dequeue_asked-shown.result.packet (sym c.if-not-has_packet.true ∙ c.has_packet.ensures)) (record c.self.inside { clock = c.args.now; top = c.book_shown.new.row; root = c.dequeue_asked-shown.new.self }) refl c.dequeue_asked-shown.ensures.arrived)
-    refl (peeked-form c.args.now c.self.inside.root c.dequeue_asked-shown.new.self (can-ask-root c.self.inside c.self.invariant.device c.args.now later low) (root-still c.self.inside c.self.invariant.device c.args.now later low c.dequeue_asked-shown.result shown c.dequeue_asked-shown.new.self c.dequeue_asked-shown.ensures.after (none-held c.dequeue_asked-shown.result.packet (sym c.if-not-has_packet.true ∙ c.has_packet.ensures))))
+    (none-kept c.self.inside c.self.invariant.device c.args.now later low c.dequeue_asked-shown.result shown c.dequeue_asked-shown.new.self (root-still c.self.inside c.self.invariant.device c.args.now later low c.dequeue_asked-shown.result shown c.dequeue_asked-shown.new.self c.dequeue_asked-shown.ensures.dequeued.after (none-held c.dequeue_asked-shown.result.packet (sym c.if-not-has_packet.true ∙ c.has_packet.ensures))) (can-book-top c.self.inside c.self.invariant.device c.args.now later low c.dequeue_asked-shown.result shown (booked kept c.self.inside.root (ask c.args.now (shape c.self.inside.root)).peeked) refl (omega (arith, c.self.ranges, c.fit.ensures.packets, c.fit.ensures.bytes)) (omega (arith, c.self.ranges, c.fit.ensures.packets, c.fit.ensures.bytes))) c.book_shown.new.row c.book_shown.ensures (none-held c.dequeue_asked-shown.result.packet (sym c.if-not-has_packet.true ∙ c.has_packet.ensures)) (record c.self.inside { clock = c.args.now; top = c.book_shown.new.row; root = c.dequeue_asked-shown.new.self }) refl c.dequeue_asked-shown.ensures.dequeued.arrived)
+    refl (peeked-form c.args.now c.self.inside.root c.dequeue_asked-shown.new.self (can-ask-root c.self.inside c.self.invariant.device c.args.now later low) (root-still c.self.inside c.self.invariant.device c.args.now later low c.dequeue_asked-shown.result shown c.dequeue_asked-shown.new.self c.dequeue_asked-shown.ensures.dequeued.after (none-held c.dequeue_asked-shown.result.packet (sym c.if-not-has_packet.true ∙ c.has_packet.ensures))))
 
 pub returns-then-not-has_packet-clause-after : goal.returns-then-not-has_packet-clause-after
 returns-then-not-has_packet-clause-after g c =
     let e = ap (λ (d : DeviceState Kept). d.clock) c.self.view_is in
     let later : c.self.inside.clock ≤ c.args.now = omega (arith, e, c.requires.order) in
     let low : c.args.now ≤ 2 ^ 62 = omega (arith, c.ns.ensures.in_range, c.ns.ensures.value) in
-    let shown = c.dequeue_asked-shown.ensures.shown in
-    none-taken c.self.inside c.self.invariant.device c.args.now later low c.dequeue_asked-shown.result shown c.dequeue_asked-shown.new.self (root-still c.self.inside c.self.invariant.device c.args.now later low c.dequeue_asked-shown.result shown c.dequeue_asked-shown.new.self c.dequeue_asked-shown.ensures.after (none-held c.dequeue_asked-shown.result.packet (sym c.if-not-has_packet.true ∙ c.has_packet.ensures))) (can-book-top c.self.inside c.self.invariant.device c.args.now later low c.dequeue_asked-shown.result shown (booked kept c.self.inside.root (ask c.args.now (shape c.self.inside.root)).peeked) refl (omega (arith, c.self.ranges, c.fit.ensures.packets, c.fit.ensures.bytes)) (omega (arith, c.self.ranges, c.fit.ensures.packets, c.fit.ensures.bytes))) c.book_shown.new.row c.book_shown.ensures (none-held c.dequeue_asked-shown.result.packet (sym c.if-not-has_packet.true ∙ c.has_packet.ensures)) (record c.self.inside { clock = c.args.now; top = c.book_shown.new.row; root = c.dequeue_asked-shown.new.self }) refl
+    let shown = c.dequeue_asked-shown.ensures.dequeued.shown in
+    none-taken c.self.inside c.self.invariant.device c.args.now later low c.dequeue_asked-shown.result shown c.dequeue_asked-shown.new.self (root-still c.self.inside c.self.invariant.device c.args.now later low c.dequeue_asked-shown.result shown c.dequeue_asked-shown.new.self c.dequeue_asked-shown.ensures.dequeued.after (none-held c.dequeue_asked-shown.result.packet (sym c.if-not-has_packet.true ∙ c.has_packet.ensures))) (can-book-top c.self.inside c.self.invariant.device c.args.now later low c.dequeue_asked-shown.result shown (booked kept c.self.inside.root (ask c.args.now (shape c.self.inside.root)).peeked) refl (omega (arith, c.self.ranges, c.fit.ensures.packets, c.fit.ensures.bytes)) (omega (arith, c.self.ranges, c.fit.ensures.packets, c.fit.ensures.bytes))) c.book_shown.new.row c.book_shown.ensures (none-held c.dequeue_asked-shown.result.packet (sym c.if-not-has_packet.true ∙ c.has_packet.ensures)) (record c.self.inside { clock = c.args.now; top = c.book_shown.new.row; root = c.dequeue_asked-shown.new.self }) refl
     ∙ ap (λ (d : DeviceState Kept). record { clock = c.args.now; tree = take_packet kept c.args.now d.tree }) c.self.view_is
 
 pub returns-then-not-has_packet-clause-sent : goal.returns-then-not-has_packet-clause-sent
@@ -57,7 +57,7 @@ returns-then-not-has_packet-clause-sent g c =
     let e = ap (λ (d : DeviceState Kept). d.clock) c.self.view_is in
     let later : c.self.inside.clock ≤ c.args.now = omega (arith, e, c.requires.order) in
     let low : c.args.now ≤ 2 ^ 62 = omega (arith, c.ns.ensures.in_range, c.ns.ensures.value) in
-    let shown = c.dequeue_asked-shown.ensures.shown in
+    let shown = c.dequeue_asked-shown.ensures.dequeued.shown in
     sym (ap is_some (sym (ap (λ (d : DeviceState Kept). given c.args.now d.tree) c.self.view_is) ∙ sym shown.packet ∙ (none-held c.dequeue_asked-shown.result.packet (sym c.if-not-has_packet.true ∙ c.has_packet.ensures))))
 
 pub returns-then-not-has_packet-clause-packet : goal.returns-then-not-has_packet-clause-packet
@@ -65,33 +65,33 @@ returns-then-not-has_packet-clause-packet g c =
     let e = ap (λ (d : DeviceState Kept). d.clock) c.self.view_is in
     let later : c.self.inside.clock ≤ c.args.now = omega (arith, e, c.requires.order) in
     let low : c.args.now ≤ 2 ^ 62 = omega (arith, c.ns.ensures.in_range, c.ns.ensures.value) in
-    let shown = c.dequeue_asked-shown.ensures.shown in
-    c.dequeue_asked-shown.ensures.packet ∙ ap (λ o. unwrap_or o c.args.out.now) (shown.packet ∙ ap (λ (d : DeviceState Kept). given c.args.now d.tree) c.self.view_is)
+    let shown = c.dequeue_asked-shown.ensures.dequeued.shown in
+    c.dequeue_asked-shown.ensures.dequeued.packet ∙ ap (λ o. unwrap_or o c.args.out.now) (shown.packet ∙ ap (λ (d : DeviceState Kept). given c.args.now d.tree) c.self.view_is)
 
 pub book_sent-requires-2-clause-balanced : goal.book_sent-requires-2-clause-balanced
 book_sent-requires-2-clause-balanced g c =
     let e = ap (λ (d : DeviceState Kept). d.clock) c.self.view_is in
     let later : c.self.inside.clock ≤ c.args.now = omega (arith, e, c.requires.order) in
     let low : c.args.now ≤ 2 ^ 62 = omega (arith, c.ns.ensures.in_range, c.ns.ensures.value) in
-    let shown = c.dequeue_asked-shown.ensures.shown in
-    (asked-row c.self.inside c.self.invariant.device c.args.now later low c.dequeue_asked-shown.result shown c.dequeue_asked-shown.new.self c.dequeue_asked-shown.ensures.after (can-book-top c.self.inside c.self.invariant.device c.args.now later low c.dequeue_asked-shown.result shown (booked kept c.self.inside.root (ask c.args.now (shape c.self.inside.root)).peeked) refl (omega (arith, c.self.ranges, c.fit.ensures.packets, c.fit.ensures.bytes)) (omega (arith, c.self.ranges, c.fit.ensures.packets, c.fit.ensures.bytes))) c.book_shown.new.row c.book_shown.ensures c.dequeue_asked-shown.new.out (given-some c.dequeue_asked-shown.result.packet c.args.out.now c.dequeue_asked-shown.new.out (sym c.has_packet.ensures ∙ c.if-not-has_packet.false) c.dequeue_asked-shown.ensures.packet)).balanced
+    let shown = c.dequeue_asked-shown.ensures.dequeued.shown in
+    (asked-row c.self.inside c.self.invariant.device c.args.now later low c.dequeue_asked-shown.result shown c.dequeue_asked-shown.new.self c.dequeue_asked-shown.ensures.dequeued.after (can-book-top c.self.inside c.self.invariant.device c.args.now later low c.dequeue_asked-shown.result shown (booked kept c.self.inside.root (ask c.args.now (shape c.self.inside.root)).peeked) refl (omega (arith, c.self.ranges, c.fit.ensures.packets, c.fit.ensures.bytes)) (omega (arith, c.self.ranges, c.fit.ensures.packets, c.fit.ensures.bytes))) c.book_shown.new.row c.book_shown.ensures c.dequeue_asked-shown.new.out (given-some c.dequeue_asked-shown.result.packet c.args.out.now c.dequeue_asked-shown.new.out (sym c.has_packet.ensures ∙ c.if-not-has_packet.false) c.dequeue_asked-shown.ensures.dequeued.packet)).balanced
 
 pub book_sent-requires-2-clause-among : goal.book_sent-requires-2-clause-among
 book_sent-requires-2-clause-among g c =
     let e = ap (λ (d : DeviceState Kept). d.clock) c.self.view_is in
     let later : c.self.inside.clock ≤ c.args.now = omega (arith, e, c.requires.order) in
     let low : c.args.now ≤ 2 ^ 62 = omega (arith, c.ns.ensures.in_range, c.ns.ensures.value) in
-    let shown = c.dequeue_asked-shown.ensures.shown in
-    sent-among c.self.inside c.self.invariant.device c.args.now later low c.dequeue_asked-shown.result shown c.dequeue_asked-shown.new.self c.dequeue_asked-shown.ensures.after (can-book-top c.self.inside c.self.invariant.device c.args.now later low c.dequeue_asked-shown.result shown (booked kept c.self.inside.root (ask c.args.now (shape c.self.inside.root)).peeked) refl (omega (arith, c.self.ranges, c.fit.ensures.packets, c.fit.ensures.bytes)) (omega (arith, c.self.ranges, c.fit.ensures.packets, c.fit.ensures.bytes))) c.book_shown.new.row c.book_shown.ensures c.dequeue_asked-shown.new.out (given-some c.dequeue_asked-shown.result.packet c.args.out.now c.dequeue_asked-shown.new.out (sym c.has_packet.ensures ∙ c.if-not-has_packet.false) c.dequeue_asked-shown.ensures.packet)
+    let shown = c.dequeue_asked-shown.ensures.dequeued.shown in
+    sent-among c.self.inside c.self.invariant.device c.args.now later low c.dequeue_asked-shown.result shown c.dequeue_asked-shown.new.self c.dequeue_asked-shown.ensures.dequeued.after (can-book-top c.self.inside c.self.invariant.device c.args.now later low c.dequeue_asked-shown.result shown (booked kept c.self.inside.root (ask c.args.now (shape c.self.inside.root)).peeked) refl (omega (arith, c.self.ranges, c.fit.ensures.packets, c.fit.ensures.bytes)) (omega (arith, c.self.ranges, c.fit.ensures.packets, c.fit.ensures.bytes))) c.book_shown.new.row c.book_shown.ensures c.dequeue_asked-shown.new.out (given-some c.dequeue_asked-shown.result.packet c.args.out.now c.dequeue_asked-shown.new.out (sym c.has_packet.ensures ∙ c.if-not-has_packet.false) c.dequeue_asked-shown.ensures.dequeued.packet)
 
 pub book_sent-requires-2-clause-room : goal.book_sent-requires-2-clause-room
 book_sent-requires-2-clause-room g c =
     let e = ap (λ (d : DeviceState Kept). d.clock) c.self.view_is in
     let later : c.self.inside.clock ≤ c.args.now = omega (arith, e, c.requires.order) in
     let low : c.args.now ≤ 2 ^ 62 = omega (arith, c.ns.ensures.in_range, c.ns.ensures.value) in
-    let shown = c.dequeue_asked-shown.ensures.shown in
-    let row = asked-row c.self.inside c.self.invariant.device c.args.now later low c.dequeue_asked-shown.result shown c.dequeue_asked-shown.new.self c.dequeue_asked-shown.ensures.after (can-book-top c.self.inside c.self.invariant.device c.args.now later low c.dequeue_asked-shown.result shown (booked kept c.self.inside.root (ask c.args.now (shape c.self.inside.root)).peeked) refl (omega (arith, c.self.ranges, c.fit.ensures.packets, c.fit.ensures.bytes)) (omega (arith, c.self.ranges, c.fit.ensures.packets, c.fit.ensures.bytes))) c.book_shown.new.row c.book_shown.ensures c.dequeue_asked-shown.new.out (given-some c.dequeue_asked-shown.result.packet c.args.out.now c.dequeue_asked-shown.new.out (sym c.has_packet.ensures ∙ c.if-not-has_packet.false) c.dequeue_asked-shown.ensures.packet) in
-    let had = sent-among c.self.inside c.self.invariant.device c.args.now later low c.dequeue_asked-shown.result shown c.dequeue_asked-shown.new.self c.dequeue_asked-shown.ensures.after (can-book-top c.self.inside c.self.invariant.device c.args.now later low c.dequeue_asked-shown.result shown (booked kept c.self.inside.root (ask c.args.now (shape c.self.inside.root)).peeked) refl (omega (arith, c.self.ranges, c.fit.ensures.packets, c.fit.ensures.bytes)) (omega (arith, c.self.ranges, c.fit.ensures.packets, c.fit.ensures.bytes))) c.book_shown.new.row c.book_shown.ensures c.dequeue_asked-shown.new.out (given-some c.dequeue_asked-shown.result.packet c.args.out.now c.dequeue_asked-shown.new.out (sym c.has_packet.ensures ∙ c.if-not-has_packet.false) c.dequeue_asked-shown.ensures.packet) in
+    let shown = c.dequeue_asked-shown.ensures.dequeued.shown in
+    let row = asked-row c.self.inside c.self.invariant.device c.args.now later low c.dequeue_asked-shown.result shown c.dequeue_asked-shown.new.self c.dequeue_asked-shown.ensures.dequeued.after (can-book-top c.self.inside c.self.invariant.device c.args.now later low c.dequeue_asked-shown.result shown (booked kept c.self.inside.root (ask c.args.now (shape c.self.inside.root)).peeked) refl (omega (arith, c.self.ranges, c.fit.ensures.packets, c.fit.ensures.bytes)) (omega (arith, c.self.ranges, c.fit.ensures.packets, c.fit.ensures.bytes))) c.book_shown.new.row c.book_shown.ensures c.dequeue_asked-shown.new.out (given-some c.dequeue_asked-shown.result.packet c.args.out.now c.dequeue_asked-shown.new.out (sym c.has_packet.ensures ∙ c.if-not-has_packet.false) c.dequeue_asked-shown.ensures.dequeued.packet) in
+    let had = sent-among c.self.inside c.self.invariant.device c.args.now later low c.dequeue_asked-shown.result shown c.dequeue_asked-shown.new.self c.dequeue_asked-shown.ensures.dequeued.after (can-book-top c.self.inside c.self.invariant.device c.args.now later low c.dequeue_asked-shown.result shown (booked kept c.self.inside.root (ask c.args.now (shape c.self.inside.root)).peeked) refl (omega (arith, c.self.ranges, c.fit.ensures.packets, c.fit.ensures.bytes)) (omega (arith, c.self.ranges, c.fit.ensures.packets, c.fit.ensures.bytes))) c.book_shown.new.row c.book_shown.ensures c.dequeue_asked-shown.new.out (given-some c.dequeue_asked-shown.result.packet c.args.out.now c.dequeue_asked-shown.new.out (sym c.has_packet.ensures ∙ c.if-not-has_packet.false) c.dequeue_asked-shown.ensures.dequeued.packet) in
     let same = ap (λ (r : Row). r.arrived) c.book_shown.ensures in
     record {
       packets = omega (arith, row.balanced.packets, had.packets, ap (λ (t : Totals). t.packets) same, c.self.ranges, c.fit.ensures.packets, c.fit.ensures.bytes);
@@ -103,18 +103,18 @@ invariant_of-self-2 g c =
     let e = ap (λ (d : DeviceState Kept). d.clock) c.self.view_is in
     let later : c.self.inside.clock ≤ c.args.now = omega (arith, e, c.requires.order) in
     let low : c.args.now ≤ 2 ^ 62 = omega (arith, c.ns.ensures.in_range, c.ns.ensures.value) in
-    let shown = c.dequeue_asked-shown.ensures.shown in
+    let shown = c.dequeue_asked-shown.ensures.dequeued.shown in
     still-indexed c.self.inside (record c.self.inside { clock = c.args.now; top = c.book_sent-2.new.row; root = c.dequeue_asked-shown.new.self }) c.self.invariant
-    (sent-kept c.self.inside c.self.invariant.device c.args.now later low c.dequeue_asked-shown.result shown c.dequeue_asked-shown.new.self c.dequeue_asked-shown.ensures.after (can-book-top c.self.inside c.self.invariant.device c.args.now later low c.dequeue_asked-shown.result shown (booked kept c.self.inside.root (ask c.args.now (shape c.self.inside.root)).peeked) refl (omega (arith, c.self.ranges, c.fit.ensures.packets, c.fit.ensures.bytes)) (omega (arith, c.self.ranges, c.fit.ensures.packets, c.fit.ensures.bytes))) c.book_shown.new.row c.book_shown.ensures c.dequeue_asked-shown.new.out (given-some c.dequeue_asked-shown.result.packet c.args.out.now c.dequeue_asked-shown.new.out (sym c.has_packet.ensures ∙ c.if-not-has_packet.false) c.dequeue_asked-shown.ensures.packet) c.book_sent-2.new.row c.book_sent-2.ensures (record c.self.inside { clock = c.args.now; top = c.book_sent-2.new.row; root = c.dequeue_asked-shown.new.self }) refl c.dequeue_asked-shown.ensures.arrived)
-    refl (sent-form c.self.inside c.self.invariant.device c.args.now later low c.dequeue_asked-shown.result shown c.dequeue_asked-shown.new.self c.dequeue_asked-shown.ensures.after (can-book-top c.self.inside c.self.invariant.device c.args.now later low c.dequeue_asked-shown.result shown (booked kept c.self.inside.root (ask c.args.now (shape c.self.inside.root)).peeked) refl (omega (arith, c.self.ranges, c.fit.ensures.packets, c.fit.ensures.bytes)) (omega (arith, c.self.ranges, c.fit.ensures.packets, c.fit.ensures.bytes))) c.book_shown.new.row c.book_shown.ensures c.dequeue_asked-shown.new.out (given-some c.dequeue_asked-shown.result.packet c.args.out.now c.dequeue_asked-shown.new.out (sym c.has_packet.ensures ∙ c.if-not-has_packet.false) c.dequeue_asked-shown.ensures.packet))
+    (sent-kept c.self.inside c.self.invariant.device c.args.now later low c.dequeue_asked-shown.result shown c.dequeue_asked-shown.new.self c.dequeue_asked-shown.ensures.dequeued.after (can-book-top c.self.inside c.self.invariant.device c.args.now later low c.dequeue_asked-shown.result shown (booked kept c.self.inside.root (ask c.args.now (shape c.self.inside.root)).peeked) refl (omega (arith, c.self.ranges, c.fit.ensures.packets, c.fit.ensures.bytes)) (omega (arith, c.self.ranges, c.fit.ensures.packets, c.fit.ensures.bytes))) c.book_shown.new.row c.book_shown.ensures c.dequeue_asked-shown.new.out (given-some c.dequeue_asked-shown.result.packet c.args.out.now c.dequeue_asked-shown.new.out (sym c.has_packet.ensures ∙ c.if-not-has_packet.false) c.dequeue_asked-shown.ensures.dequeued.packet) c.book_sent-2.new.row c.book_sent-2.ensures (record c.self.inside { clock = c.args.now; top = c.book_sent-2.new.row; root = c.dequeue_asked-shown.new.self }) refl c.dequeue_asked-shown.ensures.dequeued.arrived)
+    refl (sent-form c.self.inside c.self.invariant.device c.args.now later low c.dequeue_asked-shown.result shown c.dequeue_asked-shown.new.self c.dequeue_asked-shown.ensures.dequeued.after (can-book-top c.self.inside c.self.invariant.device c.args.now later low c.dequeue_asked-shown.result shown (booked kept c.self.inside.root (ask c.args.now (shape c.self.inside.root)).peeked) refl (omega (arith, c.self.ranges, c.fit.ensures.packets, c.fit.ensures.bytes)) (omega (arith, c.self.ranges, c.fit.ensures.packets, c.fit.ensures.bytes))) c.book_shown.new.row c.book_shown.ensures c.dequeue_asked-shown.new.out (given-some c.dequeue_asked-shown.result.packet c.args.out.now c.dequeue_asked-shown.new.out (sym c.has_packet.ensures ∙ c.if-not-has_packet.false) c.dequeue_asked-shown.ensures.dequeued.packet))
 
 pub returns-clause-after : goal.returns-clause-after
 returns-clause-after g c =
     let e = ap (λ (d : DeviceState Kept). d.clock) c.self.view_is in
     let later : c.self.inside.clock ≤ c.args.now = omega (arith, e, c.requires.order) in
     let low : c.args.now ≤ 2 ^ 62 = omega (arith, c.ns.ensures.in_range, c.ns.ensures.value) in
-    let shown = c.dequeue_asked-shown.ensures.shown in
-    sent-tree c.self.inside c.self.invariant.device c.args.now later low c.dequeue_asked-shown.result shown c.dequeue_asked-shown.new.self c.dequeue_asked-shown.ensures.after (can-book-top c.self.inside c.self.invariant.device c.args.now later low c.dequeue_asked-shown.result shown (booked kept c.self.inside.root (ask c.args.now (shape c.self.inside.root)).peeked) refl (omega (arith, c.self.ranges, c.fit.ensures.packets, c.fit.ensures.bytes)) (omega (arith, c.self.ranges, c.fit.ensures.packets, c.fit.ensures.bytes))) c.book_shown.new.row c.book_shown.ensures c.dequeue_asked-shown.new.out (given-some c.dequeue_asked-shown.result.packet c.args.out.now c.dequeue_asked-shown.new.out (sym c.has_packet.ensures ∙ c.if-not-has_packet.false) c.dequeue_asked-shown.ensures.packet) c.book_sent-2.new.row c.book_sent-2.ensures (record c.self.inside { clock = c.args.now; top = c.book_sent-2.new.row; root = c.dequeue_asked-shown.new.self }) refl
+    let shown = c.dequeue_asked-shown.ensures.dequeued.shown in
+    sent-tree c.self.inside c.self.invariant.device c.args.now later low c.dequeue_asked-shown.result shown c.dequeue_asked-shown.new.self c.dequeue_asked-shown.ensures.dequeued.after (can-book-top c.self.inside c.self.invariant.device c.args.now later low c.dequeue_asked-shown.result shown (booked kept c.self.inside.root (ask c.args.now (shape c.self.inside.root)).peeked) refl (omega (arith, c.self.ranges, c.fit.ensures.packets, c.fit.ensures.bytes)) (omega (arith, c.self.ranges, c.fit.ensures.packets, c.fit.ensures.bytes))) c.book_shown.new.row c.book_shown.ensures c.dequeue_asked-shown.new.out (given-some c.dequeue_asked-shown.result.packet c.args.out.now c.dequeue_asked-shown.new.out (sym c.has_packet.ensures ∙ c.if-not-has_packet.false) c.dequeue_asked-shown.ensures.dequeued.packet) c.book_sent-2.new.row c.book_sent-2.ensures (record c.self.inside { clock = c.args.now; top = c.book_sent-2.new.row; root = c.dequeue_asked-shown.new.self }) refl
     ∙ ap (λ (d : DeviceState Kept). record { clock = c.args.now; tree = take_packet kept c.args.now d.tree }) c.self.view_is
 
 pub returns-clause-sent : goal.returns-clause-sent
@@ -122,16 +122,16 @@ returns-clause-sent g c =
     let e = ap (λ (d : DeviceState Kept). d.clock) c.self.view_is in
     let later : c.self.inside.clock ≤ c.args.now = omega (arith, e, c.requires.order) in
     let low : c.args.now ≤ 2 ^ 62 = omega (arith, c.ns.ensures.in_range, c.ns.ensures.value) in
-    let shown = c.dequeue_asked-shown.ensures.shown in
-    sym (ap is_some (sym (ap (λ (d : DeviceState Kept). given c.args.now d.tree) c.self.view_is) ∙ sym shown.packet ∙ (given-some c.dequeue_asked-shown.result.packet c.args.out.now c.dequeue_asked-shown.new.out (sym c.has_packet.ensures ∙ c.if-not-has_packet.false) c.dequeue_asked-shown.ensures.packet)))
+    let shown = c.dequeue_asked-shown.ensures.dequeued.shown in
+    sym (ap is_some (sym (ap (λ (d : DeviceState Kept). given c.args.now d.tree) c.self.view_is) ∙ sym shown.packet ∙ (given-some c.dequeue_asked-shown.result.packet c.args.out.now c.dequeue_asked-shown.new.out (sym c.has_packet.ensures ∙ c.if-not-has_packet.false) c.dequeue_asked-shown.ensures.dequeued.packet)))
 
 pub returns-clause-packet : goal.returns-clause-packet
 returns-clause-packet g c =
     let e = ap (λ (d : DeviceState Kept). d.clock) c.self.view_is in
     let later : c.self.inside.clock ≤ c.args.now = omega (arith, e, c.requires.order) in
     let low : c.args.now ≤ 2 ^ 62 = omega (arith, c.ns.ensures.in_range, c.ns.ensures.value) in
-    let shown = c.dequeue_asked-shown.ensures.shown in
-    c.dequeue_asked-shown.ensures.packet ∙ ap (λ o. unwrap_or o c.args.out.now) (shown.packet ∙ ap (λ (d : DeviceState Kept). given c.args.now d.tree) c.self.view_is)
+    let shown = c.dequeue_asked-shown.ensures.dequeued.shown in
+    c.dequeue_asked-shown.ensures.dequeued.packet ∙ ap (λ o. unwrap_or o c.args.out.now) (shown.packet ∙ ap (λ (d : DeviceState Kept). given c.args.now d.tree) c.self.view_is)
 
 -- where a fifo at the root gives its head
 
