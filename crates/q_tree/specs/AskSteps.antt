@@ -152,3 +152,10 @@ no_signals = record { dropped = no_totals; marked = no_totals }
 -- what was dropped and marked where nodes were asked
 abbrev pub signals_of : Shown → Signals
 signals_of s = record { dropped = s.dropped; marked = s.marked }
+
+-- a node that was asked for its packet: what the node is then, what is in the caller's place for the counts, and what was shown
+pub record IsPeeked (now : ℕ) (old new : spec.Node Kept) (counted : Signals) (s : Shown) : Type 0 where
+  pub after : new ≡ booked kept old (ask now (shape old)).peeked
+  pub arrived : new.memory.counts.arrived ≡ old.memory.counts.arrived
+  pub shown : IsShown (ask now (shape old)) s
+  pub signals : counted ≡ signals_of s

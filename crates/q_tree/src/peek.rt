@@ -3,10 +3,8 @@ ghost use Rattle.q_model.specs.Ask.{ask};
 ghost use Rattle.q_model.specs.Beneath.{beneath};
 ghost use Rattle.q_model.specs.Node.{shape};
 ghost use Rattle.q_model.specs.Pop.{pop};
-ghost use Rattle.q_model.specs.Work.{booked};
 ghost use Rattle.q_model.specs.declared.filter.Filter.{Filter};
-ghost use Rattle.q_tree.specs.AskSteps.{CanAsk, CanAskIn, IsAskedIn, IsShown, IsToldOf, answer_of, held_in, no_signals, packets_within, signals_of};
-ghost use Rattle.q_tree.specs.Kept.{kept};
+ghost use Rattle.q_tree.specs.AskSteps.{CanAsk, CanAskIn, IsAskedIn, IsPeeked, IsToldOf, answer_of, held_in, no_signals, packets_within, signals_of};
 ghost use Rattle.q_tree.specs.Seen.{discipline_seen};
 
 use crate::booking::book_shown;
@@ -38,11 +36,8 @@ impl Node {
         requires ready { CanAsk now self.old }
         requires sink { length (beneath self.old) ≤ S.room sink.old }
         requires clean { signals.old ≡ no_signals }
-        ensures after { self.new ≡ booked kept self.old (ask now (shape self.old)).peeked }
-        ensures arrived { self.new.memory.counts.arrived ≡ self.old.memory.counts.arrived }
-        ensures shown { IsShown (ask now (shape self.old)) result }
+        ensures peeked { IsPeeked now self.old self.new signals.new result }
         ensures told { IsToldOf (ask now (shape self.old)).rises (S.losses sink.old) (S.losses sink.new) (S.room sink.old) (S.room sink.new) }
-        ensures signals { signals.new ≡ signals_of result }
         ensures kept { S.keeps sink.old sink.new }
     {
         self.row.fit();
@@ -64,11 +59,8 @@ impl Node {
         requires ready { CanAsk now self.old }
         requires sink { length (beneath self.old) ≤ S.room sink.old }
         requires clean { signals.old ≡ no_signals }
-        ensures after { self.new ≡ booked kept self.old (ask now (shape self.old)).peeked }
-        ensures arrived { self.new.memory.counts.arrived ≡ self.old.memory.counts.arrived }
-        ensures shown { IsShown (ask now (shape self.old)) result }
+        ensures peeked { IsPeeked now self.old self.new signals.new result }
         ensures told { IsToldOf (ask now (shape self.old)).rises (S.losses sink.old) (S.losses sink.new) (S.room sink.old) (S.room sink.new) }
-        ensures signals { signals.new ≡ signals_of result }
         ensures kept { S.keeps sink.old sink.new }
     {
         self.row.fit();
