@@ -30,7 +30,7 @@ fn arrive(device: &mut Device, buf: u32) -> Result<()> {
     let packet = Packet::new(0, 0, buf, 1000, head.key, hash, head.prio, head.ecn);
     let packet = packet.context("a field is out of its range")?;
     let arrived = device.arrive(packet, Moment::zero());
-    arrived.map_err(|(_, refused)| refused)?;
+    arrived.map_err(|(_, error)| error)?;
     Ok(())
 }
 
