@@ -16,7 +16,7 @@ use crate::booking::{book_sent, book_shown};
 use crate::disciplines::drr::dequeue_class;
 use crate::disciplines::fifo::dequeue_head;
 use crate::disciplines::fq_codel::dequeue_flow;
-use crate::disciplines::prio::{ready_band, send_first};
+use crate::disciplines::prio::{dequeue_bands, ready_band};
 use crate::disciplines::tbf::dequeue_child;
 use crate::node::{Discipline, Node};
 use crate::shown::Shown;
@@ -79,7 +79,7 @@ impl Node {
         fifo.count() > 0
     }
 
-    /// Gives the head of a fifo that has a packet, and holds none, to `out`, as [`Node::give`] does.
+    /// Dequeues the head of a fifo that has a packet, and holds none, into `out`, as [`Node::dequeue_at_hand`] does.
     #[inline(always)]
     fn send_head(&mut self, out: &mut Packet)
         requires head { HasHead self.old }
@@ -95,7 +95,7 @@ impl Node {
         book_sent(&mut self.row, out);
     }
 
-    /// Asks the node for its packet and gives it into `out`, which is what a peek and a give come to. Where the node shows none,
+    /// Peeks at the node, and dequeues the packet that it shows into `out`, in one walk. Where the node shows none,
     /// `out` stays as it is.
     ///
     /// What a tbf, a drr or an fq_codel dequeues goes straight to `out`, and is not held. It takes no memory. `sink` needs room
@@ -191,11 +191,11 @@ impl Node {
         shown
     }
 
-    /// Gives the packet that the node has at hand into `out`, counts it as sent here, and in the bands that it comes from, and says
+    /// Dequeues the packet that the node has at hand into `out`, counts it as sent here, and in the bands that it comes from, and says
     /// whether there was one. Nobody is asked: after a peek it is the packet that was shown. Where there was none, nothing changes.
-    #[cycle(give)]
+    #[cycle(dequeue_at_hand)]
     #[inline(always)]
-    pub(crate) fn give(&mut self, out: &mut Packet) -> bool
+    pub(crate) fn dequeue_at_hand(&mut self, out: &mut Packet) -> bool
         ensures given { result ≡ is_some (pop self.old).shown }
         ensures packet { out.new ≡ unwrap_or (pop self.old).shown out.old }
         ensures after { self.new ≡ booked kept self.old (pop self.old).after }
@@ -208,7 +208,7 @@ impl Node {
             *out = packet;
             return true;
         }
-        if !self.discipline.give(out) {
+        if !self.discipline.dequeue_at_hand(out) {
             return false;
         }
         book_sent(&mut self.row, out);
@@ -238,7 +238,7 @@ impl Discipline {
     {
         match self {
             Discipline::Fifo(fifo) => return dequeue_head(fifo, out),
-            Discipline::Prio { bands, .. } => return send_first(bands, now, out, signals, sink),
+            Discipline::Prio { bands, .. } => return dequeue_bands(bands, now, out, signals, sink),
             Discipline::Tbf { bucket, child, .. } => {
                 return dequeue_child(bucket, child, out, now, signals, sink);
             }
@@ -249,10 +249,10 @@ impl Discipline {
         }
     }
 
-    // Gives a fifo's head, or the packet of a prio's first band that has one.
-    #[cycle(give)]
+    // Dequeues a fifo's head, or the packet of a prio's first band that has one.
+    #[cycle(dequeue_at_hand)]
     #[inline(always)]
-    fn give(&mut self, out: &mut Packet) -> bool
+    fn dequeue_at_hand(&mut self, out: &mut Packet) -> bool
         ensures given { result ≡ is_some (popping_of self.old).shown }
         ensures packet { out.new ≡ unwrap_or (popping_of self.old).shown out.old }
         ensures after { IsPoppedIn self.old self.new }
@@ -260,14 +260,14 @@ impl Discipline {
         // A fifo is met with no call, as where a packet arrives.
         match self {
             Discipline::Fifo(fifo) => return dequeue_head(fifo, out).has_packet(),
-            _ => return self.give_further(out),
+            _ => return self.dequeue_at_hand_further(out),
         }
     }
 
     // The same, by a call.
-    #[cycle(give)]
+    #[cycle(dequeue_at_hand)]
     #[inline(never)]
-    fn give_further(&mut self, out: &mut Packet) -> bool
+    fn dequeue_at_hand_further(&mut self, out: &mut Packet) -> bool
         ensures given { result ≡ is_some (popping_of self.old).shown }
         ensures packet { out.new ≡ unwrap_or (popping_of self.old).shown out.old }
         ensures after { IsPoppedIn self.old self.new }
@@ -278,7 +278,7 @@ impl Discipline {
                 let Some(place) = ready_band(bands) else {
                     return false;
                 };
-                return bands[place].give(out);
+                return bands[place].dequeue_at_hand(out);
             }
             Discipline::Tbf { .. } => return false,
             Discipline::Drr { .. } => return false,

@@ -8,11 +8,11 @@ ghost use Rattle.q_tree.specs.AskSteps.{CanAsk, CanAskIn, IsAskedIn, IsPeeked, I
 ghost use Rattle.q_tree.specs.Seen.{discipline_seen};
 
 use crate::booking::book_shown;
-use crate::disciplines::drr::serve;
+use crate::disciplines::drr::peek_classes;
 use crate::disciplines::fifo::first_packet;
-use crate::disciplines::fq_codel::take_from_flows;
-use crate::disciplines::prio::{ask_bands, first_at_hand, ready_band};
-use crate::disciplines::tbf::ask_child;
+use crate::disciplines::fq_codel::peek_flow;
+use crate::disciplines::prio::{first_at_hand, peek_bands, ready_band};
+use crate::disciplines::tbf::peek_child;
 use crate::held::Held;
 use crate::node::{Discipline, Node};
 use crate::shown::Shown;
@@ -128,14 +128,14 @@ impl Discipline {
     {
         match self {
             Discipline::Fifo(fifo) => return Shown::at_hand(&first_packet(fifo)),
-            Discipline::Prio { bands, .. } => return ask_bands(bands, now, signals, sink),
+            Discipline::Prio { bands, .. } => return peek_bands(bands, now, signals, sink),
             Discipline::Tbf { bucket, child, .. } => {
-                return ask_child(bucket, child, held, now, signals, sink);
+                return peek_child(bucket, child, held, now, signals, sink);
             }
             Discipline::Drr { active, classes } => {
-                return serve(active, classes, held, now, signals, sink);
+                return peek_classes(active, classes, held, now, signals, sink);
             }
-            Discipline::FqCodel(queue) => return take_from_flows(queue, held, now, signals, sink),
+            Discipline::FqCodel(queue) => return peek_flow(queue, held, now, signals, sink),
         }
     }
 }

@@ -52,8 +52,8 @@ disciplines::prio::dequeue_band_further-then-requires-clause-marked_packets g t 
 pub disciplines::prio::dequeue_band_further-then-requires-clause-marked_bytes : goal.disciplines::prio::dequeue_band_further-then-requires-clause-marked_bytes
 disciplines::prio::dequeue_band_further-then-requires-clause-marked_bytes g t c = (fits-beside c.args.now c.args.band.now c.args.so_far c.dequeue-next.result (g.S.Sink.room c.args.sink.now) c.requires.ready c.dequeue-next.ensures.dequeued.shown).marked_bytes
 
-pub disciplines::prio::send_first-loop-place-init : goal.disciplines::prio::send_first-loop-place-init
-disciplines::prio::send_first-loop-place-init g t c = (
+pub disciplines::prio::dequeue_bands-loop-place-init : goal.disciplines::prio::dequeue_bands-loop-place-init
+disciplines::prio::dequeue_bands-loop-place-init g t c = (
   bands-start c.args.now c.args.bands.now c.at_hand-shown.result (record { dropped = ap (λ (s : Shown). s.dropped) c.at_hand-shown.ensures; marked = ap (λ (s : Shown). s.marked) c.at_hand-shown.ensures }) (ap (λ (s : Shown). s.packet) c.at_hand-shown.ensures),
   told-nothing (g.S.Sink.losses c.args.sink.now) (g.S.Sink.room c.args.sink.now),
   g.met.S.Sink.keeps_same c.args.sink.now,
@@ -61,15 +61,15 @@ disciplines::prio::send_first-loop-place-init g t c = (
   c.requires.clean ∙ sym (ap signals_of c.at_hand-shown.ensures),
 )
 
-pub disciplines::prio::send_first-dequeue_band-shown-requires : goal.disciplines::prio::send_first-dequeue_band-shown-requires
-disciplines::prio::send_first-dequeue_band-shown-requires g t c κs within =
+pub disciplines::prio::dequeue_bands-dequeue_band-shown-requires : goal.disciplines::prio::dequeue_bands-dequeue_band-shown-requires
+disciplines::prio::dequeue_bands-dequeue_band-shown-requires g t c κs within =
     let band = slice_index_or c.loop-place.bands c.loop-place.place c.index-bands-place.result in
     let at = band-at c.args.now c.args.bands.now c.loop-place.bands c.loop-place.place c.loop-place.shown c.loop-place.invariant.0 c.index-bands-place.result c.loop-place-test.true in
     let once = band-once c.args.now c.args.bands.now c.loop-place.bands c.loop-place.place c.loop-place.shown c.requires.ready c.loop-place.invariant.0 band at (g.S.Sink.losses c.args.sink.now) (g.S.Sink.losses c.loop-place.sink) (g.S.Sink.room c.args.sink.now) (g.S.Sink.room c.loop-place.sink) c.loop-place.invariant.1 c.requires.sink in
     (omega (arith, child-size c.args.bands.now c.loop-place.place band at, c.decreases), (within, (once, c.loop-place.invariant.4)))
 
-pub disciplines::prio::send_first-returns-then-has_packet-clause-after : goal.disciplines::prio::send_first-returns-then-has_packet-clause-after
-disciplines::prio::send_first-returns-then-has_packet-clause-after g t c =
+pub disciplines::prio::dequeue_bands-returns-then-has_packet-clause-after : goal.disciplines::prio::dequeue_bands-returns-then-has_packet-clause-after
+disciplines::prio::dequeue_bands-returns-then-has_packet-clause-after g t c =
     let band = slice_index_or c.loop-place.bands c.loop-place.place c.index-bands-place.result in
     let at = band-at c.args.now c.args.bands.now c.loop-place.bands c.loop-place.place c.loop-place.shown c.loop-place.invariant.0 c.index-bands-place.result c.loop-place-test.true in
     let same = c.dequeue_band-shown.ensures.dequeued.shown in
@@ -78,8 +78,8 @@ disciplines::prio::send_first-returns-then-has_packet-clause-after g t c =
     band-sent c.args.now c.args.bands.now c.loop-place.bands c.loop-place.place c.loop-place.shown c.requires.ready c.loop-place.invariant.0 band at c.dequeue_band-shown.new.band (next_of c.args.now band) c.dequeue_band-shown.result c.dequeue_band-shown.new.out gone c.dequeue_band-shown.ensures.dequeued.arrived (record { packet = refl; dropped = refl; marked = refl })
     c.dequeue_band-shown.ensures.dequeued.dropped c.dequeue_band-shown.ensures.dequeued.marked same some
 
-pub disciplines::prio::send_first-returns-then-has_packet-clause-told : goal.disciplines::prio::send_first-returns-then-has_packet-clause-told
-disciplines::prio::send_first-returns-then-has_packet-clause-told g t c =
+pub disciplines::prio::dequeue_bands-returns-then-has_packet-clause-told : goal.disciplines::prio::dequeue_bands-returns-then-has_packet-clause-told
+disciplines::prio::dequeue_bands-returns-then-has_packet-clause-told g t c =
     let band = slice_index_or c.loop-place.bands c.loop-place.place c.index-bands-place.result in
     let at = band-at c.args.now c.args.bands.now c.loop-place.bands c.loop-place.place c.loop-place.shown c.loop-place.invariant.0 c.index-bands-place.result c.loop-place-test.true in
     let same = c.dequeue_band-shown.ensures.dequeued.shown in
@@ -91,16 +91,16 @@ disciplines::prio::send_first-returns-then-has_packet-clause-told g t c =
     (told-then (told_to c.loop-place.place (answers c.args.now c.args.bands.now)) (ask c.args.now (shape band)).rises (g.S.Sink.losses c.args.sink.now) (g.S.Sink.losses c.loop-place.sink) (g.S.Sink.losses c.dequeue_band-shown.new.sink)
     (g.S.Sink.room c.args.sink.now) (g.S.Sink.room c.loop-place.sink) (g.S.Sink.room c.dequeue_band-shown.new.sink) c.loop-place.invariant.1 c.dequeue_band-shown.ensures.told)
 
-pub disciplines::prio::send_first-returns-then-has_packet-clause-kept : goal.disciplines::prio::send_first-returns-then-has_packet-clause-kept
-disciplines::prio::send_first-returns-then-has_packet-clause-kept g t c =
+pub disciplines::prio::dequeue_bands-returns-then-has_packet-clause-kept : goal.disciplines::prio::dequeue_bands-returns-then-has_packet-clause-kept
+disciplines::prio::dequeue_bands-returns-then-has_packet-clause-kept g t c =
     g.met.S.Sink.keeps_on c.args.sink.now c.loop-place.sink c.dequeue_band-shown.new.sink c.loop-place.invariant.2 c.dequeue_band-shown.ensures.kept
 
-pub disciplines::prio::send_first-returns-then-has_packet-clause-packet : goal.disciplines::prio::send_first-returns-then-has_packet-clause-packet
-disciplines::prio::send_first-returns-then-has_packet-clause-packet g t c =
+pub disciplines::prio::dequeue_bands-returns-then-has_packet-clause-packet : goal.disciplines::prio::dequeue_bands-returns-then-has_packet-clause-packet
+disciplines::prio::dequeue_bands-returns-then-has_packet-clause-packet g t c =
     c.dequeue_band-shown.ensures.dequeued.packet ∙ ap (unwrap_or c.dequeue_band-shown.result.packet) c.loop-place.invariant.3
 
-pub disciplines::prio::send_first-loop-place-preserved : goal.disciplines::prio::send_first-loop-place-preserved
-disciplines::prio::send_first-loop-place-preserved g t c =
+pub disciplines::prio::dequeue_bands-loop-place-preserved : goal.disciplines::prio::dequeue_bands-loop-place-preserved
+disciplines::prio::dequeue_bands-loop-place-preserved g t c =
     let band = slice_index_or c.loop-place.bands c.loop-place.place c.index-bands-place.result in
     let at = band-at c.args.now c.args.bands.now c.loop-place.bands c.loop-place.place c.loop-place.shown c.loop-place.invariant.0 c.index-bands-place.result c.loop-place-test.true in
     let same = c.dequeue_band-shown.ensures.dequeued.shown in
@@ -119,21 +119,21 @@ disciplines::prio::send_first-loop-place-preserved g t c =
       c.dequeue_band-shown.ensures.dequeued.signals,
     )
 
-pub disciplines::prio::send_first-returns-clause-after : goal.disciplines::prio::send_first-returns-clause-after
-disciplines::prio::send_first-returns-clause-after g t c =
+pub disciplines::prio::dequeue_bands-returns-clause-after : goal.disciplines::prio::dequeue_bands-returns-clause-after
+disciplines::prio::dequeue_bands-returns-clause-after g t c =
     λ own. let all = bands-end c.args.now c.args.bands.now c.loop-place.bands c.loop-place.place c.loop-place.shown c.loop-place.invariant.0 c.loop-place-test.false c.loop-place.auto.place-end own in asked-sent (ask_prio own (answers c.args.now c.args.bands.now)) c.args.bands.now c.loop-place.bands c.loop-place.shown (sym all.shown.packet ∙ c.loop-place.invariant.0.nothing) all
 
-pub disciplines::prio::send_first-returns-clause-told : goal.disciplines::prio::send_first-returns-clause-told
-disciplines::prio::send_first-returns-clause-told g t c =
+pub disciplines::prio::dequeue_bands-returns-clause-told : goal.disciplines::prio::dequeue_bands-returns-clause-told
+disciplines::prio::dequeue_bands-returns-clause-told g t c =
     λ own.
     subst (λ notes. IsToldOf notes (g.S.Sink.losses c.args.sink.now) (g.S.Sink.losses c.loop-place.sink) (g.S.Sink.room c.args.sink.now) (g.S.Sink.room c.loop-place.sink)) (bands-rises c.args.now c.args.bands.now c.loop-place.bands c.loop-place.place c.loop-place.shown c.loop-place.invariant.0 c.loop-place-test.false c.loop-place.auto.place-end own) c.loop-place.invariant.1
 
-pub disciplines::prio::send_first-returns-clause-kept : goal.disciplines::prio::send_first-returns-clause-kept
-disciplines::prio::send_first-returns-clause-kept g t c =
+pub disciplines::prio::dequeue_bands-returns-clause-kept : goal.disciplines::prio::dequeue_bands-returns-clause-kept
+disciplines::prio::dequeue_bands-returns-clause-kept g t c =
     c.loop-place.invariant.2
 
-pub disciplines::prio::send_first-returns-clause-packet : goal.disciplines::prio::send_first-returns-clause-packet
-disciplines::prio::send_first-returns-clause-packet g t c =
+pub disciplines::prio::dequeue_bands-returns-clause-packet : goal.disciplines::prio::dequeue_bands-returns-clause-packet
+disciplines::prio::dequeue_bands-returns-clause-packet g t c =
     c.loop-place.invariant.3 ∙ ap (λ o. unwrap_or o c.args.out.now) (sym c.loop-place.invariant.0.nothing)
 
 pub node::Discipline::dequeue-returns-in-Fifo-clause-after : goal.node::Discipline::dequeue-returns-in-Fifo-clause-after
@@ -149,8 +149,8 @@ pub node::Discipline::dequeue-returns-in-Fifo-clause-signals : goal.node::Discip
 node::Discipline::dequeue-returns-in-Fifo-clause-signals g t c =
     c.requires.clean ∙ sym (signals-nothing c.dequeue_head.result c.dequeue_head.ensures.dropped c.dequeue_head.ensures.marked)
 
-pub node::Discipline::dequeue-send_first-requires : goal.node::Discipline::dequeue-send_first-requires
-node::Discipline::dequeue-send_first-requires g t c κs within =
+pub node::Discipline::dequeue-dequeue_bands-requires : goal.node::Discipline::dequeue-dequeue_bands-requires
+node::Discipline::dequeue-dequeue_bands-requires g t c κs within =
     let kids = c.deref_mut.ensures.value ∙ sym (ap children_seen c.in-Prio.is) in
     (omega (arith, ap (λ xs. forest_size (side_by_side xs)) kids, c.decreases), (within, (each-of c.args.now c.args.self.now c.deref_mut.result.now c.requires.ready kids, (omega (arith, c.requires.sink, room-of c.args.self.now c.deref_mut.result.now kids), c.requires.clean))))
 
@@ -158,17 +158,17 @@ pub node::Discipline::dequeue-returns-in-Prio-clause-after : goal.node::Discipli
 node::Discipline::dequeue-returns-in-Prio-clause-after g t c =
     λ handle filters.
     let kids = sym (c.deref_mut.ensures.value ∙ sym (ap children_seen c.in-Prio.is)) in
-    let bands = c.send_first.ensures.after (own_of handle filters (spec.Prio c.in-Prio.priomap)) in
-    sent-in c.args.now handle filters c.args.self.now (code.Prio c.in-Prio.priomap (with_items c.in-Prio.bands c.send_first.new.bands)) (spec.Prio c.in-Prio.priomap) (spec.Prio c.in-Prio.priomap) c.deref_mut.result.now c.send_first.new.bands c.send_first.result
-    (ap discipline_seen c.in-Prio.is) kids refl (items-are c.in-Prio.bands.items c.send_first.new.bands c.in-Prio.bands.len (sym c.in-Prio.bands.ok.0) (bands.long ∙ ap (λ xs. length xs) c.deref_mut.ensures.value))
+    let bands = c.dequeue_bands.ensures.after (own_of handle filters (spec.Prio c.in-Prio.priomap)) in
+    sent-in c.args.now handle filters c.args.self.now (code.Prio c.in-Prio.priomap (with_items c.in-Prio.bands c.dequeue_bands.new.bands)) (spec.Prio c.in-Prio.priomap) (spec.Prio c.in-Prio.priomap) c.deref_mut.result.now c.dequeue_bands.new.bands c.dequeue_bands.result
+    (ap discipline_seen c.in-Prio.is) kids refl (items-are c.in-Prio.bands.items c.dequeue_bands.new.bands c.in-Prio.bands.len (sym c.in-Prio.bands.ok.0) (bands.long ∙ ap (λ xs. length xs) c.deref_mut.ensures.value))
     (sym (ap places_seen c.in-Prio.is)) (prio-left c.args.now handle filters (answers c.args.now c.deref_mut.result.now) c.in-Prio.priomap) bands
 
 pub node::Discipline::dequeue-returns-in-Prio-clause-told : goal.node::Discipline::dequeue-returns-in-Prio-clause-told
 node::Discipline::dequeue-returns-in-Prio-clause-told g t c =
     λ handle filters.
     let kids = sym (c.deref_mut.ensures.value ∙ sym (ap children_seen c.in-Prio.is)) in
-    told-in c.args.now handle filters c.args.self.now (spec.Prio c.in-Prio.priomap) c.deref_mut.result.now (g.S.Sink.losses c.args.sink.now) (g.S.Sink.losses c.send_first.new.sink) (g.S.Sink.room c.args.sink.now) (g.S.Sink.room c.send_first.new.sink)
-    (ap discipline_seen c.in-Prio.is) kids (c.send_first.ensures.told (own_of handle filters (spec.Prio c.in-Prio.priomap)))
+    told-in c.args.now handle filters c.args.self.now (spec.Prio c.in-Prio.priomap) c.deref_mut.result.now (g.S.Sink.losses c.args.sink.now) (g.S.Sink.losses c.dequeue_bands.new.sink) (g.S.Sink.room c.args.sink.now) (g.S.Sink.room c.dequeue_bands.new.sink)
+    (ap discipline_seen c.in-Prio.is) kids (c.dequeue_bands.ensures.told (own_of handle filters (spec.Prio c.in-Prio.priomap)))
 
 pub node::Discipline::dequeue-returns-in-Tbf-clause-after :
     goal.node::Discipline::dequeue-returns-in-Tbf-clause-after

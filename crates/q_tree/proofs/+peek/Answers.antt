@@ -26,17 +26,17 @@ use Rattle.q_tree.proofs.RouteLemmas.{child-size, children-size}
 use Rattle.q_tree.proofs.TakeCounts.{flow-told}
 use Rattle.q_tree.proofs.+peek.Goals as goal
 
-pub disciplines::drr::ask_further-then-requires-clause-dropped_packets : goal.disciplines::drr::ask_further-then-requires-clause-dropped_packets
-disciplines::drr::ask_further-then-requires-clause-dropped_packets g t c = (fits-beside c.args.now c.args.class.now c.args.so_far c.peek-next.result (g.S.Sink.room c.args.sink.now) c.requires.ready c.peek-next.ensures.peeked.shown).dropped_packets
+pub disciplines::drr::peek_class_further-then-requires-clause-dropped_packets : goal.disciplines::drr::peek_class_further-then-requires-clause-dropped_packets
+disciplines::drr::peek_class_further-then-requires-clause-dropped_packets g t c = (fits-beside c.args.now c.args.class.now c.args.so_far c.peek-next.result (g.S.Sink.room c.args.sink.now) c.requires.ready c.peek-next.ensures.peeked.shown).dropped_packets
 
-pub disciplines::drr::ask_further-then-requires-clause-dropped_bytes : goal.disciplines::drr::ask_further-then-requires-clause-dropped_bytes
-disciplines::drr::ask_further-then-requires-clause-dropped_bytes g t c = (fits-beside c.args.now c.args.class.now c.args.so_far c.peek-next.result (g.S.Sink.room c.args.sink.now) c.requires.ready c.peek-next.ensures.peeked.shown).dropped_bytes
+pub disciplines::drr::peek_class_further-then-requires-clause-dropped_bytes : goal.disciplines::drr::peek_class_further-then-requires-clause-dropped_bytes
+disciplines::drr::peek_class_further-then-requires-clause-dropped_bytes g t c = (fits-beside c.args.now c.args.class.now c.args.so_far c.peek-next.result (g.S.Sink.room c.args.sink.now) c.requires.ready c.peek-next.ensures.peeked.shown).dropped_bytes
 
-pub disciplines::drr::ask_further-then-requires-clause-marked_packets : goal.disciplines::drr::ask_further-then-requires-clause-marked_packets
-disciplines::drr::ask_further-then-requires-clause-marked_packets g t c = (fits-beside c.args.now c.args.class.now c.args.so_far c.peek-next.result (g.S.Sink.room c.args.sink.now) c.requires.ready c.peek-next.ensures.peeked.shown).marked_packets
+pub disciplines::drr::peek_class_further-then-requires-clause-marked_packets : goal.disciplines::drr::peek_class_further-then-requires-clause-marked_packets
+disciplines::drr::peek_class_further-then-requires-clause-marked_packets g t c = (fits-beside c.args.now c.args.class.now c.args.so_far c.peek-next.result (g.S.Sink.room c.args.sink.now) c.requires.ready c.peek-next.ensures.peeked.shown).marked_packets
 
-pub disciplines::drr::ask_further-then-requires-clause-marked_bytes : goal.disciplines::drr::ask_further-then-requires-clause-marked_bytes
-disciplines::drr::ask_further-then-requires-clause-marked_bytes g t c = (fits-beside c.args.now c.args.class.now c.args.so_far c.peek-next.result (g.S.Sink.room c.args.sink.now) c.requires.ready c.peek-next.ensures.peeked.shown).marked_bytes
+pub disciplines::drr::peek_class_further-then-requires-clause-marked_bytes : goal.disciplines::drr::peek_class_further-then-requires-clause-marked_bytes
+disciplines::drr::peek_class_further-then-requires-clause-marked_bytes g t c = (fits-beside c.args.now c.args.class.now c.args.so_far c.peek-next.result (g.S.Sink.room c.args.sink.now) c.requires.ready c.peek-next.ensures.peeked.shown).marked_bytes
 
 pub disciplines::tbf::dequeue_child-returns-in_default-clause-after :
     goal.disciplines::tbf::dequeue_child-returns-in_default-clause-after
@@ -48,12 +48,12 @@ disciplines::tbf::dequeue_child-returns-clause-after g t c = λ own limit.
     let offer = shown-len c.peek-shown.result.packet c.packet_len.result c.in-Some.len c.packet_len.ensures.some c.in-Some.is in
     let shown = sym c.peek-shown.ensures.peeked.shown.packet ∙ offer.1 in
     let given = hand-asked c.args.now c.args.child.now c.peek-shown.new.self c.requires.ready c.peek-shown.ensures.peeked.after in
-    tbf-gave c.args.now own c.args.bucket.now limit c.args.child.now c.peek-shown.new.self c.give.new.self offer.0 c.peek-shown.result
-    c.requires.ready c.peek-shown.ensures.peeked.after shown (ap (allows c.args.bucket.now c.args.now) offer.2 ∙ sym c.spend.ensures.answer ∙ c.if-not-spend.false) c.give.ensures.after (c.give.ensures.arrived ∙ c.peek-shown.ensures.peeked.arrived) (c.peek-shown.ensures.peeked.shown.packet ∙ sym given) c.peek-shown.ensures.peeked.shown.dropped c.peek-shown.ensures.peeked.shown.marked
+    tbf-gave c.args.now own c.args.bucket.now limit c.args.child.now c.peek-shown.new.self c.dequeue_at_hand.new.self offer.0 c.peek-shown.result
+    c.requires.ready c.peek-shown.ensures.peeked.after shown (ap (allows c.args.bucket.now c.args.now) offer.2 ∙ sym c.spend.ensures.answer ∙ c.if-not-spend.false) c.dequeue_at_hand.ensures.after (c.dequeue_at_hand.ensures.arrived ∙ c.peek-shown.ensures.peeked.arrived) (c.peek-shown.ensures.peeked.shown.packet ∙ sym given) c.peek-shown.ensures.peeked.shown.dropped c.peek-shown.ensures.peeked.shown.marked
 
 pub disciplines::tbf::dequeue_child-returns-clause-packet : goal.disciplines::tbf::dequeue_child-returns-clause-packet
 disciplines::tbf::dequeue_child-returns-clause-packet g t c =
-    c.give.ensures.packet
+    c.dequeue_at_hand.ensures.packet
     ∙ ap (λ o. unwrap_or o c.args.out.now) (hand-asked c.args.now c.args.child.now c.peek-shown.new.self c.requires.ready c.peek-shown.ensures.peeked.after ∙ sym c.peek-shown.ensures.peeked.shown.packet)
 
 pub disciplines::tbf::dequeue_child-returns-in_default-clause-packet : goal.disciplines::tbf::dequeue_child-returns-in_default-clause-packet
@@ -83,8 +83,8 @@ pub disciplines::drr::dequeue_class-bounds-classes-place : goal.disciplines::drr
 disciplines::drr::dequeue_class-bounds-classes-place g t c =
     place-within (front-met c.requires.ready c.loop-place.invariant.0 c.front_place.ensures.lawful c.in-Some.place (sym c.in-Some.is ∙ c.front_place.ensures.place))
 
-pub disciplines::drr::dequeue_class-ask_class-shown-requires : goal.disciplines::drr::dequeue_class-ask_class-shown-requires
-disciplines::drr::dequeue_class-ask_class-shown-requires g t c κs within =
+pub disciplines::drr::dequeue_class-peek_class-shown-requires : goal.disciplines::drr::dequeue_class-peek_class-shown-requires
+disciplines::drr::dequeue_class-peek_class-shown-requires g t c κs within =
     let met = front-met c.requires.ready c.loop-place.invariant.0 c.front_place.ensures.lawful c.in-Some.place (sym c.in-Some.is ∙ c.front_place.ensures.place) in (
       omega (arith, class-size met c.index-classes-place.result, c.decreases),
       (within, ((λ some. class-once met c.index-classes-place.result some c.requires.sink), c.loop-place.invariant.3)),
@@ -93,24 +93,24 @@ disciplines::drr::dequeue_class-ask_class-shown-requires g t c κs within =
 pub disciplines::drr::dequeue_class-returns-in_default-packet_len-clause-active : goal.disciplines::drr::dequeue_class-returns-in_default-packet_len-clause-active
 disciplines::drr::dequeue_class-returns-in_default-packet_len-clause-active g t c =
     let met = front-met c.requires.ready c.loop-place.invariant.0 c.front_place.ensures.lawful c.in-Some.place (sym c.in-Some.is ∙ c.front_place.ensures.place) in
-    let shows = class-shown met c.index-classes-place.result c.ask_class-shown.ensures.asked c.ask_class-shown.ensures.told c.ask_class-shown.ensures.at_hand c.ask_class-shown.ensures.not_lost in
+    let shows = class-shown met c.index-classes-place.result c.peek_class-shown.ensures.asked c.peek_class-shown.ensures.told c.peek_class-shown.ensures.at_hand c.peek_class-shown.ensures.not_lost in
     nothing-schedule met shows (c.packet_len.ensures.none c.in_default-packet_len.is)
 
 pub disciplines::drr::dequeue_class-returns-in_default-packet_len-clause-after : goal.disciplines::drr::dequeue_class-returns-in_default-packet_len-clause-after
 disciplines::drr::dequeue_class-returns-in_default-packet_len-clause-after g t c =
     let met = front-met c.requires.ready c.loop-place.invariant.0 c.front_place.ensures.lawful c.in-Some.place (sym c.in-Some.is ∙ c.front_place.ensures.place) in
-    let shows = class-shown met c.index-classes-place.result c.ask_class-shown.ensures.asked c.ask_class-shown.ensures.told c.ask_class-shown.ensures.at_hand c.ask_class-shown.ensures.not_lost in
+    let shows = class-shown met c.index-classes-place.result c.peek_class-shown.ensures.asked c.peek_class-shown.ensures.told c.peek_class-shown.ensures.at_hand c.peek_class-shown.ensures.not_lost in
     nothing-asked met shows (c.packet_len.ensures.none c.in_default-packet_len.is)
 
 pub disciplines::drr::dequeue_class-returns-in_default-packet_len-clause-told : goal.disciplines::drr::dequeue_class-returns-in_default-packet_len-clause-told
 disciplines::drr::dequeue_class-returns-in_default-packet_len-clause-told g t c =
     let met = front-met c.requires.ready c.loop-place.invariant.0 c.front_place.ensures.lawful c.in-Some.place (sym c.in-Some.is ∙ c.front_place.ensures.place) in
-    let shows = class-shown met c.index-classes-place.result c.ask_class-shown.ensures.asked c.ask_class-shown.ensures.told c.ask_class-shown.ensures.at_hand c.ask_class-shown.ensures.not_lost in
+    let shows = class-shown met c.index-classes-place.result c.peek_class-shown.ensures.asked c.peek_class-shown.ensures.told c.peek_class-shown.ensures.at_hand c.peek_class-shown.ensures.not_lost in
     nothing-told met shows (c.packet_len.ensures.none c.in_default-packet_len.is)
 
 pub disciplines::drr::dequeue_class-returns-in_default-packet_len-clause-kept : goal.disciplines::drr::dequeue_class-returns-in_default-packet_len-clause-kept
 disciplines::drr::dequeue_class-returns-in_default-packet_len-clause-kept g t c =
-    g.met.S.Sink.keeps_on c.args.sink.now c.loop-place.sink c.ask_class-shown.new.sink c.loop-place.invariant.1 c.ask_class-shown.ensures.kept
+    g.met.S.Sink.keeps_on c.args.sink.now c.loop-place.sink c.peek_class-shown.new.sink c.loop-place.invariant.1 c.peek_class-shown.ensures.kept
 
 pub disciplines::drr::dequeue_class-returns-in_default-packet_len-clause-packet : goal.disciplines::drr::dequeue_class-returns-in_default-packet_len-clause-packet
 disciplines::drr::dequeue_class-returns-in_default-packet_len-clause-packet g t c = c.loop-place.invariant.2 ∙ ap (λ o. unwrap_or o c.args.out.now) (sym (c.packet_len.ensures.none c.in_default-packet_len.is))
@@ -118,64 +118,64 @@ disciplines::drr::dequeue_class-returns-in_default-packet_len-clause-packet g t 
 pub disciplines::drr::dequeue_class-turn-requires-clause-in_range : goal.disciplines::drr::dequeue_class-turn-requires-clause-in_range
 disciplines::drr::dequeue_class-turn-requires-clause-in_range g t c =
     let met = front-met c.requires.ready c.loop-place.invariant.0 c.front_place.ensures.lawful c.in-Some.place (sym c.in-Some.is ∙ c.front_place.ensures.place) in
-    let shows = class-shown met c.index-classes-place.result c.ask_class-shown.ensures.asked c.ask_class-shown.ensures.told c.ask_class-shown.ensures.at_hand c.ask_class-shown.ensures.not_lost in
-    let offer = shown-len c.ask_class-shown.result.packet c.packet_len.result c.in-Some-packet_len.len c.packet_len.ensures.some c.in-Some-packet_len.is in
+    let shows = class-shown met c.index-classes-place.result c.peek_class-shown.ensures.asked c.peek_class-shown.ensures.told c.peek_class-shown.ensures.at_hand c.peek_class-shown.ensures.not_lost in
+    let offer = shown-len c.peek_class-shown.result.packet c.packet_len.result c.in-Some-packet_len.len c.packet_len.ensures.some c.in-Some-packet_len.is in
     short-enough met shows offer
 
-pub disciplines::drr::dequeue_class-give_class-requires : goal.disciplines::drr::dequeue_class-give_class-requires
-disciplines::drr::dequeue_class-give_class-requires g t c =
+pub disciplines::drr::dequeue_class-dequeue_class_at_hand-requires : goal.disciplines::drr::dequeue_class-dequeue_class_at_hand-requires
+disciplines::drr::dequeue_class-dequeue_class_at_hand-requires g t c =
     let met = front-met c.requires.ready c.loop-place.invariant.0 c.front_place.ensures.lawful c.in-Some.place (sym c.in-Some.is ∙ c.front_place.ensures.place) in
-    omega (arith, place-within met, length-set c.loop-place.classes c.in-Some.place c.ask_class-shown.new.class)
+    omega (arith, place-within met, length-set c.loop-place.classes c.in-Some.place c.peek_class-shown.new.class)
 
 pub disciplines::drr::dequeue_class-returns-in-Send-clause-active : goal.disciplines::drr::dequeue_class-returns-in-Send-clause-active
 disciplines::drr::dequeue_class-returns-in-Send-clause-active g t c =
     let met = front-met c.requires.ready c.loop-place.invariant.0 c.front_place.ensures.lawful c.in-Some.place (sym c.in-Some.is ∙ c.front_place.ensures.place) in
-    let shows = class-shown met c.index-classes-place.result c.ask_class-shown.ensures.asked c.ask_class-shown.ensures.told c.ask_class-shown.ensures.at_hand c.ask_class-shown.ensures.not_lost in
-    let offer = shown-len c.ask_class-shown.result.packet c.packet_len.result c.in-Some-packet_len.len c.packet_len.ensures.some c.in-Some-packet_len.is in
-    given-schedule met shows offer (sym c.in-Send.is ∙ c.turn.ensures.answer) c.turn.ensures.after c.give_class.ensures.given
+    let shows = class-shown met c.index-classes-place.result c.peek_class-shown.ensures.asked c.peek_class-shown.ensures.told c.peek_class-shown.ensures.at_hand c.peek_class-shown.ensures.not_lost in
+    let offer = shown-len c.peek_class-shown.result.packet c.packet_len.result c.in-Some-packet_len.len c.packet_len.ensures.some c.in-Some-packet_len.is in
+    given-schedule met shows offer (sym c.in-Send.is ∙ c.turn.ensures.answer) c.turn.ensures.after c.dequeue_class_at_hand.ensures.given
 
 pub disciplines::drr::dequeue_class-returns-in-Send-clause-after : goal.disciplines::drr::dequeue_class-returns-in-Send-clause-after
 disciplines::drr::dequeue_class-returns-in-Send-clause-after g t c =
     let met = front-met c.requires.ready c.loop-place.invariant.0 c.front_place.ensures.lawful c.in-Some.place (sym c.in-Some.is ∙ c.front_place.ensures.place) in
-    let shows = class-shown met c.index-classes-place.result c.ask_class-shown.ensures.asked c.ask_class-shown.ensures.told c.ask_class-shown.ensures.at_hand c.ask_class-shown.ensures.not_lost in
-    let offer = shown-len c.ask_class-shown.result.packet c.packet_len.result c.in-Some-packet_len.len c.packet_len.ensures.some c.in-Some-packet_len.is in
-    given-asked met shows offer (sym c.in-Send.is ∙ c.turn.ensures.answer) c.turn.ensures.after c.give_class.ensures.given
+    let shows = class-shown met c.index-classes-place.result c.peek_class-shown.ensures.asked c.peek_class-shown.ensures.told c.peek_class-shown.ensures.at_hand c.peek_class-shown.ensures.not_lost in
+    let offer = shown-len c.peek_class-shown.result.packet c.packet_len.result c.in-Some-packet_len.len c.packet_len.ensures.some c.in-Some-packet_len.is in
+    given-asked met shows offer (sym c.in-Send.is ∙ c.turn.ensures.answer) c.turn.ensures.after c.dequeue_class_at_hand.ensures.given
 
 pub disciplines::drr::dequeue_class-returns-in-Send-clause-told : goal.disciplines::drr::dequeue_class-returns-in-Send-clause-told
 disciplines::drr::dequeue_class-returns-in-Send-clause-told g t c =
     let met = front-met c.requires.ready c.loop-place.invariant.0 c.front_place.ensures.lawful c.in-Some.place (sym c.in-Some.is ∙ c.front_place.ensures.place) in
-    let shows = class-shown met c.index-classes-place.result c.ask_class-shown.ensures.asked c.ask_class-shown.ensures.told c.ask_class-shown.ensures.at_hand c.ask_class-shown.ensures.not_lost in
-    let offer = shown-len c.ask_class-shown.result.packet c.packet_len.result c.in-Some-packet_len.len c.packet_len.ensures.some c.in-Some-packet_len.is in
-    given-told met shows offer (sym c.in-Send.is ∙ c.turn.ensures.answer) c.turn.ensures.after c.give_class.ensures.given
+    let shows = class-shown met c.index-classes-place.result c.peek_class-shown.ensures.asked c.peek_class-shown.ensures.told c.peek_class-shown.ensures.at_hand c.peek_class-shown.ensures.not_lost in
+    let offer = shown-len c.peek_class-shown.result.packet c.packet_len.result c.in-Some-packet_len.len c.packet_len.ensures.some c.in-Some-packet_len.is in
+    given-told met shows offer (sym c.in-Send.is ∙ c.turn.ensures.answer) c.turn.ensures.after c.dequeue_class_at_hand.ensures.given
 
 pub disciplines::drr::dequeue_class-returns-in-Send-clause-packet : goal.disciplines::drr::dequeue_class-returns-in-Send-clause-packet
 disciplines::drr::dequeue_class-returns-in-Send-clause-packet g t c =
     let met = front-met c.requires.ready c.loop-place.invariant.0 c.front_place.ensures.lawful c.in-Some.place (sym c.in-Some.is ∙ c.front_place.ensures.place) in
-    let shows = class-shown met c.index-classes-place.result c.ask_class-shown.ensures.asked c.ask_class-shown.ensures.told c.ask_class-shown.ensures.at_hand c.ask_class-shown.ensures.not_lost in
-    c.give_class.ensures.packet c.ask_class-shown.new.class shows.stored
-    ∙ ap (λ o. unwrap_or (pop c.ask_class-shown.new.class).shown o) c.loop-place.invariant.2
+    let shows = class-shown met c.index-classes-place.result c.peek_class-shown.ensures.asked c.peek_class-shown.ensures.told c.peek_class-shown.ensures.at_hand c.peek_class-shown.ensures.not_lost in
+    c.dequeue_class_at_hand.ensures.packet c.peek_class-shown.new.class shows.stored
+    ∙ ap (λ o. unwrap_or (pop c.peek_class-shown.new.class).shown o) c.loop-place.invariant.2
     ∙ ap (λ o. unwrap_or o c.args.out.now) (given-packet met shows)
 
 pub disciplines::drr::dequeue_class-returns-in-Send-clause-kept : goal.disciplines::drr::dequeue_class-returns-in-Send-clause-kept
 disciplines::drr::dequeue_class-returns-in-Send-clause-kept g t c =
-    g.met.S.Sink.keeps_on c.args.sink.now c.loop-place.sink c.ask_class-shown.new.sink c.loop-place.invariant.1 c.ask_class-shown.ensures.kept
+    g.met.S.Sink.keeps_on c.args.sink.now c.loop-place.sink c.peek_class-shown.new.sink c.loop-place.invariant.1 c.peek_class-shown.ensures.kept
 
 pub disciplines::drr::dequeue_class-loop-place-smaller : goal.disciplines::drr::dequeue_class-loop-place-smaller
 disciplines::drr::dequeue_class-loop-place-smaller g t c =
     let met = front-met c.requires.ready c.loop-place.invariant.0 c.front_place.ensures.lawful c.in-Some.place (sym c.in-Some.is ∙ c.front_place.ensures.place) in
-    let shows = class-shown met c.index-classes-place.result c.ask_class-shown.ensures.asked c.ask_class-shown.ensures.told c.ask_class-shown.ensures.at_hand c.ask_class-shown.ensures.not_lost in
-    let offer = shown-len c.ask_class-shown.result.packet c.packet_len.result c.in-Some-packet_len.len c.packet_len.ensures.some c.in-Some-packet_len.is in
+    let shows = class-shown met c.index-classes-place.result c.peek_class-shown.ensures.asked c.peek_class-shown.ensures.told c.peek_class-shown.ensures.at_hand c.peek_class-shown.ensures.not_lost in
+    let offer = shown-len c.peek_class-shown.result.packet c.packet_len.result c.in-Some-packet_len.len c.packet_len.ensures.some c.in-Some-packet_len.is in
     fewer-grants met shows offer (sym c.in-Granted.is ∙ c.turn.ensures.answer) c.turn.ensures.after
 
 pub disciplines::drr::dequeue_class-loop-place-preserved : goal.disciplines::drr::dequeue_class-loop-place-preserved
 disciplines::drr::dequeue_class-loop-place-preserved g t c =
     let met = front-met c.requires.ready c.loop-place.invariant.0 c.front_place.ensures.lawful c.in-Some.place (sym c.in-Some.is ∙ c.front_place.ensures.place) in
-    let shows = class-shown met c.index-classes-place.result c.ask_class-shown.ensures.asked c.ask_class-shown.ensures.told c.ask_class-shown.ensures.at_hand c.ask_class-shown.ensures.not_lost in
-    let offer = shown-len c.ask_class-shown.result.packet c.packet_len.result c.in-Some-packet_len.len c.packet_len.ensures.some c.in-Some-packet_len.is in (
+    let shows = class-shown met c.index-classes-place.result c.peek_class-shown.ensures.asked c.peek_class-shown.ensures.told c.peek_class-shown.ensures.at_hand c.peek_class-shown.ensures.not_lost in
+    let offer = shown-len c.peek_class-shown.result.packet c.packet_len.result c.in-Some-packet_len.len c.packet_len.ensures.some c.in-Some-packet_len.is in (
       classes-go-on met shows offer (sym c.in-Granted.is ∙ c.turn.ensures.answer) c.turn.ensures.after c.saturating_sub-unasked.ensures,
-      g.met.S.Sink.keeps_on c.args.sink.now c.loop-place.sink c.ask_class-shown.new.sink c.loop-place.invariant.1 c.ask_class-shown.ensures.kept,
+      g.met.S.Sink.keeps_on c.args.sink.now c.loop-place.sink c.peek_class-shown.new.sink c.loop-place.invariant.1 c.peek_class-shown.ensures.kept,
       c.loop-place.invariant.2,
-      c.ask_class-shown.ensures.signals,
+      c.peek_class-shown.ensures.signals,
     )
 
 pub disciplines::drr::dequeue_class-returns-clause-active : goal.disciplines::drr::dequeue_class-returns-clause-active
@@ -198,8 +198,8 @@ disciplines::drr::dequeue_class-returns-clause-kept g t c = c.loop-place.invaria
 pub disciplines::drr::dequeue_class-returns-clause-signals : goal.disciplines::drr::dequeue_class-returns-clause-signals
 disciplines::drr::dequeue_class-returns-clause-signals g t c = sym (ap signals_of c.at_hand.ensures)
 
-pub node::Discipline::ask-ask_bands-requires : goal.node::Discipline::ask-ask_bands-requires
-node::Discipline::ask-ask_bands-requires g t c κs within =
+pub node::Discipline::ask-peek_bands-requires : goal.node::Discipline::ask-peek_bands-requires
+node::Discipline::ask-peek_bands-requires g t c κs within =
     let kids = c.deref_mut.ensures.value ∙ sym (ap children_seen c.in-Prio.is) in
     (omega (arith, ap (λ xs. forest_size (side_by_side xs)) kids, c.decreases), (within, (each-of c.args.now c.args.self.now c.deref_mut.result.now c.requires.ready kids, (omega (arith, c.requires.sink, room-of c.args.self.now c.deref_mut.result.now kids), c.requires.clean))))
 
@@ -207,34 +207,34 @@ pub node::Discipline::ask-returns-in-Prio-clause-after :
     goal.node::Discipline::ask-returns-in-Prio-clause-after
 node::Discipline::ask-returns-in-Prio-clause-after g t c = λ handle filters.
     let kids = sym (c.deref_mut.ensures.value ∙ sym (ap children_seen c.in-Prio.is)) in
-    let asked_bands = c.ask_bands.ensures.after (own_of handle filters (spec.Prio c.in-Prio.priomap)) in
-    asked-in c.args.now handle filters c.args.self.now (code.Prio c.in-Prio.priomap (with_items c.in-Prio.bands c.ask_bands.new.bands)) (spec.Prio c.in-Prio.priomap) (spec.Prio c.in-Prio.priomap) c.deref_mut.result.now c.ask_bands.new.bands c.ask_bands.result
-    (ap discipline_seen c.in-Prio.is) kids refl (items-are c.in-Prio.bands.items c.ask_bands.new.bands c.in-Prio.bands.len (sym c.in-Prio.bands.ok.0) (asked_bands.long ∙ ap (λ xs. length xs) c.deref_mut.ensures.value))
+    let asked_bands = c.peek_bands.ensures.after (own_of handle filters (spec.Prio c.in-Prio.priomap)) in
+    asked-in c.args.now handle filters c.args.self.now (code.Prio c.in-Prio.priomap (with_items c.in-Prio.bands c.peek_bands.new.bands)) (spec.Prio c.in-Prio.priomap) (spec.Prio c.in-Prio.priomap) c.deref_mut.result.now c.peek_bands.new.bands c.peek_bands.result
+    (ap discipline_seen c.in-Prio.is) kids refl (items-are c.in-Prio.bands.items c.peek_bands.new.bands c.in-Prio.bands.len (sym c.in-Prio.bands.ok.0) (asked_bands.long ∙ ap (λ xs. length xs) c.deref_mut.ensures.value))
     (sym (ap places_seen c.in-Prio.is)) refl asked_bands
 
 pub node::Discipline::ask-returns-in-Prio-clause-told :
     goal.node::Discipline::ask-returns-in-Prio-clause-told
 node::Discipline::ask-returns-in-Prio-clause-told g t c = λ handle filters.
-    told-in c.args.now handle filters c.args.self.now (spec.Prio c.in-Prio.priomap) c.deref_mut.result.now (g.S.Sink.losses c.args.sink.now) (g.S.Sink.losses c.ask_bands.new.sink) (g.S.Sink.room c.args.sink.now) (g.S.Sink.room c.ask_bands.new.sink)
-    (ap discipline_seen c.in-Prio.is) (sym (c.deref_mut.ensures.value ∙ sym (ap children_seen c.in-Prio.is))) (c.ask_bands.ensures.told (own_of handle filters (spec.Prio c.in-Prio.priomap)))
+    told-in c.args.now handle filters c.args.self.now (spec.Prio c.in-Prio.priomap) c.deref_mut.result.now (g.S.Sink.losses c.args.sink.now) (g.S.Sink.losses c.peek_bands.new.sink) (g.S.Sink.room c.args.sink.now) (g.S.Sink.room c.peek_bands.new.sink)
+    (ap discipline_seen c.in-Prio.is) (sym (c.deref_mut.ensures.value ∙ sym (ap children_seen c.in-Prio.is))) (c.peek_bands.ensures.told (own_of handle filters (spec.Prio c.in-Prio.priomap)))
 
 pub node::Discipline::ask-returns-in-Tbf-clause-after :
     goal.node::Discipline::ask-returns-in-Tbf-clause-after
 node::Discipline::ask-returns-in-Tbf-clause-after g t c = λ handle filters.
     let own = own_of handle filters (spec.Tbf c.in-Tbf.bucket c.in-Tbf.limit) in
     let kids = ap children_seen c.in-Tbf.is ∙ ap (λ x. x ∷ []) (sym c.deref_mut-in-Tbf.ensures.value) in
-    asked-in c.args.now handle filters c.args.self.now (code.Tbf c.ask_child.new.bucket c.in-Tbf.limit (with_value c.in-Tbf.child c.ask_child.new.child)) (spec.Tbf c.in-Tbf.bucket c.in-Tbf.limit) (spec.Tbf c.ask_child.new.bucket c.in-Tbf.limit) (c.deref_mut-in-Tbf.result.now ∷ []) (c.ask_child.new.child ∷ []) c.ask_child.result
-    (ap discipline_seen c.in-Tbf.is) kids refl refl (sym (ap places_seen c.in-Tbf.is)) (c.ask_child.ensures.bucket own c.in-Tbf.limit refl) (c.ask_child.ensures.after own c.in-Tbf.limit)
+    asked-in c.args.now handle filters c.args.self.now (code.Tbf c.peek_child.new.bucket c.in-Tbf.limit (with_value c.in-Tbf.child c.peek_child.new.child)) (spec.Tbf c.in-Tbf.bucket c.in-Tbf.limit) (spec.Tbf c.peek_child.new.bucket c.in-Tbf.limit) (c.deref_mut-in-Tbf.result.now ∷ []) (c.peek_child.new.child ∷ []) c.peek_child.result
+    (ap discipline_seen c.in-Tbf.is) kids refl refl (sym (ap places_seen c.in-Tbf.is)) (c.peek_child.ensures.bucket own c.in-Tbf.limit refl) (c.peek_child.ensures.after own c.in-Tbf.limit)
 
 pub node::Discipline::ask-returns-in-Tbf-clause-told :
     goal.node::Discipline::ask-returns-in-Tbf-clause-told
 node::Discipline::ask-returns-in-Tbf-clause-told g t c = λ handle filters.
     let own = own_of handle filters (spec.Tbf c.in-Tbf.bucket c.in-Tbf.limit) in
-    told-in c.args.now handle filters c.args.self.now (spec.Tbf c.in-Tbf.bucket c.in-Tbf.limit) (c.deref_mut-in-Tbf.result.now ∷ []) (g.S.Sink.losses c.args.sink.now) (g.S.Sink.losses c.ask_child.new.sink) (g.S.Sink.room c.args.sink.now) (g.S.Sink.room c.ask_child.new.sink)
-    (ap discipline_seen c.in-Tbf.is) (ap children_seen c.in-Tbf.is ∙ ap (λ x. x ∷ []) (sym c.deref_mut-in-Tbf.ensures.value)) (c.ask_child.ensures.told own c.in-Tbf.limit)
+    told-in c.args.now handle filters c.args.self.now (spec.Tbf c.in-Tbf.bucket c.in-Tbf.limit) (c.deref_mut-in-Tbf.result.now ∷ []) (g.S.Sink.losses c.args.sink.now) (g.S.Sink.losses c.peek_child.new.sink) (g.S.Sink.room c.args.sink.now) (g.S.Sink.room c.peek_child.new.sink)
+    (ap discipline_seen c.in-Tbf.is) (ap children_seen c.in-Tbf.is ∙ ap (λ x. x ∷ []) (sym c.deref_mut-in-Tbf.ensures.value)) (c.peek_child.ensures.told own c.in-Tbf.limit)
 
-pub node::Discipline::ask-serve-requires : goal.node::Discipline::ask-serve-requires
-node::Discipline::ask-serve-requires g t c κs within =
+pub node::Discipline::ask-peek_classes-requires : goal.node::Discipline::ask-peek_classes-requires
+node::Discipline::ask-peek_classes-requires g t c κs within =
     let kids = c.deref_mut-in-Drr.ensures.value ∙ sym (ap children_seen c.in-Drr.is) in
     (omega (arith, ap (λ xs. forest_size (side_by_side xs)) kids, c.decreases), (within, (c.requires.none, (serve-of c.args.now c.args.self.now c.in-Drr.active c.deref_mut-in-Drr.result.now c.requires.ready (ap discipline_seen c.in-Drr.is) kids, (omega (arith, c.requires.sink, room-of c.args.self.now c.deref_mut-in-Drr.result.now kids), c.requires.clean)))))
 
@@ -243,44 +243,44 @@ pub node::Discipline::ask-returns-in-Drr-clause-after :
 node::Discipline::ask-returns-in-Drr-clause-after g t c = λ handle filters.
     let own = own_of handle filters (spec.Drr c.in-Drr.active) in
     let kids = sym (c.deref_mut-in-Drr.ensures.value ∙ sym (ap children_seen c.in-Drr.is)) in
-    asked-in c.args.now handle filters c.args.self.now (code.Drr c.serve.new.active (with_items c.in-Drr.classes c.serve.new.classes)) (spec.Drr c.in-Drr.active) (spec.Drr c.serve.new.active) c.deref_mut-in-Drr.result.now c.serve.new.classes c.serve.result
-    (ap discipline_seen c.in-Drr.is) kids refl (items-are c.in-Drr.classes.items c.serve.new.classes c.in-Drr.classes.len (sym c.in-Drr.classes.ok.0) ((c.serve.ensures.after own).long ∙ ap (λ xs. length xs) c.deref_mut-in-Drr.ensures.value))
-    (sym (ap places_seen c.in-Drr.is)) (c.serve.ensures.active own) (c.serve.ensures.after own)
+    asked-in c.args.now handle filters c.args.self.now (code.Drr c.peek_classes.new.active (with_items c.in-Drr.classes c.peek_classes.new.classes)) (spec.Drr c.in-Drr.active) (spec.Drr c.peek_classes.new.active) c.deref_mut-in-Drr.result.now c.peek_classes.new.classes c.peek_classes.result
+    (ap discipline_seen c.in-Drr.is) kids refl (items-are c.in-Drr.classes.items c.peek_classes.new.classes c.in-Drr.classes.len (sym c.in-Drr.classes.ok.0) ((c.peek_classes.ensures.after own).long ∙ ap (λ xs. length xs) c.deref_mut-in-Drr.ensures.value))
+    (sym (ap places_seen c.in-Drr.is)) (c.peek_classes.ensures.active own) (c.peek_classes.ensures.after own)
 
 pub node::Discipline::ask-returns-in-Drr-clause-told :
     goal.node::Discipline::ask-returns-in-Drr-clause-told
 node::Discipline::ask-returns-in-Drr-clause-told g t c = λ handle filters.
-    told-in c.args.now handle filters c.args.self.now (spec.Drr c.in-Drr.active) c.deref_mut-in-Drr.result.now (g.S.Sink.losses c.args.sink.now) (g.S.Sink.losses c.serve.new.sink) (g.S.Sink.room c.args.sink.now) (g.S.Sink.room c.serve.new.sink)
-    (ap discipline_seen c.in-Drr.is) (sym (c.deref_mut-in-Drr.ensures.value ∙ sym (ap children_seen c.in-Drr.is))) (c.serve.ensures.told (own_of handle filters (spec.Drr c.in-Drr.active)))
+    told-in c.args.now handle filters c.args.self.now (spec.Drr c.in-Drr.active) c.deref_mut-in-Drr.result.now (g.S.Sink.losses c.args.sink.now) (g.S.Sink.losses c.peek_classes.new.sink) (g.S.Sink.room c.args.sink.now) (g.S.Sink.room c.peek_classes.new.sink)
+    (ap discipline_seen c.in-Drr.is) (sym (c.deref_mut-in-Drr.ensures.value ∙ sym (ap children_seen c.in-Drr.is))) (c.peek_classes.ensures.told (own_of handle filters (spec.Drr c.in-Drr.active)))
 
-pub node::Discipline::ask-take_from_flows-requires :
-    goal.node::Discipline::ask-take_from_flows-requires
-node::Discipline::ask-take_from_flows-requires g t c =
+pub node::Discipline::ask-peek_flow-requires :
+    goal.node::Discipline::ask-peek_flow-requires
+node::Discipline::ask-peek_flow-requires g t c =
     let is = ap discipline_seen c.in-FqCodel.is ∙ ap (λ (q : FqView). spec.FqCodel q.state) (sym c.deref_mut-in-FqCodel.ensures.value) in
     record { none = c.requires.none; sink = omega (arith, c.requires.sink, own-room c.args.self.now, flow-packets c.args.self.now c.deref_mut-in-FqCodel.result.now.state is); clean = c.requires.clean }
 
 pub node::Discipline::ask-returns-in-FqCodel-clause-after :
     goal.node::Discipline::ask-returns-in-FqCodel-clause-after
 node::Discipline::ask-returns-in-FqCodel-clause-after g t c = λ handle filters.
-    let e = c.take_from_flows.ensures in
+    let e = c.peek_flow.ensures in
     let state = c.deref_mut-in-FqCodel.result.now.state in
     let own = own_of handle filters (spec.FqCodel state) in
     let is = ap discipline_seen c.in-FqCodel.is ∙ ap (λ (q : FqView). spec.FqCodel q.state) (sym c.deref_mut-in-FqCodel.ensures.value) in
     let places = e.places ∙ ap (λ (q : FqView). q.places) c.deref_mut-in-FqCodel.ensures.value ∙ sym (ap places_seen c.in-FqCodel.is) in
-    asked-in c.args.now handle filters c.args.self.now (code.FqCodel (with_value c.in-FqCodel.queue c.take_from_flows.new.queue)) (spec.FqCodel state) (spec.FqCodel c.take_from_flows.new.queue.state) [] [] c.take_from_flows.result
+    asked-in c.args.now handle filters c.args.self.now (code.FqCodel (with_value c.in-FqCodel.queue c.peek_flow.new.queue)) (spec.FqCodel state) (spec.FqCodel c.peek_flow.new.queue.state) [] [] c.peek_flow.result
     is (ap children_seen c.in-FqCodel.is) refl refl places (ap spec.FqCodel e.after)
     (record { long = refl; nodes = refl; within = λ t h. h; shown = e.shown own [] })
 
 pub node::Discipline::ask-returns-in-FqCodel-clause-told :
     goal.node::Discipline::ask-returns-in-FqCodel-clause-told
 node::Discipline::ask-returns-in-FqCodel-clause-told g t c = λ handle filters.
-    let e = c.take_from_flows.ensures in
+    let e = c.peek_flow.ensures in
     let state = c.deref_mut-in-FqCodel.result.now.state in
     let own = own_of handle filters (spec.FqCodel state) in
     let is = ap discipline_seen c.in-FqCodel.is ∙ ap (λ (q : FqView). spec.FqCodel q.state) (sym c.deref_mut-in-FqCodel.ensures.value) in
-    told-in c.args.now handle filters c.args.self.now (spec.FqCodel state) [] (g.S.Sink.losses c.args.sink.now) (g.S.Sink.losses c.take_from_flows.new.sink) (g.S.Sink.room c.args.sink.now) (g.S.Sink.room c.take_from_flows.new.sink)
+    told-in c.args.now handle filters c.args.self.now (spec.FqCodel state) [] (g.S.Sink.losses c.args.sink.now) (g.S.Sink.losses c.peek_flow.new.sink) (g.S.Sink.room c.args.sink.now) (g.S.Sink.room c.peek_flow.new.sink)
     is (ap children_seen c.in-FqCodel.is)
-    (flow-told c.args.now state own [] (g.S.Sink.losses c.args.sink.now) (g.S.Sink.losses c.take_from_flows.new.sink) (g.S.Sink.room c.args.sink.now) (g.S.Sink.room c.take_from_flows.new.sink) e.told)
+    (flow-told c.args.now state own [] (g.S.Sink.losses c.args.sink.now) (g.S.Sink.losses c.peek_flow.new.sink) (g.S.Sink.room c.args.sink.now) (g.S.Sink.room c.peek_flow.new.sink) e.told)
 
 pub node::Node::peek-returns-then-is_some-clause-peeked : goal.node::Node::peek-returns-then-is_some-clause-peeked
 node::Node::peek-returns-then-is_some-clause-peeked g t c = record {
@@ -351,65 +351,65 @@ pub node::Node::peek_further-returns-clause-told : goal.node::Node::peek_further
 node::Node::peek_further-returns-clause-told g t c =
     told-here c.args.now c.self.inside c.args.self.now c.self.invariant c.self.view_is c.requires.ready (ap (λ (n : Node Kept). n.own.held) c.self.view_is ∙ c.requires.none) (g.S.Sink.losses c.args.sink.now) (g.S.Sink.losses c.ask-shown.new.sink) (g.S.Sink.room c.args.sink.now) (g.S.Sink.room c.ask-shown.new.sink) (c.ask-shown.ensures.told c.self.inside.handle c.self.inside.filters)
 
-pub disciplines::prio::ask_bands-loop-place-init : goal.disciplines::prio::ask_bands-loop-place-init
-disciplines::prio::ask_bands-loop-place-init g t c = (
+pub disciplines::prio::peek_bands-loop-place-init : goal.disciplines::prio::peek_bands-loop-place-init
+disciplines::prio::peek_bands-loop-place-init g t c = (
   bands-start c.args.now c.args.bands.now c.at_hand-shown.result (record { dropped = ap (λ (s : Shown). s.dropped) c.at_hand-shown.ensures; marked = ap (λ (s : Shown). s.marked) c.at_hand-shown.ensures }) (ap (λ (s : Shown). s.packet) c.at_hand-shown.ensures),
   told-nothing (g.S.Sink.losses c.args.sink.now) (g.S.Sink.room c.args.sink.now),
   g.met.S.Sink.keeps_same c.args.sink.now,
   c.requires.clean ∙ sym (ap signals_of c.at_hand-shown.ensures),
 )
 
-pub disciplines::prio::ask_bands-peek-next-requires : goal.disciplines::prio::ask_bands-peek-next-requires
-disciplines::prio::ask_bands-peek-next-requires g t c κs within =
+pub disciplines::prio::peek_bands-peek-next-requires : goal.disciplines::prio::peek_bands-peek-next-requires
+disciplines::prio::peek_bands-peek-next-requires g t c κs within =
     let at = band-at c.args.now c.args.bands.now c.loop-place.bands c.loop-place.place c.loop-place.shown c.loop-place.invariant.0 c.index-bands-place.result c.loop-place-test.true in
     let once = (band-once c.args.now c.args.bands.now c.loop-place.bands c.loop-place.place c.loop-place.shown c.requires.ready c.loop-place.invariant.0 (slice_index_or c.loop-place.bands c.loop-place.place c.index-bands-place.result) (band-at c.args.now c.args.bands.now c.loop-place.bands c.loop-place.place c.loop-place.shown c.loop-place.invariant.0 c.index-bands-place.result c.loop-place-test.true) (g.S.Sink.losses c.args.sink.now) (g.S.Sink.losses c.loop-place.sink) (g.S.Sink.room c.args.sink.now) (g.S.Sink.room c.loop-place.sink) c.loop-place.invariant.1 c.requires.sink) in
     (omega (arith, child-size c.args.bands.now c.loop-place.place (slice_index_or c.loop-place.bands c.loop-place.place c.index-bands-place.result) at, c.decreases), (within, (once.ready, (once.sink, refl))))
 
-pub disciplines::prio::ask_bands-then-shown-requires-clause-dropped_packets :
-    goal.disciplines::prio::ask_bands-then-shown-requires-clause-dropped_packets
-disciplines::prio::ask_bands-then-shown-requires-clause-dropped_packets g t c =
+pub disciplines::prio::peek_bands-then-shown-requires-clause-dropped_packets :
+    goal.disciplines::prio::peek_bands-then-shown-requires-clause-dropped_packets
+disciplines::prio::peek_bands-then-shown-requires-clause-dropped_packets g t c =
     (fits-beside c.args.now (slice_index_or c.loop-place.bands c.loop-place.place c.index-bands-place.result) c.loop-place.shown c.peek-next.result (g.S.Sink.room c.loop-place.sink)
     (band-once c.args.now c.args.bands.now c.loop-place.bands c.loop-place.place c.loop-place.shown c.requires.ready c.loop-place.invariant.0 (slice_index_or c.loop-place.bands c.loop-place.place c.index-bands-place.result) (band-at c.args.now c.args.bands.now c.loop-place.bands c.loop-place.place c.loop-place.shown c.loop-place.invariant.0 c.index-bands-place.result c.loop-place-test.true) (g.S.Sink.losses c.args.sink.now) (g.S.Sink.losses c.loop-place.sink) (g.S.Sink.room c.args.sink.now) (g.S.Sink.room c.loop-place.sink) c.loop-place.invariant.1 c.requires.sink) c.peek-next.ensures.peeked.shown).dropped_packets
 
-pub disciplines::prio::ask_bands-then-shown-requires-clause-dropped_bytes :
-    goal.disciplines::prio::ask_bands-then-shown-requires-clause-dropped_bytes
-disciplines::prio::ask_bands-then-shown-requires-clause-dropped_bytes g t c =
+pub disciplines::prio::peek_bands-then-shown-requires-clause-dropped_bytes :
+    goal.disciplines::prio::peek_bands-then-shown-requires-clause-dropped_bytes
+disciplines::prio::peek_bands-then-shown-requires-clause-dropped_bytes g t c =
     (fits-beside c.args.now (slice_index_or c.loop-place.bands c.loop-place.place c.index-bands-place.result) c.loop-place.shown c.peek-next.result (g.S.Sink.room c.loop-place.sink)
     (band-once c.args.now c.args.bands.now c.loop-place.bands c.loop-place.place c.loop-place.shown c.requires.ready c.loop-place.invariant.0 (slice_index_or c.loop-place.bands c.loop-place.place c.index-bands-place.result) (band-at c.args.now c.args.bands.now c.loop-place.bands c.loop-place.place c.loop-place.shown c.loop-place.invariant.0 c.index-bands-place.result c.loop-place-test.true) (g.S.Sink.losses c.args.sink.now) (g.S.Sink.losses c.loop-place.sink) (g.S.Sink.room c.args.sink.now) (g.S.Sink.room c.loop-place.sink) c.loop-place.invariant.1 c.requires.sink) c.peek-next.ensures.peeked.shown).dropped_bytes
 
-pub disciplines::prio::ask_bands-then-shown-requires-clause-marked_packets :
-    goal.disciplines::prio::ask_bands-then-shown-requires-clause-marked_packets
-disciplines::prio::ask_bands-then-shown-requires-clause-marked_packets g t c =
+pub disciplines::prio::peek_bands-then-shown-requires-clause-marked_packets :
+    goal.disciplines::prio::peek_bands-then-shown-requires-clause-marked_packets
+disciplines::prio::peek_bands-then-shown-requires-clause-marked_packets g t c =
     (fits-beside c.args.now (slice_index_or c.loop-place.bands c.loop-place.place c.index-bands-place.result) c.loop-place.shown c.peek-next.result (g.S.Sink.room c.loop-place.sink)
     (band-once c.args.now c.args.bands.now c.loop-place.bands c.loop-place.place c.loop-place.shown c.requires.ready c.loop-place.invariant.0 (slice_index_or c.loop-place.bands c.loop-place.place c.index-bands-place.result) (band-at c.args.now c.args.bands.now c.loop-place.bands c.loop-place.place c.loop-place.shown c.loop-place.invariant.0 c.index-bands-place.result c.loop-place-test.true) (g.S.Sink.losses c.args.sink.now) (g.S.Sink.losses c.loop-place.sink) (g.S.Sink.room c.args.sink.now) (g.S.Sink.room c.loop-place.sink) c.loop-place.invariant.1 c.requires.sink) c.peek-next.ensures.peeked.shown).marked_packets
 
-pub disciplines::prio::ask_bands-then-shown-requires-clause-marked_bytes :
-    goal.disciplines::prio::ask_bands-then-shown-requires-clause-marked_bytes
-disciplines::prio::ask_bands-then-shown-requires-clause-marked_bytes g t c =
+pub disciplines::prio::peek_bands-then-shown-requires-clause-marked_bytes :
+    goal.disciplines::prio::peek_bands-then-shown-requires-clause-marked_bytes
+disciplines::prio::peek_bands-then-shown-requires-clause-marked_bytes g t c =
     (fits-beside c.args.now (slice_index_or c.loop-place.bands c.loop-place.place c.index-bands-place.result) c.loop-place.shown c.peek-next.result (g.S.Sink.room c.loop-place.sink)
     (band-once c.args.now c.args.bands.now c.loop-place.bands c.loop-place.place c.loop-place.shown c.requires.ready c.loop-place.invariant.0 (slice_index_or c.loop-place.bands c.loop-place.place c.index-bands-place.result) (band-at c.args.now c.args.bands.now c.loop-place.bands c.loop-place.place c.loop-place.shown c.loop-place.invariant.0 c.index-bands-place.result c.loop-place-test.true) (g.S.Sink.losses c.args.sink.now) (g.S.Sink.losses c.loop-place.sink) (g.S.Sink.room c.args.sink.now) (g.S.Sink.room c.loop-place.sink) c.loop-place.invariant.1 c.requires.sink) c.peek-next.ensures.peeked.shown).marked_bytes
 
-pub disciplines::prio::ask_bands-returns-then-has_packet-clause-after :
-    goal.disciplines::prio::ask_bands-returns-then-has_packet-clause-after
-disciplines::prio::ask_bands-returns-then-has_packet-clause-after g t c = λ own.
+pub disciplines::prio::peek_bands-returns-then-has_packet-clause-after :
+    goal.disciplines::prio::peek_bands-returns-then-has_packet-clause-after
+disciplines::prio::peek_bands-returns-then-has_packet-clause-after g t c = λ own.
     band-shown c.args.now c.args.bands.now c.loop-place.bands c.loop-place.place c.loop-place.shown c.requires.ready c.loop-place.invariant.0 (slice_index_or c.loop-place.bands c.loop-place.place c.index-bands-place.result) (band-at c.args.now c.args.bands.now c.loop-place.bands c.loop-place.place c.loop-place.shown c.loop-place.invariant.0 c.index-bands-place.result c.loop-place-test.true) c.peek-next.new.self c.peek-next.result c.then-shown.result c.peek-next.ensures.peeked.after c.peek-next.ensures.peeked.arrived c.peek-next.ensures.peeked.shown
     (ap (λ (s : Shown). s.dropped) c.then-shown.ensures.asked) (ap (λ (s : Shown). s.marked) c.then-shown.ensures.asked) (ap (λ (s : Shown). s.packet) c.then-shown.ensures.asked) (sym c.if-has_packet.ensures) own
 
-pub disciplines::prio::ask_bands-returns-then-has_packet-clause-told :
-    goal.disciplines::prio::ask_bands-returns-then-has_packet-clause-told
-disciplines::prio::ask_bands-returns-then-has_packet-clause-told g t c = λ own.
+pub disciplines::prio::peek_bands-returns-then-has_packet-clause-told :
+    goal.disciplines::prio::peek_bands-returns-then-has_packet-clause-told
+disciplines::prio::peek_bands-returns-then-has_packet-clause-told g t c = λ own.
     subst (λ notes. IsToldOf notes (g.S.Sink.losses c.args.sink.now) (g.S.Sink.losses c.peek-next.new.sink) (g.S.Sink.room c.args.sink.now) (g.S.Sink.room c.peek-next.new.sink))
     (band-rises c.args.now c.args.bands.now c.loop-place.bands c.loop-place.place c.loop-place.shown c.requires.ready c.loop-place.invariant.0 (slice_index_or c.loop-place.bands c.loop-place.place c.index-bands-place.result) (band-at c.args.now c.args.bands.now c.loop-place.bands c.loop-place.place c.loop-place.shown c.loop-place.invariant.0 c.index-bands-place.result c.loop-place-test.true) c.peek-next.new.self c.peek-next.result c.then-shown.result c.peek-next.ensures.peeked.after c.peek-next.ensures.peeked.arrived c.peek-next.ensures.peeked.shown
     (ap (λ (s : Shown). s.dropped) c.then-shown.ensures.asked) (ap (λ (s : Shown). s.marked) c.then-shown.ensures.asked) (ap (λ (s : Shown). s.packet) c.then-shown.ensures.asked) (sym c.if-has_packet.ensures) own)
     (told-then (told_to c.loop-place.place (answers c.args.now c.args.bands.now)) (ask c.args.now (shape (slice_index_or c.loop-place.bands c.loop-place.place c.index-bands-place.result))).rises (g.S.Sink.losses c.args.sink.now) (g.S.Sink.losses c.loop-place.sink) (g.S.Sink.losses c.peek-next.new.sink)
     (g.S.Sink.room c.args.sink.now) (g.S.Sink.room c.loop-place.sink) (g.S.Sink.room c.peek-next.new.sink) c.loop-place.invariant.1 c.peek-next.ensures.told)
 
-pub disciplines::prio::ask_bands-returns-then-has_packet-clause-kept :
-    goal.disciplines::prio::ask_bands-returns-then-has_packet-clause-kept
-disciplines::prio::ask_bands-returns-then-has_packet-clause-kept g t c = g.met.S.Sink.keeps_on c.args.sink.now c.loop-place.sink c.peek-next.new.sink c.loop-place.invariant.2 c.peek-next.ensures.kept
+pub disciplines::prio::peek_bands-returns-then-has_packet-clause-kept :
+    goal.disciplines::prio::peek_bands-returns-then-has_packet-clause-kept
+disciplines::prio::peek_bands-returns-then-has_packet-clause-kept g t c = g.met.S.Sink.keeps_on c.args.sink.now c.loop-place.sink c.peek-next.new.sink c.loop-place.invariant.2 c.peek-next.ensures.kept
 
-pub disciplines::prio::ask_bands-loop-place-preserved : goal.disciplines::prio::ask_bands-loop-place-preserved
-disciplines::prio::ask_bands-loop-place-preserved g t c = (
+pub disciplines::prio::peek_bands-loop-place-preserved : goal.disciplines::prio::peek_bands-loop-place-preserved
+disciplines::prio::peek_bands-loop-place-preserved g t c = (
   subst (λ n. AreBandsAsked c.args.now c.args.bands.now (set c.loop-place.bands c.loop-place.place c.peek-next.new.self) n c.then-shown.result) (sym (add-one c.loop-place.place))
       (band-passed c.args.now c.args.bands.now c.loop-place.bands c.loop-place.place c.loop-place.shown c.requires.ready c.loop-place.invariant.0 (slice_index_or c.loop-place.bands c.loop-place.place c.index-bands-place.result) (band-at c.args.now c.args.bands.now c.loop-place.bands c.loop-place.place c.loop-place.shown c.loop-place.invariant.0 c.index-bands-place.result c.loop-place-test.true) c.peek-next.new.self c.peek-next.result c.then-shown.result c.peek-next.ensures.peeked.after c.peek-next.ensures.peeked.arrived c.peek-next.ensures.peeked.shown
       (ap (λ (s : Shown). s.dropped) c.then-shown.ensures.asked) (ap (λ (s : Shown). s.marked) c.then-shown.ensures.asked) (ap (λ (s : Shown). s.packet) c.then-shown.ensures.asked) (sym c.if-has_packet.ensures)),
@@ -422,12 +422,12 @@ disciplines::prio::ask_bands-loop-place-preserved g t c = (
   c.then-shown.ensures.signals,
 )
 
-pub disciplines::prio::ask_bands-returns-clause-after : goal.disciplines::prio::ask_bands-returns-clause-after
-disciplines::prio::ask_bands-returns-clause-after g t c = λ own. bands-end c.args.now c.args.bands.now c.loop-place.bands c.loop-place.place c.loop-place.shown c.loop-place.invariant.0 c.loop-place-test.false c.loop-place.auto.place-end own
+pub disciplines::prio::peek_bands-returns-clause-after : goal.disciplines::prio::peek_bands-returns-clause-after
+disciplines::prio::peek_bands-returns-clause-after g t c = λ own. bands-end c.args.now c.args.bands.now c.loop-place.bands c.loop-place.place c.loop-place.shown c.loop-place.invariant.0 c.loop-place-test.false c.loop-place.auto.place-end own
 
-pub disciplines::prio::ask_bands-returns-clause-told : goal.disciplines::prio::ask_bands-returns-clause-told
-disciplines::prio::ask_bands-returns-clause-told g t c = λ own.
+pub disciplines::prio::peek_bands-returns-clause-told : goal.disciplines::prio::peek_bands-returns-clause-told
+disciplines::prio::peek_bands-returns-clause-told g t c = λ own.
     subst (λ notes. IsToldOf notes (g.S.Sink.losses c.args.sink.now) (g.S.Sink.losses c.loop-place.sink) (g.S.Sink.room c.args.sink.now) (g.S.Sink.room c.loop-place.sink)) (bands-rises c.args.now c.args.bands.now c.loop-place.bands c.loop-place.place c.loop-place.shown c.loop-place.invariant.0 c.loop-place-test.false c.loop-place.auto.place-end own) c.loop-place.invariant.1
 
-pub disciplines::prio::ask_bands-returns-clause-kept : goal.disciplines::prio::ask_bands-returns-clause-kept
-disciplines::prio::ask_bands-returns-clause-kept g t c = c.loop-place.invariant.2
+pub disciplines::prio::peek_bands-returns-clause-kept : goal.disciplines::prio::peek_bands-returns-clause-kept
+disciplines::prio::peek_bands-returns-clause-kept g t c = c.loop-place.invariant.2

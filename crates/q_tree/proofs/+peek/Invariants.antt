@@ -22,8 +22,8 @@ invariant-disciplines::drr::dequeue_class-loop-place g l =
 abbrev pub decreases-disciplines::drr::dequeue_class-loop-place : goal.decreases-disciplines::drr::dequeue_class-loop-place
 decreases-disciplines::drr::dequeue_class-loop-place g l = sum_by (need (λ m. quantum_of m l.active.classes) (heads_of l.fn.now l.fn.active l.fn.classes)) l.active.active
 
-abbrev pub invariant-disciplines::prio::ask_bands-loop-place : goal.invariant-disciplines::prio::ask_bands-loop-place
-invariant-disciplines::prio::ask_bands-loop-place g l =
+abbrev pub invariant-disciplines::prio::peek_bands-loop-place : goal.invariant-disciplines::prio::peek_bands-loop-place
+invariant-disciplines::prio::peek_bands-loop-place g l =
     AreBandsAsked l.fn.now l.fn.bands l.bands l.place l.shown
     × IsToldOf (told_to l.place (answers l.fn.now l.fn.bands)) (g.S.Sink.losses l.fn.sink) (g.S.Sink.losses l.sink) (g.S.Sink.room l.fn.sink) (g.S.Sink.room l.sink)
     × g.S.Sink.keeps l.fn.sink l.sink
@@ -39,20 +39,20 @@ decreases-node::Node::peek_further g l = 4 * node_size l.self.now
 abbrev pub decreases-node::Discipline::ask : goal.decreases-node::Discipline::ask
 decreases-node::Discipline::ask g l = 4 * forest_size (side_by_side (children_seen l.self.now)) + 3
 
-abbrev pub decreases-disciplines::prio::ask_bands : goal.decreases-disciplines::prio::ask_bands
-decreases-disciplines::prio::ask_bands g l = 4 * forest_size (side_by_side l.bands.now) + 2
+abbrev pub decreases-disciplines::prio::peek_bands : goal.decreases-disciplines::prio::peek_bands
+decreases-disciplines::prio::peek_bands g l = 4 * forest_size (side_by_side l.bands.now) + 2
 
-abbrev pub decreases-disciplines::tbf::ask_child : goal.decreases-disciplines::tbf::ask_child
-decreases-disciplines::tbf::ask_child g l = 4 * node_size l.child.now + 3
+abbrev pub decreases-disciplines::tbf::peek_child : goal.decreases-disciplines::tbf::peek_child
+decreases-disciplines::tbf::peek_child g l = 4 * node_size l.child.now + 3
 
-abbrev pub decreases-disciplines::drr::serve : goal.decreases-disciplines::drr::serve
-decreases-disciplines::drr::serve g l = 4 * forest_size (side_by_side l.classes.now) + 2
+abbrev pub decreases-disciplines::drr::peek_classes : goal.decreases-disciplines::drr::peek_classes
+decreases-disciplines::drr::peek_classes g l = 4 * forest_size (side_by_side l.classes.now) + 2
 
-abbrev pub decreases-disciplines::drr::ask_class : goal.decreases-disciplines::drr::ask_class
-decreases-disciplines::drr::ask_class g l = 4 * node_size l.class.now + 3
+abbrev pub decreases-disciplines::drr::peek_class : goal.decreases-disciplines::drr::peek_class
+decreases-disciplines::drr::peek_class g l = 4 * node_size l.class.now + 3
 
-abbrev pub decreases-disciplines::drr::ask_further : goal.decreases-disciplines::drr::ask_further
-decreases-disciplines::drr::ask_further g l = 4 * node_size l.class.now + 2
+abbrev pub decreases-disciplines::drr::peek_class_further : goal.decreases-disciplines::drr::peek_class_further
+decreases-disciplines::drr::peek_class_further g l = 4 * node_size l.class.now + 2
 
 abbrev pub decreases-disciplines::drr::dequeue_class : goal.decreases-disciplines::drr::dequeue_class
 decreases-disciplines::drr::dequeue_class g l = 4 * forest_size (side_by_side l.classes.now) + 1

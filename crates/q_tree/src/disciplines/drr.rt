@@ -97,7 +97,7 @@ pub(crate) fn dequeue_class<S: Sink>(
     // In the first round each class is asked once; in a later one it has at hand what it showed.
     let mut unasked = active.active_count();
     while let Some(place) = active.front_place() {
-        shown = ask_class(&mut classes[place], unasked > 0, shown, now, signals, sink);
+        shown = peek_class(&mut classes[place], unasked > 0, shown, now, signals, sink);
         unasked = unasked.saturating_sub(1);
         let Some(len) = shown.packet_len() else {
             return shown;
@@ -105,7 +105,7 @@ pub(crate) fn dequeue_class<S: Sink>(
         match active.turn(len) {
             Turn::Send => {
                 // What is given is what was shown.
-                give_class(active, classes, place, out);
+                dequeue_class_at_hand(active, classes, place, out);
                 return shown;
             }
             Turn::Granted => {}
@@ -117,19 +117,19 @@ pub(crate) fn dequeue_class<S: Sink>(
 }
 
 // The class in this place gives its packet, and sleeps where that was its last.
-fn give_class(active: &mut Active, classes: &mut [Node], place: usize, out: &mut Packet)
+fn dequeue_class_at_hand(active: &mut Active, classes: &mut [Node], place: usize, out: &mut Packet)
     requires { place < length classes.old }
     ensures packet { (c : spec.Node Kept) → slice_get classes.old place ≡ Some c → out.new ≡ unwrap_or (pop c).shown out.old }
     ensures given { (c : spec.Node Kept) → slice_get classes.old place ≡ Some c → IsGivenBy place c active.old active.new classes.old classes.new }
 {
-    classes[place].give(out);
+    classes[place].dequeue_at_hand(out);
     settle(active, place, classes[place].is_empty());
 }
 
 /// Dequeues the packet that a drr sends, as [`dequeue_class`] does, to hold it (tc-drr(8)).
 #[cycle(peek)]
 #[inline(never)]
-pub(crate) fn serve<S: Sink>(
+pub(crate) fn peek_classes<S: Sink>(
     active: &mut Active,
     classes: &mut [Node],
     held: &mut Held,
@@ -156,7 +156,7 @@ pub(crate) fn serve<S: Sink>(
 /// What a class shows: it is asked, or has its packet at hand. What was counted so far is counted on.
 #[cycle(peek)]
 #[inline(always)]
-pub(crate) fn ask_class<S: Sink>(
+pub(crate) fn peek_class<S: Sink>(
     class: &mut Node,
     is_unasked: bool,
     so_far: Shown,
@@ -178,16 +178,16 @@ pub(crate) fn ask_class<S: Sink>(
         if so_far.is_quiet() {
             return class.peek(now, signals, sink);
         }
-        return ask_further(class, so_far, now, signals, sink);
+        return peek_class_further(class, so_far, now, signals, sink);
     }
-    show_again(class, so_far)
+    peek_again(class, so_far)
 }
 
 // Asks a class where something was dropped or marked already, which is counted on.
 #[cycle(peek)]
 #[cold]
 #[inline(never)]
-fn ask_further<S: Sink>(
+fn peek_class_further<S: Sink>(
     class: &mut Node,
     so_far: Shown,
     now: Moment,
@@ -208,7 +208,7 @@ fn ask_further<S: Sink>(
 
 // What a class shows that was asked already. A call by itself, since it copies the packet.
 #[inline(never)]
-fn show_again(class: &Node, so_far: Shown) -> Shown
+fn peek_again(class: &Node, so_far: Shown) -> Shown
     ensures { result ≡ record so_far { packet = (pop class.now).shown } }
 {
     so_far.showing(&class.at_hand())

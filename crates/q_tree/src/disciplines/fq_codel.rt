@@ -235,7 +235,7 @@ fn marking(is_marked: bool, packet: &Packet) -> Totals
 
 /// Takes the packet that the flow in front sends (RFC 8290, section 4.2), to hold it, and counts what CoDel drops and marks.
 #[inline(never)]
-pub(crate) fn take_from_flows<S: Sink>(
+pub(crate) fn peek_flow<S: Sink>(
     queue: &mut FqCodel,
     held: &mut Held,
     now: Moment,

@@ -67,7 +67,7 @@ pub(crate) fn band(filters: &Filters, priomap: &[u8; 16], packet: &Packet) -> us
 
 /// Sends the packet of the first band that shows one; the bands before it are asked (tc-prio(8)).
 #[cycle(dequeue)]
-pub(crate) fn send_first<S: Sink>(
+pub(crate) fn dequeue_bands<S: Sink>(
     bands: &mut [Node],
     now: Moment,
     out: &mut Packet,
@@ -156,7 +156,7 @@ pub(crate) fn ready_band(bands: &[Node]) -> Option<usize>
 /// Asks the bands in order, up to the first that shows a packet, and shows that one (tc-prio(8)).
 #[cycle(peek)]
 #[inline(never)]
-pub(crate) fn ask_bands<S: Sink>(
+pub(crate) fn peek_bands<S: Sink>(
     bands: &mut [Node],
     now: Moment,
     signals: &mut Signals,

@@ -84,14 +84,14 @@ pub(crate) fn dequeue_child<S: Sink>(
         return shown.showing(&None);
     }
     // What is given is what was shown.
-    child.give(out);
+    child.dequeue_at_hand(out);
     shown
 }
 
 /// Dequeues the packet that a tbf sends, as [`dequeue_child`] does, to hold it (tc-tbf(8)).
 #[cycle(peek)]
 #[inline(never)]
-pub(crate) fn ask_child<S: Sink>(
+pub(crate) fn peek_child<S: Sink>(
     bucket: &mut Bucket,
     child: &mut Node,
     held: &mut Held,
