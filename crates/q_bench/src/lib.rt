@@ -2,7 +2,7 @@
 //!
 //! Each exported function does one workload over inputs that the caller makes, inside the crates of this repository, and
 //! answers a checksum of all that it was answered there. So a call costs nothing beside its work, and no work can be left
-//! out. A checksum is 0 where the inputs are of no use or memory was refused, and then the benchmark stops.
+//! out. A checksum is 0 where the inputs are of no use or an allocation failed, and then the benchmark stops.
 //!
 //! - [`heads`]: reading heads and hashing their keys.
 //! - [`queues`]: a fifo, and CoDel on one.

@@ -48,7 +48,7 @@ pub struct Plan<'a> {
 }
 
 impl<'a> Plan<'a> {
-    /// All packets in their order; `None` where a number is out of range or memory is refused.
+    /// All packets in their order; `None` where a number is out of range or an allocation fails.
     pub fn made(self, alloc: Global) -> Option<Vec<Packet>> {
         let mut made = Vec::new(alloc);
         for i in 0..self.hashes.len() {

@@ -4,12 +4,12 @@ use Rattle.std.specs.Prelude.{◌≡◌, ℕ, ◌+◌, ◌-◌, ◌*◌, ◌≤�
 use Rattle.std.specs.Int.{div_ceil}
 use Rattle.q_bucket.specs.Level.{TokenBucket, units_in_byte, capacity, level_at, allows, after_spend}
 
--- a call of `spend`: the moment, and the length in bytes
+-- a call of `spend`: the time, and the length in bytes
 pub record Spend : Type 0 where
   pub at : ℕ
   pub len : ℕ
 
--- moments do not fall, from `last` on
+-- times do not fall, from `last` on
 abbrev pub InOrder : ℕ → List Spend → Type 0
 InOrder last [] = Unit {0}
 InOrder last (s ∷ rest) = (last ≤ s.at) × InOrder s.at rest
@@ -21,15 +21,15 @@ true_spends b (s ∷ rest) =
     let later = true_spends (after_spend b s.at s.len) rest in
     if allows b s.at s.len then s ∷ later else later
 
--- is a spend within the moments `from` to `to`, both included?
+-- is a spend within the times `from` to `to`, both included?
 abbrev pub is_within : ℕ → ℕ → Spend → Bool
 is_within from to s = nat_le from s.at && nat_le s.at to
 
--- the bytes of the spends within those moments
+-- the bytes of the spends within those times
 abbrev pub bytes_within : ℕ → ℕ → List Spend → ℕ
 bytes_within from to spends = sum_by (λ s. s.len) (filter (is_within from to) spends)
 
--- whatever is asked of a bucket, the bytes that go in a stretch of time are at most its burst and what its rate brings then
+-- whatever is asked of a bucket, the bytes that go in an interval are at most its burst and what its rate brings then
 abbrev pub StretchIsBounded : Type 0
 StretchIsBounded =
     (b : TokenBucket) (spends : List Spend) (from to : ℕ) → b.level ≤ capacity b → InOrder b.last spends
@@ -39,7 +39,7 @@ StretchIsBounded =
 abbrev pub NeverOverBurst : Type 0
 NeverOverBurst = (b : TokenBucket) (now : ℕ) → level_at b now ≤ capacity b
 
--- time never lowers a level, so what may go at one moment may go at each later one
+-- time never lowers a level, so what may go at one time may go at each later one
 abbrev pub LevelRises : Type 0
 LevelRises = (b : TokenBucket) (s t : ℕ) → s ≤ t → level_at b s ≤ level_at b t
 
@@ -53,7 +53,7 @@ FullAgain =
     (b : TokenBucket) (now : ℕ) → 1 ≤ b.rate → b.last + div_ceil (capacity b) b.rate ≤ now
     → level_at b now ≡ capacity b
 
--- a bucket that is brought up to a moment on the way has the same level later: no rounding loses anything
+-- a bucket that is brought up to a time in between has the same level later: no rounding loses anything
 abbrev pub NothingIsLost : Type 0
 NothingIsLost =
     (b : TokenBucket) (s t : ℕ) → b.last ≤ s → s ≤ t

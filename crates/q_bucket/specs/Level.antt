@@ -4,7 +4,7 @@
 -- the unit of a level.
 use Rattle.std.specs.Prelude.{ℕ, ◌+◌, ◌-◌, ◌*◌, ◌^◌, ◌≤◌, Bool, nat_le, min, if◌then◌else◌}
 
--- a bucket: its rate in bits a second, its burst in bytes, and the level in units that it had at the moment `last`
+-- a bucket: its rate in bits a second, its burst in bytes, and the level in units that it had at the time `last`
 pub record TokenBucket : Type 0 where
   pub rate : ℕ
   pub burst : ℕ
@@ -31,7 +31,7 @@ pub record IsInRange (b : TokenBucket) : Type 0 where
 abbrev pub full : ℕ → ℕ → ℕ → TokenBucket
 full rate burst now = record { rate = rate; burst = burst; level = burst * units_in_byte; last = now }
 
--- the level at a moment, from `last` on
+-- the level at a time, from `last` on
 abbrev pub level_at : TokenBucket → ℕ → ℕ
 level_at b now = min (capacity b) (b.level + b.rate * (now - b.last))
 

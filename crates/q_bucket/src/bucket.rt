@@ -84,7 +84,7 @@ impl Bucket {
         self.capacity - self.missing_at(brought_at(self.rate, now))
     }
 
-    // What a full bucket has more, at the moment up to which the rate has brought so much.
+    // What a full bucket has more, at the time up to which the rate has brought so much.
     fn missing_at(&self, brought: u128) -> u128
         requires order { self.now.rate * self.now.last ≤ brought }
         ensures level { self.now.burst * units_in_byte - result ≡ min (capacity self.now) (self.now.level + (brought - self.now.rate * self.now.last)) }

@@ -12,7 +12,7 @@ use Rattle.q_codel.specs.Gap.{gap_of}
 use Rattle.q_codel.specs.declared.taken.Taken.{Taken}
 
 -- The settings and the state of one queue's CoDel. Times are in nanoseconds and `mtu` in bytes; `first_above_time`
--- is the moment at which a standing queue becomes late, 0 where none stands, and `drop_next` that of the next drop or mark, as
+-- is the time at which a standing queue becomes late, 0 where there is none, and `drop_next` that of the next drop or mark, as
 -- in RFC 8289, section 5.2.
 pub record CodelState : Type 0 where
   pub target : ℕ
@@ -77,7 +77,7 @@ at_first target interval mtu ecn =
 abbrev pub rested : CodelState → CodelState
 rested s = record s { first_above_time = 0; dropping = false }
 
--- the head has waited for the target or longer, and more than one mtu stands behind it (section 5.6, `dodequeue`)
+-- the head has waited for the target or longer, and more than one mtu is behind it (section 5.6, `dodequeue`)
 abbrev pub is_standing : CodelState → ℕ → List Stamped → Bool
 is_standing s now [] = false
 is_standing s now (head ∷ rest) = nat_le s.target (now - head.at) && nat_lt s.mtu (size rest)
@@ -95,13 +95,13 @@ is_markable s (head ∷ rest) = s.ecn && is_capable head.packet.ecn
 abbrev pub count_after : CodelState → ℕ → ℕ
 count_after s n = min (s.count + n) count_max
 
--- the control law: the moments of the drops and marks to come, each the one before plus the gap of the count then
+-- the control law: the times of the drops and marks to come, each the one before plus the gap of the count then
 -- (section 5.6; section 3.3 says why the gaps shorten)
 abbrev pub moment : CodelState → ℕ → ℕ
 moment s zero = s.drop_next
 moment s (suc i) = moment s i + gap_of s.interval (count_after s (suc i))
 
--- while dropping, the heads cease to be dropped at head j: it is not late, or its moment is yet to come, or it is markable
+-- while dropping, the heads cease to be dropped at head j: it is not late, or its time is yet to come, or it is markable
 -- (section 5.5, and for marks this project's choice)
 abbrev pub stops : CodelState → ℕ → List Stamped → ℕ → Bool
 stops s now queue j = not (is_late s now (drop j queue)) || nat_lt now (moment s j) || is_markable s (drop j queue)
@@ -120,7 +120,7 @@ marks s now queue =
     is_late s now (drop j queue) && nat_le (moment s j) now && is_markable s (drop j queue))
     else is_late s now queue && is_markable s queue
 
--- the head that is sent, as it stood in the queue
+-- the head that is sent, as it was in the queue
 abbrev pub sent : CodelState → ℕ → List Stamped → Option Stamped
 sent s now queue = slice_get queue (drops s now queue)
 
@@ -180,7 +180,7 @@ pub record IsCodelParams (p : CodelParams) : Type 0 where
   pub interval_high : p.interval ≤ 10 ^ 12
   pub mtu : p.mtu < 2 ^ 16
 
--- what every state keeps, whichever settings it had: moments that an interval can still be added to, and counts in order
+-- what every state keeps, whichever settings it had: times that an interval can still be added to, and counts in order
 pub record IsCodelVars (v : CodelVars) : Type 0 where
   pub first_above_time : v.first_above_time ≤ 2 ^ 62 + 10 ^ 12
   pub drop_next : v.drop_next ≤ 2 ^ 62 + 10 ^ 12

@@ -1,4 +1,4 @@
--- What CoDel looks at of a packet that waits (RFC 8289, section 5.6): when it was queued, its length, and its codepoint.
+-- What CoDel reads of a packet that waits (RFC 8289, section 5.6): when it was queued, its length, and its codepoint.
 use Rattle.std.specs.Prelude.{◌≡◌, List, Some, option_map, slice_get}
 use Rattle.q_packet.specs.declared.stamped.Stamped.{Stamped}
 use Rattle.q_codel.specs.declared.front.Front.{Front}

@@ -1,5 +1,5 @@
 -- What RFC 8289 promises of CoDel (sections 3 and 5), over the definition of one queue's law in specs/Codel.antt.
--- Each law speaks of every state, every moment and every queue.
+-- Each law speaks of every state, every time and every queue.
 use Rattle.std.specs.Prelude.{◌≡◌, ℕ, suc, ◌+◌, ◌-◌, ◌*◌, ◌^◌, ◌<◌, ◌≤◌, true, false, List, [], ◌∷◌, ◌++◌, take, drop, All, option_to_list}
 use Rattle.q_packet.specs.Totals.{count, size}
 use Rattle.q_packet.specs.declared.stamped.Stamped.{Stamped}
@@ -37,8 +37,8 @@ OnlyLateHeads = (s : CodelState) (now : ℕ) (queue : List Stamped) → record {
   marked : marks s now queue ≡ true → is_late s now (drop (drops s now queue) queue) ≡ true;
 }
 
--- While dropping, the head at place i of a take is dropped or marked only where moment i of the control law has come.
--- Moment 0 is the one that was set, and each other is the one before plus the gap of the count then.
+-- While dropping, the head at place i of a take is dropped or marked only if time i of the control law has come.
+-- Time 0 is the one that was set, and each other is the one before plus the gap of the count then.
 abbrev pub AtTheirMoments : Type 0
 AtTheirMoments = (s : CodelState) (now : ℕ) (queue : List Stamped) → s.dropping ≡ true → record {
   dropped : (i : ℕ) → i < drops s now queue → moment s i ≤ now;
@@ -61,7 +61,7 @@ abbrev pub OneDropBegins : Type 0
 OneDropBegins = (s : CodelState) (now : ℕ) (queue : List Stamped) → s.dropping ≡ false → drops s now queue ≤ 1
 
 -- What is due is dropped: the first head, where dropping begins with it; and while dropping each head that a take comes to
--- and whose moment has come. Each is late, and cannot be marked.
+-- and whose time has come. Each is late, and cannot be marked.
 abbrev pub DueHeadsGo : Type 0
 DueHeadsGo = (s : CodelState) (now : ℕ) (queue : List Stamped) → record {
   begins : s.dropping ≡ false → is_late s now queue ≡ true → is_markable s queue ≡ false → drops s now queue ≡ 1;
@@ -78,8 +78,8 @@ OneMtuLeft = (s : CodelState) (now : ℕ) (queue : List Stamped) → size (left 
   does_not_begin : s.dropping ≡ false → drops s now queue ≡ 0 → (after s now queue).dropping ≡ false;
 }
 
--- Dropping that begins within sixteen intervals of the last moment, where the count grew by more than one since it began
--- the last time, goes on from what it grew by; any other begins with 1. That count is the one that the next time looks back to.
+-- Dropping that begins less than sixteen intervals after `drop_next`, where the count has grown by more than one since dropping
+-- last began, goes on from what it grew by; any other begins with 1. The count is noted for the next time that dropping begins.
 abbrev pub CountIsResumed : Type 0
 CountIsResumed = (s : CodelState) (now : ℕ) (queue : List Stamped) → s.dropping ≡ false → is_late s now queue ≡ true → record {
   begins : (after s now queue).dropping ≡ true;

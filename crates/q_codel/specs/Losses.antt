@@ -1,5 +1,5 @@
 -- Losses: the packets that a scheduler gave up, each with the reason, in the order in which they were lost.
--- A device that drops tells its caller so, packet by packet; nothing here is from a standard.
+-- A device that drops reports this to its caller, packet by packet; nothing here is from a standard.
 use Rattle.std.specs.Prelude.{◌≡◌, ℕ, ◌+◌, List, ◌++◌, map, take}
 use Rattle.q_packet.specs.declared.cause.Cause.{Cause}
 use Rattle.q_packet.specs.declared.stamped.Stamped.{Stamped}

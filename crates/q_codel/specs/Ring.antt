@@ -1,5 +1,5 @@
--- A ring of cells, and the packets that stand in it. They are numbered as they come, by counters of 64 bits that go round:
--- the packet of a number stands in the cell of its remainder by the number of cells, a power of two.
+-- A ring of cells, and the packets that are in it. They are numbered as they come, by counters of 64 bits that go round:
+-- the packet of a number is in the cell of its remainder by the number of cells, a power of two.
 use Rattle.std.specs.Prelude.{◌≡◌, ℕ, zero, suc, ◌+◌, ◌-◌, ◌%◌, ◌^◌, ◌≤◌, ◌⊎◌, List, [], ◌∷◌, length, get_or}
 use Rattle.q_packet.specs.declared.ecn.Ecn.TheVariants.{NotEct}
 use Rattle.q_packet.specs.declared.stamped.Stamped.{Stamped}

@@ -236,14 +236,14 @@ impl ControlState {
     {
         let behind = queue.bytes() - front.len as u64;
         if !self.should_drop(parameters, &front, behind, now) {
-            // What stood has drained, or has not stood for an interval: if dropping went on, it ends.
+            // The standing queue has drained, or has not stood for an interval: if dropping went on, it ends.
             self.dropping = false;
             return false;
         }
         self.choose_late(parameters, front, queue, now, sink)
     }
 
-    // The same where the head is late: a function of its own, so that the common way saves no registers for it.
+    // The same where the head is late: a function of its own, so that the common path saves no registers for it.
     #[cold]
     #[inline(never)]
     fn choose_late<Q: Queue, S: Sink>(
@@ -268,7 +268,7 @@ impl ControlState {
         self.drop_or_mark(parameters, front, queue, now, sink)
     }
 
-    // The same with no call of its own, for a caller that is itself off the common way.
+    // The same with no call of its own, for a caller that is itself off the common path.
     #[inline(always)]
     fn drop_or_mark<Q: Queue, S: Sink>(
         &mut self,
@@ -298,14 +298,14 @@ impl ControlState {
             return true;
         }
         let next = drop_head(queue, sink);
-        // A second look, at the head that is sent in place of the dropped one. Late or not, it goes, since the next moment
+        // A second test, of the head that is sent in place of the dropped one. Late or not, it goes, since `drop_next`
         // is a gap away; but the time above the target goes by the head that leaves, and may end with it.
         let behind = queue.bytes() - next.len as u64;
         let _is_late = self.should_drop(parameters, &next, behind, now);
         false
     }
 
-    // While dropping, with a late head: drops heads, or marks one, each at its moment, until one is to be sent.
+    // While dropping, with a late head: drops heads, or marks one, each at its time, until one is to be sent.
     #[inline(always)]
     fn go_on<Q: Queue, S: Sink>(
         &mut self,
@@ -329,20 +329,20 @@ impl ControlState {
         ensures sink_kept { S.keeps sink.old sink.new }
     {
         let mut front = first;
-        // Each moment is reckoned from the one before and not from now. So one call drops what several would have dropped,
+        // Each time is computed from the one before and not from now. So one call drops what several would have dropped,
         // where none came for a while.
         while self.drop_next <= now.ns() {
             // By this project's choice the count stays at its ceiling, once there.
             self.count = self.count.saturating_add(1);
             if parameters.marks(front.ecn) {
-                // By this project's choice a mark ends the call, also where the next moment has come.
+                // By this project's choice a mark ends the call, also where `drop_next` has come.
                 self.drop_next += gap(parameters.interval, self.count);
                 return true;
             }
             front = drop_head(queue, sink);
             let behind = queue.bytes() - front.len as u64;
             if !self.should_drop(parameters, &front, behind, now) {
-                // The drop has drained the queue. The next moment is not set: dropping has no more of them.
+                // The drop has drained the queue. `drop_next` is not set, since dropping ends.
                 self.dropping = false;
                 return false;
             }
@@ -352,7 +352,7 @@ impl ControlState {
         false
     }
 
-    // Dropping begins at the moment `now`.
+    // Dropping begins at the time `now`.
     fn begin(&mut self, parameters: &Parameters, now: Moment)
         ensures { joined parameters.now self.new ≡ begun (joined parameters.now self.old) now }
     {

@@ -1,6 +1,6 @@
 use q_packet::{Ecn, Moment};
 
-/// What CoDel looks at of the packet in front of a queue, which stays where it is.
+/// What CoDel reads of the packet in front of a queue, which stays where it is.
 #[derive(Clone, Copy, Debug)]
 pub struct Front {
     /// When it was queued.

@@ -84,7 +84,7 @@ impl Ring {
         if places >= MOST_PLACES {
             return Err(AllocError);
         }
-        // Each packet stands in its cell of both halves then, so that the counters say where it is as before.
+        // Each packet is in its cell of both halves then, so that the counters say where it is as before.
         self.cells.extend_from_within(..)
     }
 

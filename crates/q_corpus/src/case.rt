@@ -13,7 +13,7 @@ pub struct Case<'a> {
 }
 
 /// Reads a file of scripts. Each begins with a line `case NAME`; lines `options ..` and `status N` may follow, where they
-/// are not none and 0. `< TEXT` is a line of the script, `> TEXT` one of its report. A last line with no newline stands
+/// are not none and 0. `< TEXT` is a line of the script, `> TEXT` one of its report. A last line with no newline is
 /// behind `<|` in place of `< `. Empty lines between scripts say nothing.
 pub fn cases(alloc: Global, text: &[u8]) -> Result<Vec<Case<'_>>> {
     let mut cases: Vec<Case<'_>> = Vec::new(alloc);

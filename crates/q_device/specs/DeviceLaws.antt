@@ -36,7 +36,7 @@ pub record TellsItsLosses (d : DeviceSeen) : Type 0 where
   pub lost : d.handed_out + length d.waiting ≡ d.device.tree.top.refused.packets + d.device.tree.top.dropped.packets
   pub arrived : d.device.tree.top.arrived.packets ≡ d.device.tree.top.sent.packets + d.handed_out + length d.waiting + length (beneath d.device.tree.root)
 
--- Its memory: the tree is that of the device, and was given no moment after the clock. The lost list has a place for each loss that
+-- Its memory: the tree is that of the device, and was given no time after the clock. The lost list has a place for each loss that
 -- waits and each packet that is queued, so that whatever is lost of them needs no memory; the recorder has all its places.
 pub record HasItsMemory (d : DeviceSeen) : Type 0 where
   pub tree : tree_numbers d.memory.tree.tree ≡ d.device.tree

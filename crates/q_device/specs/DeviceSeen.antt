@@ -1,5 +1,5 @@
 -- What a contract sees of a device of the code, and what an event and a reap make of it.
--- What an event makes of the tree stands in q_model's specs/Step.antt; the recorder and the lost list are this project's own.
+-- q_model's specs/Step.antt says what an event makes of the tree; the recorder and the lost list are this project's own.
 use Rattle.std.specs.Prelude.{◌≡◌, Ok, Err, ℕ, ◌+◌, ◌-◌, ◌^◌, ◌≤◌, min, if◌then◌else◌, nat_lt, List, [], ◌∷◌, ◌++◌, length, take, drop}
 use Rattle.q_packet.specs.Descriptor.{Descriptor}
 use Rattle.q_codel.specs.declared.loss.Loss.{Loss}
@@ -22,7 +22,7 @@ use Rattle.q_tree.specs.Places.{places_at}
 use Rattle.q_tree.specs.RouteSeen.{route_seen}
 use Rattle.q_tree.specs.TreeSeen.{CanArrive}
 
--- The memory of a device, at which no rule looks: its tree as the code has it, whose queues have places, and the places of its
+-- The memory of a device, which no rule reads: its tree as the code has it, whose queues have places, and the places of its
 -- lost list and of its recorder.
 pub record Memory : Type 0 where
   pub tree : DeviceState Kept
@@ -44,7 +44,7 @@ pub record DeviceSeen : Type 0 where
 abbrev pub opened : DeviceSettings → Memory → DeviceSeen
 opened settings memory = record { settings = settings; device = new_device totals settings; waiting = []; handed_out = 0; recorded = []; events = 0; memory = memory }
 
--- an event with the moment at which it counts
+-- an event with the time at which it counts
 abbrev pub as_counted : DeviceState Counts → Event → Event
 as_counted d (event.Arrive p moment) = event.Arrive p (counts_at moment d)
 as_counted d (event.Poll moment) = event.Poll (counts_at moment d)
@@ -83,26 +83,26 @@ pub record HasRoomFor (p : Descriptor) (d : DeviceSeen) : Type 0 where
   pub tree : CanArrive (route_seen p d.memory.tree.tree.device.mtu d.memory.tree.tree.root) d.memory.tree
   pub losses : length d.waiting + length (beneath d.device.tree.root) + 1 ≤ d.memory.losses
 
--- No queue of the tree has fewer places than it had, whatever way leads to it.
+-- No queue of the tree has fewer places than it had, whichever path leads to it.
 abbrev pub HasNoFewerPlaces : Memory → Memory → Type 0
 HasNoFewerPlaces before after = (path : List ℕ) → places_at path before.tree.tree.root ≤ places_at path after.tree.tree.root
 
--- The memory after a command at this moment: the tree is as the command's plan says, in which a queue that stays has the places that
+-- The memory after a command at this time: the tree is as the command's plan says, in which a queue that stays has the places that
 -- it had, and a new one none.
 abbrev pub IsCommanded : Command → ℕ → Memory → Memory → Type 0
 IsCommanded command now before after = IsDone now (plan_of command now before.tree) before.tree after.tree
 
--- A command is refused for the first reason of its plan; or, where the plan does it, for want of memory, of a plan that takes some.
+-- A command is refused for the first reason of its plan; or, where the plan does it and takes memory, since an allocation failed.
 abbrev pub IsRefusedAt : Command → ℕ → DeviceSeen → Refusal → Type 0
 IsRefusedAt command now d refusal =
     let plan = plan_of command (counts_at now d.device) d.memory.tree in
     IsRefused (WantsMemory command plan) plan refusal
 
--- The memory after a poll at this moment: the packets that it took have left the tree, and every place is still there.
+-- The memory after a poll at this time: the packets that it took have left the tree, and every place is still there.
 abbrev pub polled_memory : ℕ → Memory → Memory
 polled_memory now m = record m { tree = record { clock = now; tree = take_packet kept now m.tree.tree } }
 
--- The refusal of a command: the step's, or, where the step does the command, want of memory.
+-- The refusal of a command: the step's, or, where the step does the command, an allocation failure.
 abbrev pub IsRefusal : Type 0 → Reply → Refusal → Type 0
 IsRefusal memory (reply.Done (Err first)) refusal = refusal ≡ first
 IsRefusal memory (reply.Done (Ok done)) refusal = (refusal ≡ refusals.Memory) × memory

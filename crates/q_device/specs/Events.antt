@@ -16,7 +16,7 @@ after_event e d = with_event e d
 unfoldable pub reply_to : Event → DeviceSeen → Reply
 reply_to e d = (step totals d.device e).reply
 
--- the device with this memory, at which no rule looks
+-- the device with this memory, which no rule reads
 abbrev pub with_memory : Memory → DeviceSeen → DeviceSeen
 with_memory m d = record d { memory = m }
 

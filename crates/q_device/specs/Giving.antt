@@ -1,5 +1,5 @@
 -- What a poll answers that writes its packet to a place.
--- What it gives stands in q_model's specs/Step.antt; nothing here is of a standard.
+-- q_model's specs/Step.antt says which packet it gives; nothing here is of a standard.
 use Rattle.std.specs.Prelude.{Bool, if◌then◌else◌}
 use Rattle.q_packet.specs.Descriptor.{Descriptor}
 use Rattle.q_model.specs.declared.polled.Polled.{Polled}
@@ -11,7 +11,7 @@ use Rattle.q_device.specs.declared.given.Given.TheVariants as given
 abbrev pub given_of : Bool → Bool → Given
 given_of sent empty = if sent then given.Packet else if empty then given.Idle else given.Later
 
--- what it says of a poll, where this packet stands in the place
+-- what it says of a poll, where this packet is in the place
 abbrev pub polled_in : Descriptor → Given → Polled
 polled_in p given.Packet = polled.Packet p
 polled_in p given.Idle = polled.Idle

@@ -1,6 +1,6 @@
--- What a class of a drr gets in time below a tbf at the root, over every stretch of every replay: the part of the rate that its
--- quantum is of the sum of the quanta, less a number of bytes that does not grow; beneath several drrs the parts multiply. tc-tbf(8) and tc-drr(8); a rate and what may lack of
--- it are a service curve (J.-Y. Le Boudec and P. Thiran, "Network Calculus" (2001), section 1.3).
+-- What a class of a drr gets in time below a tbf at the root, over every interval of every replay: the part of the rate that its quantum
+-- is of the sum of the quanta, less a number of bytes that does not grow; below several drrs the parts multiply. tc-tbf(8) and tc-drr(8);
+-- a rate and what may lack of it are a service curve (J.-Y. Le Boudec and P. Thiran, "Network Calculus" (2001), section 1.3).
 use Rattle.std.specs.Prelude.{◌≡◌, ℕ, ◌+◌, ◌-◌, ◌*◌, ◌<◌, ◌≤◌, List, [], ◌∷◌, ◌++◌, All, Some, length}
 use Rattle.q_bucket.specs.Level.{units_in_byte}
 use Rattle.q_drr.specs.Schedule.{Class}
@@ -45,9 +45,9 @@ ClassesShareInTime settings =
     → GetsItsRate rate ((device_after settings (before ++ during)).clock - (device_after settings before).clock) (length classes) quantum (quanta_of classes) settings.mtu
     (class_sent major i (device_after settings before) during)
 
--- ---- drrs beneath one another
+-- ---- drrs below one another
 
--- a drr on a way down, with its classes, and the class through which the way goes on, with its quantum
+-- a drr on a path down, with its classes, and the class through which the path goes on, with its quantum
 pub record Level : Type 0 where
   pub major : ℕ
   pub minor : ℕ
@@ -60,7 +60,7 @@ pub record IsBeneath (l k : Level) (d : DeviceState (List Note)) : Type 0 where
   pub there : class_in l.major l.minor d ≡ Some class
   pub child : qdisc k.major d ≡ Some class.child
 
--- a way down of backlogged classes, from one drr to the next
+-- a path down of backlogged classes, from one drr to the next
 abbrev pub IsWay : Level → List Level → DeviceState (List Note) → Type 0
 IsWay l [] d = HasClasses l.major l.classes d × IsBackloggedClass l.major l.minor l.quantum d
 IsWay l (k ∷ levels) d = HasClasses l.major l.classes d × IsBackloggedClass l.major l.minor l.quantum d × IsBeneath l k d × IsWay k levels d

@@ -36,7 +36,7 @@ device_seen a = record {
   memory = record { tree = a.tree; losses = a.losses.places; events = vec_capacity a.recorded };
 }
 
--- It is the replay of all that happened to it. It has one clock, that of its tree, since every event gives the tree the moment at which
+-- It is the replay of all that happened to it. It has one clock, that of its tree, since every event gives the tree the time at which
 -- it counts: the replay has this clock too. The lost list has a place for each packet that is queued beside the losses that wait, so that
 -- a poll needs no memory, and the recorder has its places. So many packets as `spare` says may arrive besides, of any lengths: the lost
 -- list has places for them too, what the device counts of arrivals stays below 2^64, and the recorder is full.

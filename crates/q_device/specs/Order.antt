@@ -21,7 +21,7 @@ use Rattle.q_device.specs.Sharing.{device_after}
 abbrev pub same_key : Key → Key → Bool
 same_key a b = (a.family == b.family) && (a.proto == b.proto) && (a.src == b.src) && (a.dst == b.dst) && (a.sport == b.sport) && (a.dport == b.dport)
 
--- equal key, hash and priority: all that filters, bands, classes and flows look at
+-- equal key, hash and priority: all that filters, bands, classes and flows read
 abbrev pub is_alike : Descriptor → Descriptor → Bool
 is_alike p q = same_key p.key q.key && (p.hash == q.hash) && (p.prio == q.prio)
 

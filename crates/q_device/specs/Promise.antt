@@ -25,7 +25,7 @@ use Rattle.q_device.specs.Rate.{IsDrained, IsPolledOut}
 use Rattle.q_device.specs.Service.{all_sent}
 use Rattle.q_device.specs.Sharing.{device_after}
 
--- The rate of the tbf at the root, in bits a second, if there is one; the classes on the way, from the root down, in numbers; and the
+-- The rate of the tbf at the root, in bits a second, if there is one; the classes on the path, from the root down, in numbers; and the
 -- bytes that may lack.
 pub record Promise : Type 0 where
   pub link : Option ℕ
@@ -66,20 +66,20 @@ abbrev pub promise_on : ℕ → Option Link → List Share → Option Promise
 promise_on mtu link shares =
     if has_room mtu link then Some (record { link = rate_of link; shares = shares; slack = slack_on mtu (lack_of_link mtu link) shares }) else None
 
--- What the class in this place is promised: only a class has a way.
+-- What the class in this place is promised: only a class has a path.
 abbrev pub promise_of : {M : Type 0} → Place → ℕ → Node M → Option Promise
 promise_of place.Top mtu root = None
 promise_of place.Root mtu root = None
 promise_of (place.Class class) mtu root = option_and_then (λ w. promise_on mtu w.link (shares_of w)) (way_to class root)
 
--- The part of so many that a class at the end of such a way gets, rounded down at each drr.
+-- The part of so many that a class at the end of such a path gets, rounded down at each drr.
 abbrev pub part_of : List Share → ℕ → ℕ
 part_of [] whole = whole
 part_of (s ∷ shares) whole = part_of shares (whole * s.quantum / s.quanta)
 
 -- ---- as a law
 
--- a class on the way, and all of them
+-- a class on the path, and all of them
 abbrev pub level_of : DrrClass → Level
 level_of d = record { major = d.major; minor = d.class.name; quantum = d.class.quantum; classes = d.classes }
 
@@ -91,12 +91,12 @@ pub record IsPart (s : Share) : Type 0 where
   pub positive : 1 ≤ s.quantum
   pub part : s.quantum ≤ s.quanta
 
--- The slack is what the law says that may lack, rounded up: by less than a byte for each drr on the way.
+-- The slack is what the law says that may lack, rounded up: by less than a byte for each drr on the path.
 pub record IsSlack (mtu lack slack : ℕ) (l : Level) (levels : List Level) : Type 0 where
   pub enough : lack * quanta_on l levels + lacks_on mtu l levels ≤ slack * sums_on l levels
   pub no_more : slack * sums_on l levels < lack * quanta_on l levels + lacks_on mtu l levels + (length levels + 1) * sums_on l levels
 
--- The class is the last one on the way, and something is queued in it.
+-- The class is the last one on the path, and something is queued in it.
 abbrev pub IsServed : DrrClass → List DrrClass → Option Link → DeviceState (List Note) → Type 0
 IsServed d ds link state =
     let last = last_level (level_of d) (levels_of ds) in
@@ -108,7 +108,7 @@ pub record GetsItsService (rate time sent : ℕ) (p : Promise) (l : Level) (leve
   pub exact : rate * time * quanta_on l levels < (sent + p.slack) * sums_on l levels * units_in_byte
   pub rounded : part_of p.shares rate * time < (sent + p.slack) * units_in_byte
 
--- As long as the way to a class stays as it is and something is queued in the class.
+-- As long as the path to a class stays as it is and something is queued in the class.
 abbrev pub ServiceIsDelivered : DeviceSettings → Type 0
 ServiceIsDelivered settings =
     (before during : List Event) (link : Link) (d : DrrClass) (ds : List DrrClass) (p : Promise) → All IsEvent before → All IsEvent during

@@ -1,4 +1,4 @@
--- What a tbf delivers over every stretch of every replay: where its level is nowhere cut it spends just what its rate brings, and
+-- What a tbf delivers over every interval of every replay: where its level is nowhere cut it spends just what its rate brings, and
 -- at the root, polled in time, it keeps within a packet of its rate. tc-tbf(8); the time in which a rate is delivered is that of
 -- rate-latency servers (J.-Y. Le Boudec and P. Thiran, "Network Calculus" (2001), section 1.3).
 use Rattle.std.specs.Prelude.{◌≡◌, ℕ, ◌+◌, ◌-◌, ◌*◌, ◌<◌, ◌≤◌, false, List, [], ◌∷◌, ◌++◌, All, Some, None, IfSome}
@@ -19,7 +19,7 @@ use Rattle.q_device.specs.Work.{is_tbf}
 
 -- ---- a level that is not cut
 
--- at the moment of this event, what the bucket had and what its rate has brought since are within its burst
+-- at the time of this event, what the bucket had and what its rate has brought since are within its burst
 abbrev pub IsUncut : ℕ → DeviceState (List Note) → Event → Type 0
 IsUncut major d e =
     IfSome (tbf_in major d) (λ tbf. tbf.bucket.level + tbf.bucket.rate * ((step history d e).device.clock - tbf.bucket.last) ≤ capacity tbf.bucket)
@@ -29,7 +29,7 @@ abbrev pub IsNowhereCut : ℕ → DeviceState (List Note) → List Event → Typ
 IsNowhereCut major d [] = Unit {0}
 IsNowhereCut major d (e ∷ events) = IsUncut major d e × IsNowhereCut major (step history d e).device events
 
--- Over a stretch a tbf noted these. What its bucket paid and has left is what it had and what its rate brought in the time between.
+-- Over an interval a tbf noted these. What its bucket paid and has left is what it had and what its rate brought in the time between.
 pub record SpendsWhatComes (rate begin end : ℕ) (first last : TbfAt) : Type 0 where
   pub notes : List Note
   pub goes_on : last.noted ≡ first.noted ++ notes
@@ -44,18 +44,18 @@ RateIsSpent settings =
 
 -- ---- a link that is polled in time
 
--- a tbf at the root, with no other beneath, where something is queued
+-- a tbf at the root, with no other below, where something is queued
 pub record IsBackloggedLink (major rate burst : ℕ) (d : DeviceState (List Note)) : Type 0 where
   pub tbf : IsTbf major rate burst d
   pub root : d.tree.root.own.handle ≡ Some major
   pub alone : All (λ (n : Node (List Note)). is_tbf n.own.discipline ≡ false) (nodes_of d.tree.root.below)
   pub queued : is_empty d.tree.root ≡ false
 
--- this event comes no later than the moment at which the device says to be ready
+-- this event comes no later than the time at which the device says to be ready
 abbrev pub IsInTime : DeviceState (List Note) → Event → Type 0
 IsInTime d e = IfSome (ready_at d.clock d.tree.root) (λ at. (step history d e).device.clock ≤ at)
 
--- Whoever drains a device so polls it until no packet comes, and then at the moment that it says to be ready at the latest; anything
+-- Whoever drains a device so polls it until no packet comes, and then at the time that it says to be ready at the latest; anything
 -- else may come between.
 abbrev pub IsDrained : DeviceState (List Note) → List Event → Type 0
 IsDrained d [] = Unit {0}
@@ -65,7 +65,7 @@ IsDrained d (e ∷ events) = IsInTime d e × IsDrained (step history d e).device
 abbrev pub IsPolledOut : DeviceState (List Note) → Type 0
 IsPolledOut d = given d.clock d.tree ≡ None
 
--- Over a stretch the tbf at the root noted these. What its bucket paid is what its rate brings in that time, but for less than a
+-- Over an interval the tbf at the root noted these. What its bucket paid is what its rate brings in that time, but for less than a
 -- longest packet more or less.
 pub record DeliversItsRate (rate mtu begin end : ℕ) (first last : TbfAt) : Type 0 where
   pub notes : List Note

@@ -1,5 +1,5 @@
--- What is true of service over every stretch of every replay: what a class of a drr, or a flow of an fq_codel, gets whatever comes to
--- the others. What a stretch is stands in q_model's specs/Stretches.antt. Deficit round robin: M. Shreedhar and G. Varghese, "Efficient
+-- What is true of service over every interval of every replay: what a class of a drr, or a flow of an fq_codel, gets whatever comes to
+-- the others. q_model's specs/Stretches.antt says what an interval is. Deficit round robin: M. Shreedhar and G. Varghese, "Efficient
 -- Fair Queuing Using Deficit Round-Robin" (1995), and tc-drr(8); flows: RFC 8290, section 4.2.
 use Rattle.std.specs.Prelude.{◌≡◌, ◌≢◌, ℕ, ◌+◌, ◌-◌, ◌*◌, ◌≤◌, max, ℤ, pos, true, false, List, [], ◌∷◌, ◌++◌, All, Option, Some, None, option_and_then, unwrap_or, length, sum_by}
 use Rattle.std.specs.Option.{option_map_or}
@@ -38,10 +38,10 @@ pub record IsClass (major minor quantum : ℕ) (d : DeviceState (List Note)) : T
 
 -- ---- a class against any other
 
--- Class i stays backlogged over a stretch in which the drr noted `notes`, and class j is there throughout, whatever comes to
--- it: packets, sleep, another child. Class i sent its grants times its quantum and its first deficit less its last. Class j sent at most
--- its first deficit and a quantum for each grant to class i; and where it did not stand before class i at first, that deficit
--- counts only as far as it is above a quantum, so that a class that was asleep sends nothing until class i is granted.
+-- Class i stays backlogged over an interval in which the drr noted `notes`, and class j is there throughout, whatever comes to
+-- it: packets, inactivity, another child. Class i sent its grants times its quantum and its first deficit less its last. Class j sent at
+-- most its first deficit and a quantum for each grant to class i; and where it was not before class i at first, that deficit counts only
+-- as far as it is above a quantum, so that a class that was inactive sends nothing until class i is granted.
 pub record SendsNoMore (i j quantum_i quantum_j mtu sent_i sent_j : ℕ) (first last : ClassAt) : Type 0 where
   pub notes : List Note
   pub goes_on : last.noted ≡ first.noted ++ notes
@@ -99,9 +99,9 @@ ClassesGetTheirParts settings =
 abbrev pub credits_in : ℕ → FqAt → ℤ
 credits_in flow fq = unwrap_or (credits_of flow (fq.state.new_flows ++ fq.state.old_flows)) (pos 0)
 
--- Flow i stays backlogged over a stretch in which the fq_codel noted `notes`; anything may come to flow j. It gave at most what
+-- Flow i stays backlogged over an interval in which the fq_codel noted `notes`; anything may come to flow j. It gave at most what
 -- it could give at first before it waits for a quantum, a quantum, and for each grant to flow i two quanta less a byte. Where
--- it stood in the new list at first, it gave that without the first quantum.
+-- it was in the new list at first, it gave that without the first quantum.
 pub record GivesNoMore (i j quantum mtu : ℕ) (first last : FqAt) : Type 0 where
   pub notes : List Note
   pub goes_on : last.noted ≡ first.noted ++ notes
@@ -129,7 +129,7 @@ NoFlowStarves settings =
 -- ---- a flow that joins
 
 -- A packet joined flow j, which was in neither list. From then on, as long as it stays backlogged and has given nothing, another flow
--- gave at most what it could give before it waits for a quantum, where it stood in the new list, and nothing where it did not.
+-- gave at most what it could give before it waits for a quantum, where it was in the new list, and nothing where it was not.
 pub record GoesFirst (k mtu : ℕ) (first last : FqAt) : Type 0 where
   pub in_new : (credits : ℤ) → credits_of k first.state.new_flows ≡ Some credits → bytes_given k last.noted ≤ bytes_given k first.noted + reach mtu credits
   pub others : is_listed k first.state.new_flows ≡ false → bytes_given k last.noted ≡ bytes_given k first.noted

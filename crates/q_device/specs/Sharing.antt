@@ -1,5 +1,5 @@
--- What is true of sharing over every stretch of every replay, for a tbf, for the classes of a drr and for the flows of an fq_codel.
--- What a stretch is and what is counted in it stands in q_model's specs/Stretches.antt. RFC 2211 has the bound of a token bucket.
+-- What is true of sharing over every interval of every replay, for a tbf, for the classes of a drr and for the flows of an fq_codel.
+-- q_model's specs/Stretches.antt says what an interval is and what is counted in it. RFC 2211 has the bound of a token bucket.
 use Rattle.std.specs.Prelude.{◌≡◌, ◌≢◌, ℕ, suc, ◌+◌, ◌-◌, ◌*◌, ◌<◌, ◌≤◌, ℤ, pos, ◌+ℤ◌, Bool, true, false, List, [], ◌∷◌, ◌++◌, All, Option, Some, IsSomeAnd, option_map}
 use Rattle.q_packet.specs.Descriptor.{Descriptor}
 use Rattle.q_bucket.specs.Level.{units_in_byte}
@@ -26,7 +26,7 @@ device_after settings events = (replay history settings events).device
 
 -- ---- a class of a drr
 
--- Over a stretch the drr noted `notes`, and the child of the class `given`. The class sent, in bytes that its child gave to the
+-- Over an interval the drr noted `notes`, and the child of the class `given`. The class sent, in bytes that its child gave to the
 -- drr, its grants times its quantum and its first deficit less its last.
 pub record SendsItsShare (minor quantum : ℕ) (first last : ClassAt) : Type 0 where
   pub notes : List Note
@@ -48,7 +48,7 @@ DeficitsAreBounded settings =
     (events : List Event) (major minor : ℕ) (class : ClassAt) → All IsEvent events → class_in major minor (device_after settings events) ≡ Some class
     → deficit_of minor class.schedule.active < quantum_of minor class.schedule.classes + settings.mtu
 
--- the length of the packet that a node shows where it is asked for one at this moment
+-- the length of the packet that a node shows where it is asked for one at this time
 abbrev pub length_shown : ℕ → Node (List Note) → Option ℕ
 length_shown now n = option_map (λ (p : Descriptor). p.len) (ask now (shape n)).shown
 
@@ -71,8 +71,8 @@ ClassesWakeWithAQuantum settings =
 
 -- ---- two classes of one drr
 
--- Over a stretch the drr noted `notes`, and the children of the two classes `given_i` and `given_j`. Where both stand in the
--- active list in the order that they had, they got equally many grants, else the one that had stood first got one more. What
+-- Over an interval the drr noted `notes`, and the children of the two classes `given_i` and `given_j`. Where both are in the
+-- active list in the order that they had, they got equally many grants, else the one that had been first got one more. What
 -- each sent times the quantum of the other exceeds the same of the other by less than three products of the quanta and a
 -- longest packet times their sum.
 pub record ShareByQuanta (i j quantum_i quantum_j mtu : ℕ) (first_i last_i first_j last_j : ClassAt) : Type 0 where
@@ -98,7 +98,7 @@ ClassesShareByQuanta settings =
 
 -- ---- a tbf
 
--- Over a stretch a tbf noted these. The bytes that its bucket paid are at most its burst and what its rate brought in the time
+-- Over an interval a tbf noted these. The bytes that its bucket paid are at most its burst and what its rate brought in the time
 -- between, in exact units; and the node sent at most those and the packet that it held at first.
 pub record IsBounded (rate burst begin end : ℕ) (first last : TbfAt) : Type 0 where
   pub notes : List Note
@@ -115,7 +115,7 @@ BucketsAreBounded settings =
 
 -- ---- a flow of an fq_codel
 
--- Over a stretch the fq_codel noted these. The flow is listed at both ends, and gave its node, in bytes, its grants times the
+-- Over an interval the fq_codel noted these. The flow is listed at both ends, and gave its node, in bytes, its grants times the
 -- quantum and its first credits less its last; what CoDel or the fat flow loses is not among them, since nothing pays for it.
 pub record GivesItsShare (flow quantum : ℕ) (first last : FqAt) : Type 0 where
   pub notes : List Note
@@ -133,7 +133,7 @@ FlowsGiveTheirShares settings =
     → fq_in major (device_after settings before) ≡ Some first → fq_in major (device_after settings (before ++ during)) ≡ Some last
     → GivesItsShare flow quantum first last
 
--- After every list of events: a flow that stood in neither list and stands in one after the next event begins in the new one, with
+-- After every list of events: a flow that was in neither list and is in one after the next event begins in the new one, with
 -- credits of one quantum.
 abbrev pub FlowsBeginNew : DeviceSettings → Type 0
 FlowsBeginNew settings =
@@ -144,12 +144,12 @@ FlowsBeginNew settings =
 
 -- ---- two flows of one fq_codel
 
--- whether flow i stands before flow j in the new list followed by the old one
+-- whether flow i is before flow j in the new list followed by the old one
 abbrev pub flow_stands_first : ℕ → ℕ → FqState → Bool
 flow_stands_first i j s = order.stands_first i j (s.new_flows ++ s.old_flows)
 
--- Over a stretch the fq_codel noted these. Where both flows stand in the order that they had, they got equally many grants,
--- else the one that had stood first got one more.
+-- Over an interval the fq_codel noted these. Where both flows are in the order that they had, they got equally many grants,
+-- else the one that had been first got one more.
 pub record AreGrantedEvenly (i j : ℕ) (first last : FqAt) : Type 0 where
   pub notes : List Note
   pub goes_on : last.noted ≡ first.noted ++ notes

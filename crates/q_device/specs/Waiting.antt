@@ -1,4 +1,4 @@
--- What a device answers to polls that come before the moment at which it says to be ready, and what it says then.
+-- What a device answers to polls that come before the time at which it says to be ready, and what it says then.
 -- Nothing here is of a standard.
 use Rattle.std.specs.Prelude.{◌≡◌, ℕ, ◌≤◌, ◌^◌, true, false, List, [], map, All, Option, Some, None}
 use Rattle.q_model.specs.declared.event.Event.TheVariants as event
@@ -12,15 +12,15 @@ use Rattle.q_model.specs.TreeState.{given}
 use Rattle.q_tree.specs.ReadyAt.{is_before, is_sure, ready_at}
 use Rattle.q_device.specs.DeviceSeen.{DeviceSeen}
 
--- the moment before which no poll gives a packet; none where none ever will
+-- the time before which no poll gives a packet; none where none ever will
 abbrev pub ready : DeviceState Counts → Option ℕ
 ready d = ready_at d.clock d.tree.root
 
--- a device polled at these moments, in turn, and what it answers
+-- a device polled at these times, in turn, and what it answers
 abbrev pub after_polls : List ℕ → DeviceState Counts → Replay Counts
 after_polls moments d = replay_from totals (record { device = d; replies = []; losses = [] }) (map event.Poll moments)
 
--- a poll at this moment counts before the device is ready
+-- a poll at this time counts before the device is ready
 abbrev pub IsTooEarly : DeviceState Counts → ℕ → Type 0
 IsTooEarly d moment = (moment ≤ 2 ^ 62) × (is_before (Some (counts_at moment d)) (ready d) ≡ true)
 
@@ -28,7 +28,7 @@ IsTooEarly d moment = (moment ≤ 2 ^ 62) × (is_before (Some (counts_at moment 
 abbrev pub empty_handed : DeviceState Counts → Reply
 empty_handed d = reply.Polled (polled_of None (is_empty d.tree.root))
 
--- Each poll was empty-handed. The device is ready no sooner than it said before, and at that very moment where it was sure of it.
+-- Each poll was empty-handed. The device is ready no sooner than it said before, and at that very time where it was sure of it.
 pub record HasWaited (d : DeviceState Counts) (r : Replay Counts) : Type 0 where
   pub replies : All (λ (reply : Reply). reply ≡ empty_handed d) r.replies
   pub no_sooner : is_before (ready r.device) (ready d) ≡ false

@@ -27,7 +27,7 @@ is_tbf (Prio priomap) = false
 is_tbf (Drr s) = false
 is_tbf (FqCodel s) = false
 
--- neither the node nor one beneath it is a tbf
+-- neither the node nor one below it is a tbf
 abbrev pub HasNoTbf : {M : Type 0} → Node M → Type 0
 HasNoTbf {M} n = All (λ (m : Node M). is_tbf m.own.discipline ≡ false) (every_node n)
 
@@ -46,8 +46,8 @@ WorkIsConserved settings =
 
 -- ---- strict priority
 
--- At this moment a prio gave a packet: that of a band, where each band before it gave nothing when it was asked; and if no tbf
--- stands there or beneath, nothing was queued there.
+-- At this time a prio gave a packet: that of a band, where each band before it gave nothing when it was asked; and if no tbf
+-- is there or below, nothing was queued there.
 pub record GivesInOrder (now : ℕ) (prio : Node (List Note)) (p : Descriptor) : Type 0 where
   pub band : ℕ
   pub child : Node (List Note)

@@ -37,17 +37,17 @@ use std::marker::Model;
 #[derive(Drop)]
 pub struct Device {
     settings: Settings,
-    /// Its clock is the device's: every event gives it the moment at which it counts.
+    /// Its clock is the device's: every event gives it the time at which it counts.
     tree: Tree,
     losses: Losses,
     /// How many losses were handed out.
     handed_out: u64,
-    /// The first events, with the moments as they counted.
+    /// The first events, with the times as they counted.
     recorded: Vec<Event>,
     /// So many packets more may arrive with nothing else asked: there is room for their losses, the device can count them, and no
     /// event is recorded any more.
     spare: u64,
-    /// The events that neither brought a packet nor sent one, which the counters do not tell.
+    /// The events that neither brought a packet nor sent one, which the counters do not show.
     others: u64,
 }
 
@@ -71,7 +71,7 @@ impl Device {
     ///
     /// # Errors
     ///
-    /// `AllocError` where memory for the recorder is refused; never where it keeps no event.
+    /// `AllocError` if the allocation of the recorder fails; never where it keeps no event.
     pub fn open(alloc: Global, settings: Settings) -> Result<Device, AllocError>
         ensures new { IfOk result (λ device. device ≡ opened settings device.memory) }
         ensures nothing_arrived { IfOk result (λ device. device.device.tree.top ≡ no_counts) }
@@ -91,12 +91,12 @@ impl Device {
 
     /// A packet arrives, and is queued or lost. All memory is taken first: a place in its queue, and one for its loss.
     ///
-    /// A moment before the device's clock counts as the clock. The event is recorded at the moment that the clock shows
+    /// A time before the device's clock counts as the clock. The event is recorded at the time that the clock shows
     /// after it.
     ///
     /// # Errors
     ///
-    /// The packet and `AllocError` where memory is refused, or one packet more could overflow what the device counts of
+    /// The packet and `AllocError` if an allocation fails, or if one packet more could overflow what the device counts of
     /// arrivals; never where there is room for the packet already. Nothing has changed then but for places, and there was no event:
     /// what there was room for there is room for still.
     #[inline(always)]
@@ -124,7 +124,7 @@ impl Device {
     ///
     /// # Errors
     ///
-    /// `AllocError` where [`Device::arrive`] gives it. Nothing has changed then but for places, and there was no event: what there
+    /// `AllocError` where [`Device::arrive`] returns it. Nothing has changed then but for places, and there was no event: what there
     /// was room for there is room for still.
     pub fn arrive_at(&mut self, packet: &Packet, now: Moment) -> Result<Fate, AllocError>
         ensures event { OnOk result (self.new ≡ record (with_event (event.Arrive packet.now now) self.old) { memory = self.new.memory }) }
@@ -183,10 +183,10 @@ impl Device {
         Ok(fate)
     }
 
-    /// Takes the packet whose turn it is. `Idle` where none is given and nothing is queued, and `Later` where none is given
-    /// though something is. It takes no memory.
+    /// Takes the packet whose turn it is. Returns `Idle` if there is none to send and nothing is queued, and `Later` if there is
+    /// none to send though something is queued. It takes no memory.
     ///
-    /// A moment before the device's clock counts as the clock. The event is recorded at the moment that the clock shows
+    /// A time before the device's clock counts as the clock. The event is recorded at the time that the clock shows
     /// after it.
     #[inline(always)]
     pub fn poll(&mut self, now: Moment) -> Polled
@@ -205,8 +205,8 @@ impl Device {
         }
     }
 
-    /// [`Device::poll`] into the caller's place: the packet whose turn it is is written to `out`, which stays as it is where none
-    /// is given. It takes no memory.
+    /// [`Device::poll`] into the caller's place: the packet whose turn it is is written to `out`, which stays as it is if there
+    /// is none. It takes no memory.
     pub fn poll_into(&mut self, now: Moment, out: &mut Packet) -> Given
         ensures event { self.new ≡ record (with_event (event.Poll now) self.old) { memory = self.new.memory } }
         ensures memory { self.new.memory ≡ polled_memory self.new.device.clock self.old.memory }
@@ -224,14 +224,14 @@ impl Device {
         given_of(sent, &self.tree)
     }
 
-    /// The moment before which no poll gives a packet, as long as nothing arrives and no command comes; `None` where none ever will:
+    /// The time before which no poll gives a packet, as long as nothing arrives and no command comes; `None` where none ever will:
     /// nothing is queued, or no bucket will ever hold what waits for it. It is the clock where a poll may give one at once.
     ///
-    /// A poll at that moment need not give one. It does where the tree is sure of it (`some`): where every packet that it waits for is
-    /// known, and no drr has to grant a quantum first. Else it may answer `Later`, and then the moment that follows is later: an
-    /// fq_codel that was not asked yet may drop what it would have given, and a drr may pass its turn to another class.
+    /// A poll at that time need not give one. It does where the tree is sure of it (`some`): where every packet that it waits for is
+    /// known, and no drr has to grant a quantum first. Else it may answer `Later`, and then the time that follows is later: an
+    /// fq_codel that was not asked yet may drop what it would have sent, and a drr may pass its turn to another class.
     ///
-    /// It changes nothing and takes no memory, and looks at each node of the tree once at most.
+    /// It changes nothing and takes no memory, and visits each node of the tree at most once.
     pub fn ready_at(&self) -> Option<Moment>
         ensures value { result ≡ ready_at self.now.device.clock self.now.device.tree.root }
         ensures from { IfSome result (λ at. self.now.device.clock ≤ at) }
@@ -242,9 +242,9 @@ impl Device {
         self.tree.ready_at(self.tree.clock())
     }
 
-    /// What the class in this place is promised; `None` where it is no class of a drr, where something other than a drr stands on the way
+    /// What the class in this place is promised; `None` where it is no class of a drr, where something other than a drr is on the path
     /// from the root, a tbf at the root apart, or where that tbf has no room in its burst for a longest packet and for what its rate
-    /// brings in a nanosecond, or another tbf stands beneath it. It takes no memory.
+    /// brings in a nanosecond, or another tbf is below it. It takes no memory.
     pub fn service(&self, place: Place) -> Option<Service>
         ensures value { option_map promise_seen result ≡ promise_of place self.now.settings.mtu self.now.device.tree.root }
         ensures ranges { IfSome result (λ s. All IsShare s.shares.items) }
@@ -257,12 +257,12 @@ impl Device {
 
     /// Does what a line of tc asks for, or refuses it. What is removed is lost, and waits for [`Device::reap`].
     ///
-    /// A moment before the device's clock counts as the clock. The event is recorded at the moment that the clock shows
+    /// A time before the device's clock counts as the clock. The event is recorded at the time that the clock shows
     /// after it.
     ///
     /// # Errors
     ///
-    /// The first refusal of the command that holds; `Memory` where none holds, the command takes memory, and it is refused. A change
+    /// The first refusal of the command that holds; `Memory` where none holds, the command takes memory, and an allocation fails. A change
     /// of a prio takes memory only where it gets more bands.
     /// Nothing has changed then, and there was no event.
     pub fn command(&mut self, command: Command, now: Moment) -> Result<(), Refusal>
@@ -301,7 +301,7 @@ impl Device {
         Some(lost)
     }
 
-    /// The latest moment that counted.
+    /// The latest time that counted.
     pub fn clock(&self) -> Moment
         ensures { result ≡ self.now.device.clock }
     {
@@ -315,14 +315,14 @@ impl Device {
         self.tree.totals()
     }
 
-    /// What the node in this place counted, and what is queued there; `None` where none stands there.
+    /// What the node in this place counted, and what is queued there; `None` where there is none.
     pub fn stats(&self, place: Place) -> Option<Row>
         ensures { result ≡ stats totals place self.now.device.tree }
     {
         self.tree.stats(place)
     }
 
-    /// The tree. Its clock is the device's, since every event gives the tree the moment at which it counts.
+    /// The tree. Its clock is the device's, since every event gives the tree the time at which it counts.
     pub fn tree(&self) -> &Tree
         ensures memory { result.now ≡ self.now.memory.tree }
         ensures numbers { tree_numbers result.now.tree ≡ self.now.device.tree }
@@ -332,7 +332,7 @@ impl Device {
         &self.tree
     }
 
-    /// The first events, as many as the settings say, each with the moment at which it counted.
+    /// The first events, as many as the settings say, each with the time at which it counted.
     pub fn recorded(&self) -> &[Event]
         ensures { result.now ≡ self.now.recorded }
     {
@@ -360,14 +360,14 @@ impl Device {
     }
 }
 
-// A moment is within its range, which its type keeps. It does nothing.
+// A time is within its range, which its type keeps. It does nothing.
 fn moment_range(now: Moment)
     ensures { now ≤ 2 ^ 62 }
 {
     let _ = now.ns();
 }
 
-// The moment at which an event counts: the clock never goes back.
+// The time at which an event counts: the clock never goes back.
 #[inline(always)]
 fn later(tree: &Tree, now: Moment) -> Moment
     ensures { result ≡ max tree.now.clock now }

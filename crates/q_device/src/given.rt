@@ -1,4 +1,4 @@
-/// What a poll gave that writes its packet to a place.
+/// The answer of a poll that writes its packet to a place.
 #[derive(Clone, Copy, PartialEq, Eq, Debug)]
 pub enum Given {
     /// A packet, which is there.

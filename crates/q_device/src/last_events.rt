@@ -11,7 +11,7 @@ use std::marker::Model;
 /// The last events that were noted, as many as it has places: where all are taken the oldest makes way.
 ///
 /// A device records its *first* events, and is what those make of a new one. After a long time what happened *last* says more. A
-/// program that wants it has a ring beside the device, and notes each event that the device accepted, with the moment that the
+/// program that wants it has a ring beside the device, and notes each event that the device accepted, with the time that the
 /// device's clock shows then:
 ///
 /// ```
@@ -27,7 +27,7 @@ use std::marker::Model;
 /// ```
 ///
 /// To read it one has to know that it is no replay: it begins in the midst, with event number [`LastEvents::noted`] less
-/// [`LastEvents::len`], counted from 0, and says neither what was queued then nor which tree stood. That tree is known where the
+/// [`LastEvents::len`], counted from 0, and says neither what was queued then nor which tree there was. That tree is known where the
 /// program writes down what show prints of it, and reads the commands of the ring from there on.
 ///
 /// A contract sees it as the record `LastNoted`. Only [`LastEvents::new`] allocates.
@@ -55,7 +55,7 @@ impl LastEvents {
     ///
     /// # Errors
     ///
-    /// `AllocError` where that memory is refused; never for a ring of no places.
+    /// `AllocError` if that allocation fails; never for a ring of no places.
     pub fn new(alloc: Global, places: u32) -> Result<LastEvents, AllocError>
         ensures made { IfOk result (λ last. last ≡ none_noted places) }
         ensures succeeds { places ≡ 0 → IsOk result }

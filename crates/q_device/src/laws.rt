@@ -33,7 +33,7 @@ pub fn replay_shrinks()
 /// Whatever happens to a device, nothing is lost without a word and every node stays lawful.
 ///
 /// For all settings and every list of events whose fields are in their ranges: at every node of the tree, and at the device
-/// above its root, the packets that arrived are those that were sent, that were lost, and that wait there or beneath, in some
+/// above its root, the packets that arrived are those that were sent, that were lost, and that wait there or below, in some
 /// order and but for their ECN codepoint. Every tree is lawful then (`IsLawfulTree` of q_model: active lists exact, levels
 /// within bursts, handles once, depth and number of nodes bounded), and no node has marked more than it sent, dropped or
 /// holds. What the device has noted is what its caller sees: the packets that the events bring, those that the replies give and
@@ -46,7 +46,7 @@ pub fn conserved(settings: Settings)
     settings.ranges();
 }
 
-/// A class of a drr that stays backlogged with one quantum over a stretch of events sends, in bytes that its child gives to the
+/// A class of a drr that stays backlogged with one quantum over an interval of events sends, in bytes that its child hands to the
 /// drr, its grants times its quantum and its first deficit less its last. Every deficit is below its quantum and the mtu together,
 /// and just before a grant it is below the length of the packet that the child shows. A class that was empty begins with one
 /// quantum, whatever deficit it had before.
@@ -62,13 +62,13 @@ pub fn class_stretch(settings: Settings)
     settings.ranges();
 }
 
-/// Two classes of one drr that stay backlogged over a stretch of events get equally many grants where they stand in the same
-/// order in the active list at both ends, else the one that stood first gets one more. The bytes that they send are to each
+/// Two classes of one drr that stay backlogged over an interval of events get equally many grants where they are in the same
+/// order in the active list at both ends, else the one that was first gets one more. The bytes that they send are to each
 /// other as their quanta: they differ, each times the other's quantum, by less than three products of the quanta and a longest
 /// packet times their sum.
 ///
-/// Two flows of one fq_codel that stay backlogged are granted equally often where they stand in the same order at both ends, in
-/// the new list followed by the old one, else the one that stood first once more.
+/// Two flows of one fq_codel that stay backlogged are granted equally often where they are in the same order at both ends, in
+/// the new list followed by the old one, else the one that was first once more.
 pub fn pair_stretch(settings: Settings)
     ensures classes { ClassesShareByQuanta settings }
     ensures flows { FlowsAreGrantedEvenly settings }
@@ -76,7 +76,7 @@ pub fn pair_stretch(settings: Settings)
     settings.ranges();
 }
 
-/// A tbf that keeps its rate and its burst over a stretch of events spends, in bytes, at most its burst and what its rate
+/// A tbf that keeps its rate and its burst over an interval of events spends, in bytes, at most its burst and what its rate
 /// brings in the time between; its node sends at most that and the length of the packet that it held at the start.
 ///
 /// For all settings and every list of events whose fields are in their ranges: polls, arrivals and commands anywhere in the
@@ -87,7 +87,7 @@ pub fn bucket_stretch(settings: Settings)
     settings.ranges();
 }
 
-/// A flow of an fq_codel that stays backlogged with one quantum over a stretch of events gives its node, in bytes, its grants
+/// A flow of an fq_codel that stays backlogged with one quantum over an interval of events gives its node, in bytes, its grants
 /// times the quantum and its first credits less its last; packets that CoDel or the fat flow loses are not among them. A flow
 /// that was in neither list begins in the new one, with credits of one quantum.
 pub fn flow_stretch(settings: Settings)
@@ -97,24 +97,24 @@ pub fn flow_stretch(settings: Settings)
     settings.ranges();
 }
 
-/// Whatever comes to the other classes of its drr, a class that stays backlogged with one quantum over a stretch of events is held up by
+/// Whatever comes to the other classes of its drr, a class that stays backlogged with one quantum over an interval of events is held up by
 /// each of them no longer than by one that stays backlogged too. Another class that is there with one quantum sends at most its first
-/// deficit and a quantum for each grant to the first: it may get packets, empty, wake again, and have its child removed or
-/// replaced. Where it did not stand before the first class in the active list, it sends nothing until that one is granted, but for what
+/// deficit and a quantum for each grant to the first: it may get packets, empty, become active again, and have its child removed or
+/// replaced. Where it was not before the first class in the active list, it sends nothing until that one is granted, but for what
 /// its deficit is above a quantum. In the quanta of both, what it sends times the quantum of the first is at most what
 /// the first sends times its own, and two products of the quanta and a longest packet less a byte times their sum.
 ///
 /// For all settings and every list of events whose fields are in their ranges: polls, arrivals and commands anywhere in the
-/// tree. Bytes are those that a class's child gives to the drr, which may hold one packet.
+/// tree. Bytes are those that a class's child hands to the drr, which may hold one packet.
 pub fn class_against_any(settings: Settings)
     ensures { ClassAgainstAny settings }
 {
     settings.ranges();
 }
 
-/// Of all bytes that the classes of a drr send over a stretch in which the drr keeps its classes and their quanta, a class that stays
+/// Of all bytes that the classes of a drr send over an interval in which the drr keeps its classes and their quanta, a class that stays
 /// backlogged sends its quantum's part of the sum of the quanta, whatever comes to the others, but for a number of bytes
-/// that does not grow with the stretch: twice its quantum times those of the others, and a longest packet less a byte times the others'
+/// that does not grow with the interval: twice its quantum times those of the others, and a longest packet less a byte times the others'
 /// quanta and, for each of the others, its own.
 pub fn least_share(settings: Settings)
     ensures { ClassesGetTheirParts settings }
@@ -145,7 +145,7 @@ pub fn no_flow_starves(settings: Settings)
 }
 
 /// A flow that joins an fq_codel from neither list goes before all old flows: until it gives a packet, or has none left, only the flows
-/// that stood in the new list give any, each at most its credits and a longest packet less a byte, whatever comes meanwhile.
+/// that was in the new list give any, each at most its credits and a longest packet less a byte, whatever comes meanwhile.
 /// So a sparse flow, as a name lookup, passes the flows of a download (RFC 8290, section 4.2).
 pub fn new_flow_first(settings: Settings)
     ensures { NewFlowFirst settings }
@@ -165,15 +165,15 @@ pub fn joining_flow_is_spared(settings: Settings)
     settings.ranges();
 }
 
-/// A tbf delivers its rate. Where it keeps its rate and its burst over a stretch of events and its level is cut by its burst at none of them,
-/// what its bucket pays is what its rate brings in the time between, but for what its level was at first and is at last (`exact`).
+/// A tbf delivers its rate. Where it keeps its rate and its burst over an interval of events and its level is cut by its burst at none of
+/// them, what its bucket pays is what its rate brings in the time between, but for what its level was at first and is at last (`exact`).
 ///
-/// That is so of a tbf at the root with no other beneath, while something is queued, if its burst has room for a longest packet
-/// and for what its rate brings in a nanosecond, and no event comes after the moment that [`Device::ready_at`] answers before it: what it
-/// pays is then within a longest packet of what its rate brings, both ways, between moments at which a poll gives nothing (`in_time`).
+/// That is so of a tbf at the root with no other below, while something is queued, if its burst has room for a longest packet
+/// and for what its rate brings in a nanosecond, and no event comes after the time that [`Device::ready_at`] answers before it: what it
+/// pays is then within a longest packet of what its rate brings, both ways, between times at which a poll gives nothing (`in_time`).
 ///
 /// For all settings and every list of events whose fields are in their ranges. Bytes are counted in units of 1/(8*10^9), so that
-/// nothing is rounded. What the tbf pays for it may still hold, as it may at the first of the two moments: one packet.
+/// nothing is rounded. What the tbf pays for it may still hold, as it may at the first of the two times: one packet.
 pub fn rate_is_delivered(settings: Settings)
     ensures exact { RateIsSpent settings }
     ensures in_time { RateIsDelivered settings }
@@ -181,17 +181,17 @@ pub fn rate_is_delivered(settings: Settings)
     settings.ranges();
 }
 
-/// A class of a drr gets its part of a rate, in time. A tbf at the root stands over the drr alone, with no other tbf beneath, and is
+/// A class of a drr gets its part of a rate, in time. A tbf at the root is over the drr alone, with no other tbf below, and is
 /// polled as [`rate_is_delivered`] says; the drr keeps its classes and their quanta. A class that stays backlogged then sends its quantum's
 /// part of what the rate brings in the time between, less a number of bytes that does not grow: its part of two longest packets, and what
 /// [`least_share`] says that it may lack (`below`).
 ///
-/// Where the child of a class is a drr again, and so on, the parts multiply: a class at the end of such a way down, all of whose classes stay
-/// backlogged, sends the product of their parts of the rate, less what may lack at each level and a longest packet for each drr that may
-/// hold one (`nested`).
+/// Where the child of a class is a drr again, and so on, the parts multiply: a class at the end of such a path down, all of whose classes
+/// stay backlogged, sends the product of their parts of the rate, less what may lack at each level and a longest packet for each drr that
+/// may hold one (`nested`).
 ///
 /// For all settings and every list of events whose fields are in their ranges, whatever comes to the other classes. Bytes are counted in
-/// units of 1/(8*10^9), times the sums of the quanta, so that nothing is rounded; they are those that the class's child gives to its drr.
+/// units of 1/(8*10^9), times the sums of the quanta, so that nothing is rounded; they are those that the class's child hands to its drr.
 pub fn share_in_time(settings: Settings)
     ensures below { ClassesShareInTime settings }
     ensures nested { SharesMultiply settings }
@@ -199,10 +199,10 @@ pub fn share_in_time(settings: Settings)
     settings.ranges();
 }
 
-/// What [`Device::service`] answers is what the class gets. As long as the way to it stays as it is, which is the qdiscs on it with the
+/// What [`Device::service`] answers is what the class gets. As long as the path to it stays as it is, which is the qdiscs on it with the
 /// classes and quanta of its drrs, and something is queued in the class, it sends its part of what the rate brings, less the slack
 /// (`delivered`): exactly, and of the rate in whole bits a second that [`crate::Service::rate`] gives. The device is polled as
-/// [`rate_is_delivered`] says. The slack is that of [`share_in_time`], rounded up by less than a byte for each drr on the way (`slack`).
+/// [`rate_is_delivered`] says. The slack is that of [`share_in_time`], rounded up by less than a byte for each drr on the path (`slack`).
 ///
 /// For all settings and every list of events whose fields are in their ranges, whatever comes to other classes.
 pub fn service_is_delivered(settings: Settings)
@@ -212,7 +212,7 @@ pub fn service_is_delivered(settings: Settings)
     settings.ranges();
 }
 
-/// The same where a drr is at the root, of all bytes that the children of its classes give, at whatever times the device is polled.
+/// The same where a drr is at the root, of all bytes that the children of its classes hand to it, at whatever times the device is polled.
 pub fn share_is_delivered(settings: Settings)
     ensures { ShareIsDelivered settings }
 {
@@ -229,8 +229,8 @@ pub fn work_is_conserved(settings: Settings)
     settings.ranges();
 }
 
-/// Where a poll has a prio send a packet of a band, each band before that one gave nothing when it was asked at that moment; and if no
-/// tbf stands there or beneath, nothing was queued there (tc-prio(8)).
+/// Where a poll has a prio send a packet of a band, each band before that one gave nothing when it was asked at that time; and if no
+/// tbf is there or below, nothing was queued there (tc-prio(8)).
 ///
 /// For all settings and every list of events whose fields are in their ranges. A tbf in an earlier band may hold a packet back, and
 /// lets the bands behind it send meanwhile.
@@ -246,7 +246,7 @@ pub fn bands_are_strict(settings: Settings)
 ///
 /// For all settings and every list of events whose fields are in their ranges, whatever the qdiscs and the other packets are. Those of the
 /// flow that are not given were refused, dropped, or wait. A filter, a class or a qdisc that a command puts in may send later packets
-/// of a flow another way, which can be shorter.
+/// of a flow along another path, which can be shorter.
 pub fn flows_keep_order(settings: Settings)
     ensures { FlowsKeepOrder settings }
 {
@@ -280,7 +280,7 @@ pub fn device_tells_its_losses(device: &Device)
 }
 
 /// The lost list of a device has a place for each loss that waits and each packet that is queued, so that whatever is lost of
-/// them needs no memory; and the recorder has a place for each event that it keeps. Its tree was given no moment after the
+/// them needs no memory; and the recorder has a place for each event that it keeps. Its tree was given no time after the
 /// device's clock.
 pub fn device_has_its_memory(device: &Device)
     ensures { HasItsMemory device.now }
@@ -289,9 +289,9 @@ pub fn device_has_its_memory(device: &Device)
 }
 
 /// Polls that come before a device is ready give no packet, however many come and in whatever order, and for them the device is ready
-/// no sooner. Where it was sure of its moment, that is its moment still.
+/// no sooner. Where it was sure of its time, that is its time still.
 ///
-/// A poll comes before where its moment, or the clock where that is later, is before the answer of [`Device::ready_at`], or where
+/// A poll comes before where its time, or the clock where that is later, is before the answer of [`Device::ready_at`], or where
 /// the answer was that no packet ever comes. Each of them is answered `Later` where something is queued, else `Idle`.
 pub fn early_polls_give_nothing(device: &Device)
     ensures { EarlyPollsGiveNothing device.now }
@@ -299,7 +299,7 @@ pub fn early_polls_give_nothing(device: &Device)
     device.kept();
 }
 
-/// Once a poll has given no packet, a device is ready after that poll or never: whoever polls it at the moments that
+/// Once a poll has given no packet, a device is ready after that poll or never: whoever polls it at the times that
 /// [`Device::ready_at`] answers, and at no others, polls at later and later ones.
 pub fn ready_passes_empty_polls(device: &Device)
     ensures { ReadyPassesEmptyPolls device.now }

@@ -2,12 +2,12 @@
 //! the laws of its replays.
 //!
 //! - [`Device`] takes packets in, is polled for them, and does commands on its tree or refuses them. [`Device::arrive_at`] and
-//!   [`Device::poll_into`] take and give a packet where it stands; a [`Given`] is what such a poll answers.
+//!   [`Device::poll_into`] read and write a packet where the caller has it; a [`Given`] is what such a poll answers.
 //! - [`play`] gives the [`Replies`] to a list of events, by a device of its own.
 //! - [`LastEvents`] is a ring in which a program notes what happened last, while a device records what happened first.
 //! - A [`Service`] is what a class of a drr is promised, which [`Device::service`] answers.
 //! - [`Settings`] are a device's mtu, queue length and recorder.
-//! - An [`Event`] is an arrival, a poll or a command, with its moment. A [`Reply`] is what it is answered: a [`Fate`], a
+//! - An [`Event`] is an arrival, a poll or a command, with its time. A [`Reply`] is what it is answered: a [`Fate`], a
 //!   [`Polled`], or whether the command was done, else the [`Refusal`]. They are those of `q_model`.
 //! - A [`Lost`] is a packet that was lost, with the cause.
 //! - A [`Command`] and its settings, places, views and rows are those of [`Tree`], which is `q_tree`'s. A [`Packet`] with its

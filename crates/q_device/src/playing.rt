@@ -24,8 +24,8 @@ pub type Replies = Vec<Reply>;
 ///
 /// # Errors
 ///
-/// `AllocError` where memory is refused: for the replies, the recorder, a packet and its loss, or a command. The play ends
-/// there, since the model knows no want of memory. It never comes where there are no events and the recorder keeps none.
+/// `AllocError` if an allocation fails: for the replies, the recorder, a packet and its loss, or a command. The play ends
+/// there, since the model knows no allocation failure. It never comes where there are no events and the recorder keeps none.
 pub fn play(alloc: Global, settings: Settings, events: &[Event]) -> Result<Replies, AllocError>
     ensures replies { IfOk result (λ replies. replies.items ≡ (replay totals settings events.now).replies) }
     ensures histories { IfOk result (λ replies. replies.items ≡ (replay history settings events.now).replies) }
@@ -45,7 +45,7 @@ pub fn play(alloc: Global, settings: Settings, events: &[Event]) -> Result<Repli
     Ok(replies)
 }
 
-// What an arrival is answered. Where memory is refused it was no event, and nothing but places has changed.
+// What an arrival is answered. If an allocation fails, it was no event, and nothing but places has changed.
 fn arrive(device: &mut Device, packet: Packet, now: Moment) -> Result<Fate, AllocError>
     ensures reply { IfOk result (λ fate. reply.Fate fate ≡ (step totals device.old.device (event.Arrive packet now)).reply) }
     ensures device { OnOk result (device.new.device ≡ (step totals device.old.device (event.Arrive packet now)).device) }
@@ -56,7 +56,7 @@ fn arrive(device: &mut Device, packet: Packet, now: Moment) -> Result<Fate, Allo
     device.arrive(packet, now).map_err(|(_, refused)| refused)
 }
 
-// Whether a command is done, or the refusal that the model tells of. Where the model does it and memory is refused it was no
+// Whether a command is done, or the model's refusal. Where the model does it and an allocation fails, it was no
 // event, and nothing has changed.
 fn command_done(
     device: &mut Device,

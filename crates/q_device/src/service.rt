@@ -16,14 +16,14 @@ use q_tree::{Link, Share, Way};
 pub struct Service {
     /// The rate of the tbf at the root in bits a second; `None` where a drr is at the root.
     pub link: Option<u64>,
-    /// The classes on the way, from the root down: of the rate the class gets the product of each one's quantum of its quanta.
+    /// The classes on the path, from the root down: of the rate the class gets the product of each one's quantum of its quanta.
     pub shares: ArrayVec<Share, 8>,
-    /// The bytes that it may lack, rounded up at each drr on the way.
+    /// The bytes that it may lack, rounded up at each drr on the path.
     pub slack: u64,
 }
 
 impl Service {
-    /// What the class gets of so many, as bits a second or bytes, rounded down at each drr on the way.
+    /// What the class gets of so many, as bits a second or bytes, rounded down at each drr on the path.
     pub fn part_of(&self, whole: u64) -> u64
         requires { All IsShare self.now.shares.items }
         ensures { result ≡ part_of self.now.shares.items whole }
@@ -40,7 +40,7 @@ impl Service {
     }
 }
 
-// The part of so many along a way.
+// The part of so many along a path.
 fn part_along(shares: &[Share], whole: u64) -> u64
     requires { All IsShare shares.now }
     ensures { result ≡ part_of shares.now whole }
@@ -59,7 +59,7 @@ fn part_at(share: &Share, whole: u64) -> u64
     (u128::from(whole) * u128::from(share.quantum) / u128::from(share.quanta)) as u64
 }
 
-/// What a class at the end of a way is promised by a device with these settings.
+/// What a class at the end of a path is promised by a device with these settings.
 pub(crate) fn promised(way: Way, settings: Settings) -> Option<Service>
     requires { All IsShare way.shares.items }
     ensures value { option_map promise_seen result ≡ promise_on settings.mtu way.link way.shares.items }
@@ -106,7 +106,7 @@ fn lack_of_link(link: Option<Link>, mtu: u16) -> u64
     2 * u64::from(mtu)
 }
 
-// What may lack at the end of a way.
+// What may lack at the end of a path.
 fn slack_on(shares: &[Share], mtu: u16, lack: u64) -> u64
     requires shares { All IsShare shares.now }
     requires few { length shares.now ≤ 8 }

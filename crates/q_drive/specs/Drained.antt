@@ -1,4 +1,4 @@
--- What polls do that go on until nothing goes any more: each comes at the moment from which the device is ready then.
+-- What polls do that go on until nothing goes any more: each comes at the time from which the device is ready then.
 use Rattle.std.specs.Prelude.{◌≡◌, ℕ, ◌+◌, ◌-◌, ◌*◌, ◌^◌, Bool, true, false, if◌then◌else◌, List, [], ◌∷◌, length, Option, None, Some}
 use Rattle.q_model.specs.declared.event.Event.TheVariants as event
 use Rattle.q_model.specs.Beneath.{beneath}
@@ -8,11 +8,11 @@ use Rattle.q_device.specs.Waiting.{ready}
 use Rattle.q_tree.specs.ReadyAt.{is_before}
 use Rattle.q_drive.specs.declared.drained.Drained.{Drained}
 
--- the device after a poll at this moment
+-- the device after a poll at this time
 abbrev pub polled : ℕ → DeviceSeen → DeviceSeen
 polled at d = record (with_event (event.Poll at) d) { memory = polled_memory (counts_at at d.device) d.memory }
 
--- the device was polled at these moments and no others, each of them the moment from which it was ready then
+-- the device was polled at these times and no others, each of them the time from which it was ready then
 abbrev pub IsPolledWhenReady : List ℕ → DeviceSeen → DeviceSeen → Type 0
 IsPolledWhenReady [] before after = after ≡ before
 IsPolledWhenReady (at ∷ moments) before after = (ready before.device ≡ Some at) × IsPolledWhenReady moments (polled at before) after
@@ -23,7 +23,7 @@ polls_left d =
     2 * length (beneath d.device.tree.root) + 2 * (2 ^ 62 - d.device.clock) + (if is_before (Some d.device.clock) (ready d.device) then 0 else 1)
 
 -- After such polls it is ready no more: nothing is queued, or what is queued never goes by waiting alone. They sent so many
--- packets and bytes, and its clock shows this moment.
+-- packets and bytes, and its clock shows this time.
 pub record IsDrained (before after : DeviceSeen) (d : Drained) : Type 0 where
   pub moments : List ℕ
   pub polls : IsPolledWhenReady moments before after

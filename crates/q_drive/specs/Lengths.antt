@@ -1,4 +1,4 @@
--- The most bytes of the lines at the end, each the sum of the most that stands in it.
+-- The most bytes of the lines at the end, each the sum of the most that is in it.
 use Rattle.std.specs.Prelude.{ℕ, ◌+◌}
 use Rattle.q_session.specs.Lengths.{most_device}
 use Rattle.q_show.specs.Lengths.{most_decimal}

@@ -12,20 +12,20 @@ use Rattle.q_drive.specs.SetUp.{effect_of}
 use Rattle.q_drive.specs.Texts.{ending_text}
 use Rattle.q_drive.specs.declared.driven.Driven.{Driven}
 
--- what the lines of standard input do to a new device, where memory is refused at these lines
+-- what the lines of standard input do to a new device, with an allocation failure at these lines
 abbrev pub set_up : Drive → List ℕ → List ℕ → Effect SessionSeen
 set_up s script starved = run_of effect_of starved script (opened s.device)
 
--- all that is written, where the senders come to this, or to nothing for want of memory
+-- all that is written, where the senders come to this, or to nothing since an allocation failed
 abbrev pub report : Drive → List ℕ → List ℕ → Option Driven → List ℕ
 report s script starved driven = (set_up s script starved).text ++ ending_text s.show driven
 
--- Refused where a line was faulty or turned down, or memory was refused to the senders
+-- Refused where a line was faulty or turned down, or an allocation failed for the senders
 abbrev pub outcome : Drive → List ℕ → List ℕ → Option Driven → Outcome
 outcome s script starved None = Refused
 outcome s script starved (Some d) = if (set_up s script starved).session.state.refused then Refused else Clean
 
--- The writer has the report and nothing else, memory having been refused at some lines or none, and the outcome is the report's.
+-- The writer has the report and nothing else, with an allocation failure at some lines or none, and the outcome is the report's.
 pub record IsDriven (s : Drive) (script : List ℕ) (told : Outcome) (old new : Option (List ℕ)) : Type 0 where
   pub starved : List ℕ
   pub driven : Option Driven
@@ -40,7 +40,7 @@ pub record IsPartlyDriven (s : Drive) (script : List ℕ) (old new : Option (Lis
   pub has_driven : IfSome driven (HasDriven s)
   pub text : AppendsFront old new (report s script starved driven)
 
--- the outcome of the script, or Refused where memory was refused to the senders
+-- the outcome of the script, or Refused if an allocation failed for the senders
 abbrev pub outcome_with : Option Driven → Outcome → Outcome
 outcome_with None told = Refused
 outcome_with (Some d) told = told

@@ -1,5 +1,5 @@
 -- What a drive writes behind what standard input came to: three lines, perhaps one on what was drained, and perhaps the device's
--- counters and the qdiscs; or that memory was refused.
+-- counters and the qdiscs; or that an allocation failed.
 -- The texts are this project's own.
 use Rattle.std.specs.Prelude.{ℕ, Bool, true, List, [], ◌++◌, if◌then◌else◌, codes, decimal, Option, Some, None}
 use Rattle.q_line.specs.declared.object.Object.TheVariants.{Qdisc}

@@ -49,7 +49,7 @@ fn poll_when_ready(device: &mut Device, at: Moment)
 {
     device_tells_its_losses(device);
     ready_passes_empty_polls(device);
-    // A moment is at most 2^62 nanoseconds.
+    // A time is at most 2^62 nanoseconds.
     let _ = at.ns();
     let _ = device.poll(at);
     device_tells_its_losses(device);

@@ -150,7 +150,7 @@ fn put_drained(output: &mut Output, drained: Option<Drained>)
     output.put(b"\n");
 }
 
-/// The line on memory that was refused.
+/// The line on an allocation failure.
 fn put_memory(output: &mut Output)
     requires { HasRoom output.old most_step }
     ensures { output.new ≡ output.old ++ memory_line }

@@ -36,7 +36,7 @@ impl SetUp {
     ///
     /// # Errors
     ///
-    /// `AllocError` where memory for the recorder is refused.
+    /// `AllocError` if the allocation of the recorder fails.
     pub fn open(alloc: Global, settings: &RunSettings) -> Result<SetUp, AllocError>
         ensures new { IfOk result (λ s. s ≡ opened settings.now) }
         ensures succeeds { settings.now.recorder ≡ 0 → IsOk result }

@@ -18,7 +18,7 @@ AddedIsLawful = (s : Schedule) (n quantum : ℕ) → IsLawful s → has_class n 
 abbrev pub RemovedIsLawful : Type 0
 RemovedIsLawful = (s : Schedule) (n : ℕ) → IsLawful s → IsLawful (removed n s)
 
--- a class wakes with one quantum, which stays below the bound where the longest packet has a byte
+-- a class becomes active with one quantum, which stays below the bound where the longest packet has a byte
 abbrev pub WokenIsLawful : Type 0
 WokenIsLawful = (s : Schedule) (n : ℕ) → IsLawful s → 1 ≤ s.max_len → has_class n s.classes ≡ true → IsLawful (woken n s)
 

@@ -15,7 +15,7 @@ is_among n ns = list_any (nat_eq n) ns
 abbrev pub without : ℕ → List ℕ → List ℕ
 without n ns = filter (λ m. not (n == m)) ns
 
--- where a number stands once there is no such number as the gap, and those above it have moved down by one
+-- what a number becomes once the number of the gap is gone, and those above it have moved down by one
 abbrev pub moved_down : ℕ → ℕ → ℕ
 moved_down gap n = if nat_lt gap n then n - 1 else n
 
@@ -68,7 +68,7 @@ pub record IsMarked (old new : List Link) (a : ℕ) (here : Bool) : Type 0 where
   pub before : (n : ℕ) → before_of new n ≡ before_of old n
   pub changed : (n : ℕ) → here_of new n ≡ (if n == a then here else here_of old n)
 
--- each link leads to where its neighbours stand once a gap is closed
+-- each link leads to where its neighbours are once a gap is closed
 pub record HaveMovedDown (gap : ℕ) (old new : List Link) : Type 0 where
   pub len : length new ≡ length old
   pub next : (n : ℕ) → n < length old → next_of new n ≡ moved_down gap (next_of old n)

@@ -11,7 +11,7 @@ pub record Class : Type 0 where
   pub name : ℕ
   pub quantum : ℕ
 
--- an active class, the bytes it may send before its next grant, and the bytes granted since it woke
+-- an active class, the bytes it may send before its next grant, and the bytes granted since it became active
 pub record Entry : Type 0 where
   pub class : ℕ
   pub deficit : ℕ
@@ -27,7 +27,7 @@ pub record Schedule : Type 0 where
 abbrev pub has_class : ℕ → List Class → Bool
 has_class n classes = list_any (λ c. n == c.name) classes
 
--- where a class stands in order of adding
+-- the place of a class in order of adding
 abbrev pub place_of : ℕ → List Class → Option ℕ
 place_of n classes = position (λ c. n == c.name) classes
 
@@ -42,7 +42,7 @@ quantum_of n classes = option_map_or (λ (c : Class). c.quantum) (find (λ (c : 
 abbrev pub is_active : ℕ → List Entry → Bool
 is_active n active = list_any (λ e. n == e.class) active
 
--- the deficit and the grants of a class, 0 where it is asleep
+-- the deficit and the grants of a class, 0 if it is inactive
 abbrev pub deficit_of : ℕ → List Entry → ℕ
 deficit_of n active = option_map_or (λ (e : Entry). e.deficit) (find (λ (e : Entry). n == e.class) active) 0
 
@@ -59,7 +59,7 @@ no_classes max_len = record { max_len = max_len; classes = []; active = []; turn
 abbrev pub added : ℕ → ℕ → Schedule → Schedule
 added n quantum s = record s { classes = s.classes ++ record { name = n; quantum = quantum } ∷ [] }
 
--- waking puts a class at the end, with a deficit of one quantum; an active one stays as it is
+-- a class that becomes active goes to the end, with a deficit of one quantum; an active one stays as it is
 abbrev pub woken : ℕ → Schedule → Schedule
 woken n s = if is_active n s.active then s else record s {
   active = s.active ++ record { class = n; deficit = quantum_of n s.classes; granted = 0 } ∷ [];
@@ -109,7 +109,7 @@ pub record IsEntry (max_len : ℕ) (classes : List Class) (e : Entry) : Type 0 w
   pub bounded : e.deficit < quantum_of e.class classes + max_len
   pub in_range : e.granted < 2 ^ 64
 
--- what holds of every active list: no two classes have one name, and no class stands twice among the active ones
+-- what holds of every active list: no two classes have one name, and no class is twice among the active ones
 pub record IsLawful (s : Schedule) : Type 0 where
   pub classes_differ : AllPairs (λ (a b : Class). a.name ≢ b.name) s.classes
   pub quanta : All (λ (c : Class). 1 ≤ c.quantum) s.classes

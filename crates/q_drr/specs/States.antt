@@ -27,7 +27,7 @@ no_state = record { name = 0; quantum = 0; deficit = 0; granted = 0 }
 abbrev pub has_state : ℕ → List NamedState → Bool
 has_state n states = list_any (λ c. n == c.name) states
 
--- where a class stands in order of adding
+-- the place of a class in order of adding
 abbrev pub place_of_state : ℕ → List NamedState → Option ℕ
 place_of_state n states = position (λ c. n == c.name) states
 

@@ -17,7 +17,7 @@ abbrev pub bytes_in : ℕ → ℕ → List Entry → ℕ
 bytes_in n len [] = 0
 bytes_in n len (e ∷ active) = if n == e.class then (if nat_le len e.deficit then len else 0) else 0
 
--- how often a class is granted over a stretch of turns, and the bytes that it sends
+-- how often a class is granted over a list of turns, and the bytes that it sends
 abbrev pub grants : ℕ → List ℕ → Schedule → ℕ
 grants n [] s = 0
 grants n (len ∷ lens) s = grant_in n len s.active + grants n lens (turned len s)
@@ -26,7 +26,7 @@ abbrev pub sent : ℕ → List ℕ → Schedule → ℕ
 sent n [] s = 0
 sent n (len ∷ lens) s = bytes_in n len s.active + sent n lens (turned len s)
 
--- whether i stands before j
+-- whether i is before j
 abbrev pub stands_first : ℕ → ℕ → List Entry → Bool
 stands_first i j [] = false
 stands_first i j (e ∷ active) = if i == e.class then true else (if j == e.class then false else stands_first i j active)
@@ -46,8 +46,8 @@ GrantsAreCounted =
 abbrev pub TurnsAreCounted : Type 0
 TurnsAreCounted = (s : Schedule) (lens : List ℕ) → IsLawful s → (after_turns lens s).turns ≡ counted (s.turns + length lens)
 
--- two classes are granted equally often over turns that leave them in the order that they had, and one that stood before
--- the other and then stands behind it was granted once more
+-- two classes are granted equally often over turns that leave them in the order that they had, and one that was before
+-- the other and then is behind it was granted once more
 pub record AreEven (i j : ℕ) (lens : List ℕ) (s : Schedule) : Type 0 where
   pub same_order : stands_first i j (after_turns lens s).active ≡ stands_first i j s.active → grants i lens s ≡ grants j lens s
   pub changed_order : stands_first i j s.active ≡ true → stands_first i j (after_turns lens s).active ≡ false → grants i lens s ≡ grants j lens s + 1

@@ -21,7 +21,7 @@ needs quantum heads active = map (λ (e : Entry). Some (need quantum heads e)) a
 abbrev pub choice_of : (ℕ → Option ℕ) → Schedule → Option Choice
 choice_of heads s = choose (needs (λ (n : ℕ). quantum_of n s.classes) heads s.active)
 
--- those before the chosen one are granted once more than it and those after it, and stand behind them
+-- those before the chosen one are granted once more than it and those after it, and are behind them
 abbrev pub granted : (ℕ → ℕ) → ℕ → List Entry → List Entry
 granted quantum k active = map (λ (e : Entry). after_grants (quantum e.class) k e) active
 

@@ -32,11 +32,11 @@ pub record AreTurnsOf (heads : ℕ → Option ℕ) (s : Schedule) (lens : List �
 abbrev pub TakesAreTurns : Type 0
 TakesAreTurns = (s : Schedule) (heads : ℕ → Option ℕ) → IsLawful s → HeadsFit heads s.max_len → (lens : List ℕ) × AreTurnsOf heads s lens
 
--- the class that is met needs no more grants than any other, and fewer than each that stands before it
+-- the class that is met needs no more grants than any other, and fewer than each that is before it
 abbrev pub LeastNeedIsMet : Type 0
 LeastNeedIsMet = (s : Schedule) (heads : ℕ → Option ℕ) → MatchOption (choice_of heads s) (s.active ≡ []) (IsChosen (needs (λ (n : ℕ). quantum_of n s.classes) heads s.active))
 
--- and it stands at the chosen place; none is met where none is active
+-- and it is at the chosen place; none is met where none is active
 abbrev pub ChosenIsMet : Type 0
 ChosenIsMet =
     (s : Schedule) (heads : ℕ → Option ℕ)

@@ -1,4 +1,4 @@
--- The packets of one flow as nodes that are linked by keys: `at` says what stands at a key.
+-- The packets of one flow as nodes that are linked by keys: `at` says what is at a key.
 -- This is how the crate keeps them; nothing public names it.
 use Rattle.std.specs.Prelude.{◌≡◌, ◌≢◌, ℕ, ◌<◌, ◌≤◌, ◌%◌, ◌^◌, List, Option}
 use Rattle.q_packet.specs.Totals.{size}
@@ -22,7 +22,7 @@ led_to key x = record x { next = key }
 abbrev pub queue_in : (ℕ → Option Node) → FlowList → List Stamped
 queue_in at l = chain packets at l.count l.head
 
--- a node of this flow of so many, with a packet that has its length in range: its hash tells the flow
+-- a node of this flow of so many, with a packet that has its length in range: its hash chooses the flow
 pub record IsNode (flows flow : ℕ) (x : Node) : Type 0 where
   pub own : x.packet.hash % flows ≡ flow
   pub low : 1 ≤ x.packet.len

@@ -4,7 +4,7 @@ use Rattle.std.specs.Prelude.{◌≡◌, ℕ, ◌+◌, ◌<◌, ◌≤◌, ◌^�
 use Rattle.q_fqcodel.specs.FqState.{FqState, is_idle, packets_of}
 use Rattle.q_fqcodel.specs.Entry.{Entry}
 
--- how often a flow stands in a list
+-- how often a flow is in a list
 abbrev pub times : ℕ → List Entry → ℕ
 times n es = count_by (λ (e : Entry). e.flow == n) es
 

@@ -1,5 +1,5 @@
 -- Laws of the definitions that the calls equal: nothing is made or lost, and a put leaves a packet (RFC 8290, section 4).
--- Each law speaks of every state, every packet and every moment.
+-- Each law speaks of every state, every packet and every time.
 use Rattle.std.specs.Prelude.{◌≡◌, ℕ, ◌+◌, ◌*◌, ◌<◌, ◌≤◌, ◌↔◌, ◌⊎◌, ◌==◌, ℤ, pos, ◌+ℤ◌, Bool, true, false, List, [], ◌∷◌, ◌++◌, All, Contains, length, sum_by, find, slice_get, Option, Some, option_map, option_and_then, option_to_list}
 use Rattle.q_packet.specs.Choice.{Choice}
 use Rattle.q_packet.specs.Totals.{count}
@@ -16,12 +16,12 @@ use Rattle.q_fqcodel.specs.Put.{flow_of, appended, fattest, after_put, lost_by_p
 use Rattle.q_fqcodel.specs.Ranges.{IsInRange}
 use Rattle.q_fqcodel.specs.Take.{selected, sender, sent_from, dropped_from, after_sending}
 
--- the packet that the flow in front sends, as it stood in its queue
+-- the packet that the flow in front sends, as it was in its queue
 abbrev pub head_sent : ℕ → FqState → Option Stamped
 head_sent now s = option_and_then (λ (f : Flow). sent f.codel now f.queue) (sender s)
 
 -- The packets that were queued and the one that is put are those queued then and those lost. w is any weight: 1 counts
--- them, the length adds up their bytes, and a test of one packet tells how often it is there.
+-- them, the length adds up their bytes, and a test of one packet says how often it is there.
 abbrev pub PutKeepsAll : Type 0
 PutKeepsAll =
     (w : Stamped → ℕ) (s : FqState) (packet : Descriptor) (now : ℕ) → flow_of s packet < length s.flows
@@ -34,7 +34,7 @@ TakeKeepsAll =
     → sum_by w (all_packets (after_sending now (selected s)).flows) + sum_by w (dropped_from now (selected s)) + sum_by w (option_to_list (head_sent now (selected s)))
     ≡ sum_by w (all_packets s.flows)
 
--- What a take gives is the packet that was sent, with its codepoint changed where it was marked.
+-- What a take returns is the packet that was sent, with its codepoint changed where it was marked.
 abbrev pub GivesTheHead : Type 0
 GivesTheHead =
     (s : FqState) (now : ℕ) (given : Taken) (head : Stamped) → sent_from now s ≡ Some given → head_sent now s ≡ Some head
@@ -58,8 +58,8 @@ CreditsByQuanta =
 abbrev pub GrantsAreSome : Type 0
 GrantsAreSome = (s : FqState) → All (λ (g : Grant). (0 < g.quanta) × (g.quanta ≡ quanta_given s g.flow)) (grants s)
 
--- As the old list turns to the chosen flow, a flow with packets is given a quantum at each visit: one more where it stands
--- in front of the chosen one than the chosen one is, and those behind it.
+-- As the old list turns to the chosen flow, a flow with packets is granted a quantum at each visit: if it is in front of the
+-- chosen one, it gets one more than the chosen one and those behind it.
 abbrev pub QuantaByPlace : Type 0
 QuantaByPlace =
     (quantum : ℕ) (idle : ℕ → Bool) (es : List Entry) (c : Choice) (place : ℕ) (e : Entry) → times e.flow es ≤ 1 → chosen quantum idle es ≡ Some c
@@ -74,7 +74,7 @@ LostByPlace =
     ↔ ((fattest (appended s packet now).flows ≡ flow_of s packet) × (count (queue_of s.flows (flow_of s packet)) < count (lost_by_put s packet now)))
 
 -- Where no packet like it was queued, that is exactly where it is the last of those lost. (The premise is needed: a packet
--- with the same fields and moment, queued earlier, may be the last one lost in its place.)
+-- with the same fields and time, queued earlier, may be the last one lost in its place.)
 abbrev pub LostIsLast : Type 0
 LostIsLast =
     (s : FqState) (packet : Descriptor) (now : ℕ) → flow_of s packet < length s.flows → (Contains (all_packets s.flows) (record { packet = packet; at = now }) → ⊥)

@@ -1,4 +1,4 @@
--- Values that are linked by keys into lists: `at` says what stands at a key.
+-- Values that are linked by keys into lists: `at` says what is at a key.
 -- This is how the crate keeps packets and the new and old flows; nothing public names it.
 use Rattle.std.specs.Prelude.{◌≡◌, ◌≢◌, ◌↔◌, ℕ, zero, suc, List, [], ◌∷◌, Option, Some, None, ⊤}
 
@@ -24,7 +24,7 @@ module _ {X A : Type 0} (form : Form X A) where
   IsChain own at tail (suc n) key =
       (x : X) × (at key ≡ Some x) × own x × ((key ≡ tail) ↔ (n ≡ 0)) × IsChain own at tail n (form.next x)
 
--- a value more: it stands at a key that was vacant, and the tail, where there is one, leads to it
+-- a value more: it is at a key that was vacant, and the tail, where there is one, leads to it
 pub record IsAppended {X : Type 0} (to : ℕ → X → X) (at at2 : ℕ → Option X) (tail key : ℕ) (new : X) : Type 0 where
   pub vacant : at key ≡ None
   pub stored : at2 key ≡ Some new

@@ -1,5 +1,5 @@
 -- What RFC 8290 promises to sparse flows (section 4.2): a flow that has just become new goes before the old ones.
--- It speaks of any number of takes, at any moments, with no put in between.
+-- It speaks of any number of takes, at any times, with no put in between.
 use Rattle.std.specs.Prelude.{◌≡◌, ℕ, ◌==◌, ◌≤◌, ◌<◌, ◌<ℤ◌, pos, ◌⊎◌, false, if◌then◌else◌, List, [], ◌∷◌, ◌++◌, All, map, option_to_list}
 use Rattle.q_packet.specs.Descriptor.{Descriptor}
 use Rattle.q_fqcodel.specs.FqState.{FqState, is_idle, packets_of}
@@ -18,7 +18,7 @@ pub record IsNew (n : ℕ) (s : FqState) : Type 0 where
   pub listed : HasCredits n s.new_flows
   pub busy : is_idle s.flows n ≡ false
 
--- the flows that send, in order, in takes at these moments
+-- the flows that send, in order, in takes at these times
 abbrev pub served : List ℕ → FqState → List ℕ
 served [] s = []
 served (now ∷ nows) s = map (λ (e : Entry). e.flow) (option_to_list (front (selected s))) ++ served nows (after_sending now (selected s))

@@ -15,7 +15,7 @@ pub record PoolState : Type 0 where
   pub queues : List (List Stamped)
   pub places : ℕ
 
--- a packet that is queued at a moment
+-- a packet that is queued at a time
 abbrev pub stamp : Descriptor → ℕ → Stamped
 stamp packet now = record { packet = packet; at = now }
 

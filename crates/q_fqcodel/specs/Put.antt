@@ -14,7 +14,7 @@ use Rattle.q_fqcodel.specs.Entry.{Entry}
 abbrev pub flow_of : FqState → Descriptor → ℕ
 flow_of s packet = packet.hash % s.settings.flows
 
--- whether a flow stands in a list
+-- whether a flow is in a list
 abbrev pub is_listed : ℕ → List Entry → Bool
 is_listed n es = list_any (λ (e : Entry). e.flow == n) es
 

@@ -15,8 +15,8 @@ pub record Lists : Type 0 where
 unfoldable pub chosen : ℕ → (ℕ → Bool) → List Entry → Option Choice
 chosen quantum idle es = choose (map (λ (e : Entry). if idle e.flow then None else Some (need quantum e)) es)
 
--- The old list once the chosen flow is in front: those that stood before it are visited once more than it and those
--- behind it, and stand at the end. With none to choose, all leave.
+-- The old list once the chosen flow is in front: those that were before it are visited once more than it and those
+-- behind it, and go to the end. With none to choose, all leave.
 unfoldable pub turned : ℕ → List Entry → Option Choice → Lists
 turned quantum es None = record { new_flows = []; old_flows = []; gone = map (λ e. e.flow) es }
 turned quantum es (Some c) = record {

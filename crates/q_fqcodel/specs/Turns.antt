@@ -1,4 +1,4 @@
--- One look at the front of the new or the old list: either the flow there sends, or the selection starts again.
+-- One test of the front of the new or the old list: either the flow there sends, or the selection starts again.
 -- RFC 8290, section 4.2.
 use Rattle.std.specs.Prelude.{◌≡◌, ℕ, suc, ◌+◌, ◌<◌, ◌<ℤ◌, pos, false, IfSome, sum_by}
 use Rattle.q_fqcodel.specs.Entry.{Entry}
@@ -6,7 +6,7 @@ use Rattle.q_fqcodel.specs.Quanta.{need}
 use Rattle.q_fqcodel.specs.FqState.{FqState, is_idle, packets_of}
 use Rattle.q_fqcodel.specs.Take.{selected, front}
 
--- the work left before a flow sends: each look at the front lowers it
+-- the work left before a flow sends: each test of the front lowers it
 unfoldable pub turns : FqState → ℕ
 turns s =
     sum_by (λ (e : Entry). suc (suc (need s.settings.quantum e))) s.new_flows

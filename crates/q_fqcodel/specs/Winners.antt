@@ -1,6 +1,6 @@
--- A tree of winners over flows, by ranks: a flow's rank is the greater for more bytes, and of equals for the lower index.
--- Nodes are numbered from the root, 1: below node k are 2 k and 2 k + 1, and the n flows are the leaves n to 2 n - 1. At each
--- inner node stands the greater of the two ranks below it.
+-- A tournament tree over flows, by ranks: a flow's rank is the greater for more bytes, and of equals for the lower index.
+-- Nodes are numbered from the root, 1: below node k are 2 k and 2 k + 1, and the n flows are the leaves n to 2 n - 1. Each
+-- inner node has the greater of the two ranks below it.
 -- This is how the crate keeps them; nothing public names it.
 use Rattle.std.specs.Prelude.{◌≡◌, ◌≢◌, ℕ, ◌+◌, ◌-◌, ◌*◌, ◌/◌, ◌%◌, ◌^◌, ◌<◌, ◌≤◌, max, List, get_or, length, map, drop}
 
@@ -8,7 +8,7 @@ use Rattle.std.specs.Prelude.{◌≡◌, ◌≢◌, ℕ, ◌+◌, ◌-◌, ◌*�
 abbrev pub rank : ℕ → ℕ → ℕ
 rank flow bytes = bytes * 65536 + (65535 - flow)
 
--- what stands before the root, above the rank of each flow
+-- what is before the root, above the rank of each flow
 abbrev pub above : ℕ
 above = 2 ^ 64 - 1
 
@@ -29,7 +29,7 @@ pub record Leads (b : ℕ → ℕ) (x y : ℕ) : Type 0 where
   pub most : b y ≤ b x
   pub first : b x ≤ b y → x ≤ y
 
--- at each inner node but this one stands the greater of the two ranks below it
+-- each inner node but this one has the greater of the two ranks below it
 abbrev pub IsRightBut : ℕ → List ℕ → Type 0
 IsRightBut except ranks =
     (k : ℕ) → 1 ≤ k → k < length ranks / 2 → k ≢ except → rank_at ranks k ≡ max (rank_at ranks (2 * k)) (rank_at ranks (2 * k + 1))

@@ -140,7 +140,7 @@ impl ActiveLists {
         requires few { length self.old.old_flows ≤ 65536 }
         ensures { self.new ≡ record self.old { old_flows = drop 1 self.old.old_flows ++ entry ∷ [] } }
     {
-        // A flow that is alone there stays where it stands.
+        // A flow that is alone there stays where it is.
         if self.old_flows.count == 1 {
             return write_credits(&mut self.links, entry);
         }

@@ -4,7 +4,7 @@ ghost use Rattle.q_fqcodel.specs.Pool.{no_list};
 /// The packets of one flow, as a list that is linked by keys.
 ///
 /// `head` and `tail` are read only where `count` is not 0.
-// `count` and `bytes` stand apart, since side by side a take reads both at once and waits for the two writes of a put.
+// `count` and `bytes` lie apart, since side by side a take reads both at once and waits for the two writes of a put.
 #[derive(Clone, Copy, Debug)]
 pub(crate) struct FlowList {
     /// The key of the first packet.

@@ -63,7 +63,7 @@ impl<'a> Queue for FlowQueue<'a> {
 }
 
 /// Lets a flow whose head was found late send by CoDel's law into `out`, and says whether the packet was marked. `front` is what CoDel
-/// looks at of the head, which is not judged again.
+/// reads of the head, which is not judged again.
 #[inline(always)]
 pub(crate) fn send_late_from<S: Sink>(
     pool: &mut Pool,

@@ -30,7 +30,7 @@ pub(crate) struct Flows {
     states: Vec<ControlState>,
     // CoDel's settings, which all flows have.
     parameters: Parameters,
-    // The mtu among them, which they do not tell.
+    // The mtu, which is one of these settings, but which they do not show.
     mtu: u16,
     winners: Winners,
 }

@@ -31,7 +31,7 @@ pub struct FqCodel {
     lists: ActiveLists,
 }
 
-// What a flow takes: the list of its packets, what CoDel knows of it, its link, and its leaf and inner node among the winners.
+// What a flow takes: the list of its packets, what CoDel knows of it, its link, and its leaf and inner node of the tournament tree.
 const _: () = prove!(
     size_of::<FlowList>() + size_of::<ControlState>() + size_of::<Link>() + 2 * size_of::<u64>()
         <= 96
@@ -124,7 +124,7 @@ impl FqCodel {
     }
 
     /// Does what [`FqCodel::take_into`] does where the packet in front goes as it is, and returns its length in bytes; `None` where no
-    /// flow has a packet. So the usual take has no sink, and is not told of drops and marks.
+    /// flow has a packet. So the usual take has no sink, and nothing to report of drops and marks.
     ///
     /// # Errors
     ///

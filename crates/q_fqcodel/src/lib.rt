@@ -5,7 +5,7 @@
 //!   allocates.
 //! - [`FqCodel::put`] puts a packet into its flow, `hash mod flows`. Past the limit the flow with the most bytes loses a batch
 //!   from its front; the result says whether the packet that was put is itself lost.
-//! - [`FqCodel::take`] gives the next packet to send, with CoDel's drops and marks.
+//! - [`FqCodel::take`] returns the next packet to send, with CoDel's drops and marks.
 //! - [`FqCodel::put_from`] and [`FqCodel::take_into`] do the same with a packet that is read or written in the caller's
 //!   memory, so that it is copied once. [`Sent`] says what a take did, and [`FqCodel::fits`] beforehand that a put loses nothing.
 //! - [`FqCodel::pass_into`] and [`FqCodel::take_late_into`] are the two parts of a take: the usual one, where CoDel lets the packet

@@ -20,7 +20,7 @@ pub(crate) struct Pool {
     lists: Vec<FlowList>,
     // The bytes in all lists.
     bytes: u64,
-    // How many packets the nodes have room for, as far as `reserve` has told.
+    // How many packets the nodes have room for, as far as `reserve` has reported.
     places: usize,
 }
 
@@ -104,7 +104,7 @@ impl Pool {
         Some(self.nodes.at(list.head).stamped())
     }
 
-    /// What CoDel looks at of the packet in front of a flow.
+    /// What CoDel reads of the packet in front of a flow.
     pub(crate) fn front_of(&self, flow: u32) -> Option<Front>
         ensures { result ≡ option_map front_of (slice_get (get_or self.now.queues flow []) 0) }
     {
@@ -116,7 +116,7 @@ impl Pool {
         Some(node.front())
     }
 
-    /// What CoDel looks at of the packet in front of a flow, which has one, and the flow's bytes: its list is read once.
+    /// What CoDel reads of the packet in front of a flow, which has one, and the flow's bytes: its list is read once.
     #[inline(always)]
     pub(crate) fn peek(&self, flow: u32) -> (Front, u64)
         requires { 0 < count (get_or self.now.queues flow []) }

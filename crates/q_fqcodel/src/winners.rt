@@ -5,7 +5,7 @@ use crate::course::Course;
 use std::alloc::{AllocError, Global};
 use std::marker::Model;
 
-// What stands before the root: more than any flow's rank.
+// What is before the root: more than any flow's rank.
 const ABOVE: u64 = u64::MAX;
 
 /// A tournament tree over the flows, whose root is the flow with the most bytes, of several the one with the lowest index.
@@ -113,7 +113,7 @@ fn play(ranks: &mut Vec<u64>)
 }
 
 // Writes the rank of a leaf, and makes those above it right again: each is the greater of the two below it. The leaf's rank, before
-// or now, tells at each node whether the climb ends there, so that this does not wait for what is found below.
+// or now, says at each node whether the climb ends there, so that this does not wait for what is found below.
 #[inline(always)]
 fn climb(ranks: &mut [u64], leaf: usize, rank: u64, course: Course)
     requires even { length ranks.old ≡ 2 * (length ranks.old / 2) }
@@ -171,8 +171,8 @@ fn raise(ranks: &mut [u64], leaf: usize, rank: u64)
     }
 }
 
-// Writes a rank that has not grown at its leaf, and above it the greater of two where the rank stood that it had: where another one
-// stands, that was the greater, and stays.
+// Writes a rank that has not grown at its leaf, and above it the greater of two at each node that had the leaf's old rank: a node
+// that had another rank had the greater one, and keeps it.
 #[inline(always)]
 fn lower(ranks: &mut [u64], leaf: usize, rank: u64)
     requires even { length ranks.old ≡ 2 * (length ranks.old / 2) }

@@ -1,5 +1,5 @@
 -- What the words of a line have said so far: its head, the options of a qdisc, the keys of a filter, a packet's fields.
--- Each word of a head and each option stands once; these are what may be given, and what a whole line makes of them.
+-- Each word of a head and each option occurs once; these are what may be given, and what a whole line makes of them.
 use Rattle.std.specs.Prelude.{ℕ, ◌+◌, ◌==◌, min, Bool, false, nat_lt, nat_le, List, [], ◌∷◌, length, if◌then◌else◌, Option, Some, None, is_some, option_map, option_and_then, unwrap_or}
 use Rattle.std.specs.List.{position}
 use Rattle.std.specs.Option.{option_map_or}

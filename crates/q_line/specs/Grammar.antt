@@ -1,4 +1,4 @@
--- The lines of a script: what each word is read as where a value stands, and what the whole line says.
+-- The lines of a script: what each word is read as in the place of a value, and what the whole line says.
 -- The profile of tc's lines is this project's, after tc(8) and the pages of the disciplines.
 use Rattle.std.specs.Prelude.{ℕ, suc, ◌^◌, ◌-◌, Bool, true, ◌==◌, List, [], ◌∷◌, ◌++◌, length, if◌then◌else◌, Option, Some, None, Result, Ok, Err, option_and_then, option_map, unwrap_or}
 use Rattle.std.specs.Option.{option_map_or, option_or}
@@ -84,7 +84,7 @@ option_fits Positions.target v h k o word = value (time_in 0 ranges.longest word
 option_fits Positions.interval v h k o word = value (time_in ranges.shortest_interval ranges.longest word) (λ n. Positions.options v h k (record o { fq_codel = record o.fq_codel { interval = Some n } }))
 option_fits Positions.drop_batch v h k o word = value (number_in 1 ranges.most_batch word) (λ n. Positions.options v h k (record o { fq_codel = record o.fq_codel { drop_batch = Some n } }))
 
--- 16 numbers; whether each names a band is looked at when the line ends
+-- 16 numbers; whether each names a band is checked when the line ends
 abbrev pub priomap_fits : ℕ → QdiscVerb → HeadDraft → KindName → OptionDraft → List ℕ → Result Position Wrong
 priomap_fits index v h k o word =
     let so_far = unwrap_or o.priomap (record { from = index; numbers = [] }) in
@@ -162,7 +162,7 @@ abbrev pub row_of : List Row → List ℕ → Result Position Wrong
 row_of [] word = Err wrong.UnknownWord
 row_of (row ∷ rows) word = if bytes_eq word row.0 then row.1 else row_of rows word
 
--- the position after a word, which has this index: a value where one stands, else a word of the table
+-- the position after a word, which has this index: a value where one is due, else a word of the table
 abbrev pub fits : ℕ → Position → List ℕ → Result Position Wrong
 fits index Positions.at word = value (number_in 0 (2 ^ 62) word) (λ n. Positions.whole (line.At n))
 fits index Positions.pkt word = value (number_in 1 65535 word) (λ n. Positions.packet (no_fields n))
@@ -198,7 +198,7 @@ ends (Positions.show_line s named) = Some (line.Show s)
 ends (Positions.whole l) = Some l
 ends _ = None
 
--- the first number of a priomap that names no band: looked for before a missing word
+-- the first number of a priomap that names no band: checked before a missing word
 abbrev pub late_fault : Position → Option ℕ
 late_fault (Positions.options v h kind_name.Prio o) = bad_band o
 late_fault (Positions.option_value x v h kind_name.Prio o) = bad_band o

@@ -1,7 +1,7 @@
 -- What holds of the grammar as a whole: where the fault of a line lies, and that each line can be written.
 -- A fault is at the leftmost word that does not fit, or at the end, where every word fits.
--- The bands of a priomap are judged at the end, since `bands` may stand behind it. The script language is this project's,
--- after tc(8); the laws stand on functions of the module `laws`.
+-- The bands of a priomap are judged at the end, since `bands` may follow it. The script language is this project's,
+-- after tc(8); the laws are stated on functions of the module `laws`.
 use Rattle.std.specs.Prelude.{◌≡◌, ℕ, suc, ◌<◌, ◌≤◌, ◌⊎◌, List, [], ◌∷◌, ◌++◌, length, take, true, Some, None, Result, Ok, Err}
 use Rattle.std.specs.Str.{IsUtf8}
 use Rattle.q_words.specs.declared.line_fault.LineFault.{LineFault}
@@ -26,7 +26,7 @@ index_of (BadUtf8 word) = word
 abbrev pub FitSoFar : List (List ℕ) → Type 0
 FitSoFar words = line_of_words (words ++ (255 ∷ []) ∷ []) ≡ Err (BadUtf8 (suc (length words)))
 
--- the words before the fault's word fit, and its word is wrong whatever stands behind it
+-- the words before the fault's word fit, and its word is wrong whatever follows it
 pub record IsAtWord (words : List (List ℕ)) (fault : LineFault) : Type 0 where
   pub from_one : 1 ≤ index_of fault
   pub to_the_last : index_of fault ≤ length words

@@ -1,5 +1,5 @@
 -- Other spellings of a line: its options in another order, an option by another of its names, and an option given twice.
--- Which words are names of one option is after tc(8) and the pages of the disciplines; the laws stand on functions of the module
+-- Which words are names of one option is after tc(8) and the pages of the disciplines; the laws are stated on functions of the module
 -- `laws`.
 use Rattle.std.specs.Prelude.{◌≡◌, ℕ, suc, ◌||◌, ◌&&◌, true, Bool, List, [], ◌∷◌, ◌++◌, length, codes, if◌then◌else◌, Ok, Err}
 use Rattle.std.specs.List.{list_any}
@@ -22,11 +22,11 @@ use Rattle.q_line.specs.declared.qdisc_verb.QdiscVerb.{QdiscVerb}
 abbrev pub Reaches : List (List ℕ) → Position → Type 0
 Reaches words position = reached first 1 words ≡ Ok position
 
--- the words fit, and an option of this kind may stand behind them
+-- the words fit, and an option of this kind may follow them
 abbrev pub IsBeforeOption : KindName → List (List ℕ) → Type 0
 IsBeforeOption k words = (v : QdiscVerb) × (h : HeadDraft) × (o : OptionDraft) × Reaches words (options v h k o)
 
--- how many words stand behind the name of an option: 16 numbers, none behind a flag, else a value
+-- how many words follow the name of an option: 16 numbers, none behind a flag, else a value
 abbrev pub values_of : List ℕ → ℕ
 values_of name = if bytes_eq name (codes "priomap") then 16 else if bytes_eq name (codes "ecn") || bytes_eq name (codes "noecn") then 0 else 1
 
@@ -59,7 +59,7 @@ FieldsChangePlaces =
     (d : PacketDraft) (before one other behind : List (List ℕ)) (line : Line) → Reaches before (packet d) → IsPair one → IsPair other
     → line_of_words (before ++ (one ++ (other ++ behind))) ≡ Ok line → line_of_words (before ++ (other ++ (one ++ behind))) ≡ Ok line
 
--- whatever stands behind it, either word makes the same line behind these words
+-- whatever follows it, either word makes the same line behind these words
 abbrev pub SaysTheSame : List (List ℕ) → List ℕ → List ℕ → Type 0
 SaysTheSame before word other = (behind : List (List ℕ)) → line_of_words (before ++ word ∷ behind) ≡ line_of_words (before ++ other ∷ behind)
 
@@ -94,7 +94,7 @@ names_of FqCodel =
 abbrev pub names_one : KindName → List ℕ → List ℕ → Bool
 names_one k a b = list_any (λ names. list_any (λ name. bytes_eq a name) names && list_any (λ name. bytes_eq b name) names) (names_of k)
 
--- an option that was given, by this name or another, is a fault at its second name, whatever stands between and behind
+-- an option that was given, by this name or another, is a fault at its second name, whatever is between and behind
 abbrev pub OptionsStandOnce : Type 0
 OptionsStandOnce =
     (k : KindName) (before between behind : List (List ℕ)) (given again : List ℕ) → IsBeforeOption k before

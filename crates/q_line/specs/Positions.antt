@@ -1,4 +1,4 @@
--- Where a word of a line stands, with what the words to its left have said, and which words stand there.
+-- The position of a word in a line, with what the words to its left have said, and which words can be there.
 -- The profile of tc's lines is this project's, after tc(8) and the pages of the disciplines.
 use Rattle.std.specs.Prelude.{ℕ, Bool, true, false, ◌++◌, List, [], ◌∷◌, codes, if◌then◌else◌, Option, Some, None, Result, Ok, Err, is_some}
 use Rattle.q_model.specs.declared.place.Place.TheVariants as place
@@ -166,7 +166,7 @@ verb_rows add change del =
 abbrev pub object_rows : Bool → List Row
 object_rows counters = (codes "qdisc", Ok (qdisc counters)) ∷ (codes "class", Ok (class counters)) ∷ (codes "filter", Ok (filter counters)) ∷ []
 
--- the words that stand at a position, and the position after each
+-- the words that can be at a position, and the position after each
 abbrev pub table : Position → List Row
 table first =
     (codes "at", Ok at) ∷ (codes "pkt", Ok pkt) ∷ (codes "frame", Ok frame) ∷ (codes "poll", Ok poll)

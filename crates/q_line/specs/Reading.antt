@@ -75,7 +75,7 @@ packet_has field.SrcPort p = is_some p.src_port
 packet_has field.DstPort p = is_some p.dst_port
 packet_has field.Ecn p = is_some p.ecn
 
--- where the word names a field, its value stands behind it, once
+-- where the word names a field, its value follows it, once
 abbrev pub field_row : PacketDraft → Result PacketField Wrong → Result Position Wrong
 field_row p (Ok f) = once (packet_has f p) (packet_value f p)
 field_row p (Err e) = Err e

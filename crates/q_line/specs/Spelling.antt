@@ -104,7 +104,7 @@ abbrev pub counters_words : Bool → List (List ℕ)
 counters_words true = codes "-s" ∷ []
 counters_words false = []
 
--- where a qdisc stands
+-- the place of a qdisc
 abbrev pub place_words : Place → List (List ℕ)
 place_words place.Top = []
 place_words place.Root = codes "root" ∷ []

@@ -24,7 +24,7 @@ pub struct HeadDraft {
     pub class: Option<ClassId>,
     /// The priority of a filter.
     pub prio: Option<FilterPrio>,
-    /// The protocol of the packets that a filter looks at.
+    /// The protocol of the packets that a filter tests.
     pub protocol: Option<Protocol>,
 }
 

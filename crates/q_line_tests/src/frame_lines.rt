@@ -86,7 +86,7 @@ fn frames_of_ipv6(rt: HostRuntime) -> Result<(), Fail> {
                   003500",
                 Says::Frame(80, (6, 17, 1, 2, 0, 0), 4, Ecn::Ect1),
             ),
-            // an extension header stands where the ports would
+            // an extension header is where the ports would be
             (
                 "80 6000000000080040\
                   20010db8000000000000000000000001\

@@ -1,4 +1,4 @@
-//! Lines of classes, filters and packets, and moments, with each number at the ends of its range, one below and one above.
+//! Lines of classes, filters and packets, and times, with each number at the ends of its range, one below and one above.
 //! What they say is what the grammar gives: q_worked_examples has the same lines, with their answers computed from it.
 use crate::line_reading::{Key, NO_FLOW, Says, assert_faults, assert_lines};
 use q_packet::Ecn;

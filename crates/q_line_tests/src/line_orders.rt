@@ -1,4 +1,4 @@
-//! Lines of the whole language with words that stand twice, with bytes that are no UTF-8, and with a priomap before its bands.
+//! Lines of the whole language with words that occur twice, with bytes that are no UTF-8, and with a priomap before its bands.
 //! What they say is what the grammar gives: q_worked_examples has the same lines, with their answers computed from it.
 use crate::line_reading::{Says, assert_answers, assert_bytes, assert_faults, assert_lines};
 use q_words::LineFault::{BadNumber, BadUtf8, Missing, OutOfRange, Twice, UnknownWord};

@@ -136,7 +136,7 @@ fn first_words(alloc: Global, line: &str, count: usize, behind: &[u8]) -> Result
     Ok(words)
 }
 
-/// What stands behind the first words of a line.
+/// What is behind the first words of a line.
 #[derive(Clone, Copy)]
 enum Behind {
     Nothing,
@@ -149,7 +149,7 @@ enum Behind {
 }
 
 impl Behind {
-    /// The word that stands behind so many words of a line.
+    /// The word that is behind so many words of a line.
     fn word(self, line: &'static str, count: usize) -> Result<&'static [u8], Fail> {
         match self {
             Behind::Nothing => Ok(b""),
@@ -173,7 +173,7 @@ impl Behind {
             Behind::NoWord => long.no_word.as_bytes(),
             Behind::Large => long.large.as_bytes(),
             Behind::Again => long.again.as_bytes(),
-            // As many as there are answers, since such a word is the fault wherever it stands.
+            // As many as there are answers, since such a word is the fault wherever it is.
             Behind::NoUtf8 => NO_UTF8.get(..long.ends.len()).unwrap_or(b""),
         }
     }

@@ -327,7 +327,7 @@ fn assert_answer(
     Ok(())
 }
 
-/// Each line, behind the same front, says what stands beside it.
+/// Each line, behind the same front, says what is beside it.
 pub fn assert_lines(
     rt: &impl Abort,
     alloc: Global,

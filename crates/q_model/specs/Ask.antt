@@ -35,7 +35,7 @@ abbrev pub befores : List Asked → List Worked
 befores asked = map (λ (a : Asked). a.before) asked
 
 -- A node that shows what it has at hand: `own` is what it is until the packet is taken, and `own_taken` what it is then;
--- `peeked` and `taken` are its children, and `notes` is what they have to tell the nodes above them.
+-- `peeked` and `taken` are its children, and `notes` is what they have to report to the nodes above them.
 pub record Showing : Type 0 where
   pub own : Own
   pub own_taken : Own
@@ -54,7 +54,7 @@ showing below s = record {
   rises = s.notes;
 }
 
--- a node that holds a packet shows that one, and nobody beneath it is asked
+-- a node that holds a packet shows that one, and no node below it is asked
 abbrev pub holding : Own → List Asked → Descriptor → Asked
 holding own below p = showing below (record {
   own = own;
@@ -94,7 +94,7 @@ ask_prio own below =
     })
 
 -- A node that has dequeued a packet, or nothing, and holds it until it is taken: what it is then, but for the packet that it
--- holds; its children; what they and it have to tell the nodes above; and what it notes for itself alone.
+-- holds; its children; what they and it have to report to the nodes above; and what it notes for itself alone.
 pub record Dequeue : Type 0 where
   pub after : Own
   pub children : List Worked
@@ -155,8 +155,8 @@ length_of a = option_map (λ (p : Descriptor). p.len) a.shown
 abbrev pub head_of : Schedule → List Asked → ℕ → Option ℕ
 head_of s below name = option_and_then length_of (class_answer s below name)
 
--- What a drr's asking comes to before anything is given: its schedule after the grants, where the class that is met has
--- paid for what it shows; its children, peeked where they were asked; what they have to tell the nodes above; the grants.
+-- What a drr's asking comes to before a packet is handed out: its schedule after the grants, where the class that is met has
+-- paid for what it shows; its children, peeked where they were asked; what they have to report to the nodes above; the grants.
 pub record Service : Type 0 where
   pub schedule : Schedule
   pub below : List Worked
@@ -174,7 +174,7 @@ service_of s below =
       grants = granted_notes choice s.active;
     }
 
--- where the class that is met stands among the children
+-- the place among the children of the class that is met
 abbrev pub place_met : Schedule → List Asked → Option ℕ
 place_met s below = option_and_then (λ (m : Met). class_at m.class s) (met (head_of s below) s)
 
@@ -187,7 +187,7 @@ gives_nothing own below v = dequeued own below (record {
   packet = None;
 })
 
--- the class gives its packet, and leaves the active list where its child is empty
+-- the class hands out its packet, and leaves the active list where its child is empty
 abbrev pub class_gives : Own → List Asked → Service → ℕ → Asked → Descriptor → Asked
 class_gives own below v i child p =
     let schedule = settled_class i (is_empty child.taken) v.schedule in
@@ -203,7 +203,7 @@ abbrev pub class_serves : Own → List Asked → Service → ℕ → Asked → A
 class_serves own below v i child = option_map_or (class_gives own below v i child) child.shown (gives_nothing own below v)
 
 -- A drr asks the classes of its active list in turn, and grants to each whose packet is longer than its deficit, until one
--- is met that can send its packet, or that shows nothing; then the drr gives nothing.
+-- is met that can send its packet, or that shows nothing; then the drr returns nothing.
 abbrev pub ask_drr : Own → List Asked → Schedule → Asked
 ask_drr own below s =
     let v = service_of s below in

@@ -1,4 +1,4 @@
--- The packets that wait at a node and beneath it, in the order in which they are lost where the node is removed.
+-- The packets that wait at a node and below it, in the order in which they are lost where the node is removed.
 -- What is queued is found so; it is stored nowhere (the backlog of `tc -s qdisc show`, tc(8)).
 use Rattle.std.specs.Prelude.{Bool, ◌==◌, List, [], ◌++◌, length, map, sum_by}
 use Rattle.std.specs.List.{flat_map}
@@ -22,7 +22,7 @@ packets_in (Prio priomap) = []
 packets_in (Tbf bucket limit) = []
 packets_in (Drr s) = []
 
--- the held packet, the own lists, and then what is beneath the children, in class order
+-- the held packet, the own lists, and then what is below the children, in class order
 abbrev pub beneath_own : Own → List (List Descriptor) → List Descriptor
 beneath_own own below = option_to_list own.held ++ packets_in own.discipline ++ flat_map (λ packets. packets) below
 

@@ -1,5 +1,5 @@
 -- `tc class add`, `change` and `del`: which edit of the tree each is, and when it is refused.
--- tc-drr(8); a new class has an implicit pfifo, and a class that goes loses what is beneath it.
+-- tc-drr(8); a new class has an implicit pfifo, and a class that goes loses what is below it.
 use Rattle.std.specs.Prelude.{ℕ, Bool, not, ◌==◌, if◌then◌else◌, List, [], ◌∷◌, ◌++◌, Option, Some, Result, Err, is_some, unwrap_or}
 use Rattle.std.specs.List.{list_any, remove}
 use Rattle.std.specs.Option.{option_map_or}
@@ -23,7 +23,7 @@ of_schedule f (FqCodel s) = Err NotClassful
 of_schedule f (Prio priomap) = Err CannotChange
 of_schedule f (Tbf bucket limit) = Err CannotChange
 
--- an edit of the drr whose class it is, given the way to it, itself, and its schedule
+-- an edit of the drr whose class it is, given the path to it, itself, and its schedule
 abbrev pub at_drr : Option ℕ → ClassId → (List ℕ → Shape → Schedule → Result Edit Refusal) → Shape → Result Edit Refusal
 at_drr parent class f root =
     if is_so (λ major. not (major == class.major)) parent then Err NoParent
@@ -64,7 +64,7 @@ class_changed class quantum path n s = done_unless (class_change_checks class n)
 abbrev pub class_change : Option ℕ → ClassId → Option ℕ → Shape → Result Edit Refusal
 class_change parent class quantum root = at_drr parent class (class_changed class quantum) root
 
--- the child at place i goes, with all that is beneath it
+-- the child at place i goes, with all that is below it
 abbrev pub without_class : ℕ → List ℕ → Shape → Schedule → Edit
 without_class i path n s = Remake path (record n.own { discipline = Drr s }) (remove (all_kept n) i)
 

@@ -11,7 +11,7 @@ use Rattle.q_model.specs.Tally.{Counts, Note, Arrived, Sent, Lost, Marked, Grant
 use Rattle.q_model.specs.Node.{Own, Forest, none, more, Node, from_below}
 use Rattle.q_model.specs.Beneath.{totals_in}
 
--- a node and all nodes beneath it, each before its children
+-- a node and all nodes below it, each before its children
 abbrev pub nodes_of : {M : Type 0} → Forest M → List (Node M)
 nodes_of none = []
 nodes_of (more own m below others) = record { own = own; memory = m; below = below } ∷ nodes_of below ++ nodes_of others
@@ -64,7 +64,7 @@ pub record IsBalanced (r : Row) : Type 0 where
   pub packets : r.arrived.packets ≡ r.sent.packets + r.refused.packets + r.dropped.packets + r.queued.packets
   pub bytes : r.arrived.bytes ≡ r.sent.bytes + r.refused.bytes + r.dropped.bytes + r.queued.bytes
 
--- the packets that are held at a node and beneath it
+-- the packets that are held at a node and below it
 abbrev pub held_own : Own → List (List Descriptor) → List Descriptor
 held_own own below = option_to_list own.held ++ flat_map (λ packets. packets) below
 

@@ -11,14 +11,14 @@ use Rattle.q_model.specs.Beneath.{beneath, is_empty}
 use Rattle.q_model.specs.Find.{node_at}
 use Rattle.q_model.specs.Work.{losses_of, settled}
 
--- A child of a node that is edited: the one that stood at this place, with all that it remembers; the same with these
+-- A child of a node that is edited: the one that was at this place, with all that it remembers; the same with these
 -- settings; or a new one. An edit names children by their places, so that it keeps what they remember without saying it.
 pub data Child : Type 0 where
   Kept : ℕ → Child
   Retuned : ℕ → Own → Child
   New : Shape → Child
 
--- Graft: this node stands at the end of the path, in place of what stood there. Remake: the node at its end gets these
+-- Graft: this node takes the place of the one at the end of the path. Remake: the node at its end gets these
 -- settings and children, and the children that are not among them go.
 pub data Edit : Type 0 where
   Graft : List ℕ → Shape → Edit
@@ -51,18 +51,18 @@ abbrev pub edited_at : {M : Type 0} → Tally M → List Note → (Node M → No
 edited_at t notes f [] n = f n
 edited_at t notes f (i ∷ path) n = option_map_or (λ child. above t notes i (edited_at t notes f path child) n) (slice_get (children n) i) n
 
--- whether the child that stood at place i stays
+-- whether the child that was at place i stays
 abbrev pub keeps : ℕ → Child → Bool
 keeps i (Kept j) = i == j
 keeps i (Retuned j own) = i == j
 keeps i (New s) = false
 
--- what was beneath the children that go, in class order
+-- what was below the children that go, in class order
 abbrev pub beneath_removed : List Child → Shape → List Descriptor
 beneath_removed below n =
     flat_map (λ child. if list_any (keeps child.0) below then [] else beneath child.1) (enumerate_from 0 (children n))
 
--- What an edit of this tree loses: all that was beneath the node which another replaces, or beneath the children which go.
+-- What an edit of this tree loses: all that was below the node which another replaces, or below the children which go.
 abbrev pub packets_removed : Edit → Shape → List Descriptor
 packets_removed (Graft path new) root = option_map_or (λ (old : Shape). beneath old) (node_at path root) []
 packets_removed (Remake path own below) root = option_map_or (beneath_removed below) (node_at path root) []

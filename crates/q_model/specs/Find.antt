@@ -1,4 +1,4 @@
--- Where in a tree a qdisc with a handle, or a class, stands; its depth and its number of nodes.
+-- The place in a tree of a qdisc with a handle, or of a class; the tree's depth and its number of nodes.
 -- tc(8), "NAMING": a qdisc is found by the major number of its handle, a class by `major:minor`. Implicit leaves have no handle.
 use Rattle.std.specs.Prelude.{ℕ, suc, ◌+◌, ◌-◌, max, Bool, false, not, ◌&&◌, ◌==◌, nat_le, if◌then◌else◌, List, [], ◌∷◌, ◌++◌, map, length, Option, Some, None, is_some, option_map, option_and_then, slice_get}
 use Rattle.std.specs.List.{enumerate_from, find, flat_map, list_any, sum}
@@ -10,7 +10,7 @@ use Rattle.q_model.specs.declared.place.Place.TheVariants as place
 use Rattle.q_model.specs.Node.{Discipline, Fifo, Prio, Tbf, Drr, FqCodel, Own, Node, children, from_below}
 use Rattle.q_model.specs.Route.{class_at}
 
--- a handle, and the way to its node: at each node the child to go to, counted from 0
+-- a handle, and the path to its node: at each node the child to go to, counted from 0
 pub record Address : Type 0 where
   pub handle : ℕ
   pub path : List ℕ
@@ -52,19 +52,19 @@ class_in bands minor (FqCodel s) = None
 abbrev pub class_place : {M : Type 0} → ℕ → Node M → Option ℕ
 class_place minor n = class_in (length (children n)) minor n.own.discipline
 
--- the way to a class: that to its qdisc, and the child there
+-- the path to a class: that to its qdisc, and the child there
 abbrev pub class_path : {M : Type 0} → ClassId → Node M → Option (List ℕ)
 class_path class n = option_and_then
     (λ path. option_and_then (λ parent. option_map (λ i. path ++ i ∷ []) (class_place class.minor parent)) (node_at path n))
     (path_of class.major n)
 
--- the way to a place below the device
+-- the path to a place below the device
 abbrev pub place_path : {M : Type 0} → Place → Node M → Option (List ℕ)
 place_path place.Top n = None
 place_path place.Root n = Some []
 place_path (place.Class class) n = class_path class n
 
--- whether an explicit discipline stands at the end of the way: implicit leaves are those without a handle
+-- whether an explicit discipline is at the end of the path: implicit leaves are those without a handle
 abbrev pub is_explicit : {M : Type 0} → List ℕ → Node M → Bool
 is_explicit path n = option_map_or (λ at. is_some at.own.handle) (node_at path n) false
 

@@ -1,4 +1,4 @@
--- What every step on a tree is to keep: of each node, of the whole tree, and, with the device's clock, of the moments in it.
+-- What every step on a tree is to keep: of each node, of the whole tree, and, with the device's clock, of the times in it.
 -- tc-prio(8), tc-tbf(8), tc-drr(8) and RFC 8290, section 4, for the lists and levels; the bounds are this project's choice.
 use Rattle.std.specs.Prelude.{◌≡◌, ℕ, ◌<◌, ◌≤◌, ◌^◌, ◌==◌, Bool, not, List, [], All, length, IsSome, is_some}
 use Rattle.std.specs.List.{AllZip, AllPairs}
@@ -23,11 +23,11 @@ use Rattle.q_model.specs.Find.{Address, addresses, class_in, depth, count_nodes}
 use Rattle.q_model.specs.Refusals.{most_levels, most_nodes, most_filters}
 use Rattle.q_model.specs.TreeState.{TreeState}
 
--- no packet is stamped with a moment that is yet to come
+-- no packet is stamped with a time that is yet to come
 abbrev pub IsStampedBy : ℕ → List Stamped → Type 0
 IsStampedBy clock queue = All (λ (s : Stamped). s.at ≤ clock) queue
 
--- What is said of a node's children is said of the packets beneath each, in class order.
+-- What is said of a node's children is said of the packets below each, in class order.
 
 -- a fifo: no class
 pub record IsLawfulFifo (clock : ℕ) (queue : List Stamped) (below : List (List Descriptor)) : Type 0 where
@@ -35,14 +35,14 @@ pub record IsLawfulFifo (clock : ℕ) (queue : List Stamped) (below : List (List
   pub none : below ≡ []
 
 -- a drr: a child for each class, whose name is a minor number, and active are exactly the classes whose child has something
--- queued; each stands once in the active list, and its deficit is below its quantum and the mtu together
+-- queued; each is once in the active list, and its deficit is below its quantum and the mtu together
 pub record IsLawfulDrr (mtu : ℕ) (s : Schedule) (below : List (List Descriptor)) : Type 0 where
   pub schedule : drr.IsLawful s
   pub longest : s.max_len ≡ mtu
   pub minors : All (λ (c : Class). IsMinor c.name) s.classes
   pub exact : AllZip (λ (c : Class) (packets : List Descriptor). is_active c.name s.active ≡ not (length packets == 0)) s.classes below
 
--- a tbf: the level is at most the burst, and nothing beneath its one child is longer than that, since it could never pass
+-- a tbf: the level is at most the burst, and nothing below its one child is longer than that, since it could never pass
 pub record IsLawfulTbf (clock : ℕ) (b : TokenBucket) (below : List (List Descriptor)) : Type 0 where
   pub level : bucket.IsInRange b
   pub last : b.last ≤ clock
@@ -93,7 +93,7 @@ CanHold (FqCodel s) = Unit {0}
 CanHold (Fifo limit queue) = ⊥
 CanHold (Prio priomap) = ⊥
 
--- what a node is: every packet has a byte and none is longer than the mtu, its filters stand in rising priority, and the
+-- what a node is: every packet has a byte and none is longer than the mtu, its filters are in order of rising priority, and the
 -- class that each names is there
 pub record IsLawfulOwn (mtu clock : ℕ) (own : Own) (below : List (List Descriptor)) : Type 0 where
   pub discipline : IsLawfulDiscipline mtu clock below own.discipline
@@ -109,7 +109,7 @@ pub record IsLawfulNode {M : Type 0} (t : Tally M) (mtu clock : ℕ) (n : Node M
   pub balanced : IsBalanced (row t n)
   pub marks : AreMarksBounded (t.counts_of n.memory) (held_beneath n)
 
--- the whole tree, with the device above the root, at a clock: the latest moment that the device has seen, up to 2^62 ns
+-- the whole tree, with the device above the root, at a clock: the latest time that the device has seen, up to 2^62 ns
 pub record IsLawfulTree {M : Type 0} (t : Tally M) (clock : ℕ) (s : TreeState M) : Type 0 where
   pub moment : clock ≤ 2 ^ 62
   pub least_mtu : 1 ≤ s.device.mtu

@@ -24,14 +24,14 @@ node_of handle discipline below = record {
   below = side_by_side below;
 }
 
--- implicit leaves: a pfifo of the device's queue length; beneath a tbf a bfifo of its limit
+-- implicit leaves: a pfifo of the device's queue length; below a tbf a bfifo of its limit
 abbrev pub implicit_pfifo : Device → Shape
 implicit_pfifo d = node_of None (Fifo (Packets d.txqueuelen) []) []
 
 abbrev pub implicit_bfifo : ℕ → Shape
 implicit_bfifo limit = node_of None (Fifo (Bytes limit) []) []
 
--- the leaf that stands in a class of a node where nothing else does
+-- the leaf that is in a class of a node where nothing else is
 abbrev pub implicit_beneath : Device → Discipline → Shape
 implicit_beneath d (Tbf bucket limit) = implicit_bfifo limit
 implicit_beneath d (Prio priomap) = implicit_pfifo d

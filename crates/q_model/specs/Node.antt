@@ -65,7 +65,7 @@ each_memory f (more own m below others) = more own (f m) (each_memory f below) (
 abbrev pub with_memory : {M N : Type 0} → (M → N) → Node M → Node N
 with_memory f n = record { own = n.own; memory = f n.memory; below = each_memory f n.below }
 
--- a node that remembers nothing: all that the rules look at
+-- a node that remembers nothing: all that the rules read
 abbrev pub Shape : Type 0
 Shape = Node (Unit {0})
 

@@ -1,4 +1,4 @@
--- Popping: a node that was asked and shows a packet gives it, and no node is asked again.
+-- Popping: a node that was asked and shows a packet hands it out, and no node is asked again.
 -- tc-prio(8); a tbf, a drr and an fq_codel hold what they have shown, which is this project's choice.
 use Rattle.std.specs.Prelude.{ℕ, suc, List, [], ◌++◌, map, take, drop, Option, Some, None, is_some, option_and_then, slice_get}
 use Rattle.std.specs.List.{position_or_len}
@@ -32,12 +32,12 @@ first_ready below = position_or_len (λ (b : Popping). is_some b.shown) below
 abbrev pub first_shown : List Popping → Option Descriptor
 first_shown below = option_and_then (λ (b : Popping). b.shown) (slice_get below (first_ready below))
 
--- these, where the one in this place gives its packet
+-- these, where the one in this place hands out its packet
 abbrev pub popped_at : ℕ → List Popping → List Worked
 popped_at k below =
     as_they_are (take k below) ++ map (λ (b : Popping). b.after) (drop k (take (suc k) below)) ++ as_they_are (drop (suc k) below)
 
--- a prio gives the packet of its first band that has one
+-- a prio hands out the packet of its first band that has one
 abbrev pub pop_prio : Own → List Popping → Popping
 pop_prio own below = giving own below own (popped_at (first_ready below) below) (first_shown below)
 
@@ -48,7 +48,7 @@ pop_discipline own below (Tbf bucket limit) = giving own below own (as_they_are 
 pop_discipline own below (Drr s) = giving own below own (as_they_are below) None
 pop_discipline own below (FqCodel s) = giving own below own (as_they_are below) None
 
--- a node that holds a packet gives that one
+-- a node that holds a packet hands that one out
 abbrev pub pop_own : Own → List Popping → Popping
 pop_own own below = option_map_or (λ (p : Descriptor). giving own below (record own { held = None }) (as_they_are below) (Some p)) own.held (pop_discipline own below own.discipline)
 

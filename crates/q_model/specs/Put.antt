@@ -48,7 +48,7 @@ put_here now p None s =
       rises = lost;
     }
 
--- at a node on the way, once the packet was put into its child at place i
+-- at a node on the path, once the packet was put into its child at place i
 abbrev pub put_beneath : Descriptor → ℕ → Shape → Work → Work
 put_beneath p i s below = record {
   node = worked (settled i (is_empty below.node) s.own) (Arrived p ∷ below.rises) (set (map quiet (children s)) i below.node);

@@ -38,7 +38,7 @@ place_checks (place.Class class) root =
 place_checks place.Root root = []
 place_checks place.Top root = refuse Exists true ∷ []
 
--- and then: another explicit qdisc stands there, or has the handle
+-- and then: another explicit qdisc is there, or has the handle
 abbrev pub qdisc_add_checks : Place → Option ℕ → List ℕ → Shape → List Check
 qdisc_add_checks place handle path root =
     place_checks place root
@@ -46,7 +46,7 @@ qdisc_add_checks place handle path root =
     ∷ refuse HandleTaken (is_so (λ h. has_handle h root) handle)
     ∷ []
 
--- the new qdisc at the end of the way
+-- the new qdisc at the end of the path
 abbrev pub new_qdisc : Device → ℕ → Option ℕ → Kind → Shape → Shape
 new_qdisc d now handle kind root = made d now (Some (unwrap_or handle (free_handle root))) kind
 
@@ -57,7 +57,7 @@ qdisc_add d now place handle kind root =
 
 -- CHANGE AND DEL
 
--- the way to the explicit qdisc that a line names, by its place, its handle or both, which then name the same one
+-- the path to the explicit qdisc that a line names, by its place, its handle or both, which then name the same one
 abbrev pub explicit_at : Option Place → Shape → Option (List ℕ)
 explicit_at place root =
     option_and_then (λ path. if is_explicit path root then Some path else None) (option_and_then (λ p. place_path p root) place)
@@ -80,14 +80,14 @@ all_kept n = map Kept (range_with_len 0 (length (children n)))
 abbrev pub retuned : Shape → List ℕ → Discipline → Edit
 retuned n path discipline = Remake path (record n.own { discipline = discipline }) (all_kept n)
 
--- Bands more begin with an implicit pfifo; of bands fewer the highest go, in rising order, with all that is beneath them.
+-- Bands more begin with an implicit pfifo; of bands fewer the highest go, in rising order, with all that is below them.
 abbrev pub rebanded : Device → Shape → List ℕ → ℕ → List ℕ → Edit
 rebanded d n path bands priomap =
     let old = length (children n) in
     let new_bands = map Kept (range_with_len 0 (min old bands)) ++ replicate (bands - old) (New (implicit_pfifo d)) in
     Remake path (record n.own { discipline = Prio priomap }) new_bands
 
--- An implicit bfifo beneath a tbf has the new limit at once; its packets stay.
+-- An implicit bfifo below a tbf has the new limit at once; its packets stay.
 abbrev pub relimited : ℕ → Discipline → Discipline
 relimited limit (Fifo old queue) = Fifo (Bytes limit) queue
 relimited limit (Prio priomap) = Prio priomap
@@ -136,11 +136,11 @@ abbrev pub qdisc_change : Device → ℕ → Option Place → Option ℕ → Kin
 qdisc_change d now place handle kind root =
     at_target NoQdisc (target place handle root) (λ path n. change_of d now n path n.own.discipline kind) root
 
--- all but the last step of a way
+-- all but the last step of a path
 abbrev pub way_to_parent : List ℕ → List ℕ
 way_to_parent path = take (length path - 1) path
 
--- the implicit leaf of the place where the way ends
+-- the implicit leaf of the place where the path ends
 abbrev pub leaf_at : Device → List ℕ → Shape → Shape
 leaf_at d [] root = implicit_pfifo d
 leaf_at d (i ∷ path) root =

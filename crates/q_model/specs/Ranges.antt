@@ -1,5 +1,5 @@
 -- The ranges of a command's fields and of a packet's, as their types keep them.
--- Those of its numbers one by one stand in specs/Numbers.antt, with their sources.
+-- Those of its numbers one by one are in specs/Numbers.antt, with their sources.
 use Rattle.std.specs.Prelude.{ℕ, ◌≤◌, ◌<◌, ◌^◌, IfSome, IsTrue}
 use Rattle.q_packet.specs.Descriptor.{Descriptor}
 use Rattle.q_packet.specs.Key.{Key, IsKey, is_family}

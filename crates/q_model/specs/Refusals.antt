@@ -54,6 +54,6 @@ has_filters (Fifo limit queue) = false
 has_filters (Tbf bucket limit) = false
 has_filters (FqCodel s) = false
 
--- the refusals that are looked for last, since they speak of the tree that would stand: it is too deep, or has too many nodes
+-- the refusals that are tested last, since they speak of the tree that would result: it is too deep, or has too many nodes
 abbrev pub size_checks : {M : Type 0} → Node M → List Check
 size_checks root = refuse TooDeep (nat_lt most_levels (depth root)) ∷ refuse TooMany (nat_lt most_nodes (count_nodes root)) ∷ []

@@ -1,4 +1,4 @@
--- The way of an arriving packet from a node down: by filters, bands and classes, and where it ends in a refusal.
+-- The path of an arriving packet from a node down: by filters, bands and classes, and where it ends in a refusal.
 -- tc-prio(8), tc-drr(8), tc-tbf(8), tc-pfifo(8); that a tbf refuses what is longer than its burst is this project's choice.
 use Rattle.std.specs.Prelude.{ℕ, ◌-◌, ◌==◌, nat_lt, if◌then◌else◌, List, [], ◌∷◌, Option, Some, None, slice_get, slice_index}
 use Rattle.std.specs.List.{position}
@@ -31,11 +31,11 @@ through below i = option_map_or (λ (r : Route). record r { path = i ∷ r.path 
 abbrev pub band_of : Own → List ℕ → Descriptor → ℕ
 band_of own priomap p = option_map_or (λ minor. minor - 1) (named_class own.filters p) (slice_index priomap p.prio)
 
--- where among a drr's classes the one with this number stands
+-- the place among a drr's classes of the one with this number
 abbrev pub class_at : ℕ → Schedule → Option ℕ
 class_at minor s = position (λ (c : Class). minor == c.name) s.classes
 
--- the way from a node with this discipline, given that from each of its children
+-- the path from a node with this discipline, given that from each of its children
 abbrev pub way : Descriptor → Own → List Route → Discipline → Route
 way p own below (Fifo limit queue) = if takes limit queue p.len then ends else refused OverLimit
 way p own below (FqCodel s) = ends

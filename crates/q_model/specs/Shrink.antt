@@ -1,5 +1,5 @@
 -- A tree where each node remembers something else: totals in place of its history, above all.
--- The rules look at no memory, so it is all one whether a tree is shrunk before a step or after it.
+-- The rules read no memory, so it makes no difference whether a tree is shrunk before a step or after it.
 use Rattle.std.specs.Prelude.{◌≡◌, List}
 use Rattle.q_model.specs.Tally.{Tally, Note, Counts, counts_in}
 use Rattle.q_model.specs.Node.{with_memory}

@@ -1,5 +1,5 @@
 -- What an event makes of a device: the device after it, what it is answered, and the packets that are lost, in order.
--- The clock is the latest moment that counted; an event before it happens then. A refused command is no event.
+-- The clock is the latest time that counted; an event before it happens then. A refused command is no event.
 use Rattle.std.specs.Prelude.{ℕ, max, Bool, if◌then◌else◌, List, [], Option, Some, None, Result, Ok, Err}
 use Rattle.std.specs.List.{filter_map}
 use Rattle.q_packet.specs.Descriptor.{Descriptor}
@@ -52,7 +52,7 @@ abbrev pub fate_of : Option Cause → Fate
 fate_of None = fate.Kept
 fate_of (Some cause) = fate.Lost cause
 
--- what a poll is answered, by the packet that it gives and whether nothing is queued after it
+-- what a poll is answered, by the packet that it hands out and whether nothing is queued after it
 abbrev pub polled_of : Option Descriptor → Bool → Polled
 polled_of (Some p) empty = polled.Packet p
 polled_of None empty = if empty then polled.Idle else polled.Later
@@ -91,7 +91,7 @@ answered t (Err refusal) now d = not_done refusal d
 abbrev pub command : {M : Type 0} → Tally M → Command → ℕ → DeviceState M → Step M
 command t c now d = answered t (plan d.tree.device now c (shape d.tree.root)) now d
 
--- the moment at which an event counts
+-- the time at which an event counts
 abbrev pub counts_at : {M : Type 0} → ℕ → DeviceState M → ℕ
 counts_at moment d = max d.clock moment
 

@@ -1,5 +1,5 @@
--- What is counted of sharing: a class of a drr, a tbf and a flow of an fq_codel as they stand in a device that keeps whole
--- histories, and the stretch, a part of a replay over which one of them stays.
+-- What is counted of sharing: a class of a drr, a tbf and a flow of an fq_codel as they are in a device that keeps whole
+-- histories, and the interval, a part of a replay over which one of them stays.
 -- tc-drr(8), tc-tbf(8), tc-fq_codel(8); the counts are sums over what the nodes have noted, and are shown in no report.
 use Rattle.std.specs.Prelude.{◌≡◌, ℕ, suc, ◌+◌, ◌-◌, ℤ, pos, negsuc, Bool, false, ◌==◌, if◌then◌else◌, List, ◌++◌, Option, Some, None, option_map, option_and_then, slice_get, find, sum_by}
 use Rattle.std.specs.Option.{option_map_or}
@@ -59,7 +59,7 @@ flow_grants_to flow notes = sum_by (flow_granted_by flow) notes
 abbrev pub bytes_given : ℕ → List Note → ℕ
 bytes_given flow notes = sum_by (given_by flow) notes
 
--- The bytes that a flow with these credits may give before it waits for a quantum. It gives while it has credits, and its last
+-- The bytes that a flow with these credits may hand out before it waits for a quantum. It does so while it has credits, and its last
 -- packet may be longer than they are by all but a byte.
 abbrev pub reach : ℕ → ℤ → ℕ
 reach mtu (pos n) = n + (mtu - 1)
@@ -126,7 +126,7 @@ fq_of n (Drr s) = None
 abbrev pub fq_in : ℕ → DeviceState (List Note) → Option FqAt
 fq_in major d = option_and_then (λ n. fq_of n n.own.discipline) (qdisc major d)
 
--- ---- what stays over a stretch
+-- ---- what stays over an interval
 
 -- the class is there with this quantum, and something is queued at its child
 pub record IsBackloggedClass (major minor quantum : ℕ) (d : DeviceState (List Note)) : Type 0 where

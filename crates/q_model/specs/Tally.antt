@@ -7,9 +7,9 @@ use Rattle.q_packet.specs.Cause.{is_refusal}
 use Rattle.q_packet.specs.declared.cause.Cause.{Cause}
 use Rattle.q_model.specs.declared.totals.Totals.{Totals}
 
--- Arrived: a packet reached the node. Sent: the node gave it to the one above. Lost and Marked: at the node or beneath it.
+-- Arrived: a packet reached the node. Sent: the node handed it to the one above. Lost and Marked: at the node or below it.
 -- Granted: a class of a drr got so many quanta. Spent: the bucket of a tbf paid so many bytes. FlowGranted: a flow of an
--- fq_codel got so many quanta. FlowGave: it gave so many bytes.
+-- fq_codel got so many quanta. FlowGave: it handed out so many bytes.
 pub data Note : Type 0 where
   Arrived : Descriptor → Note
   Sent : Descriptor → Note

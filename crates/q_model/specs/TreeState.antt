@@ -72,7 +72,7 @@ noted_by_put now p s = (put_work now p s.device (shape s.root)).rises
 abbrev pub asked : {M : Type 0} → ℕ → TreeState M → Asked
 asked now s = ask now (shape s.root)
 
--- the packet that a peek shows and a take gives, and what both lose and mark on the way
+-- the packet that a peek shows and a take returns, and what both lose and mark for it
 abbrev pub given : {M : Type 0} → ℕ → TreeState M → Option Descriptor
 given now s = (asked now s).shown
 

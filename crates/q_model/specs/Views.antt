@@ -1,5 +1,5 @@
 -- What `tc qdisc show`, `tc class show` and `tc filter show` print of a tree (tc(8)), node by node from the root down.
--- Each node stands before what is beneath it; children stand in class order.
+-- Each node comes before what is below it; children come in class order.
 use Rattle.std.specs.Prelude.{ℕ, ◌==◌, List, [], ◌∷◌, ◌++◌, map, drop, length, Option, option_map, option_and_then, slice_get, unwrap_or}
 use Rattle.std.specs.List.{filter_map, find, range_with_len}
 use Rattle.q_codel.specs.declared.limit.Limit.TheVariants.{Packets, Bytes}
@@ -57,7 +57,7 @@ node_view t p n = record {
   row = row t n;
 }
 
--- nodes side by side, which stand in these places, and all beneath them
+-- nodes side by side, which are in these places, and all below them
 abbrev pub views_in : {M : Type 0} → Tally M → List Place → Forest M → List NodeView
 views_in t places none = []
 views_in t places (more own m below others) =
@@ -68,7 +68,7 @@ views_in t places (more own m below others) =
 abbrev pub views : {M : Type 0} → Tally M → TreeState M → List NodeView
 views t s = node_view t place.Root s.root ∷ views_in t (places_below s.root.own s.root.below) s.root.below
 
--- a class of a drr is active with a deficit, or asleep; the only others are those of tbf and prio
+-- a class of a drr is active with a deficit, or inactive; the only others are those of tbf and prio
 abbrev pub class_kind : Discipline → ℕ → ClassKind
 class_kind (Drr s) minor = class.Drr
     (quantum_of minor s.classes)

@@ -8,7 +8,7 @@ use Rattle.q_drr.specs.Schedule.{Class, Schedule, asleep, woken}
 use Rattle.q_model.specs.Tally.{Tally, Note, Lost, noted}
 use Rattle.q_model.specs.Node.{Discipline, Fifo, Prio, Tbf, Drr, FqCodel, Own, Forest, none, more, Node, Shape, with_memory, side_by_side}
 
--- a node after the rules were followed: what it, and each node beneath it, has to note
+-- a node after the rules were followed: what it, and each node below it, has to note
 abbrev pub Worked : Type 0
 Worked = Node (List Note)
 
@@ -17,7 +17,7 @@ pub record Work : Type 0 where
   pub node : Worked
   pub rises : List Note
 
--- nothing has happened at the node or beneath it
+-- nothing has happened at the node or below it
 abbrev pub quiet : Shape → Worked
 quiet s = with_memory (λ u. []) s
 
@@ -45,7 +45,7 @@ abbrev pub settled : ℕ → Bool → Own → Own
 settled i emptied own = record own { discipline = settled_in i emptied own.discipline }
 
 -- Every node as the rules leave it, remembering what it did and what it has to note. The rules of packets keep the tree's
--- form: the same nodes stand in the same places.
+-- form: the same nodes are in the same places.
 abbrev pub each_booked : {M : Type 0} → Tally M → Forest M → Forest (List Note) → Forest M
 each_booked t none after = none
 each_booked t (more own m below others) none = none

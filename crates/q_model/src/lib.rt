@@ -18,7 +18,7 @@
 //! what it does there, `Ask` how a qdisc is peeked and taken from; `QdiscCommands`, `ClassCommands` and `FilterCommands` say
 //! what each command changes and when it is refused, `Edit` what that does to the tree, `Views` what show prints of it,
 //! `Lawful` what every tree is to keep. Of the device: `Step` says what an event makes of it, and `Replay` what a list of
-//! them does. A rule never looks at what a node remembers (`Tally`): it works on the bare tree and says what each node has to
+//! them does. A rule never reads what a node remembers (`Tally`): it works on the bare tree and says what each node has to
 //! note. So the rules are the same whether a tree keeps totals or whole histories (`proofs/ShrinkSteps.antt`, and the laws of
 //! `q_device`).
 //!

@@ -1,4 +1,4 @@
-/// The protocol of the packets that a filter looks at (tc(8), `protocol`).
+/// The protocol of the packets that a filter tests (tc(8), `protocol`).
 #[derive(Clone, Copy, PartialEq, Eq, Debug)]
 pub enum Protocol {
     /// Every packet, also what is not IP.

@@ -31,7 +31,7 @@ pub enum Refusal {
     SmallBurst,
     /// No filter has that priority.
     NoFilter,
-    /// Memory was refused.
+    /// An allocation failed.
     Memory,
 }
 

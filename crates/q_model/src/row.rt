@@ -7,7 +7,7 @@ use crate::totals::Totals;
 pub struct Row {
     /// Packets that reached the node.
     pub arrived: Totals,
-    /// Packets that it gave to the node above, or that the device sent.
+    /// Packets that it handed to the node above, or that the device sent.
     pub sent: Totals,
     /// Packets lost on arrival, at the node or below it.
     pub refused: Totals,

@@ -36,17 +36,17 @@ kind_of Argument = None
 kind_of (Help kind) = Some kind
 kind_of (Run fault) = fault_kind fault
 
--- the words for a kind stand behind a colon
+-- the words for a kind are behind a colon
 abbrev pub caused : Option ErrorKind → List ℕ → List ℕ → List ℕ
 caused None words front = front
 caused (Some kind) words front = front ++ codes ": " ++ words
 
--- what stands before it where the script is a file's: the first bytes of its path
+-- what is before it where the script is a file's: the first bytes of its path
 abbrev pub named : Option Text → List ℕ
 named None = []
 named (Some path) = take (min (length path) 512) path ++ codes ": "
 
--- the line that tells of a fault, with some words for its kind
+-- the line that reports a fault, with some words for its kind
 abbrev pub line_with : List ℕ → Fault → List ℕ → List ℕ
 line_with name fault words = caused (kind_of fault) words (codes "qtree: " ++ name ++ text_of fault) ++ (10 ∷ [])
 
@@ -69,7 +69,7 @@ abbrev pub counted_line : ℕ → List ℕ
 counted_line lines = codes "qtree: lines that were not done: " ++ decimal lines ++ codes "; --explain says why\n"
 
 -- The error output has that line and nothing else, or a front of it where it could not be written. Where no line is counted, it has
--- nothing: a drive is refused too where memory is refused to its senders.
+-- nothing: a drive is refused too if an allocation fails for its senders.
 pub record IsCounted (lines : ℕ) (old new : Option (List ℕ)) : Type 0 where
   pub none : lines ≡ 0 → Keeps old new
   pub some : 0 < lines → Appends old new (counted_line lines) ⊎ AppendsFront old new (counted_line lines)
@@ -82,7 +82,7 @@ pub record IsAnswered (explained : Bool) (file : Option Text) (whole : Outcome �
   pub clean : status ≡ 0 → IfSome script (whole Clean) × Ended (Ok Clean) reads writes
   -- the whole report, in which something had a fault or was refused
   pub refused : status ≡ 1 → IfSome script (whole Refused) × Ended (Ok Refused) reads writes
-  -- without explanations nothing is told of lines that were done, and how many were not
+  -- without explanations nothing is reported of lines that were done, and how many were not
   pub silent : explained ≡ false → status ≡ 0 → Keeps errors_old errors_new
   pub counted : explained ≡ false → status ≡ 1 → (lines : ℕ) × IsCounted lines errors_old errors_new
   -- not the whole report, and a line that says why
@@ -96,7 +96,7 @@ IsPlayedOf explained file settings script old new errors_old errors_new reads wr
 abbrev pub IsPlayed : Settings → Option (List ℕ) → Option (List ℕ) → Option (List ℕ) → Option (List ℕ) → Option (List ℕ) → Reads → Writes → ℕ → Type 0
 IsPlayed settings script old new errors_old errors_new reads writes status = IsPlayedOf false None settings script old new errors_old errors_new reads writes status
 
--- a file could not be opened, which is told with its name; nothing was written
+-- a file could not be opened, which is reported with its name; nothing was written
 pub record IsUnopened {T : Type 0} (path : Text) (target target_new : T) (errors_old errors_new : Option (List ℕ)) (status : ℕ) : Type 0 where
   pub status_is : status ≡ 2
   pub unwritten : target_new ≡ target
@@ -127,7 +127,7 @@ pub record IsShown {S T : Type 0} (source source_new : S) (target target_new : T
   pub silent : status ≡ 0 → Keeps errors_old errors_new
   pub kept : status ≡ 2 → (target_new ≡ target) ⊎ ((kind : ErrorKind) × IsTold (Help kind) errors_old errors_new × WriteFailed writes kind)
 
--- The words ask for no run: by clap's kind they ask for help or the version, or have a fault, or memory was refused. The status is 0
+-- The words ask for no run: by clap's kind they ask for help or the version, or have a fault, or an allocation failed. The status is 0
 -- for help and the version alone.
 abbrev pub IsTurnedDown : List Text → ℕ → Type 0
 IsTurnedDown words status = (kind : Kind) × IsRefused words kind × (status ≡ 0 → (kind ≡ DisplayHelp) ⊎ (kind ≡ DisplayVersion))

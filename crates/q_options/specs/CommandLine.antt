@@ -180,6 +180,6 @@ IsUnreadable (Some named) =
 abbrev pub IsAsked : List Text → Options → Type 0
 IsAsked words o = IsAskedBy (subcommand_of program words) o
 
--- a fault is one of the words, or memory was refused
+-- a fault is one of the words, or an allocation failed
 abbrev pub IsRefused : List Text → ErrorKind → Type 0
 IsRefused words kind = (kind ≡ OutOfMemory) ⊎ IsAmong kind (fault_of program words) ⊎ IsUnreadable (subcommand_of program words)

@@ -32,7 +32,7 @@ use std::thread::Threads;
 /// be done was asked for. The source is read only to drive, or to play where no file is named. It waits for the threads of `drive`.
 ///
 /// The source and the target are new. What their reads and writes came to says which answer this is: no fault of a read or a
-/// write is told but that it came, and none that came is left untold.
+/// write is reported but that it came, and none that came is left unreported.
 pub fn answer<H: Files + Threads + Wait + Sync, R: Read, W: Write, E: Write>(
     rt: &H,
     alloc: Global,

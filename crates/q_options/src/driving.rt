@@ -17,7 +17,7 @@ use std::sync::Wait;
 use std::thread::Threads;
 
 /// Reads tc's lines, lets the senders run, writes what all of it came to, and answers the exit status of `qtree drive`: 0; 1 where a
-/// line had a fault or was refused, or memory was refused to the senders; 2 where nothing was run or the report not written, with
+/// line had a fault or was refused, or an allocation failed for the senders; 2 where nothing was run or the report not written, with
 /// one line on the error output that says why. The source and the target are new. It waits for the threads.
 pub fn drive<H: Threads + Wait + Sync, R: Read, W: Write, E: Write>(
     rt: &H,
@@ -65,7 +65,7 @@ pub fn drive_of<H: Threads + Wait + Sync, R: Read, W: Write, E: Write>(
     status
 }
 
-/// The same with notes of the lines, of which nothing is told.
+/// The same with notes of the lines, of which nothing is reported.
 fn drive_noting<H: Threads + Wait + Sync, R: Read, W: Write, E: Write>(
     rt: &H,
     alloc: Global,

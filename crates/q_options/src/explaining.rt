@@ -4,7 +4,7 @@ use q_show::write_whole;
 use std::alloc::{AllocError, Global};
 use std::io::Write;
 
-/// Explains each line that was noted, and says where one could not be. An error of the writer is told nowhere, and ends it.
+/// Explains each line that was noted, and says where one could not be. An error of the writer is not reported, and ends it.
 pub fn explain<E: Write>(alloc: Global, notes: &Notes, errors: &mut E) {
     let mut missed = notes.missed();
     for line in notes.lines() {

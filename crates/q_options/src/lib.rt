@@ -3,15 +3,15 @@
 //! - [`answer`] does what a command line asks for, from any reader, to any writer and error writer, and answers the exit
 //!   status. `main` calls it and nothing else.
 //! - [`play`] is the part of it that runs a script, and [`drive`] the one that drives a device: the status, the report, and the line
-//!   that tells of a [`Fault`].
+//!   that reports a [`Fault`].
 //!   Where lines are to be explained, it writes what q_explain says of each that has a fault or was refused; else how many there are.
 //! - [`options`] reads what the command line asks for, as [`Options`].
 //! - [`run`] runs a script with [`RunSettings`], and [`run_drive`] drives a device with [`DriveSettings`], from any reader to any
-//!   writer: what a program calls that has no command line. They answer an [`Outcome`] or a [`RunFault`], and stand in q_session
+//!   writer: what a program calls that has no command line. They answer an [`Outcome`] or a [`RunFault`], and are in q_session
 //!   and q_drive.
 //!
-//! - [`Standard`] is the standard input or output that `main` hands to [`answer`]: a closed one is told as such. [`PromptedReader`] says
-//!   before its first read that standard input is a terminal.
+//! - [`Standard`] is the standard input or output that `main` hands to [`answer`]: a closed one is reported as such. [`PromptedReader`]
+//!   says before its first read that standard input is a terminal.
 //!
 //! `specs/Answer.antt` says what is answered. What clap prints is in no contract.
 #![tactic(auto)]

@@ -70,7 +70,7 @@ pub fn play_of<R: Read, W: Write, E: Write>(
     status
 }
 
-/// The same in a session that was opened with these settings and has run no line. Of lines nothing is told.
+/// The same in a session that was opened with these settings and has run no line. Of lines nothing is reported.
 fn play_in<R: Read, W: Write, E: Write>(
     alloc: Global,
     file: Option<&str>,

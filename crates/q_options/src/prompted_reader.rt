@@ -30,7 +30,7 @@ impl<R, E> PromptedReader<R, E> {
 }
 
 impl<R, E: Write> PromptedReader<R, E> {
-    /// Writes the line where it is still to be written. An error of the writer is told nowhere.
+    /// Writes the line where it is still to be written. An error of the writer is not reported.
     fn prompt(&mut self)
         ensures { self.new.reader ≡ self.old.reader }
     {

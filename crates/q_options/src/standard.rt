@@ -5,7 +5,7 @@ use std::io::{Error, ErrorKind, Read, Result, Write};
 /// Linux's number of the error of a descriptor that is not open.
 const EBADF: i32 = 9;
 
-/// Standard input or standard output. `ErrorKind` has no kind for one that is closed: it is told as `NotConnected`.
+/// Standard input or standard output. `ErrorKind` has no kind for one that is closed: it is reported as `NotConnected`.
 #[derive(Drop)]
 pub struct Standard<T> {
     stream: T,

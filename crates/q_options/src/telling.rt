@@ -14,7 +14,7 @@ const WORDS: usize = 64;
 /// The most bytes of a file's path in a line.
 const LONGEST_NAME: usize = 512;
 
-/// Writes the line that tells of a fault. An error of this writer is told nowhere.
+/// Writes the line that reports a fault. An error of this writer is not reported.
 pub fn tell<E: Write>(fault: Fault, errors: &mut E)
     ensures { IsTold fault (E.contents errors.old) (E.contents errors.new) }
 {

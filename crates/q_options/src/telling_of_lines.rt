@@ -43,7 +43,7 @@ pub fn tell_lines<E: Write>(
     }
 }
 
-/// Writes the line that says how many lines were not done, where there are any. An error of this writer is told nowhere.
+/// Writes the line that says how many lines were not done, where there are any. An error of this writer is not reported.
 fn tell_count<E: Write>(lines: u64, errors: &mut E)
     ensures { IsCounted lines (E.contents errors.old) (E.contents errors.new) }
 {

@@ -7,7 +7,7 @@ pub record Choice : Type 0 where
   pub rounds : ℕ
   pub place : ℕ
 
--- a choice from a list, once one more stands in front that cannot be chosen
+-- a choice from a list, once one more is in front that cannot be chosen
 abbrev pub later : Option Choice → Option Choice
 later None = None
 later (Some c) = Some (record { rounds = c.rounds; place = suc c.place })

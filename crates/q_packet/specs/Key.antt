@@ -1,5 +1,5 @@
 -- What a contract sees of a flow key: its fields, as numbers.
--- The family is 0 (not IP), 4 or 6; an IPv4 address stands in the low 32 bits, below bits that are 0.
+-- The family is 0 (not IP), 4 or 6; an IPv4 address is in the low 32 bits, below bits that are 0.
 use Rattle.std.specs.Prelude.{ℕ, Bool, ◌||◌, ◌==◌, ◌<◌, ◌^◌, if◌then◌else◌, IsTrue, List, ◌∷◌, ◌++◌}
 use Rattle.byteorder.specs.Endian.{big_bytes}
 

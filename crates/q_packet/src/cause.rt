@@ -6,7 +6,7 @@ use std::fmt;
 /// Why a packet was lost. The first three refuse a packet on arrival; the others drop one that was accepted.
 #[derive(Clone, Copy, PartialEq, Eq, Debug)]
 pub enum Cause {
-    /// Longer than the device's mtu, or than the burst of a tbf on its way.
+    /// The packet is longer than the device's mtu, or than the burst of a tbf on its path.
     TooLong = 1,
     /// No filter of a drr names a class for it.
     NoClass = 2,

@@ -31,7 +31,7 @@ pub fn ip_at(frame: &[u8]) -> Option<usize>
     }
 }
 
-// The byte at which the type of a frame stands, behind at most two tags.
+// The byte at which the type of a frame begins, behind at most two tags.
 fn type_at(frame: &[u8]) -> usize
     ensures value { result ≡ type_at frame.now }
     ensures least { 12 ≤ result }
@@ -54,7 +54,7 @@ fn is_tag(frame: &[u8], at: usize) -> bool
     has_type(frame, at, CUSTOMER_TAG, SERVICE_TAG)
 }
 
-// Whether one of these two types stands at this byte.
+// Whether one of these two types is at this byte.
 fn has_type(frame: &[u8], at: usize, a: u16, b: u16) -> bool
     requires { at ≤ 20 }
     ensures { result ≡ has_type a b at frame.now }

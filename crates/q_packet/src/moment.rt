@@ -2,7 +2,7 @@ ghost use Rattle.std.specs.Prelude.{◌≡◌, ◌≤◌, ◌^◌, ◌↔◌, �
 
 use std::marker::Model;
 
-/// A time: whole nanoseconds since a time of the caller's choice, 0 to 2^62.
+/// A time, in whole nanoseconds since an instant that the caller chooses, from 0 to 2^62.
 ///
 /// A contract sees a time as that number.
 #[derive(Clone, Copy, PartialEq, Eq, PartialOrd, Ord, Debug)]

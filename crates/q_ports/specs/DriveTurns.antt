@@ -9,7 +9,7 @@ use Rattle.q_ports.specs.declared.turn.Turn.{Turn}
 abbrev pub most : ℕ
 most = 64
 
--- Turn `nth`, so many steps after the first moment, or at the latest moment: what a turn of the drain does to some device and its
+-- Turn `nth`, so many steps after the time `start`, or at the latest time: what a turn of the drain does to some device and its
 -- board.
 pub record DrivesOnce (start step nth : ℕ) (before after : DrainSeen) : Type 0 where
   pub turn : Turn

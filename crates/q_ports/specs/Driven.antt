@@ -54,7 +54,7 @@ pub record Drove (tries : ℕ) (before : List PortSeen) (loads : List (List Desc
   pub count : length after ≡ length before
   pub each : AllOffered tries before loads after
 
--- The drain turned, and then what was left in the rings arrived at the first moment. Each sender ran, and handed back its port. The
+-- The drain turned, and then what was left in the rings arrived at the time `start`. Each sender ran, and handed back its port. The
 -- settled share is over what the ports placed, and so many packets were given up in all: the number stays at 2^64 - 1 once there.
 pub record HasDriven (start step tries : ℕ) (drain : DrainSeen) (before : List PortSeen) (loads : List (List Descriptor)) (share : Totals) (given_up : ℕ) : Type 0 where
   pub after : List Sent

@@ -1,5 +1,5 @@
--- What a seat holds: parts of the right to let packets in, and what was let in with it.
--- A book is the sum over its seats. Nothing here is of a standard.
+-- What a permit holds: parts of the right to let packets in, and what was let in with it.
+-- A book is the sum over its permits. Nothing here is of a standard.
 use Rattle.std.specs.Prelude.{ℕ, ◌+◌}
 use Rattle.q_packet.specs.Descriptor.{Descriptor}
 use Rattle.q_model.specs.declared.totals.Totals.{Totals}
@@ -19,6 +19,6 @@ booking h p = held h.parts (h.packets + 1) (h.bytes + p.len)
 abbrev pub joined : Held → Held → Held
 joined a b = held (a.parts + b.parts) (a.packets + b.packets) (a.bytes + b.bytes)
 
--- the seat that has every part, with this let in
+-- the permit that has every part, with this let in
 abbrev pub whole : Totals → Held
 whole t = held 65 t.packets t.bytes

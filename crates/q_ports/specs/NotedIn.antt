@@ -12,6 +12,6 @@ use Rattle.q_ports.specs.Rings.{RingSeen}
 abbrev pub arrivals_between : ℕ → DeviceSeen → RingSeen → RingSeen → List Event
 arrivals_between now d before after = map (λ p. as_counted d.device (Arrive p now)) (drop (length before.received) after.received)
 
--- the packet that was known to wait first is noted at this moment
+-- the packet that was known to wait first is noted at this time
 abbrev pub NotesFirst : RingSeen → ℕ → LastNoted → LastNoted → Type 0
 NotesFirst ring clock before after = (p : Descriptor) → ring.known ≡ p ∷ drop 1 ring.known → after ≡ with_noted (Arrive p clock) before

@@ -28,7 +28,7 @@ received_from r = r.received
 abbrev pub all_of : RingSeen → List Descriptor
 all_of r = r.received ++ r.known
 
--- the whole seat, with all that was received from these
+-- the whole permit, with all that was received from these
 abbrev pub seat_for : List RingSeen → Held
 seat_for rings = held 65 (sum_by (λ (r : RingSeen). length r.received) rings) (sum_by (λ (r : RingSeen). bytes_in r.received) rings)
 
@@ -52,7 +52,7 @@ pub record Receives (at : ℕ) (before after : List RingSeen) (p : Descriptor) :
   pub after_is : (d : RingSeen) → after ≡ set before at (popped p (get_or before at d))
   pub first : (d : RingSeen) → (get_or before at d).known ≡ p ∷ drop 1 (get_or before at d).known
 
--- nothing waited in these rings as they were looked at last
+-- nothing waited in these rings when they were checked last
 abbrev pub AreSeenEmpty : List RingSeen → Type 0
 AreSeenEmpty rings = (k : ℕ) (d : RingSeen) → k < length rings → (get_or rings k d).known ≡ []
 

@@ -1,5 +1,5 @@
 -- The places of a device: for packets in its queues, for losses in its lost list, for events in its recorder.
--- They are memory, at which no rule looks. Nothing here is of a standard.
+-- They are memory, which no rule reads. Nothing here is of a standard.
 use Rattle.std.specs.Prelude.{◌≡◌, ◌≤◌}
 use Rattle.q_packet.specs.Descriptor.{Descriptor}
 use Rattle.q_device.specs.DeviceSeen.{DeviceSeen, HasNoFewerPlaces, HasRoomFor}

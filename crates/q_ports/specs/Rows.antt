@@ -80,7 +80,7 @@ pub record Publishes (before : BoardSeen) (r : Row) (after : BoardSeen) : Type 0
   pub follows : MayFollow before.rows r
   pub published : after ≡ publishing before r
 
--- the row is lower than the last one in some counter, and nothing has changed; or memory for the publication was refused, and the
+-- the row is lower than the last one in some counter, and nothing has changed; or the allocation for the publication failed, and the
 -- row waits for the next one
 abbrev pub Withholds : BoardSeen → Row → BoardSeen → Type 0
 Withholds before r after = (¬ IsNotLower (last_of before.rows) r × (after ≡ before)) ⊎ (after ≡ handing_over before r)

@@ -1,4 +1,4 @@
--- The rule of a book of rows, and what the step that adds a row tells.
+-- The rule of a book of rows, and what the step that adds a row reports.
 use Rattle.std.specs.Prelude.{ℕ, ◌≡◌, ◌==◌, true, List, [], ◌∷◌, ◌++◌, length, MatchBool}
 use Rattle.logbook.specs.Pages.{Cell, Step, View, Book, Named}
 use Rattle.q_model.specs.declared.row.Row.{Row}

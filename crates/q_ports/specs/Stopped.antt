@@ -1,4 +1,4 @@
--- Where want of memory ends the collecting: at a packet for which the device has no room.
+-- Where an allocation failure ends the collecting: at a packet for which the device has no room.
 -- Nothing here is of a standard.
 use Rattle.std.specs.Prelude.{◌≡◌, ℕ, ◌<◌, List, ◌∷◌, drop, get_or, length, map}
 use Rattle.q_packet.specs.Descriptor.{Descriptor}
@@ -19,7 +19,7 @@ pub record HasNoRoomForNext (device : DeviceSeen) (rings : List RingSeen) : Type
 
 -- So many packets were received and arrived, for which no place was lost. The device then had no room for a packet that waits first in
 -- some ring, and but for more places it has stayed as it was. Where no packet had arrived it was the very device of before.
--- So who gave the device room for all packets that wait is never refused.
+-- So a caller who gave the device room for all packets that wait gets no allocation failure.
 pub record Stops (now : ℕ) (before : List (List Descriptor)) (rings : List RingSeen) (device device' : DeviceSeen) (taken : ℕ) : Type 0 where
   pub full : DeviceSeen
   pub collected : Collects now before (map received_from rings) device full taken

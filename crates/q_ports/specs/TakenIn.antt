@@ -54,8 +54,8 @@ pub record HasNoRoomForFirst (device : DeviceSeen) (ring : RingSeen) : Type 0 wh
   pub room : HasRoomFor packet device → ⊥
 
 -- So many packets were taken in, for which no place was lost. The device then had no room for the packet that waits first in the
--- ring, and but for more places it has stayed as it was. Where no packet had arrived it was the very device of before. So who gave
--- the device room for all packets that wait is never refused.
+-- ring, and but for more places it has stayed as it was. Where no packet had arrived it was the very device of before. So a caller
+-- who gave the device room for all packets that wait gets no allocation failure.
 pub record StopsAtFirst (now : ℕ) (before after : RingSeen) (device device' : DeviceSeen) (taken : ℕ) : Type 0 where
   pub full : DeviceSeen
   pub takes : TakesIn now before after device full taken

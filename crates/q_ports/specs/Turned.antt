@@ -13,8 +13,8 @@ use Rattle.q_ports.specs.Rows.{BoardSeen, RowHistorySeen, Publishes, Withholds}
 use Rattle.q_ports.specs.Stopped.{Stops}
 use Rattle.q_ports.specs.declared.turn.Turn.{Turn}
 
--- So many packets, `most` at most, were received from the rings and arrived, which makes the device that stands between. Where they
--- are fewer and no allocation was refused, nothing waited in any ring as it was looked at last. One was refused only for a packet for
+-- So many packets, `most` at most, were received from the rings and arrived, which makes the device in between. Where they
+-- are fewer and no allocation failed, nothing waited in any ring when it was checked last. One failed only for a packet for
 -- which the device had no room. Then come the polls, and nothing else.
 pub record Turned (now most : ℕ) (before after : List RingSeen) (device device' : DeviceSeen) (taken : ℕ) (refused : Bool) (sent : List Descriptor) : Type 0 where
   pub between : DeviceSeen

@@ -22,7 +22,7 @@ pub(crate) fn with_packet(share: &Share, packet: &Packet) -> Option<Share>
     })
 }
 
-/// How many places of the ring are known to be free, up to so many. Where too few are, it looks again.
+/// How many places of the ring are known to be free, up to so many. Where too few are, it checks again.
 pub(crate) fn free_places(ring: &mut PacketProducer, most: usize) -> usize
     ensures looked { ProducerLooked ring.old ring.new }
     ensures few { result ≤ most }

@@ -21,7 +21,7 @@ impl Protocol<Board, BoardView> for Published {
     ghost first = { newcomer };
 }
 
-/// A look at the board, or a change of it.
+/// A read of the board, or a change of it.
 pub struct Reads;
 
 impl Outcome<Board, BoardView> for Reads {
@@ -30,7 +30,7 @@ impl Outcome<Board, BoardView> for Reads {
     ghost then = { Reads };
 }
 
-/// The drain tells what it knows.
+/// The drain reports what it knows.
 pub struct Notes;
 
 impl Split<BoardView> for Notes {

@@ -47,7 +47,7 @@ impl<P: Ledger, B: Ledger> Model for Booked<P, B> {
 }
 
 impl<P: Ledger, B: Ledger> Booked<P, B> {
-    /// A book of a device at which nothing has arrived, with the seat that has all its parts. The blanks are those of the two
+    /// A book of a device at which nothing has arrived, with the permit that has all its parts. The blanks are those of the two
     /// ledgers.
     pub fn new(device: Device, packets: Blank, bytes: Blank) -> (Booked<P, B>, Seat<P, B>)
         requires nothing { device.device.tree.top.arrived ≡ no_totals }
@@ -71,7 +71,7 @@ impl<P: Ledger, B: Ledger> Booked<P, B> {
         (booked, seat)
     }
 
-    /// A packet arrives, as at [`Device::arrive`], and is booked with the seat. It and [`Booked::arrive_at`] are the only ways in.
+    /// A packet arrives, as at [`Device::arrive`], and is booked with the permit. It and [`Booked::arrive_at`] are the only ways in.
     ///
     /// # Errors
     ///
@@ -105,7 +105,7 @@ impl<P: Ledger, B: Ledger> Booked<P, B> {
     ///
     /// # Errors
     ///
-    /// `AllocError` where [`Device::arrive_at`] gives it. Nothing has changed then but for places.
+    /// `AllocError` where [`Device::arrive_at`] returns it. Nothing has changed then but for places.
     pub fn arrive_at(
         &mut self,
         seat: &mut Seat<P, B>,
@@ -138,7 +138,7 @@ impl<P: Ledger, B: Ledger> Booked<P, B> {
         self.device.poll(now)
     }
 
-    /// [`Booked::poll`] into the caller's place, as [`Device::poll_into`]: `out` stays as it is where no packet is given.
+    /// [`Booked::poll`] into the caller's place, as [`Device::poll_into`]: `out` stays as it is where there is no packet.
     pub fn poll_into(&mut self, now: Moment, out: &mut Packet) -> Given
         ensures event { self.new ≡ with_memory self.new.memory (after_event (event.Poll now) self.old) }
         ensures memory { self.new.memory ≡ polled_memory self.new.device.clock self.old.memory }
@@ -148,7 +148,7 @@ impl<P: Ledger, B: Ledger> Booked<P, B> {
         self.device.poll_into(now, out)
     }
 
-    /// The moment before which no poll gives a packet, as [`Device::ready_at`]. A poll at that moment need not give one.
+    /// The time before which no poll gives a packet, as [`Device::ready_at`]. A poll at that time need not give one.
     pub fn ready_at(&self) -> Option<Moment>
         ensures value { result ≡ ready_at self.now.device.clock self.now.device.tree.root }
         ensures from { IfSome result (λ at. self.now.device.clock ≤ at) }
@@ -196,14 +196,14 @@ impl<P: Ledger, B: Ledger> Booked<P, B> {
         self.device.totals()
     }
 
-    /// What the node in this place counted, and what is queued there; `None` where none stands there.
+    /// What the node in this place counted, and what is queued there; `None` where there is none.
     pub fn stats(&self, place: Place) -> Option<Row>
         ensures { result ≡ stats totals place self.now.device.tree }
     {
         self.device.stats(place)
     }
 
-    /// The first events, as many as the settings say, each with the moment at which it counted.
+    /// The first events, as many as the settings say, each with the time at which it counted.
     pub fn recorded(&self) -> &[Event]
         ensures { result.now ≡ self.now.recorded }
     {
@@ -236,7 +236,7 @@ impl<P: Ledger, B: Ledger> Booked<P, B> {
         &self.device
     }
 
-    // Compares a seat with the book. Neither changes.
+    // Compares a permit with the book. Neither changes.
     pub(crate) fn audit(&mut self, seat: &mut Seat<P, B>)
         ensures same { self.new ≡ self.old }
         ensures seat { seat.new ≡ seat.old }

@@ -20,7 +20,7 @@ use std::marker::Model;
 use std::sync::ledger::Ledger;
 use std::sync::{Mutex, Wait};
 
-/// The one who feeds the device: it holds the other ends of the rings, the whole seat, and the gauges' writer.
+/// The one who feeds the device: it holds the other ends of the rings, the whole permit, and the gauges' writer.
 ///
 /// It is not `Drop`: end it by `settle` or `end`. A contract sees it as its rings, with what it received from each, and its board:
 /// the rows that it handed over for publication, and those that gauges see.
@@ -38,13 +38,13 @@ impl<P: Ledger, B: Ledger> Model for Drain<P, B> {
 }
 
 impl<P: Ledger, B: Ledger> Drain<P, B> {
-    /// A turn at this moment: under one lock up to `most` packets arrive, 1 to 1024, one from each port in turn, going on after the
+    /// A turn at this time: under one lock up to `most` packets arrive, 1 to 1024, one from each port in turn, going on after the
     /// port that was taken from last; then come up to `most` polls, to the first that gives no packet. A packet arrives before it
     /// leaves its ring. It may wait for the lock and for gauges.
     ///
     /// # Errors
     ///
-    /// `AllocError` where memory for the list of sent packets is refused. Nothing has changed then.
+    /// `AllocError` if the allocation of the list of sent packets fails. Nothing has changed then.
     pub fn turn<R: Wait>(
         &mut self,
         rt: &R,
@@ -70,7 +70,7 @@ impl<P: Ledger, B: Ledger> Drain<P, B> {
         turn_on(self, rt, alloc, &mut *locked, now, most)
     }
 
-    /// Takes what is left in the rings, and gives up the whole seat. The ports are exactly this drain's, in order of index. It may
+    /// Takes what is left in the rings, and gives up the whole permit. The ports are exactly this drain's, in order of index. It may
     /// wait for the lock and for gauges.
     ///
     /// # Errors

@@ -30,7 +30,7 @@ use std::thread::{Scope, Threads};
 const MOST: usize = 64;
 
 /// Drives a device: a thread for each port offers its load in order, each packet at most `tries` times, while the caller's thread
-/// takes turns of up to 64 packets, turn k at `start` and k times `step` nanoseconds or at the latest moment, until all senders have
+/// takes turns of up to 64 packets, turn k at `start` and k times `step` nanoseconds or at the latest time, until all senders have
 /// ended. Then it settles. Every thread is joined. It may wait for the lock, for gauges and for its threads.
 ///
 /// The ports are exactly the drain's, in order of index, and there is a load for each. `gate` is called once before a packet's first
@@ -85,7 +85,7 @@ pub fn drive<
     }
 }
 
-// What is handed back by a drain that does not settle. It looks at the rings, of which it has both ends.
+// What is handed back by a drain that does not settle. It checks the rings, of which it has both ends.
 fn unsettled<P: Ledger, B: Ledger>(drain: Drain<P, B>, ports: Vec<Port>) -> Unsettled<P, B>
     requires { map ring_of_port ports.items ≡ map ring_id drain.rings }
     ensures rings { map ring_id result.drain.rings ≡ map ring_id drain.rings }
@@ -332,7 +332,7 @@ fn take_turns<P: Ledger, B: Ledger, R: Wait>(
     unreachable!()
 }
 
-// The moment of turn k, from 0: k steps after the first, or the latest moment.
+// The time of turn k, from 0: k steps after the first, or the latest time.
 fn moment_of(start: u64, step: u64, turn: u64) -> Moment
     ensures { result ≡ min (start + turn * step) (2 ^ 62) }
 {
@@ -343,7 +343,7 @@ fn moment_of(start: u64, step: u64, turn: u64) -> Moment
     }
 }
 
-// The latest moment.
+// The latest time.
 fn latest() -> Moment
     ensures { result ≡ 2 ^ 62 }
 {

@@ -43,7 +43,7 @@ impl Gauge {
     /// than a row that was read or learnt of before. It waits for nobody and takes no memory.
     ///
     /// `None`, and nothing has changed, where the entry is refused, as it may be once the drain has ended. It is `None` too if the
-    /// board shows fewer rows than the gauge has learnt of: a turn publishes its row before it tells of it, but no proof says that
+    /// board shows fewer rows than the gauge has learnt of: a turn publishes its row before it reports it, but no proof says that
     /// the board shows it by then.
     pub fn read(&mut self) -> Option<Row>
         ensures row { IfSome result (λ r. r ≡ last_of self.new.rows) }
@@ -62,7 +62,7 @@ impl Gauge {
         Some(front.last())
     }
 
-    /// Takes in what the drain told of a turn: a row that is read from now on is that turn's or a later one.
+    /// Takes in what the drain reported of a turn: a row that is read from now on is that turn's or a later one.
     pub fn learn(&mut self, told: Told)
         requires { told.book ≡ self.old.book }
         ensures old { IsPrefix self.old.learnt self.new.learnt }

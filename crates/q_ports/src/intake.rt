@@ -18,7 +18,7 @@ use std::alloc::AllocError;
 use std::marker::Model;
 use std::sync::ledger::Ledger;
 
-/// The drain's ends of the rings, with the whole seat, with which all that was received from them was let in.
+/// The drain's ends of the rings, with the whole permit, with which all that was received from them was let in.
 ///
 /// A contract sees it as the list of its rings.
 #[derive(Drop)]
@@ -41,7 +41,7 @@ impl<P: Ledger, B: Ledger> Model for Intake<P, B> {
 }
 
 impl<P: Ledger, B: Ledger> Intake<P, B> {
-    /// The ends of rings from which nothing was received, with a whole seat.
+    /// The ends of rings from which nothing was received, with a whole permit.
     pub(crate) fn new(seat: Seat<P, B>, rings: Vec<PacketConsumer>) -> Intake<P, B>
         requires seat { seat ≡ held 65 0 0 }
         requires count { (1 ≤ length rings.items) × (length rings.items ≤ 64) }
@@ -227,7 +227,7 @@ impl<P: Ledger, B: Ledger> Intake<P, B> {
         (most, false)
     }
 
-    // Looks at a ring with its port in hand.
+    // Checks a ring with its port in hand.
     fn look_beside(&mut self, at: usize, port: &mut Port)
         requires at { at < length self.old }
         requires port { (d : RingSeen) → ring_of_port port.old ≡ ring_id (get_or self.old at d) }
@@ -237,7 +237,7 @@ impl<P: Ledger, B: Ledger> Intake<P, B> {
         port.look(&mut self.rings[at]);
     }
 
-    /// Looks at every ring with its port in hand: all that is left there is then known.
+    /// Checks every ring with its port in hand: all that is left there is then known.
     pub(crate) fn look_all(&mut self, ports: &mut Vec<Port>)
         requires { map ring_of_port ports.old.items ≡ map ring_id self.old }
         ensures rings { map ring_id self.new ≡ map ring_id self.old }
@@ -280,7 +280,7 @@ impl<P: Ledger, B: Ledger> Intake<P, B> {
         Ok(())
     }
 
-    /// Takes all packets that are known to wait in the rings. Those that were taken before memory was refused stay taken.
+    /// Takes all packets that are known to wait in the rings. Those that were taken before an allocation failed stay taken.
     pub(crate) fn empty_all(
         &mut self,
         booked: &mut Booked<P, B>,
@@ -298,7 +298,7 @@ impl<P: Ledger, B: Ledger> Intake<P, B> {
         Ok(())
     }
 
-    /// The whole seat, with all that was received.
+    /// The whole permit, with all that was received.
     pub(crate) fn settle(self, booked: &mut Booked<P, B>) -> Settled<P, B>
         requires { (P.parts ≡ 65) × (B.parts ≡ 65) }
         ensures share { result ≡ share_of (map received_from self) }

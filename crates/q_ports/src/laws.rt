@@ -50,7 +50,7 @@ pub fn booked_has_its_memory<P: Ledger, B: Ledger>(booked: &Booked<P, B>)
     device_has_its_memory(booked.device());
 }
 
-/// The book is what the device counts as arrived: a seat holds at most that, and a seat with every part holds just that. It does
+/// The book is what the device counts as arrived: a permit holds at most that, and a permit with every part holds just that. It does
 /// nothing.
 pub fn book_is_arrived<P: Ledger, B: Ledger>(booked: &mut Booked<P, B>, seat: &mut Seat<P, B>)
     ensures same { (booked.new ≡ booked.old) × (seat.new ≡ seat.old) }
@@ -61,7 +61,7 @@ pub fn book_is_arrived<P: Ledger, B: Ledger>(booked: &mut Booked<P, B>, seat: &m
     booked.audit(seat);
 }
 
-/// What has arrived at the device is the settled share: the seat that is kept is whole, and by its type of this book. It does
+/// What has arrived at the device is the settled share: the permit that is kept is whole, and by its type of this book. It does
 /// nothing.
 pub fn settled<P: Ledger, B: Ledger>(
     booked: &mut Booked<P, B>,
@@ -79,7 +79,7 @@ pub fn settled<P: Ledger, B: Ledger>(
 /// What an outlet took in is a beginning of what the port of its ring placed, packet by packet; the rest waits in the ring, and the answer
 /// is how many packets that is. Where none waits, all that was placed was taken in.
 ///
-/// It looks at the ring with both of its ends in hand. Nothing is taken in, and nothing is placed.
+/// It checks the ring with both of its ends in hand. Nothing is taken in, and nothing is placed.
 pub fn ring_loses_nothing(outlet: &mut Outlet, port: &mut Port) -> usize
     requires { ring_of_port port.old ≡ outlet.old.ring }
     ensures same { port.new ≡ port.old }

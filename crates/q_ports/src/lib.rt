@@ -22,7 +22,7 @@
 //! this for a [`PortTask`], and [`drive`] runs senders with a load each. A program that may not wait feeds its device from single rings, by
 //! [`open_ring`] and [`Outlet`].
 //!
-//! No packet is lost between a port and the device. The device stands in a [`Booked`], whose ledger counts what has arrived, so that after
+//! No packet is lost between a port and the device. The device is in a [`Booked`], whose ledger counts what has arrived, so that after
 //! [`Drain::settle`] the device's count of arrivals is the sum of what the ports placed ([`laws::settled`]).
 #![tactic(auto)]
 

@@ -14,7 +14,7 @@ pub type Head = Word<Row, u64, BookRule>;
 
 /// How far the history of a device's row had come: the number of its rows, and none of them.
 ///
-/// The history itself stands in proofs alone. A contract sees the book and all rows up to there.
+/// The history itself exists in proofs alone. A contract sees the book and all rows up to there.
 #[derive(Drop)]
 pub struct Note {
     count: u64,

@@ -19,12 +19,12 @@ use std::sync::Wait;
 use std::sync::ledger::Ledger;
 
 /// The drain, the ports and the gauges of a book: so many ports, indexed from 0, with a ring of so many packets each, and so many
-/// gauges. There are 1 to 64 ports, a ring has 1 to 65536 places, and there are at most 16 gauges. The seat is whole, and nothing
+/// gauges. There are 1 to 64 ports, a ring has 1 to 65536 places, and there are at most 16 gauges. The permit is whole, and nothing
 /// was let in with it.
 ///
 /// # Errors
 ///
-/// The seat and `AllocError` where an allocation fails, or a gauge finds no place to read from.
+/// The permit and `AllocError` where an allocation fails, or a gauge finds no place to read from.
 pub fn open_ports<P: Ledger, B: Ledger, R: Wait>(
     rt: &R,
     alloc: Global,

@@ -55,7 +55,7 @@ impl Outlet {
         }
     }
 
-    /// Takes up to `most` packets, oldest first: each arrives at the device at this moment, as by [`Device::arrive_at`], and only then
+    /// Takes up to `most` packets, oldest first: each arrives at the device at this time, as by [`Device::arrive_at`], and only then
     /// leaves the ring. It waits for nobody, and takes memory only as the arrivals do.
     ///
     /// Where an arrival fails to allocate, its packet stays first in the ring, and nothing more is taken.
@@ -95,7 +95,7 @@ impl Outlet {
         self.share
     }
 
-    /// Looks at the ring with its port in hand, and answers how many packets wait there.
+    /// Checks the ring with its port in hand, and answers how many packets wait there.
     pub(crate) fn look_beside(&mut self, port: &mut Port) -> usize
         requires { ring_of_port port.old ≡ self.old.ring }
         ensures same { port.new ≡ port.old }

@@ -50,7 +50,7 @@ impl Outlet {
         }
     }
 
-    // [`Outlet::take_first`], which notes the arrival at the moment that the device's clock shows then.
+    // [`Outlet::take_first`], which notes the arrival at the time that the device's clock shows then.
     fn take_first_noted(
         &mut self,
         device: &mut Device,

@@ -26,7 +26,7 @@ pub struct Port {
     ring: PacketProducer,
     /// What it placed.
     share: Share,
-    /// Where the packets of a batch are written as they are to be placed. What stands there before does not matter.
+    /// Where the packets of a batch are written as they are to be placed. What was there before does not matter.
     batch: [Packet; BATCH],
 }
 
@@ -66,7 +66,7 @@ impl Port {
     ///
     /// # Errors
     ///
-    /// `Full` with the packet as it was given where the ring is full, or where the bytes placed would pass 2^64 - 1. Nothing has
+    /// `Full` with the packet as it was offered where the ring is full, or where the bytes placed would pass 2^64 - 1. Nothing has
     /// changed then. A ring in which fewer packets were placed in all than it has places is not full.
     #[inline(always)]
     pub fn offer(&mut self, packet: Packet) -> Result<(), Full>
@@ -152,7 +152,7 @@ impl Port {
         self.index
     }
 
-    // Looks at the ring with both ends in hand: all that was placed and not received is then known to wait.
+    // Checks the ring with both ends in hand: all that was placed and not received is then known to wait.
     pub(crate) fn look(&mut self, ring: &mut PacketConsumer)
         requires { ring_of_port self.old ≡ ring_at ring.old }
         ensures same { self.new ≡ self.old }

@@ -8,10 +8,10 @@ use std::thread::Threads;
 
 /// What a program does with a device that many senders feed, for [`run_with_ports`](crate::run_with_ports).
 pub trait PortTask: Sized {
-    /// What it gives.
+    /// What it returns.
     type Output;
 
-    /// What is true of what it gives, for a device with these settings and so many ports: whatever its own clauses say, or nothing.
+    /// What is true of what it returns, for a device with these settings and so many ports: whatever its own clauses say, or nothing.
     ghost gives: { Self → DeviceSettings → PortCounts → Self.Output → Type 0 } = { λ _ _ _ _. ⊤ };
 
     /// Does it. The device is a new one, nothing was placed at a port, and nothing was received; `P` and `B` are the ledgers of the

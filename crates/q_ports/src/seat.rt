@@ -4,11 +4,11 @@ ghost use Rattle.q_ports.specs.Held.{held, joined};
 use std::marker::Model;
 use std::sync::ledger::{Ledger, Share};
 
-/// The right to let packets into a device, and what was let in with it.
+/// A permit: the right to let packets into a device, and what was let in with it.
 ///
-/// The seats of one book have 65 parts in all, and each has at least one. A contract sees a seat as the record `Held` of its parts and of the packets and
-/// bytes that were let in with it. Which book it is of, its type says: `P` is the book's ledger of packets, and `B` that of
-/// bytes.
+/// The permits of one book have 65 parts in all, and each has at least one. A contract sees a permit as the record `Held` of its
+/// parts and of the packets and bytes that were let in with it. Which book it is of, its type says: `P` is the book's ledger of
+/// packets, and `B` that of bytes.
 #[derive(Drop)]
 pub struct Seat<P: Ledger, B: Ledger> {
     pub(crate) parts: u64,
@@ -50,7 +50,7 @@ impl<P: Ledger, B: Ledger> Seat<P, B> {
         }
     }
 
-    /// Takes in another seat of the same book, with its parts and with what was let in with it.
+    /// Takes in another permit of the same book, with its parts and with what was let in with it.
     pub fn join(&mut self, other: Seat<P, B>)
         requires parts { P.parts ≡ 65 }
         ensures { self.new ≡ joined self.old other }

@@ -5,7 +5,7 @@ use q_device::Totals as Share;
 use std::marker::Model;
 use std::sync::ledger::Ledger;
 
-/// What is left of a drain that has received all that its ports placed: the whole seat.
+/// What is left of a drain that has received all that its ports placed: the whole permit.
 ///
 /// A contract sees it as the settled share.
 #[derive(Drop)]
@@ -27,7 +27,7 @@ impl<P: Ledger, B: Ledger> Model for Settled<P, B> {
 }
 
 impl<P: Ledger, B: Ledger> Settled<P, B> {
-    /// The packets and bytes that were let in with the seat: the sum of the ports' shares.
+    /// The packets and bytes that were let in with the permit: the sum of the ports' shares.
     pub fn share(&self) -> Share
         ensures { result ≡ self.now }
     {

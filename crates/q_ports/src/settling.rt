@@ -1,4 +1,4 @@
-//! The end of a drain: what is left in the rings arrives, and the whole seat is given up.
+//! The end of a drain: what is left in the rings arrives, and the whole permit is given up.
 ghost use Rattle.std.specs.Prelude.{◌≡◌, map, IfOk, IfErr, OnOk};
 ghost use Rattle.q_ports.specs.Collected.{CollectsSome};
 ghost use Rattle.q_ports.specs.Placed.{placed_by, ring_of_port, share_of};

@@ -21,23 +21,23 @@ use std::sync::ledger::Ledger;
 pub struct Turn {
     /// How many packets arrived.
     pub taken: usize,
-    /// The packets that the polls gave, in order.
+    /// The packets that the polls returned, in order.
     pub sent: Vec<Packet>,
     /// Whether a refused allocation ended the collecting.
     pub memory: bool,
-    /// A note that the row after the turn was published; `None` where memory for the publication was refused, or the row is lower
+    /// A note that the row after the turn was published; `None` if the allocation for the publication failed, or the row is lower
     /// than the last one that was handed over.
     pub told: Option<Told>,
 }
 
 /// The work of [`Drain::turn`], with the locked value in hand. It may wait for gauges.
 ///
-/// The device is changed by one arrival for each packet that was received, in the order of each ring, and then by the polls up to
-/// `most`, or to the first that gives no packet; `sent` is what they gave. `told` is there where the board then shows the row after the turn.
+/// The device is changed by one arrival for each packet that was received, in the order of each ring, and then by the polls up to `most`,
+/// or to the first that gives no packet; `sent` is what they returned. `told` is there where the board then shows the row after the turn.
 ///
 /// # Errors
 ///
-/// `AllocError` where memory for the list of sent packets is refused. Nothing has changed then.
+/// `AllocError` if the allocation of the list of sent packets fails. Nothing has changed then.
 pub fn turn_on<P: Ledger, B: Ledger, R: Wait>(
     drain: &mut Drain<P, B>,
     rt: &R,
@@ -84,7 +84,7 @@ fn poll_all<P: Ledger, B: Ledger>(
     ensures polled { booked.new ≡ polled_by most now booked.old }
 {
     for poll in 0..most {
-        // The poll writes the packet where it is to stand.
+        // The poll writes the packet where it is to be.
         sent.push_reserved(SOME_PACKET);
         match booked.poll_into(now, &mut sent[poll]) {
             Given::Packet => {}

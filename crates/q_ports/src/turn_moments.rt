@@ -1,6 +1,6 @@
 use q_packet::Moment;
 
-/// The moments of turns: the first, and how many nanoseconds come between two.
+/// The times of turns: the first, and how many nanoseconds come between two.
 #[derive(Clone, Copy)]
 pub(crate) struct TurnMoments {
     pub(crate) start: Moment,

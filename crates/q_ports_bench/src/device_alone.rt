@@ -5,8 +5,8 @@ use q_packet::{Moment, Packet};
 use std::alloc::Global;
 use std::time::{Clock, Instant};
 
-/// The nanoseconds of the calls that turns of 64 make on a device: arrivals of packets that stand in a list, and as many polls. `None`
-/// where memory was refused, a packet did not go through, or the clock could not be read.
+/// The nanoseconds of the calls that turns of 64 make on a device: arrivals of packets that are in a list, and as many polls. `None`
+/// if an allocation failed, a packet did not go through, or the clock could not be read.
 pub fn calls_of_turns<C: Clock>(clock: &C, alloc: Global, given: Packet) -> Option<u64> {
     let packets = vec![in alloc; given; RING].ok()?;
     let mut device = device(alloc)?;

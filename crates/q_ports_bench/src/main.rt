@@ -4,7 +4,7 @@
 //! They are those of an offer, of a packet of 64 that are offered at once, of a turn of 64, of the same calls on a device alone, of a
 //! turn that finds nothing, of one sender that fills a long ring and of four at once, and of `drive` with 1, 4, 16 and 64 senders, all
 //! into a root pfifo. A static library may not wait, so that these are timed here, and not beside the other workloads (`q_bench`). The
-//! time is 0 where memory or a thread was refused, a packet did not arrive, or the clock could not be read.
+//! time is 0 where an allocation failed or a thread was refused, a packet did not arrive, or the clock could not be read.
 //!
 //! - [`one_port`]: offers and turns on one thread.
 //! - [`device_alone`]: the calls of those turns.

@@ -26,7 +26,7 @@ pub const PACKETS: usize = RING * STRETCHES;
 /// The turns that find nothing.
 pub const IDLE_TURNS: usize = 4096;
 
-/// Nanoseconds; all are 0 where memory was refused, or a packet did not go through.
+/// Nanoseconds; all are 0 if an allocation failed, or a packet did not go through.
 #[derive(Clone, Copy)]
 pub struct Spans {
     /// Of all offers.

@@ -31,7 +31,7 @@ impl Gate for FreeGate {
 }
 
 /// The nanoseconds in which so many senders, 1 to 64, place so many packets each; `None` for other numbers, where a packet is given
-/// up, and where memory was refused or the clock could not be read.
+/// up, and if an allocation failed or the clock could not be read.
 pub fn drive_all<R: Threads + Wait + Sync + Clock>(
     rt: &R,
     alloc: Global,
@@ -64,7 +64,7 @@ fn loads(
     Ok(loads)
 }
 
-/// How many packets were given up; `None` where memory was refused, or there are not 1 to 64 loads.
+/// How many packets were given up; `None` if an allocation failed, or there are not 1 to 64 loads.
 fn booked<P: Ledger + Send + Sync, B: Ledger + Send + Sync, R: Threads + Wait + Sync + Clock>(
     rt: &R,
     alloc: Global,

@@ -58,7 +58,7 @@ pub fn assert_answers<R: Abort + AllocGlobal + Files + Threads + Wait + Sync>(
     Ok(())
 }
 
-/// Command lines and scripts: each with the status, the output, and what is told.
+/// Command lines and scripts: each with the status, the output, and what is reported.
 const ANSWERS: &[(&str, &[u8], u8, &str, &str)] = &[
     ("qtree play", TWO_OF_THREE, 0, TWO_OF_THREE_REPORT, ""),
     (
@@ -105,7 +105,7 @@ const TURNED_DOWN: &[&str] = &[
     "qtree play --record 1k",
 ];
 
-/// Looks that a line asks for a play with these settings.
+/// Checks that a line asks for a play with these settings.
 fn assert_play(
     rt: &impl Abort,
     alloc: Global,

@@ -7,7 +7,7 @@ use std::alloc::Global;
 use std::process::Abort;
 use std::test::Fail;
 
-/// Looks that a line asks for a drive with these settings, which are in range; and that with `--explain` it asks for the same, explained.
+/// Checks that a line asks for a drive with these settings, which are in range; and that with `--explain` it asks for the same, explained.
 fn assert_drive(
     rt: &impl Abort,
     alloc: Global,
@@ -104,7 +104,7 @@ fn options_past_their_bounds(rt: HostRuntime) -> Result<(), Fail> {
     Ok(())
 }
 
-/// Lines of standard input for four senders of 16 packets: each with the status, the output, and what is told.
+/// Lines of standard input for four senders of 16 packets: each with the status, the output, and what is reported.
 const DRIVES: &[(&[u8], u8, &str, &str)] = &[
     (
         b"",

@@ -1,4 +1,4 @@
-//! Drives that go on until nothing goes any more, at moments that are computed by hand.
+//! Drives that go on until nothing goes any more, at times that are computed by hand.
 use crate::drives::{assert_drives, drive, settings};
 use q_drive::DriveSettings;
 use q_script::{Outcome, RunSettings};
@@ -48,7 +48,7 @@ tc qdisc add dev eth0 parent 2:2 handle 3: fq_codel
 
 #[test]
 fn what_codel_drops_is_not_drained(rt: HostRuntime) -> Result<(), Fail> {
-    // Packet 1 is in hand before the drain begins, and goes at 900 s. Then packet 2 is looked at, which is the first to be late, and
+    // Packet 1 is in hand before the drain begins, and goes at 900 s. Then packet 2 is tested, which is the first to be late, and
     // goes at 1900 s. An interval later packet 3 is dropped, with 3000 bytes behind it, and 4 is sent. Behind 5 and 6 there is less
     // than an mtu.
     assert_drives(
@@ -92,7 +92,7 @@ qdisc bfifo 0: parent 1:1 limit 10000b
 #[test]
 fn what_never_goes_by_waiting_stays(rt: HostRuntime) -> Result<(), Fail> {
     let alloc = rt.alloc();
-    // A bit of tokens a second, and 1 byte at first. Up to the latest moment, 2^62 ns, it brings enough for 8796 packets of
+    // A bit of tokens a second, and 1 byte at first. Up to the latest time, 2^62 ns, it brings enough for 8796 packets of
     // 65535 bytes, the last at 8796 * 65535 * 8 - 8 seconds, and not for a further one.
     let input = b"tc qdisc add dev eth0 root handle 1: tbf rate 1 burst 1 limit 4294967295
 tc qdisc change dev eth0 root handle 1: tbf rate 1 burst 65535 limit 4294967295

@@ -64,7 +64,7 @@ fn four_senders_over_the_first_root(rt: HostRuntime) -> Result<(), Fail> {
     Ok(())
 }
 
-/// The senders of a load, the packets of each, their length and the places of a ring, with what is told.
+/// The senders of a load, the packets of each, their length and the places of a ring, with what is reported.
 const LOADS: &[(u8, u32, u16, u32, &str)] = &[
     (64, 0, 1, 1, "settled 0p 0b\narrived 0p 0b\ngiven up 0\n"),
     (

@@ -322,7 +322,7 @@ fn long_line(alloc: Global) -> Result<String, Fail> {
     Ok(line)
 }
 
-/// What is told of it: its bytes around the word.
+/// What is reported of it: its bytes around the word.
 fn long_line_explained(alloc: Global) -> Result<String, Fail> {
     let mut told = String::new(alloc);
     told.push_str("line 1: ...")?;

@@ -2,7 +2,7 @@
 //! with their answers, show texts of a tree, readers and writers that are slow or fail, and what the error output says. Drives start
 //! threads.
 //!
-//! They stand here so that `q_session`, `q_drive` and `q_options` are proved once. The crate exports nothing.
+//! They are here so that `q_session`, `q_drive` and `q_options` are proved once. The crate exports nothing.
 #![tactic(auto)]
 
 #[cfg(test)]

@@ -13,7 +13,7 @@ pub struct LineRunner {
 }
 
 impl LineRunner {
-    /// A device with the default settings that records so many events, at the second try where memory is refused.
+    /// A device with the default settings that records so many events, at the second try if an allocation fails.
     pub fn new(alloc: Global, recorded: u32) -> Result<LineRunner, Fail> {
         let settings = Settings::new(1514, 1000, recorded).ok_or("settings")?;
         let device = match Device::open(alloc, settings) {
@@ -90,7 +90,7 @@ impl LineRunner {
         self.device.command(*command, self.moment).err()
     }
 
-    // Where a packet is refused memory nothing has changed, and it arrives with memory.
+    // Where an allocation for a packet fails, nothing has changed, and it arrives with memory.
     fn arrive(&mut self, alloc: Global, arrival: Arrival) -> Result<(), Fail> {
         self.packets = self.packets.saturating_add(1);
         let packet = numbered(arrival, self.packets)?;
@@ -106,7 +106,7 @@ impl LineRunner {
         }
     }
 
-    // Lets a packet arrive; whether it was refused no memory.
+    // Lets a packet arrive; whether no allocation failed for it.
     fn has_memory_for(&mut self, packet: Packet) -> bool {
         self.device.arrive(packet, self.moment).is_ok()
     }

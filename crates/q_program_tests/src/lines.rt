@@ -6,7 +6,7 @@ use std::test::Fail;
 /// What one sender with one packet comes to.
 const ONE: &str = "settled 1p 100b\narrived 1p 100b\ngiven up 0\n";
 
-/// Lines, each with what is told of it.
+/// Lines, each with what is reported of it.
 const FAULTS: &[(&[u8], &str)] = &[
     (b"pkt 100", "line 1: fault 1 UnknownWord word 1\n"),
     // Each is a fault at another word where a script is played.

@@ -35,7 +35,7 @@ const READING: &[&str] = &[
     "qtree drive --senders 1 --count 1 --len 1 --ring 1",
 ];
 
-/// A line over these streams comes to nothing, which is told.
+/// A line over these streams comes to nothing, which is reported.
 fn assert_fails<H: Abort + AllocGlobal + Files + Threads + Wait + Sync, R: Read, W: Write>(
     rt: &H,
     line: &str,
@@ -60,7 +60,7 @@ fn closed_input(rt: HostRuntime) -> Result<(), Fail> {
     Ok(())
 }
 
-/// Command lines, each with what is told where the output is closed.
+/// Command lines, each with what is reported where the output is closed.
 const TOLD_OF_OUTPUT: &[(&str, &str)] = &[
     (
         "qtree play",
@@ -124,7 +124,7 @@ fn full_disk(rt: HostRuntime) -> Result<(), Fail> {
     assert_fails(&rt, "qtree play", &mut reader, &mut full, told)
 }
 
-/// Command lines, each with what is told of the file that it names.
+/// Command lines, each with what is reported of the file that it names.
 const TOLD_OF_FILES: &[(&str, &str)] = &[
     (
         "qtree play no/such.qtree",
@@ -144,7 +144,7 @@ fn files_that_cannot_be_read(rt: HostRuntime) -> Result<(), Fail> {
     Ok(())
 }
 
-/// Whether the input is a terminal, and what is told before it is read.
+/// Whether the input is a terminal, and what is reported before it is read.
 const PROMPTS: &[(bool, &str)] = &[
     (
         true,

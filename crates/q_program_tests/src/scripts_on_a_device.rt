@@ -1,7 +1,7 @@
 //! Worked scripts line by line on a device: what each line is refused with, that nothing changes by it, and what is recorded.
 //!
-//! `rt try --test --fail-alloc N` refuses the Nth allocation of a test, and these pass for every N: a line that was refused memory has
-//! changed nothing that is seen, and the same line with memory is then done.
+//! `rt try --test --fail-alloc N` refuses the Nth allocation of a test, and these pass for every N: a line for which an allocation
+//! failed has changed nothing that is seen, and the same line with memory is then done.
 use crate::line_runner::LineRunner;
 use crate::runs::TWO_OF_THREE;
 use crate::seen::adds_up;

@@ -17,7 +17,7 @@ pub struct Seen {
 }
 
 impl Seen {
-    /// What is seen of a device, at the second look where memory is refused.
+    /// What is seen of a device, at the second try if an allocation fails.
     pub fn of(alloc: Global, device: &Device) -> Result<Seen, Fail> {
         match look(alloc, device) {
             Some(seen) => Ok(seen),
@@ -35,7 +35,7 @@ impl Seen {
     }
 }
 
-// `None` where memory is refused.
+// `None` if an allocation fails.
 fn look(alloc: Global, device: &Device) -> Option<Seen> {
     let tree = device.tree();
     let mut texts = Vec::new(alloc);

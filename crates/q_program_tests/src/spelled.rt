@@ -16,7 +16,7 @@ use std::test::Fail;
 
 const SEED: u64 = 70;
 
-/// What a script asks at its end: all losses, all counters, and all that stands in the tree.
+/// What a script asks at its end: all losses, all counters, and all that is in the tree.
 const TAIL: &[u8] = b"reap
 totals
 tc -s qdisc show dev eth0

@@ -208,7 +208,7 @@ fn interrupted_without_end(rt: HostRuntime) {
     assert!(rt; written.is_empty());
 }
 
-/// Runs a script into a writer with this much room, and looks that it has a front of the report, as long as it can be.
+/// Runs a script into a writer with this much room, and checks that it has a front of the report, as long as it can be.
 fn assert_front(
     rt: &impl Abort,
     alloc: Global,
@@ -246,7 +246,7 @@ fn writers_that_are_full(rt: HostRuntime) -> Result<(), Fail> {
     Ok(())
 }
 
-/// Whether a writer that is full fails, and what is told then.
+/// Whether a writer that is full fails, and what is reported then.
 const TOLD_OF_WRITERS: &[(bool, &str)] = &[
     (true, "qtree: the report cannot be written: Broken pipe\n"),
     (false, "qtree: the report cannot be written: write zero\n"),
@@ -286,7 +286,7 @@ fn show_texts_in_writers_that_are_full(rt: HostRuntime) -> Result<(), Fail> {
     Ok(())
 }
 
-/// Shows the qdiscs to a writer with this much room, less than they take, and looks at what it has.
+/// Shows the qdiscs to a writer with this much room, less than they take, and checks what it has.
 fn assert_front_shown(rt: &impl Abort, alloc: Global, device: &Device, room: usize) {
     let mut writer = Narrow::new(alloc, room, room % 2 == 0);
     let told = show_qdiscs(alloc, device.tree(), false, &mut writer);

@@ -21,6 +21,6 @@ pub record Ended (result : Result Outcome RunFault) (reads : Reads) (writes : Wr
   pub memory : result ≡ Err fault.Memory → reads.failure ≡ None
   pub write : (kind : ErrorKind) → result ≡ Err (fault.Write kind) → WriteFailed writes kind
   pub write_read : (kind : ErrorKind) → result ≡ Err (fault.Write kind) → IsReadWhole reads
-  -- no failure is told as something else
+  -- no failure is reported as something else
   pub failed_read : (kind : ErrorKind) → reads.failure ≡ Some kind → result ≡ Err (fault.Read kind)
   pub failed_write : (kind : ErrorKind) → WriteFailed writes kind → result ≡ Err (fault.Write kind)

@@ -17,7 +17,7 @@ abbrev pub lines_of : List ℕ → List (List ℕ)
 lines_of [] = []
 lines_of (b ∷ bytes) = if b == 10 then [] ∷ lines_of bytes else onto_first b (lines_of bytes)
 
--- memory is refused at the lines of these numbers
+-- an allocation fails at the lines of these numbers
 abbrev pub is_starved : List ℕ → ℕ → Bool
 is_starved starved k = list_any (λ n. n == k) starved
 

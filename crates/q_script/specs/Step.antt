@@ -20,7 +20,7 @@ replayed effect starved k (line ∷ lines) s =
     let rest = replayed effect starved (suc k) lines first.session in
     record rest { text = first.text ++ rest.text }
 
--- the replay of a whole script, where memory is refused at these lines
+-- the replay of a whole script, with an allocation failure at these lines
 abbrev pub run_of : {S : Type 0} → (Bool → ℕ → List ℕ → S → Effect S) → List ℕ → List ℕ → S → Effect S
 run_of effect starved script first = replayed effect (is_starved starved) 1 (lines_of script) first
 
@@ -40,7 +40,7 @@ pub record IsWholeRun {S : Type 0} (effect : Bool → ℕ → List ℕ → S →
   pub text : Appends old new (run_of effect starved script first).text
   pub session : last ≡ (run_of effect starved script first).session
 
--- The writer has the report of the script and nothing else, memory having been refused at some lines or none; the outcome is
+-- The writer has the report of the script and nothing else, with an allocation failure at some lines or none; the outcome is
 -- Refused exactly where the session is refused at the end.
 pub record IsRun {S : Type 0} (effect : Bool → ℕ → List ℕ → S → Effect S) (refused : S → Bool) (script : List ℕ) (first : S) (told : Outcome) (old new : Option (List ℕ)) : Type 0 where
   pub starved : List ℕ

@@ -11,7 +11,7 @@ pub enum ScriptFault {
     Read(ErrorKind),
     /// There are more than 16,777,216 bytes.
     TooLong,
-    /// Memory was refused.
+    /// An allocation failed.
     Memory,
 }
 

@@ -14,7 +14,7 @@ pub record IsShrunkEffect (e : Effect (List Note)) (f : Effect Counts) : Type 0 
   pub text : e.text ≡ f.text
   pub session : shrunk_session e.session ≡ f.session
 
--- wherever memory is refused
+-- wherever an allocation fails
 abbrev pub TotalsAreEnough : Type 0
 TotalsAreEnough = (settings : DeviceSettings) (seed : ℕ) (script starved : List ℕ) →
     IsShrunkEffect (replay_with history settings seed script starved) (replay_with totals settings seed script starved)

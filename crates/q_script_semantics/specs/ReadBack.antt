@@ -1,5 +1,5 @@
 -- What show prints, as the command that makes it: the texts of its parts, in the order in which a command has them.
--- A shown line is no command itself: there the kind stands before the handle and the place, a class has no parent's name and
+-- A shown line is no command itself: there the kind is before the handle and the place, a class has no parent's name and
 -- a filter no `flower`. Nor is a limit in packets a number, or `ns` a unit of time. The texts and the commands are this
 -- project's, in the manner of tc(8).
 use Rattle.std.specs.Prelude.{◌≡◌, ℕ, ◌≤◌, List, [], ◌∷◌, ◌++◌, codes, decimal, Option, Some, None, IfSome, Ok, ⊤}
@@ -42,7 +42,7 @@ kind_shown (qdisc.Tbf rate burst limit) = Some (kind.Tbf rate burst (Bytes limit
 kind_shown qdisc.Drr = Some kind.Drr
 kind_shown (qdisc.FqCodel s) = None
 
--- a class of a drr with this quantum; what it may send, show alone tells
+-- a class of a drr with this quantum; what it may send, only show says
 abbrev pub class_command : List ℕ → ClassId → ℕ → List ℕ
 class_command name c quantum =
     adding (codes "class") name (codes "parent" ∷ (hex c.major ++ codes ":") ∷ codes "classid" ∷ class_text c ∷ (codes "drr" ++ setting (codes "quantum") quantum []) ∷ [])

@@ -1,5 +1,5 @@
 -- The report of a script: what each of its lines makes of a new device, and the text that it writes.
--- Memory may be refused at some lines; such a line says so, and the device stays as it was.
+-- An allocation may fail at some lines; such a line says so, and the device stays as it was.
 use Rattle.std.specs.Prelude.{ℕ, zero, suc, Bool, true, false, List, [], ◌∷◌, ◌++◌, if◌then◌else◌, None, Result, Ok, Err, unwrap_or}
 use Rattle.std.specs.List.{flat_map}
 use Rattle.q_packet.specs.Descriptor.{Descriptor}
@@ -29,7 +29,7 @@ use Rattle.q_line.specs.declared.show.Show.{Show}
 use Rattle.q_line.specs.declared.object.Object.TheVariants as object
 use Rattle.q_script_semantics.specs.Text.{refused_line, poll_line, lost_line, device_line, qdisc_text, class_line, filter_line}
 
--- What a script's lines have made so far: the device, the losses that wait to be reaped, the moment of the lines that
+-- What a script's lines have made so far: the device, the losses that wait to be reaped, the time of the lines that
 -- follow, how many packets were numbered, and whether a line had a fault or was refused.
 pub record SessionState (M : Type 0) : Type 0 where
   pub device : DeviceState M
@@ -90,7 +90,7 @@ polls t (suc n) s =
     let rest = polls t n (after step s) in
     record rest { text = poll_line (polled_of (given now s.device.tree) (is_empty (shape step.device.tree.root))) ++ rest.text }
 
--- a command is done, refused, or refused for want of memory
+-- a command is done, refused, or refused since an allocation failed
 abbrev pub planned : {M : Type 0} → Tally M → Bool → ℕ → Result Edit Refusal → SessionState M → Effect M
 planned t starved k (Err refusal) s = refusing (refused_line k refusal) s
 planned t starved k (Ok edit) s =
@@ -109,7 +109,7 @@ show_text t show d = elim show.object [
   | object.Filter ↦ flat_map (λ n. flat_map filter_line (filter_views n)) (every_node d.tree.root)
 ]
 
--- what a line does that has no fault; k is its number, and starved says that memory was refused at it
+-- what a line does that has no fault; k is its number, and starved says that an allocation failed at it
 abbrev pub answered : {M : Type 0} → Tally M → ℕ → Bool → ℕ → Line → SessionState M → Effect M
 answered t seed starved k line.Blank s = silent s
 answered t seed starved k (line.At moment) s = silent (record s { moment = moment })
@@ -136,7 +136,7 @@ replayed t seed starved k (l ∷ lines) s =
     let rest = replayed t seed starved (suc k) lines first.session in
     record rest { text = first.text ++ rest.text }
 
--- a script's replay on a new device, where memory is refused at these lines
+-- a script's replay on a new device, with an allocation failure at these lines
 abbrev pub replay_with : {M : Type 0} → Tally M → DeviceSettings → ℕ → List ℕ → List ℕ → Effect M
 replay_with t settings seed script starved =
     replayed t seed (is_starved starved) 1 (lines_of script) (new_session t settings)

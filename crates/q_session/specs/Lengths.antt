@@ -1,4 +1,4 @@
--- The most bytes of what a line of a script writes, and of its parts: the sum of the most that stands in it.
+-- The most bytes of what a line of a script writes, and of its parts: the sum of the most that is in it.
 use Rattle.std.specs.Prelude.{ℕ, ◌+◌}
 use Rattle.q_show.specs.Lengths.{most_counters, most_decimal}
 

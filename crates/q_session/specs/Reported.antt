@@ -1,5 +1,5 @@
 -- The report of a run: that of the model of the whole device, which keeps whole histories.
--- Memory may be refused at some lines; such a line says so.
+-- An allocation may fail at some lines; such a line says so.
 use Rattle.std.specs.Prelude.{◌≡◌, ℕ, List, Option, if◌then◌else◌}
 use Rattle.std.specs.Io.KnownBytes.{Appends}
 use Rattle.q_model.specs.Tally.{Note}
@@ -10,7 +10,7 @@ use Rattle.q_script.specs.Settings.{Settings}
 use Rattle.q_session.specs.Session.{device_settings}
 use Rattle.q_show.specs.Written.{AppendsFront}
 
--- a script's replay on a new device that keeps whole histories, where memory is refused at these lines
+-- a script's replay on a new device that keeps whole histories, with an allocation failure at these lines
 abbrev pub replay : Settings → List ℕ → List ℕ → Effect (List Note)
 replay settings script starved = whole_replay (device_settings settings) settings.seed script starved
 
@@ -21,7 +21,7 @@ report settings script starved = (replay settings script starved).text
 abbrev pub outcome : Settings → List ℕ → List ℕ → Outcome
 outcome settings script starved = if (replay settings script starved).session.refused then Refused else Clean
 
--- The writer has the report of the script and nothing else, memory having been refused at some lines or none, and the
+-- The writer has the report of the script and nothing else, with an allocation failure at some lines or none, and the
 -- outcome is the report's.
 pub record IsReported (settings : Settings) (script : List ℕ) (told : Outcome) (old new : Option (List ℕ)) : Type 0 where
   pub starved : List ℕ

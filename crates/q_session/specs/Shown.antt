@@ -9,7 +9,7 @@ use Rattle.q_model.specs.TreeState.{TreeState}
 use Rattle.q_tree.specs.Kept.{Kept}
 use Rattle.q_tree.specs.TreeSeen.{tree_numbers}
 
--- the tree is lawful at some moment, so that it has 256 qdiscs at most, and as many filters at a node
+-- the tree is lawful at some time, so that it has 256 qdiscs at most, and as many filters at a node
 abbrev pub IsLawfulSeen : TreeState Kept → Type 0
 IsLawfulSeen s = (clock : ℕ) × IsLawfulTree totals clock (tree_numbers s)
 

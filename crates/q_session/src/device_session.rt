@@ -60,7 +60,7 @@ impl DeviceSession {
     ///
     /// # Errors
     ///
-    /// `AllocError` where memory for the recorder is refused; never where it keeps no event.
+    /// `AllocError` if the allocation of the recorder fails; never where it keeps no event.
     pub fn open(alloc: Global, settings: &RunSettings) -> Result<DeviceSession, AllocError>
         ensures new { IfOk result (λ session. session ≡ opened settings.now) }
         ensures succeeds { settings.now.recorder ≡ 0 → IsOk result }
@@ -96,7 +96,7 @@ impl DeviceSession {
         self.notes.add_not_done(number, line, note);
     }
 
-    /// Looks at a line that was done, and gives a tbf this burst if it gives any, for what its writer may not want: a burst below the
+    /// Checks a line that was done, and gives a tbf this burst if it gives any, for what its writer may not want: a burst below the
     /// mtu, and a second name of the device.
     fn look_at(&mut self, number: u64, line: &[u8], burst: Option<u32>)
         ensures { self.new ≡ self.old }

@@ -47,7 +47,7 @@ impl Notes {
         &self.lines
     }
 
-    /// How many lines were not kept, since memory for them was refused.
+    /// How many lines were not kept, since the allocation for them failed.
     pub fn missed(&self) -> u64 {
         self.missed
     }
@@ -70,7 +70,7 @@ impl Notes {
         }
     }
 
-    /// Looks at the name of the device in a line that was done, where lines are kept, and keeps a line that has another one than the
+    /// Checks the name of the device in a line that was done, where lines are kept, and keeps a line that has another one than the
     /// first.
     pub fn look_at_device(&mut self, number: u64, line: &[u8]) {
         if !self.keeps {

@@ -72,7 +72,7 @@ fn put_packet(output: &mut Output, packet: &Packet)
     output.put_number(u64::from(packet.len));
 }
 
-/// What a poll gave. The line of a marked packet says that it met congestion.
+/// The answer of a poll. The line of a marked packet says that it met congestion.
 pub fn put_poll(output: &mut Output, polled: Polled)
     requires { HasRoom output.old most_poll }
     ensures { output.new ≡ output.old ++ poll_line polled }

@@ -1,4 +1,4 @@
--- The most bytes of a text, and of each of its parts: the sum of the most that stands in it.
+-- The most bytes of a text, and of each of its parts: the sum of the most that is in it.
 -- A number below 2^64 has at most 20 decimal digits, and one below 2^16 at most 4 hexadecimal ones.
 use Rattle.std.specs.Prelude.{ℕ, ◌+◌, ◌*◌, ◌≤◌, List, length}
 
@@ -82,7 +82,7 @@ most_fq_codel = most_sizes + most_times + most_losses
 abbrev pub most_options : ℕ
 most_options = most_setting + most_priomap
 
--- `qdisc `, a kind, a handle, a place and the options, with what stands between them
+-- `qdisc `, a kind, a handle, a place and the options, with what is between them
 abbrev pub most_qdisc_line : ℕ
 most_qdisc_line = 6 + most_kind + 1 + most_hex + 2 + most_place + most_options + 1
 
@@ -125,7 +125,7 @@ most_ip_proto = most_named + most_hex
 abbrev pub most_keys : ℕ
 most_keys = most_ip_proto + 2 * most_prefix + 2 * most_port
 
--- `filter parent `, `: prio ` and ` protocol `, with what stands behind each
+-- `filter parent `, `: prio ` and ` protocol `, with what is behind each
 abbrev pub most_matches : ℕ
 most_matches = 14 + most_hex + 7 + most_decimal + 10 + most_protocol
 

@@ -106,7 +106,7 @@ counters_line n = counters_text n.row ++ marked_text n.qdisc n.row ++ newline
 abbrev pub qdisc_text : Bool → NodeView → List ℕ
 qdisc_text counters n = qdisc_line n ++ (if counters then counters_line n else [])
 
--- a class of a drr waits for its turn with a deficit, or is asleep
+-- a class of a drr waits for its turn with a deficit, or is inactive
 abbrev pub turn_text : Option ℕ → List ℕ
 turn_text deficit = option_map_or (λ n. codes " active" ++ setting (codes "deficit") n []) deficit (codes " asleep")
 
@@ -143,7 +143,7 @@ keys_text k =
     given (codes "ip_proto") hex k.ip_proto ++ given (codes "src_ip") prefix_text k.src_ip ++ given (codes "dst_ip") prefix_text k.dst_ip
     ++ given (codes "src_port") decimal k.src_port ++ given (codes "dst_port") decimal k.dst_port
 
--- which packets a filter looks at, and into which class it gives them
+-- which packets a filter tests, and into which class it puts them
 abbrev pub matches_text : FilterView → List ℕ
 matches_text f = codes "filter parent " ++ hex f.parent ++ codes ": prio " ++ decimal f.filter.prio ++ codes " protocol " ++ protocol_text f.filter.protocol
 

@@ -19,7 +19,7 @@ pub fn put_filter(text: &mut Text, filter: &FilterView)
     text.put(b"\n");
 }
 
-/// The node that has the filter, its priority, and the protocol of the packets that it looks at.
+/// The node that has the filter, its priority, and the protocol of the packets that it tests.
 fn put_matches(text: &mut Text, filter: &FilterView)
     requires { HasRoom text.old most_matches }
     ensures text { text.new ≡ text.old ++ matches_text filter.now }
@@ -33,7 +33,7 @@ fn put_matches(text: &mut Text, filter: &FilterView)
     put_protocol(text, filter.filter.protocol);
 }
 
-/// The class that it gives its packets to.
+/// The class that it puts its packets into.
 fn put_into(text: &mut Text, filter: &FilterView)
     requires { HasRoom text.old most_into }
     ensures text { text.new ≡ text.old ++ into_text filter.now }

@@ -34,11 +34,11 @@ moment_of (event.Arrive p now) = now
 moment_of (event.Poll now) = now
 moment_of (event.Command c now) = now
 
--- the line that sets the moment, where it is another one than that of the line before
+-- the line that sets the time, where it is another one than that of the line before
 abbrev pub moment_text : ℕ → ℕ → List ℕ
 moment_text before now = if now == before then [] else line_text (line.At now) ++ codes "\n"
 
--- a line for each event, behind one that sets its moment; a script begins at moment 0
+-- a line for each event, behind one that sets its time; a script begins at time 0
 abbrev pub script_from : ℕ → List Event → List ℕ
 script_from before [] = []
 script_from before (e ∷ events) = moment_text before (moment_of e) ++ event_text e ++ codes "\n" ++ script_from (moment_of e) events

@@ -1,4 +1,4 @@
--- The most bytes of a line, and of each of its parts: the sum of the most that stands in it.
+-- The most bytes of a line, and of each of its parts: the sum of the most that is in it.
 use Rattle.std.specs.Prelude.{ℕ, ◌+◌, ◌*◌}
 use Rattle.q_show.specs.Lengths.{most_decimal, most_hex, most_ipv4, most_named}
 

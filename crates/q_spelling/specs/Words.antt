@@ -1,4 +1,4 @@
--- Words as they stand in a line behind its first one: a space before each. The words of each line are q_line's.
+-- Words as they are in a line behind its first one: a space before each. The words of each line are q_line's.
 use Rattle.std.specs.Prelude.{ℕ, List, ◌++◌, codes}
 use Rattle.std.specs.List.{flat_map}
 

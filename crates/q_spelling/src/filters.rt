@@ -10,7 +10,7 @@ use crate::options::{put_class, put_given_hexadecimal, put_given_port, put_handl
 use q_model::{ClassId, Filter, FilterKeys, Handle, Protocol};
 use q_show::Text;
 
-/// The node that has the filter, which packets it looks at, and the class that it gives them to.
+/// The node that has the filter, which packets it tests, and the class that it puts them into.
 pub fn put_filter(text: &mut Text, parent: Handle, major: Handle, filter: &Filter)
     requires { HasRoom text.old most_filter }
     ensures text { text.new ≡ text.old ++ spaced (filter_words parent major filter.now) }

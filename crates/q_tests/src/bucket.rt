@@ -1,24 +1,24 @@
-//! The token bucket, at worked moments.
+//! The token bucket, at worked times.
 ghost use Rattle.std.specs.Prelude.{◌≤◌, IfSome};
 
 use q_bucket::Bucket;
 use q_packet::Moment;
 use std::test::Fail;
 
-// A call, and what it has to answer. Moments are in nanoseconds, lengths and bursts in bytes, rates in bits a second.
+// A call, and what it has to answer. Times are in nanoseconds, lengths and bursts in bytes, rates in bits a second.
 #[derive(Clone, Copy)]
 enum Call {
-    // The moment, the length, and whether the packet goes.
+    // The time, the length, and whether the packet goes.
     Spend(u64, u16, bool),
-    // The length, and the least moment at which such a packet may go.
+    // The length, and the least time at which such a packet may go.
     Ready(u16, Option<u64>),
-    // The moment, and the level in units of 1/(8*10^9) byte.
+    // The time, and the level in units of 1/(8*10^9) byte.
     Level(u64, u128),
-    // The moment, and the rate and the burst from then on.
+    // The time, and the rate and the burst from then on.
     Change(u64, u64, u32),
 }
 
-// This moment, where the bucket may be asked at it.
+// This time, where the bucket may be asked at it.
 fn in_order(bucket: &Bucket, ns: u64) -> Option<Moment>
     ensures { IfSome result (λ at. bucket.now.last ≤ at) }
 {
@@ -64,7 +64,7 @@ fn answers(bucket: &mut Bucket, call: Call) -> Result<bool, Fail> {
     }
 }
 
-// Plays these calls on a bucket that is full at moment 0, and fails at the first that does not answer as it has to.
+// Plays these calls on a bucket that is full at time 0, and fails at the first that does not answer as it has to.
 fn play(rate: u64, burst: u32, calls: &[Call]) -> Result<(), Fail> {
     let mut bucket = full(rate, burst, 0)?;
     for (nth, call) in calls.iter().enumerate() {

@@ -37,16 +37,16 @@ fn at(ns: u64) -> Result<Moment, Fail> {
     Ok(Moment::new(ns).ok_or("a moment in range")?)
 }
 
-// A call on a queue with its CoDel, and what it has to answer. Moments and times are in nanoseconds.
+// A call on a queue with its CoDel, and what it has to answer. Times are in nanoseconds.
 #[derive(Clone, Copy)]
 enum Call {
-    // Packets from the first number to the one before the second are put at moment 0, with this codepoint.
+    // Packets from the first number to the one before the second are put at time 0, with this codepoint.
     Put(u64, u64, Ecn),
-    // The moment, the number of the packet that is taken, 0 where there is none, and whether it is marked.
+    // The time, the number of the packet that is taken, 0 where there is none, and whether it is marked.
     Poll(u64, u64, bool),
-    // The moment of a take, whatever it gives.
+    // The time of a take, whatever it gives.
     Take(u64),
-    // The moment of a take that loses one packet.
+    // The time of a take that loses one packet.
     TakeAndLoseOne(u64),
     // The number of the packet that CoDel dropped first of those that wait; 0 where none waits.
     Lost(u64),
@@ -83,7 +83,7 @@ impl Bench {
         })
     }
 
-    // Puts one packet at moment 0, and says whether it fits.
+    // Puts one packet at time 0, and says whether it fits.
     fn put_one(&mut self, number: u64, ecn: Ecn) -> Result<bool, Fail> {
         let packet = packet(number, ecn)?;
         let at = Moment::zero();
@@ -105,7 +105,7 @@ impl Bench {
         Ok(true)
     }
 
-    // What is taken at this moment, with room for all that may be lost.
+    // What is taken at this time, with room for all that may be lost.
     fn take(&mut self, ns: u64) -> Result<Option<Taken>, Fail> {
         let queue = &mut self.queue;
         let losses = &mut self.losses;
@@ -117,7 +117,7 @@ impl Bench {
         Ok(self.codel.take(queue, at(ns)?, losses))
     }
 
-    // Whether this packet is taken at this moment, and is marked or is not; with number 0 that none is.
+    // Whether this packet is taken at this time, and is marked or is not; with number 0 that none is.
     fn gives(&mut self, ns: u64, number: u64, marked: bool) -> Result<bool, Fail> {
         match self.take(ns)? {
             None => Ok(number == 0),
@@ -284,7 +284,7 @@ type State = (u32, u64);
 /// A CoDel drops until it has a count, and then comes to rest; its queue stands again, and one packet is dropped.
 ///
 /// It drops for the first time up to a count of 5, and at 510 ms for a second time, with a count that begins at 4. Takes at
-/// the two moments let it go on, the second with this interval. That leaves the first state; the drop at `now` leaves the
+/// the two times let it go on, the second with this interval. That leaves the first state; the drop at `now` leaves the
 /// second.
 fn drops_again(
     alloc: Global,
@@ -326,8 +326,8 @@ fn drops_again(
     )
 }
 
-// One packet is dropped after a time of dropping that ended, and the count goes on or begins anew. The columns: the moments
-// and the interval of the last drops, what they leave, the moment of the drop, and what it leaves.
+// One packet is dropped after a time of dropping that ended, and the count goes on or begins anew. The columns: the times
+// and the interval of the last drops, what they leave, the time of the drop, and what it leaves.
 #[test]
 fn a_count_is_resumed_within_16_intervals(rt: HostRuntime) -> Result<(), Fail> {
     let nine = [700 * MS, 740 * MS];

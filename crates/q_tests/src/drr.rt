@@ -261,7 +261,7 @@ fn classes_come_and_go(rt: HostRuntime) -> Result<(), Fail> {
 // What a take meets, and the turns that it took.
 type Taken = (Option<Met>, u64);
 
-// A take of a list on which both classes sleep.
+// A take of a list on which both classes are inactive.
 fn take_of_sleepers(alloc: Global) -> Result<Taken, Fail> {
     let mut active = Active::new(alloc, 100);
     active.add(1, 10)?;
@@ -357,7 +357,7 @@ fn the_others_keep_their_turns_when_a_class_is_removed(rt: HostRuntime) -> Resul
     )
 }
 
-// Wakes the class in a place, where there is one.
+// Makes the class in a place active, where there is one.
 fn wake_at(active: &mut Active, place: usize) -> Result<(), Fail> {
     if place >= active.count() {
         return Err(Fail::from("place"));

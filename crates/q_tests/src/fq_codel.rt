@@ -7,16 +7,16 @@ use std::test::Fail;
 
 const MS: u64 = 1_000_000;
 
-// A call, and what it has to answer. Moments are in nanoseconds, lengths in bytes.
+// A call, and what it has to answer. Times are in nanoseconds, lengths in bytes.
 #[derive(Clone, Copy)]
 enum Call {
-    // The length and the hash of a packet that is put at moment 0, and whether it is itself lost. Packets are numbered from 1.
+    // The length and the hash of a packet that is put at time 0, and whether it is itself lost. Packets are numbered from 1.
     Put(u16, u32, bool),
     // Ten packets of 1000 bytes with this codepoint are put in flow 0.
     PutTen(Ecn),
-    // The number of the packet that is sent unmarked at moment 0; 0 where none is.
+    // The number of the packet that is sent unmarked at time 0; 0 where none is.
     Take(u64),
-    // The moment of a take, the number of the packet that is sent, 0 where none is, and whether it is marked.
+    // The time of a take, the number of the packet that is sent, 0 where none is, and whether it is marked.
     TakeAt(u64, u64, bool),
     // The number of the packet that was lost first of those that wait to be reaped, and why.
     Lost(u64, Cause),
@@ -58,7 +58,7 @@ impl Bench {
         })
     }
 
-    // Puts a packet at moment 0, and says whether it is itself lost.
+    // Puts a packet at time 0, and says whether it is itself lost.
     fn put(&mut self, len: u16, hash: u32, ecn: Ecn) -> Result<bool, Fail> {
         self.puts = self.puts.saturating_add(1);
         let packet = packet(self.puts, len, hash, ecn)?;
@@ -79,7 +79,7 @@ impl Bench {
         Ok(true)
     }
 
-    // The number of the packet that is sent at this moment, and whether it was marked; number 0 where none is.
+    // The number of the packet that is sent at this time, and whether it was marked; number 0 where none is.
     fn take(&mut self, ns: u64) -> Result<(u64, bool), Fail> {
         let fq = &mut self.fq;
         let losses = &mut self.losses;

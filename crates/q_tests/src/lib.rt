@@ -1,6 +1,6 @@
 //! Tests that need nothing private of the crates below: a module for each crate or topic.
 //!
-//! They stand here so that those crates are proved once. A crate with tests of its own is proved a second time with them.
+//! They are here so that those crates are proved once. A crate with tests of its own is proved a second time with them.
 //! The crate exports nothing. Scripts with their reports are data and not code: `q_corpus` plays them.
 #![tactic(auto)]
 

@@ -99,14 +99,14 @@ const COUNTERS: &str =
 const FQ_CODEL: &str =
     "qdisc fq_codel 10: root limit 10240p flows 1024 quantum 1514 target 5000000ns interval 100000000ns ecn drop_batch 1\n";
 
-/// Looks that a text is written whole, and is this one.
+/// Checks that a text is written whole, and is this one.
 fn assert_text(rt: &impl Abort, alloc: Global, text: &Text, line: &str) {
     let mut written = Vec::new(alloc);
     assert_eq!(rt; write_text(&mut written, text), Ok(()));
     assert_eq!(rt; written.as_slice(), line.as_bytes(), "{line}");
 }
 
-/// Looks at what is shown of a qdisc without its counters, or with them.
+/// Checks what is shown of a qdisc without its counters, or with them.
 fn assert_shown(rt: &impl Abort, alloc: Global, node: &NodeView, counters: bool, line: &str) {
     assert_text(rt, alloc, &qdisc_text(node, counters), line);
 }
@@ -317,7 +317,7 @@ const FULL: Result<(), WriteFault> = Err(WriteFault {
     kind: ErrorKind::BrokenPipe,
 });
 
-/// Looks that a writer has a front of a text, as long as it can be.
+/// Checks that a writer has a front of a text, as long as it can be.
 fn assert_front(rt: &impl Abort, mut writer: Sipping, text: &Text, whole: &str) {
     let room = writer.room;
     assert_eq!(rt; write_text(&mut writer, text), FULL);

@@ -14,7 +14,7 @@ use std::sync::ledger::Ledger;
 use std::sync::{Mutex, Wait};
 use std::thread::Threads;
 
-/// A device with the default settings at which nothing has arrived, which records so many events. `None` where memory is refused.
+/// A device with the default settings at which nothing has arrived, which records so many events. `None` if an allocation fails.
 pub fn device(alloc: Global, recorded: u32) -> Option<Device>
     ensures { IfSome result (λ d. d.device.tree.top.arrived ≡ no_totals) }
 {
@@ -28,7 +28,7 @@ pub fn limited(alloc: Global, limit: u32, recorded: u32) -> Option<Device>
     Device::open(alloc, Settings::new(1514, limit, recorded)?).ok()
 }
 
-/// The device of [`device`], at the second try where memory is refused.
+/// The device of [`device`], at the second try if an allocation fails.
 pub fn retried(alloc: Global, recorded: u32) -> Option<Device>
     ensures { IfSome result (λ d. d.device.tree.top.arrived ≡ no_totals) }
 {
@@ -105,7 +105,7 @@ pub fn assert_full<R: Abort>(rt: &R, ports: &mut Vec<Port>, packet: Packet)
     assert_eq!(rt; offer_at(ports, 0, packet), Err(Full(packet)));
 }
 
-/// A turn at this moment, of so many packets at most.
+/// A turn at this time, of so many packets at most.
 pub fn turn<P: Ledger, B: Ledger, R: Wait + Abort>(
     rt: &R,
     alloc: Global,
@@ -159,7 +159,7 @@ pub fn assert_settles<P: Ledger, B: Ledger, R: Wait + Abort>(
     assert_settles_at(rt, booked, drain, ports, wanted, 0);
 }
 
-/// The same at this moment.
+/// The same at this time.
 pub fn assert_settles_at<P: Ledger, B: Ledger, R: Wait + Abort>(
     rt: &R,
     booked: &Mutex<Booked<P, B>>,
@@ -181,7 +181,7 @@ pub fn assert_settles_at<P: Ledger, B: Ledger, R: Wait + Abort>(
     }
 }
 
-/// The moment of this nanosecond, or of 0 where there is none so late.
+/// The time of this nanosecond, or of 0 where there is none so late.
 pub fn moment(now: u64) -> Moment {
     match Moment::new(now) {
         Some(moment) => moment,

@@ -15,7 +15,7 @@ pub struct DriveWalk {
     given: Packet,
     limit: u64,
     step: u64,
-    /// The moment of the turn, and of the next one.
+    /// The time of the turn, and of the next one.
     now: u64,
     next: u64,
     arrivals: u64,

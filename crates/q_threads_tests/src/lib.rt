@@ -1,5 +1,5 @@
 //! Tests of `q_ports` that no clause can stand for: that offers are taken, that turns go round the ports, that gauges go on, that
-//! senders run at the same time and outlive the drain, and that what was refused memory succeeds later. They start threads.
+//! senders run at the same time and outlive the drain, and that a call whose allocation failed succeeds later. They start threads.
 #![tactic(auto)]
 
 #[cfg(test)]

@@ -260,7 +260,7 @@ fn assert_sends<R: Abort>(rt: &R, turn: &Turn, wanted: &[(u32, u64)]) {
     }
 }
 
-// Turns go on round the ports. Then each of 100 turns tells, and a gauge that learns nothing goes on all the same.
+// Turns go on round the ports. Then each of 100 turns reports, and a gauge that learns nothing goes on all the same.
 fn going_round<P: Ledger, B: Ledger, R: Wait + Abort>(
     rt: &R,
     alloc: Global,
@@ -283,7 +283,7 @@ fn going_round<P: Ledger, B: Ledger, R: Wait + Abort>(
         assert_tells(rt, alloc, &booked, &mut drain, 64, count);
         assert_shows(rt, &mut gauge, shown);
     }
-    // A turn that finds nothing tells of the same row once more.
+    // A turn that finds nothing reports the same row once more.
     assert_tells(rt, alloc, &booked, &mut drain, 64, 0);
     assert_tells(rt, alloc, &booked, &mut drain, 64, 0);
     assert_shows(rt, &mut gauge, shown);
@@ -315,7 +315,7 @@ fn offer_at_each<R: Abort>(rt: &R, ports: &mut Vec<Port>, count: usize, given: P
     }
 }
 
-// A turn takes and sends so many packets, and tells.
+// A turn takes and sends so many packets, and reports.
 fn assert_tells<P: Ledger, B: Ledger, R: Wait + Abort>(
     rt: &R,
     alloc: Global,

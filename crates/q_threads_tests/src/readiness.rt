@@ -1,4 +1,4 @@
-//! From which moment on the device behind the lock may give its next packet.
+//! From which time on the device behind the lock may give its next packet.
 ghost use Rattle.std.specs.Prelude.{◌≡◌};
 
 use crate::common::{device, packet};
@@ -68,7 +68,7 @@ fn set_up<P: Ledger, B: Ledger, R: Abort>(rt: &R, booked: &mut Booked<P, B>) {
     assert_eq!(rt; booked.command(slow, Moment::zero()), Ok(()));
 }
 
-// From this moment on the device may give a packet.
+// From this time on the device may give a packet.
 fn assert_ready_at<P: Ledger, B: Ledger, R: Abort>(
     rt: &R,
     booked: &Booked<P, B>,
@@ -77,7 +77,7 @@ fn assert_ready_at<P: Ledger, B: Ledger, R: Abort>(
     assert_eq!(rt; booked.ready_at(), wanted);
 }
 
-// A poll at this moment answers so.
+// A poll at this time answers so.
 fn assert_gives<P: Ledger, B: Ledger, R: Abort>(
     rt: &R,
     booked: &mut Booked<P, B>,

@@ -1,4 +1,4 @@
-//! Calls that are refused memory, and called again.
+//! Calls for which an allocation fails, and which are then made again.
 //!
 //! `rt try --test --fail-alloc N` refuses the Nth allocation of the tests, and `tools/refuse-memory` each thread too. These pass for every
 //! N: what was refused succeeds at the second call, and nothing is lost.
@@ -185,7 +185,7 @@ fn refused<P: Ledger, B: Ledger, R: Wait + Abort>(
     assert_totals(rt, row(rt, &booked).arrived, hundreds(PACKETS));
 }
 
-// A drain with ports and a gauge, at the second call where memory was refused.
+// A drain with ports and a gauge, at the second call if an allocation failed.
 fn open_all<P: Ledger, B: Ledger, R: Wait + Abort>(
     rt: &R,
     alloc: Global,
@@ -209,7 +209,7 @@ fn open_all<P: Ledger, B: Ledger, R: Wait + Abort>(
     }
 }
 
-// A turn of four, at the second call where memory was refused. The gauge reads what arrived, unless nothing was told.
+// A turn of four, at the second call if an allocation failed. The gauge reads what arrived, unless nothing was reported.
 fn turn<P: Ledger, B: Ledger, R: Wait + Abort>(
     rt: &R,
     alloc: Global,
@@ -235,7 +235,7 @@ fn arrived<R: Abort>(rt: &R, gauges: &mut Vec<Gauge>) -> u64 {
     gauge.read().expect(rt, "a row").arrived.packets
 }
 
-// Settles, at the second call where memory was refused, and answers how much.
+// Settles, at the second call if an allocation failed, and answers how much.
 fn settle<P: Ledger, B: Ledger, R: Wait + Abort>(
     rt: &R,
     booked: &Mutex<Booked<P, B>>,

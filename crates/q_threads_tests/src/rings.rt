@@ -47,7 +47,7 @@ fn assert_all_arrived<R: Abort>(rt: &R, port: &Port, outlet: &Outlet, fed: &Devi
     assert_totals(rt, fed.totals().arrived, all);
 }
 
-// What is refused memory stays in the ring, and the next call takes it in.
+// A packet for which an allocation fails stays in the ring, and the next call takes it in.
 #[test]
 fn ring_keeps_what_was_refused(rt: HostRuntime) -> Result<(), Fail> {
     let alloc = rt.alloc();
@@ -59,7 +59,7 @@ fn ring_keeps_what_was_refused(rt: HostRuntime) -> Result<(), Fail> {
     Ok(())
 }
 
-// Both ends of a ring, where memory for it is not refused twice.
+// Both ends of a ring, unless its allocation fails twice.
 fn ring(alloc: Global) -> Option<(Port, Outlet)> {
     match open_ring(alloc, 3, 4) {
         Ok(ends) => Some(ends),
@@ -67,7 +67,7 @@ fn ring(alloc: Global) -> Option<(Port, Outlet)> {
     }
 }
 
-// Of three packets two are asked for, and then all. One call at most is refused memory.
+// Of three packets two are asked for, and then all. An allocation fails in one call at most.
 fn assert_keeps<R: Abort>(
     rt: &R,
     port: &mut Port,

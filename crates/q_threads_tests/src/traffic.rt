@@ -10,7 +10,7 @@ const LOOKS: u64 = 10_000_000;
 /// How many packets are offered, and how many rows are read, once the drain has ended.
 pub const AFTER: u64 = 100;
 
-/// What senders and gauges are told of a drain that ends beside them, and what they tell.
+/// What senders and gauges learn of a drain that ends beside them, and what they report.
 #[derive(Drop)]
 pub struct Traffic {
     ended: AtomicBool,

@@ -35,7 +35,7 @@ impl Unbooked {
         }
     }
 
-    /// A new book of the device behind a lock, and its seat.
+    /// A new book of the device behind a lock, and its permit.
     pub fn locked<P: Ledger, B: Ledger>(self) -> (Mutex<Booked<P, B>>, Seat<P, B>)
         requires { (self.packets.name ≡ P.name) × (P.parts ≡ 65) × (self.bytes.name ≡ B.name) × (B.parts ≡ 65) }
         ensures { result.1 ≡ held 65 0 0 }

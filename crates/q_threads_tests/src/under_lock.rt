@@ -22,7 +22,7 @@ use std::test::Fail;
 /// In place of a port: the event is a poll.
 const POLL: u32 = u32::MAX;
 
-/// What has to have happened in the end: of each arrival its port, its number there and its moment, of each poll its moment.
+/// What has to have happened in the end: of each arrival its port, its number there and its time, of each poll its time.
 ///
 /// A turn of four takes a packet from each ring in turn; the queue has room for three, so that the fourth poll finds none. A turn of
 /// two goes on after the ring that was taken from last, and polls twice. Settling empties one ring after the other.

@@ -72,7 +72,7 @@ fn undrained<P: Ledger + Send + Sync, B: Ledger + Send + Sync, R: Threads + Wait
 }
 
 // The recorded events are those of such a drive, and every packet that was refused comes back, and no other. What came behind a full
-// recorder is not looked at.
+// recorder is not checked.
 fn assert_walked<P: Ledger, B: Ledger, R: Wait + Abort>(
     rt: &R,
     booked: &Mutex<Booked<P, B>>,

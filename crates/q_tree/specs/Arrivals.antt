@@ -29,11 +29,11 @@ HasPlaceIn places (spec.Prio priomap) = Unit {0}
 HasPlaceIn places (spec.Tbf bucket limit) = Unit {0}
 HasPlaceIn places (spec.Drr s) = Unit {0}
 
--- and so has the queue where the way ends
+-- and so has the queue where the path ends
 abbrev pub HasPlace : List ℕ → spec.Node Kept → Type 0
 HasPlace path n = IfSome (node_at path n) (λ (end : spec.Node Kept). HasPlaceIn end.memory.places end.own.discipline)
 
--- a packet can be put along this way: it is the packet's way, the tree is lawful at `now`, the place is there where it is
+-- a packet can be put along this path: it is the packet's path, the tree is lawful at `now`, the place is there where it is
 -- not refused, and the counters do not overflow
 pub record CanPut (now : ℕ) (p : Descriptor) (path : List ℕ) (refusal : Option Cause) (n : spec.Node Kept) : Type 0 where
   pub mtu : ℕ

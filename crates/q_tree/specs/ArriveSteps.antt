@@ -35,7 +35,7 @@ use Rattle.q_tree.specs.declared.outcome.Outcome.{Outcome}
 abbrev pub nothing_lost : Outcome
 nothing_lost = record { loss = None; refused = no_totals; dropped = no_totals }
 
--- A packet that was put into its flow of an fq_codel: what the flows hold then, what is counted of it, and what the sink was told.
+-- A packet that was put into its flow of an fq_codel: what the flows hold then, what is counted of it, and which losses the sink got.
 -- Over the limit it may be lost itself, or packets of the fattest flow are; it is never refused.
 pub record IsPutInFlow (now : ℕ) (p : Descriptor) (old new : FqState) (o : Outcome) (losses losses_after : List Loss) (room room_after : ℕ) : Type 0 where
   pub after : new ≡ after_put old p now
@@ -78,7 +78,7 @@ pub record IsPlacedIn (before after : Discipline) : Type 0 where
   pub places : places_seen before ≤ places_seen after
   pub grows : (way : List ℕ) (i : ℕ) → places_under way i (children_seen before) ≤ places_under way i (children_seen after)
 
--- what is told above the node of the packet's losses
+-- what is reported of the packet's losses above the node
 abbrev pub rises_along : ℕ → Descriptor → spec.Node Kept → List Note
 rises_along now p n = (put_along now p (route p n).refusal (route p n).path (shape n)).rises
 
@@ -91,16 +91,16 @@ pub record HasCome (now : ℕ) (p : Descriptor) (before after : spec.Node Kept) 
   pub arrived : after.memory.counts.arrived ≡ with_packet placed.memory.counts.arrived p
   pub outcome : IsOutcome (loss_at_end now p (shape placed) (route p before)) (put_along now p (route p before).refusal (route p before).path (shape placed)).rises o
 
--- the way from a discipline that has these filters
+-- the path from a discipline that has these filters
 abbrev pub way_in : Descriptor → List Filter → Discipline → Route
 way_in p filters d = way p (own_of None filters (discipline_seen d)) (ways p (children_seen d)) (discipline_seen d)
 
--- there is a place at the end of a way from a discipline
+-- there is a place at the end of a path from a discipline
 abbrev pub HasPlaceOn : List ℕ → Discipline → Type 0
 HasPlaceOn [] d = HasPlaceIn (places_seen d) (discipline_seen d)
 HasPlaceOn (i ∷ rest) d = HasPlaceAt rest i (children_seen d)
 
--- the way ends in a discipline: the packet is queued in its own list, or refused
+-- the path ends in a discipline: the packet is queued in its own list, or refused
 pub record HasEnded (now : ℕ) (p : Descriptor) (refusal : Option Cause) (placed after : Discipline) (o : Outcome) (notes : List Note) : Type 0 where
   pub place : refusal ≡ None → HasPlaceIn (places_seen placed) (discipline_seen placed)
   pub queued : IsQueued now p refusal placed after o
@@ -118,7 +118,7 @@ abbrev pub IsPutOn : ℕ → Descriptor → Option Cause → List ℕ → Discip
 IsPutOn now p refusal [] placed after o notes = HasEnded now p refusal placed after o notes
 IsPutOn now p refusal (i ∷ rest) placed after o notes = HasGone now p refusal i rest placed after o notes
 
--- the packet came to a discipline, and a sink was told of its losses
+-- the packet came to a discipline, and a sink got its losses
 pub record HasComeIn (now : ℕ) (p : Descriptor) (filters : List Filter) (before after : Discipline) (o : Outcome) (losses losses_after : List Loss) (room room_after : ℕ) : Type 0 where
   pub placed : Discipline
   pub is_placed : IsPlacedIn before placed

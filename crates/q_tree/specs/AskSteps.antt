@@ -51,7 +51,7 @@ pub record CanServe (now : ℕ) (s : Schedule) (ns : List (spec.Node Kept)) : Ty
   pub longest : s.max_len ≡ each.mtu
   pub same : length ns ≡ length s.classes
 
--- what is queued in a discipline's own lists and beneath it
+-- what is queued in a discipline's own lists and below it
 abbrev pub packets_within : Discipline → List Descriptor
 packets_within d = packets_in (discipline_seen d) ++ packets_beneath (children_seen d)
 
@@ -126,7 +126,7 @@ pub record IsAskedOnce (now : ℕ) (before after : spec.Node Kept) (so_far s : S
   pub dropped : s.dropped ≡ plus so_far.dropped (counts_in (ask now (shape before)).rises).dropped
   pub marked : s.marked ≡ plus so_far.marked (counts_in (ask now (shape before)).rises).marked
 
--- a class that gives its packet, and the schedule then
+-- a class that hands out its packet, and the schedule then
 pub record IsGivenBy (place : ℕ) (c : spec.Node Kept) (before after : Schedule) (ns ms : List (spec.Node Kept)) : Type 0 where
   pub classes : ms ≡ set ns place (booked kept c (pop c).after)
   pub schedule : after ≡ settled_class place (is_empty (booked kept c (pop c).after)) before

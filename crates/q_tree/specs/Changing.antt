@@ -64,7 +64,7 @@ fq_codel_answer o (Tbf bucket limit) = Err CannotChange
 fq_codel_answer o (Drr s) = Err CannotChange
 fq_codel_answer o (FqCodel s) = done_unless (flows_check o.flows s.settings.flows) (SetOptions o)
 
--- how many nodes stand at the children from this place on, and beneath them
+-- how many nodes are at the children from this place on, and below them
 abbrev pub nodes_from : ℕ → Node Kept → ℕ
 nodes_from place n = sum (map count_nodes (drop place (children n)))
 
@@ -99,7 +99,7 @@ NeedsMore (kind.Tbf rate burst limit) plan = ⊥
 NeedsMore kind.Drr plan = ⊥
 NeedsMore (kind.FqCodel options) plan = ⊥
 
--- a change of this node is the remaking that the model plans for it, whichever way leads there
+-- a change of this node is the remaking that the model plans for it, whichever path leads there
 pub record IsRemade (plan : List ℕ → Result model.Edit Refusal) (n : Node Kept) (r : DisciplineChange) : Type 0 where
   pub own : Own
   pub below : List Child

@@ -21,7 +21,7 @@ WantsMemory (ClassDel parent class) plan = takes_none
 WantsMemory (FilterAdd parent major filter) plan = takes_memory
 WantsMemory (FilterDel parent prio) plan = takes_none
 
--- the same, so far as the line tells it: a prio may get more bands
+-- the same, so far as the line says it: a prio may get more bands
 abbrev pub MayGetBands : Kind → Type 0
 MayGetBands (kind.Pfifo limit) = ⊥
 MayGetBands (kind.Bfifo limit) = ⊥

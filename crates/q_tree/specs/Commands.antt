@@ -32,7 +32,7 @@ takes_memory = Unit {0}
 abbrev pub takes_none : Type 0
 takes_none = ⊥
 
--- the first refusal that holds; where none does, want of memory, of a command that takes memory
+-- the first refusal that holds; where none does, an allocation failure, of a command that takes memory
 abbrev pub IsRefused : Type 0 → Result model.Edit Refusal → Refusal → Type 0
 IsRefused memory (Err first) refusal = refusal ≡ first
 IsRefused memory (Ok edit) refusal = (refusal ≡ Memory) × memory
@@ -53,7 +53,7 @@ told (Ok edit) root (Ok done) = losses_in (model.lost_by edit root)
 told (Ok edit) root (Err refusal) = []
 told (Err first) root answer = []
 
--- the device after an edit at the end of this way
+-- the device after an edit at the end of this path
 abbrev pub device_edited : Edit → List ℕ → ℕ → DeviceState Kept → DeviceState Kept
 device_edited e path now d = record {
   clock = now;

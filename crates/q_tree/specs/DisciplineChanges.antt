@@ -88,7 +88,7 @@ bands_going bands new (spec.Tbf bucket limit) children = []
 bands_going bands new (spec.Drr s) children = []
 bands_going bands new (spec.FqCodel s) children = []
 
--- an implicit bfifo beneath a tbf has the tbf's limit; a qdisc with a handle has its own
+-- an implicit bfifo below a tbf has the tbf's limit; a qdisc with a handle has its own
 abbrev pub leaf_limited : ℕ → Node Kept → Node Kept
 leaf_limited limit leaf = if is_some leaf.own.handle then leaf else record leaf { own = record leaf.own { discipline = relimited limit leaf.own.discipline } }
 

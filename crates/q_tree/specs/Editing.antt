@@ -1,4 +1,4 @@
--- What an edit of a tree makes of the node at the end of its way, and of the nodes above it (tc(8), `add`, `change`, `del`).
+-- What an edit of a tree makes of the node at the end of its path, and of the nodes above it (tc(8), `add`, `change`, `del`).
 -- Each node above counts what is lost as dropped, and a class of a drr that is thereby empty leaves the active list.
 use Rattle.std.specs.Prelude.{◌≡◌, ℕ, ◌<◌, ◌≤◌, ◌^◌, ◌==◌, Bool, false, not, nat_lt, List, [], length, set}
 use Rattle.std.specs.List.{filter}
@@ -49,7 +49,7 @@ removed (AddFilter f) n = []
 removed (RemoveFilters prio) n = []
 removed (DisciplineChange r) n = lost_with r n.own.discipline (children n)
 
--- what stands in place of a node is new: it has counted nothing, and nothing is queued there
+-- what takes the place of a node is new: it has counted nothing, and nothing is queued there
 abbrev pub IsReady : Edit → Type 0
 IsReady (Graft new) = IsFresh new
 IsReady (AddFilter f) = Unit {0}
@@ -63,21 +63,21 @@ LosesNothing (AddFilter f) = Unit {0}
 LosesNothing (RemoveFilters prio) = Unit {0}
 LosesNothing (DisciplineChange r) = KeepsAll r
 
--- whether it brings nodes beneath another, for whose handles there has to be room
+-- whether it brings nodes below another, for whose handles there has to be room
 abbrev pub adds_nodes : Edit → Bool
 adds_nodes (Graft new) = nat_lt 0 (length (children new))
 adds_nodes (AddFilter f) = false
 adds_nodes (RemoveFilters prio) = false
 adds_nodes (DisciplineChange r) = adds_children r
 
--- the edits that take memory: for a filter or a child more, or for the handles where there were none beneath the root
+-- the edits that take memory: for a filter or a child more, or for the handles where there were none below the root
 abbrev pub TakesMemory : Edit → Type 0
 TakesMemory (Graft new) = 0 < length (children new)
 TakesMemory (AddFilter f) = Unit {0}
 TakesMemory (RemoveFilters prio) = ⊥
 TakesMemory (DisciplineChange r) = TakesMore r
 
--- the same for a way from a node down
+-- the same for a path from a node down
 abbrev pub removed_at : Edit → List ℕ → Node Kept → List Descriptor
 removed_at e path n = option_map_or (removed e) (node_at path n) []
 
@@ -98,7 +98,7 @@ pub record CanDrop (lost : Totals) (r : Row) : Type 0 where
   pub arrived_packets : r.arrived.packets < 2 ^ 64
   pub arrived_bytes : r.arrived.bytes < 2 ^ 64
 
--- a discipline after an edit beneath its child in this place
+-- a discipline after an edit below its child in this place
 pub record IsEditedBeneath (e : Edit) (rest : List ℕ) (place : ℕ) (c : Node Kept) (old new : Discipline) : Type 0 where
   pub discipline : discipline_seen new ≡ settled_in place (is_empty (edited_by e rest c)) (discipline_seen old)
   pub children : children_seen new ≡ set (children_seen old) place (edited_by e rest c)

@@ -1,4 +1,4 @@
--- Which refusals a new qdisc meets at the end of a way, once the place is known to be there (tc(8), `add`).
+-- Which refusals a new qdisc meets at the end of a path, once the place is known to be there (tc(8), `add`).
 use Rattle.std.specs.Prelude.{ℕ, ◌+◌, ◌-◌, nat_lt, List, [], ◌∷◌, length, Option}
 use Rattle.std.specs.Option.{option_map_or}
 use Rattle.q_model.specs.declared.kind.Kind.{Kind}

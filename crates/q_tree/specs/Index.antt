@@ -1,4 +1,4 @@
--- An index of the handles in a tree, with the ways to their qdiscs (tc(8), "NAMING").
+-- An index of the handles in a tree, with the paths to their qdiscs (tc(8), "NAMING").
 use Rattle.std.specs.Prelude.{ℕ, ◌+◌, Bool, not, ◌==◌, List, [], ◌∷◌, ◌++◌, map, length, Option, option_map, if◌then◌else◌, refl}
 use Rattle.std.specs.Coded.{Coded, code_by, coded×, coded_ℕ, coded_list}
 use Rattle.std.specs.List.{find, list_any}
@@ -9,7 +9,7 @@ use Rattle.q_model.specs.Find.{Address, addresses, from_parent}
 use Rattle.q_model.specs.Node.{Node, children}
 use Rattle.q_tree.specs.Kept.{Kept}
 
--- the addresses in the order of show, and for how many beneath the root there is room
+-- the addresses in the order of show, and for how many below the root there is room
 pub record Index : Type 0 where
   pub addresses : List Address
   pub room : ℕ
@@ -20,30 +20,30 @@ address_code = code_by (ℕ × List ℕ) (coded× coded_ℕ (coded_list coded_�
 abbrev pub index_code : Coded Index
 index_code = code_by (List Address × ℕ) (coded× (coded_list address_code) coded_ℕ) (λ i. (i.addresses, i.room)) (λ p. record { addresses = p.0; room = p.1 }) (λ _. refl)
 
--- what a map from handles to ways has
+-- what a map from handles to paths has
 abbrev pub address_of : ℕ × ArrayVec ℕ → Address
 address_of e = record { handle = e.0; path = e.1.items }
 
 abbrev pub listed : List (ℕ × ArrayVec ℕ) → List Address
 listed entries = map address_of entries
 
--- one more; a handle that is there gets this way
+-- one more; a handle that is there gets this path
 abbrev pub added : List Address → Address → List Address
 added [] a = a ∷ []
 added (x ∷ xs) a = if a.handle == x.handle then record x { path = a.path } ∷ xs else x ∷ added xs a
 
--- an address seen from the node from which this way leads to where it was seen from
+-- an address seen from the node from which this path leads to where it was seen from
 abbrev pub under : List ℕ → Address → Address
 under path a = record a { path = path ++ a.path }
 
 abbrev pub own_address : List ℕ → Option ℕ → List Address
 own_address path handle = option_map_or (λ h. record { handle = h; path = path } ∷ []) handle []
 
--- those beneath a node
+-- those below a node
 abbrev pub addresses_beneath : Node Kept → List Address
 addresses_beneath n = from_parent (map addresses (children n))
 
--- the way to a handle, whether it is there, and the least that is not, from 8001 (hexadecimal) on
+-- the path to a handle, whether it is there, and the least that is not, from 8001 (hexadecimal) on
 abbrev pub path_among : ℕ → List Address → Option (List ℕ)
 path_among handle found = option_map (λ (a : Address). a.path) (find (λ (a : Address). a.handle == handle) found)
 

@@ -7,7 +7,7 @@ use Rattle.q_tree.specs.FilterShapes.{Parts, bucket, parts_wanted, shape_of}
 use Rattle.q_tree.specs.declared.filter_shape.FilterShape.{FilterShape}
 use Rattle.q_tree.specs.declared.filter_index.FilterIndex.{FilterIndex}
 
--- the buckets of all groups stand side by side, 256 for each
+-- the buckets of all groups are side by side, 256 for each
 abbrev pub home_of : ℕ → Parts → ℕ
 home_of group parts = group * 256 + bucket parts
 

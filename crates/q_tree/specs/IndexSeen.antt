@@ -1,4 +1,4 @@
--- What a contract sees of the handles of a tree of the code: that of the root, and a map for those beneath it.
+-- What a contract sees of the handles of a tree of the code: that of the root, and a map for those below it.
 use Rattle.std.specs.Prelude.{◌+◌, [], ◌++◌, length}
 use Rattle.std.specs.HashMap.{spare}
 use Rattle.q_tree.specs.Index.{Index, listed, own_address}

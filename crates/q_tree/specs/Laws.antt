@@ -16,7 +16,7 @@ use Rattle.q_tree.specs.Arrivals.{plus}
 use Rattle.q_tree.specs.Kept.{Kept, kept}
 use Rattle.q_tree.specs.Places.{places_at}
 
--- Where the way to a node leaves the packet's route, a put changes nothing there: neither the node nor what it counted.
+-- Where the path to a node leaves the packet's route, a put changes nothing there: neither the node nor what it counted.
 abbrev pub PutLeavesOtherSubtrees : Type 0
 PutLeavesOtherSubtrees =
     (now : ℕ) (p : Descriptor) (s : TreeState Kept) (r : Route) (shared rest below : List ℕ) (i j : ℕ)
@@ -27,12 +27,12 @@ PutLeavesOtherSubtrees =
 abbrev pub PutKeepsPlaces : Type 0
 PutKeepsPlaces = (now : ℕ) (p : Descriptor) (s : TreeState Kept) (way : List ℕ) → places_at way (put kept now p s).root ≡ places_at way s.root
 
--- the way to the node that a command edits
+-- the path to the node that a command edits
 abbrev pub way_to : Edit → List ℕ
 way_to (Graft path new) = path
 way_to (Remake path own below) = path
 
--- Where the way to a node leaves that, a command changes nothing there: neither the node, nor what it counted, nor its places.
+-- Where the path to a node leaves that, a command changes nothing there: neither the node, nor what it counted, nor its places.
 abbrev pub EditLeavesOtherSubtrees : Type 0
 EditLeavesOtherSubtrees =
     (edit : Edit) (s : TreeState Kept) (shared rest below : List ℕ) (i j : ℕ) → way_to edit ≡ shared ++ i ∷ rest → i ≢ j

@@ -19,7 +19,7 @@ takes_numbers f key =
 abbrev pub takes_addresses : FilterKeys → Key → Bool
 takes_addresses keys key = agrees keys.src_ip (λ p. has_prefix p key key.src) && agrees keys.dst_ip (λ p. has_prefix p key key.dst)
 
--- how many filters stand before the first that takes the numbers of a key; all, where none does
+-- how many filters are before the first that takes the numbers of a key; all, where none does
 abbrev pub before_taker : Key → List Filter → ℕ
 before_taker key [] = 0
 before_taker key (f ∷ filters) = if takes_numbers f key then 0 else suc (before_taker key filters)

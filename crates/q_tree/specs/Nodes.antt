@@ -7,17 +7,17 @@ use Rattle.q_model.specs.Views.{places_below}
 use Rattle.q_tree.specs.Kept.{Kept}
 use Rattle.q_tree.specs.Showing.{standing_in}
 
--- the children of a node from this one on, and all beneath them
+-- the children of a node from this one on, and all below them
 abbrev pub children_from : {M : Type 0} → ℕ → Node M → List (Place × Node M)
 children_from i n = standing_in (drop i (places_below n.own n.below)) (side_by_side (drop i (children n)))
 
--- Behind the node at the end of this way down come all beneath it, and then, from the end of the way up, the nodes further on
+-- Behind the node at the end of this path down come all below it, and then, from the end of the path up, the nodes further on
 -- at each level.
 abbrev pub behind : {M : Type 0} → List ℕ → Node M → List (Place × Node M)
 behind [] n = children_from 0 n
 behind (i ∷ way) n = option_map_or (behind way) (slice_get (children n) i) [] ++ children_from (i + 1) n
 
--- the node that comes first behind the one at the end of a way down from n, and the way to it, which goes on from `here`
+-- the node that comes first behind the one at the end of a path down from n, and the path to it, which goes on from `here`
 pub record IsNextBehind (way : List ℕ) (n : Node Kept) (here there : List ℕ) (x : Place × Node Kept) : Type 0 where
   pub on : List ℕ
   pub way_on : there ≡ here ++ on

@@ -1,4 +1,4 @@
--- How a proof tells apart nodes where they stand. Nothing here is of a standard.
+-- How a proof tells apart nodes where they are. Nothing here is of a standard.
 use Rattle.std.specs.Prelude.{List}
 use Rattle.std.specs.Coded.{Coded, coded×, coded_list}
 use Rattle.q_model.specs.declared.place.Place.{Place}

@@ -10,7 +10,7 @@ use Rattle.q_tree.specs.Nodes.{behind}
 use Rattle.q_tree.specs.Showing.{IsNumbered, standing}
 use Rattle.q_tree.specs.declared.nodes.Nodes.TheInside.{Inside}
 
--- behind the one to which this way leads, or all
+-- behind the one to which this path leads, or all
 abbrev pub left_behind : Option (ArrayVec ℕ) → Node Kept → List (Place × Node Kept)
 left_behind None n = standing place.Root n
 left_behind (Some way) n = behind way.items n

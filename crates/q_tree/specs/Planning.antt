@@ -1,4 +1,4 @@
--- Over what a command is planned (tc(8)): a tree, the device that lends to its qdiscs (ip-link(8)), and a moment.
+-- Over what a command is planned (tc(8)): a tree, the device that lends to its qdiscs (ip-link(8)), and a time.
 use Rattle.std.specs.Prelude.{Result}
 use Rattle.q_invariants.proofs.Kept.{IsLawfulRoot}
 use Rattle.q_model.specs.declared.command.Command.{Command}
@@ -19,7 +19,7 @@ device_of p = record { mtu = p.mtu; txqueuelen = p.txqueuelen }
 abbrev pub root_of : Planner → Node Kept
 root_of p = p.qdiscs.root.now
 
--- all disciplines of the tree are lawful at the moment
+-- all disciplines of the tree are lawful at that time
 abbrev pub IsLawful : Planner → Type 0
 IsLawful p = IsLawfulRoot p.mtu p.moment (root_of p)
 

@@ -1,4 +1,4 @@
--- What popping comes to at one node: which band of a prio gives, and what its discipline and its row are then.
+-- What popping comes to at one node: which band of a prio hands out a packet, and what its discipline and its row are then.
 -- tc-prio(8); the counters are those of `tc -s qdisc show` (tc(8)).
 use Rattle.std.specs.Prelude.{◌≡◌, ℕ, ◌<◌, ◌≤◌, List, [], map, length, Option, Some, None}
 use Rattle.std.specs.List.{All}

@@ -1,4 +1,4 @@
--- What is lost where a node is removed with all that is beneath it (tc(8), `del`).
+-- What is lost where a node is removed with all that is below it (tc(8), `del`).
 use Rattle.std.specs.Prelude.{List, map}
 use Rattle.q_packet.specs.Descriptor.{Descriptor}
 use Rattle.q_packet.specs.declared.cause.Cause.TheVariants.{Purged}

@@ -1,4 +1,4 @@
--- What putting a packet comes to at one node of its way: in its own queue where the way ends, else in one of its children.
+-- What putting a packet comes to at one node of its path: in its own queue where the path ends, else in one of its children.
 -- tc-pfifo(8), tc-drr(8), tc-fq_codel(8).
 use Rattle.std.specs.Prelude.{◌≡◌, ℕ, ◌<◌, length, true, List, [], map, set, slice_get, Option, Some, None}
 use Rattle.std.specs.List.{flat_map}
@@ -36,12 +36,12 @@ Queues p (spec.Prio priomap) = ⊥
 Queues p (spec.Tbf bucket limit) = ⊥
 Queues p (spec.Drr s) = ⊥
 
--- the way ends here: in a refusal, or in a queue that takes the packet and has a place for it
+-- the path ends here: in a refusal, or in a queue that takes the packet and has a place for it
 abbrev pub CanQueue : Descriptor → Option Cause → ℕ → spec.Discipline → Type 0
 CanQueue p (Some cause) places d = is_refusal cause ≡ true
 CanQueue p None places d = Queues p d × HasPlaceIn places d
 
--- what putting it comes to at a node with this discipline where the way ends: what is told, what is left, and the packet's own loss
+-- what putting it comes to at a node with this discipline where the path ends: what is reported, what is left, and the packet's own loss
 abbrev pub rises_here : ℕ → Descriptor → Option Cause → spec.Discipline → List Note
 rises_here now p refusal d = (put_here now p refusal (node_of None d [])).rises
 
@@ -57,7 +57,7 @@ pub record IsQueued (now : ℕ) (p : Descriptor) (refusal : Option Cause) (befor
   pub places : places_seen after ≡ places_seen before
   pub outcome : IsOutcome (loss_here now p refusal (discipline_seen before)) (rises_here now p refusal (discipline_seen before)) o
 
--- the way goes on: the child is there, and the packet can be put into it
+-- the path goes on: the child is there, and the packet can be put into it
 pub record CanPutInto (now : ℕ) (p : Descriptor) (refusal : Option Cause) (rest : List ℕ) (place : ℕ) (d : spec.Discipline) (children : List (spec.Node Kept)) : Type 0 where
   pub child : spec.Node Kept
   pub there : slice_get children place ≡ Some child

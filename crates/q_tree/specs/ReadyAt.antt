@@ -1,4 +1,4 @@
--- From which moment on a tree may give its next packet, as long as nothing arrives and no command comes.
+-- From which time on a tree may give its next packet, as long as nothing arrives and no command comes.
 -- tc-tbf(8): a packet goes once the level covers its length. Others give at once: tc-pfifo(8), tc-prio(8), tc-drr(8), tc-fq_codel(8).
 use Rattle.std.specs.Prelude.{ℕ, ◌+◌, ◌-◌, ◌*◌, ◌^◌, max, min, Bool, true, false, nat_le, nat_lt, ◌==◌, if◌then◌else◌, List, [], ◌∷◌, Option, Some, None, option_map, option_and_then, slice_get}
 use Rattle.std.specs.Int.{div_ceil}
@@ -12,7 +12,7 @@ use Rattle.q_model.specs.Beneath.{packets_of}
 use Rattle.q_model.specs.Route.{class_at}
 use Rattle.q_tree.specs.declared.ready_at.Outlook.{Outlook}
 
--- the later of two moments, none where either never comes; whether one comes before the other; the sooner one
+-- the later of two times, none where either never comes; whether one comes before the other; the sooner one
 abbrev pub later : Option ℕ → Option ℕ → Option ℕ
 later a b = option_and_then (λ x. option_map (max x) b) a
 
@@ -36,14 +36,14 @@ at_hand now len = record { at = Some now; least = len; len = Some len; until = N
 abbrev pub at_best : Option ℕ → ℕ → Outlook
 at_best at least = record { at = at; least = least; len = None; until = at }
 
--- A fifo shows its head. What an fq_codel shows is a packet at once, whose length depends on the moment at which CoDel is asked.
+-- A fifo shows its head. What an fq_codel shows is a packet at once, whose length depends on the time at which CoDel is asked.
 abbrev pub of_fifo : ℕ → Option Descriptor → Outlook
 of_fifo now head = option_map_or (λ (p : Descriptor). at_hand now p.len) head no_packet
 
 abbrev pub of_flows : ℕ → ℕ → Outlook
 of_flows now packets = if packets == 0 then no_packet else at_best (Some now) 0
 
--- the least moment from its last spend on at which a bucket covers this length, up to the latest moment
+-- the least time from its last spend on at which a bucket covers this length, up to the latest time
 abbrev pub moment_at : ℕ → Option ℕ
 moment_at ns = if nat_le ns (2 ^ 62) then Some ns else None
 
@@ -107,10 +107,10 @@ outlook_own now own below = option_map_or (λ (p : Descriptor). at_hand now p.le
 abbrev pub outlook : {M : Type 0} → ℕ → Node M → Outlook
 outlook now n = from_below (outlook_own now) n
 
--- Before this moment no take gives a packet; no take ever does where there is none.
+-- Before this time no take gives a packet; no take ever does where there is none.
 abbrev pub ready_at : {M : Type 0} → ℕ → Node M → Option ℕ
 ready_at now n = (outlook now n).at
 
--- Whether a take at that moment gives one for sure: a tbf's child has at hand what it shows then, and a drr's front class pays.
+-- Whether a take at that time gives one for sure: a tbf's child has at hand what it shows then, and a drr's front class pays.
 abbrev pub is_sure : {M : Type 0} → ℕ → Node M → Bool
 is_sure now n = let o = outlook now n in is_before o.at o.until

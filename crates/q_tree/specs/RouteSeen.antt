@@ -1,4 +1,4 @@
--- What a contract sees of a route of the code: the way that the packet goes, and its length, which the counters need to know.
+-- What a contract sees of a route of the code: the path that the packet goes, and its length, which the counters need to know.
 -- Nothing here is of a standard.
 use Rattle.std.specs.Prelude.{ℕ, List, [], Option, Some, None}
 use Rattle.q_packet.specs.Descriptor.{Descriptor}
@@ -15,7 +15,7 @@ pub record RouteSeen : Type 0 where
 abbrev pub route_seen : {M : Type 0} → Descriptor → ℕ → Node M → RouteSeen
 route_seen p mtu root = record { len = p.len; route = device_route p mtu root }
 
--- the place of the child at each node on the way; one that is longer than the mtu goes nowhere
+-- the place of the child at each node on the path; one that is longer than the mtu goes nowhere
 abbrev pub path_seen : Option Route → List ℕ
 path_seen None = []
 path_seen (Some route) = route.path

@@ -32,7 +32,7 @@ pub record IsSentIn (a : Asked) (before after : Discipline) (s : Shown) : Type 0
   pub children : AreSent a (children_seen before) (children_seen after) s
   pub places : places_seen after ≡ places_seen before
 
--- A node that was asked for its packet and gave it: what the node is then, what is in the caller's two places, and what was shown.
+-- A node that was asked for its packet and handed it out: what the node is then, what is in the caller's two places, and what was shown.
 pub record IsDequeued (now : ℕ) (old new : spec.Node Kept) (out out_new : Descriptor) (counted : Signals) (s : Shown) : Type 0 where
   -- the packet that it shows is taken, and what was dropped and marked for it is booked
   pub after : new ≡ booked kept old (take_from now (shape old)).node

@@ -1,5 +1,5 @@
--- The nodes of a tree, each with the place where it stands, in the order in which `tc qdisc show` prints them (tc(8)): each
--- before what is beneath it, and children in class order.
+-- The nodes of a tree, each with the place where it is, in the order in which `tc qdisc show` prints them (tc(8)): each
+-- before what is below it, and children in class order.
 use Rattle.std.specs.Prelude.{ℕ, IsTrue, List, [], ◌∷◌, ◌++◌, drop, slice_get, unwrap_or}
 use Rattle.q_model.specs.declared.place.Place.{Place}
 use Rattle.q_model.specs.declared.place.Place.TheVariants as place
@@ -9,7 +9,7 @@ use Rattle.q_model.specs.Views.{places_below}
 use Rattle.q_invariants.proofs.Kept.{IsLawfulRoot}
 use Rattle.q_tree.specs.Kept.{Kept}
 
--- nodes side by side, which stand in these places, and all beneath them
+-- nodes side by side, which are in these places, and all below them
 abbrev pub standing_in : {M : Type 0} → List Place → Forest M → List (Place × Node M)
 standing_in places none = []
 standing_in places (more own m below others) =
@@ -17,11 +17,11 @@ standing_in places (more own m below others) =
     ∷ standing_in (places_below own below) below
     ++ standing_in (drop 1 places) others
 
--- a node in this place, and all beneath it
+-- a node in this place, and all below it
 abbrev pub standing : {M : Type 0} → Place → Node M → List (Place × Node M)
 standing p n = (p, n) ∷ standing_in (places_below n.own n.below) n.below
 
--- a node whose classes have numbers that can be shown: it is lawful, and so is all beneath it
+-- a node whose classes have numbers that can be shown: it is lawful, and so is all below it
 pub record IsNumbered (n : Node Kept) : Type 0 where
   pub mtu : ℕ
   pub clock : ℕ

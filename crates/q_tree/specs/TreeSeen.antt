@@ -48,7 +48,7 @@ pub record IsKeptDevice (a : Inside) : Type 0 where
   pub queued : a.top.queued ≡ totals_in (beneath a.root)
   pub within : IsCountedWithin a.root.memory.counts.arrived a.top.arrived
 
--- and its index has the addresses of its tree, with room for those of every tree once a node stands beneath the root
+-- and its index has the addresses of its tree, with room for those of every tree once a node is below the root
 pub record IsIndexedDevice (a : Inside) : Type 0 where
   pub device : IsKeptDevice a
   pub handles : a.handles.addresses ≡ addresses a.root

@@ -1,4 +1,4 @@
--- The way from the root of a tree down to a class, where nothing but drrs stands on it, below a tbf at the root or none. tc(8) names a
+-- The path from the root of a tree down to a class, where nothing but drrs is on it, below a tbf at the root or none. tc(8) names a
 -- class by the handle of its qdisc and a number; the classes of a drr have quanta (tc-drr(8)), and a tbf has one class (tc-tbf(8)).
 use Rattle.std.specs.Prelude.{ℕ, ◌*◌, ◌^◌, ◌≤◌, Bool, true, false, ◌||◌, if◌then◌else◌, List, [], ◌∷◌, map, length, Option, Some, None, option_map, option_and_then, slice_get, sum_by}
 use Rattle.std.specs.List.{list_any}
@@ -26,13 +26,13 @@ class_of_drr i major (FqCodel s) = None
 abbrev pub drr_class : ℕ → Own → Option DrrClass
 drr_class i own = option_and_then (λ major. class_of_drr i major own.discipline) own.handle
 
--- the classes on a way down, if each is one of a drr
+-- the classes on a path down, if each is one of a drr
 abbrev pub drrs_on : {M : Type 0} → List ℕ → Node M → Option (List DrrClass)
 drrs_on [] n = Some []
 drrs_on (i ∷ path) n =
     option_and_then (λ (d : DrrClass). option_map (λ (rest : List DrrClass). d ∷ rest) (option_and_then (drrs_on path) (slice_get (children n) i))) (drr_class i n.own)
 
--- whether a tbf stands here or beneath
+-- whether a tbf is here or below
 abbrev pub is_tbf : Discipline → Bool
 is_tbf (Tbf bucket limit) = true
 is_tbf (Fifo limit queue) = false
@@ -43,12 +43,12 @@ is_tbf (FqCodel s) = false
 abbrev pub has_tbf : {M : Type 0} → Node M → Bool
 has_tbf n = from_below (λ own below. is_tbf own.discipline || list_any (λ b. b) below) n
 
--- a way: the tbf at the root, if there is one, and the classes of drrs, from the root down
+-- a path: the tbf at the root, if there is one, and the classes of drrs, from the root down
 pub record Way : Type 0 where
   pub link : Option Link
   pub drrs : List DrrClass
 
--- beneath a tbf at the root there has to be a drr on the way, and no other tbf anywhere
+-- below a tbf at the root there has to be a drr on the path, and no other tbf anywhere
 abbrev pub way_below : {M : Type 0} → Link → List ℕ → Node M → Option Way
 way_below link [] n = None
 way_below link (i ∷ path) n = if has_tbf n then None else option_map (λ (ds : List DrrClass). record { link = Some link; drrs = ds }) (drrs_on (i ∷ path) n)

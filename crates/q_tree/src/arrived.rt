@@ -74,7 +74,7 @@ impl Arrived {
         self.is_kept
     }
 
-    /// What became of the packet, whose outcome stands in this place.
+    /// What became of the packet, whose outcome is in this place.
     #[inline(always)]
     pub(crate) fn fate(&self, outcome: &Outcome) -> Fate
         requires told { outcome.now ≡ self.now }
@@ -106,7 +106,7 @@ pub(crate) fn refuse<S: Sink>(
     Arrived::with(lost)
 }
 
-/// Books a packet that has arrived, with all that was lost for it at the node or beneath.
+/// Books a packet that has arrived, with all that was lost for it at the node or below.
 #[inline(always)]
 pub(crate) fn book_arrival(
     row: &mut Counters,

@@ -29,7 +29,7 @@ pub(crate) fn one_packet(packet: &Packet) -> Totals
     }
 }
 
-/// Books a packet that has arrived, with all that was lost for it at the node or beneath.
+/// Books a packet that has arrived, with all that was lost for it at the node or below.
 #[inline(never)]
 pub(crate) fn book_arrival(row: &mut Counters, packet: &Packet, outcome: &Outcome)
     requires balanced { IsBalanced row.old }
@@ -49,7 +49,7 @@ pub(crate) fn book_arrival(row: &mut Counters, packet: &Packet, outcome: &Outcom
         - (outcome.refused.bytes + outcome.dropped.bytes);
 }
 
-/// Books a packet that was queued and is given to the node above.
+/// Books a packet that was queued and is handed to the node above.
 pub(crate) fn book_sent(row: &mut Counters, packet: &Packet)
     requires balanced { IsBalanced row.old }
     requires among { IsAmong packet.now row.old.queued }

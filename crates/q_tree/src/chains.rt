@@ -33,7 +33,7 @@ impl Chains {
     ///
     /// # Errors
     ///
-    /// `AllocError` where memory is refused.
+    /// `AllocError` if an allocation fails.
     pub(crate) fn new(alloc: Global, homes: Vec<u16>, count: usize) -> Result<Chains, AllocError>
         requires few { length homes.items < 2 ^ 16 }
         requires known { (j home : ℕ) → slice_get homes.items j ≡ Some home → home < count }

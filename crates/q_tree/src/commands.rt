@@ -34,7 +34,7 @@ use std::alloc::Global;
 
 impl Tree {
     /// Does what a line of tc asks for, as [`Tree::graft`], [`Tree::change`], [`Tree::prune`], [`Tree::class_add`] and the others say.
-    /// `now` is at or after the latest moment that the tree was given, and is given to the tree by each command that is done.
+    /// `now` is at or after the latest time that the tree was given, and is given to the tree by each command that is done.
     ///
     /// What is removed is lost to `sink`, which needs room for what is queued in the tree.
     ///
@@ -59,7 +59,7 @@ impl Tree {
         self.edit(planned, now, sink)
     }
 
-    // Does a command that loses nothing, at the latest moment that the tree was given.
+    // Does a command that loses nothing, at the latest time that the tree was given.
     fn lossless(&mut self, alloc: Global, command: Command) -> Result<(), Refusal>
         requires { IsLossless command }
         ensures { IsAnswered (WantsMemory command (plan_of command self.old.clock self.old)) self.old.clock (plan_of command self.old.clock self.old) self.old self.new result }

@@ -4,10 +4,10 @@ ghost use Rattle.q_tree.specs.CountersSeen.{HasArrivals, no_row};
 use q_model::{Row, Totals};
 use std::marker::Model;
 
-/// What a node counted, and what is queued there and beneath: each arrival, send and loss writes both. What arrived was sent, was
+/// What a node counted, and what is queued there and below: each arrival, send and loss writes both. What arrived was sent, was
 /// refused, was dropped or is queued, which the type keeps.
 ///
-/// Those of packets stand apart from those of bytes, and what is queued apart from what arrived and was sent: of two numbers side by
+/// Those of packets are kept apart from those of bytes, and what is queued apart from what arrived and was sent: of two numbers side by
 /// side a compiler makes one wide number, and adds to that in more steps.
 ///
 /// A contract sees the row of the node.
@@ -109,7 +109,7 @@ impl Counters {
         }
     }
 
-    /// What is counted of arrivals fits, which the numbers tell. It does nothing: its clause is for the proofs of its callers.
+    /// What is counted of arrivals fits, which the numbers show. It does nothing: its clause is for the proofs of its callers.
     #[inline(always)]
     pub(crate) fn fit(&self)
         ensures { HasArrivals self.now }

@@ -27,9 +27,9 @@ use q_packet::{Moment, Packet};
 
 impl Tree {
     /// Takes the packet whose turn it is into `out`, as [`Tree::take`] does, and says whether there was one: `false`, and `out`
-    /// stays as it is, where none may go now. `now` is at or after the latest moment that the tree was given.
+    /// stays as it is, where none may go now. `now` is at or after the latest time that the tree was given.
     ///
-    /// The packet is written once, to the caller's place. It takes no memory. What CoDel drops on the way goes to `sink`, which
+    /// The packet is written once, to the caller's place. It takes no memory. What CoDel drops for it goes to `sink`, which
     /// needs room for what is queued.
     pub fn send<S: Sink>(&mut self, now: Moment, out: &mut Packet, sink: &mut S) -> bool
         requires order { self.old.clock ≤ now }
@@ -41,10 +41,10 @@ impl Tree {
         ensures room { S.room sink.new + length (losses_in (noted_by_take now self.old.tree)) ≡ S.room sink.old }
         ensures kept { S.keeps sink.old sink.new }
     {
-        // A moment is at most 2^62 nanoseconds.
+        // A time is at most 2^62 nanoseconds.
         let _ = now.ns();
         self.top.fit();
-        // A fifo at the root gives its head with no answer from below.
+        // A fifo at the root hands out its head with no answer from below.
         if self.root.has_head() {
             self.root.send_head(out);
             book_sent(&mut self.top, out);
@@ -137,7 +137,7 @@ impl Node {
         }
     }
 
-    // The same with no short way for a fifo.
+    // The same with no short path for a fifo.
     #[inline(always)]
     fn dequeue_asked<S: Sink>(
         &mut self,
@@ -192,7 +192,7 @@ impl Node {
     }
 
     /// Dequeues the packet that the node has at hand into `out`, counts it as sent here, and in the bands that it comes from, and says
-    /// whether there was one. Nobody is asked: after a peek it is the packet that was shown. Where there was none, nothing changes.
+    /// whether there was one. No node is asked: after a peek it is the packet that was shown. Where there was none, nothing changes.
     #[cycle(dequeue_at_hand)]
     #[inline(always)]
     pub(crate) fn dequeue_at_hand(&mut self, out: &mut Packet) -> bool

@@ -31,14 +31,14 @@ use std::alloc::AllocError;
 
 impl Tree {
     /// A packet arrives: in one walk down its route a place is made where it is queued, and it is put there, or lost. `now` is at
-    /// or after the latest moment that the tree was given. It is [`Tree::route`], [`Tree::prepare`] and [`Tree::put`] in one.
+    /// or after the latest time that the tree was given. It is [`Tree::route`], [`Tree::prepare`] and [`Tree::put`] in one.
     ///
     /// What is lost for it goes to `sink`, which needs room for what is queued and one packet more. It takes memory for the place
     /// alone, and none for a packet that is refused.
     ///
     /// # Errors
     ///
-    /// `AllocError` where memory is refused, or the packet would take what the device counts of arrivals past 2^64 - 1, in packets
+    /// `AllocError` if an allocation fails, or if the packet would take what the device counts of arrivals past 2^64 - 1, in packets
     /// or in bytes; never where [`Tree::prepare`] has made the place. The tree is as it was, but for places, of which no queue has
     /// fewer, and nothing is lost.
     pub fn arrive<S: Sink>(
@@ -74,7 +74,7 @@ impl Tree {
     ///
     /// # Errors
     ///
-    /// `AllocError` where memory is refused; never where [`Tree::prepare`] has made the place. The tree is as it was, but for
+    /// `AllocError` if an allocation fails; never where [`Tree::prepare`] has made the place. The tree is as it was, but for
     /// places, of which no queue has fewer, and nothing is lost.
     // A device calls it at two places, and at one of them seldom: the other is to be without a call.
     #[inline(always)]
@@ -99,7 +99,7 @@ impl Tree {
         ensures succeeds { CanArrive (route_seen packet.now self.old.tree.device.mtu self.old.tree.root) self.old → IsOk result }
         ensures kept { S.keeps sink.old sink.new }
     {
-        // A moment is at most 2^62 nanoseconds, and a packet has a byte at least.
+        // A time is at most 2^62 nanoseconds, and a packet has a byte at least.
         let _ = (now.ns(), packet.len);
         // A fifo at the root keeps the packet with no answer from below.
         if packet.len <= self.mtu && self.root.can_keep(packet.len) {
@@ -111,7 +111,7 @@ impl Tree {
         self.arrive_down(packet, now, sink)
     }
 
-    // The same by the way down from the root, where an outcome comes back from below.
+    // The same by the path down from the root, where an outcome comes back from below.
     #[inline(always)]
     fn arrive_down<S: Sink>(
         &mut self,
@@ -133,7 +133,7 @@ impl Tree {
         ensures succeeds { CanArrive (route_seen packet.now self.old.tree.device.mtu self.old.tree.root) self.old → IsOk result }
         ensures kept { S.keeps sink.old sink.new }
     {
-        // A moment is at most 2^62 nanoseconds, and a packet has a byte at least.
+        // A time is at most 2^62 nanoseconds, and a packet has a byte at least.
         let _ = (now.ns(), packet.len);
         let mut lost = NOTHING_LOST;
         let outcome = enqueue_below(&mut self.root, self.mtu, packet, now, &mut lost, sink)?;
@@ -172,7 +172,7 @@ impl Node {
     }
 
     /// A packet arrives at the node, and goes down its route: a place is made where it is queued, and it is put there, or lost. It
-    /// is booked at each node on the way back, and at none where memory is refused.
+    /// is booked at each node on the way back, and at none if an allocation fails.
     #[cycle(enqueue)]
     #[inline(always)]
     pub(crate) fn enqueue<S: Sink>(

@@ -39,7 +39,7 @@ impl FilterIndex {
     ///
     /// # Errors
     ///
-    /// `AllocError` where memory is refused.
+    /// `AllocError` if an allocation fails.
     pub(crate) fn new(
         alloc: Global,
         filters: &[MaskedFilter],

@@ -67,7 +67,7 @@ impl Filters {
     ///
     /// # Errors
     ///
-    /// `AllocError` where memory is refused, for the filter or the index; the filters are as they were.
+    /// `AllocError` if an allocation fails, for the filter or the index; the filters are as they were.
     pub(crate) fn add(&mut self, filter: Filter) -> Result<(), AllocError>
         ensures ok { OnOk result (self.new ≡ with_filter filter self.old) }
         ensures err { OnErr result (self.new ≡ self.old) }

@@ -9,11 +9,11 @@ use crate::node::{Discipline, Node, child_at};
 use arrayvec::ArrayVec;
 use q_model::{Minor, Row};
 
-/// A way down from a node: the place of the child at each step. A tree has at most eight levels.
+/// A path down from a node: the place of the child at each step. A tree has at most eight levels.
 pub(crate) type Path = ArrayVec<usize, 8>;
 
 impl Node {
-    /// What the node counted, and what is queued at it and beneath it.
+    /// What the node counted, and what is queued at it and below it.
     pub(crate) fn row(&self) -> Row
         ensures { result ≡ row kept self.now }
     {
@@ -63,7 +63,7 @@ impl Node {
         self.children().get(self.class_place(minor)?)
     }
 
-    /// The node at the end of this way.
+    /// The node at the end of this path.
     pub(crate) fn at(&self, path: &[usize]) -> Option<&Node>
         ensures { option_copied result ≡ node_at path.now self.now }
     {

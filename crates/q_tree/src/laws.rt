@@ -20,34 +20,34 @@ pub fn tree_is_lawful(tree: &Tree)
     let _ = &tree.mtu;
 }
 
-/// A second peek at the same moment shows the same packet, loses and marks nothing more, and leaves the tree as it is.
+/// A second peek at the same time shows the same packet, loses and marks nothing more, and leaves the tree as it is.
 ///
-/// `now` is at or after the latest moment that the tree was given.
+/// `now` is at or after the latest time that the tree was given.
 pub fn second_peek_changes_nothing(tree: &Tree, now: Moment)
     requires { tree.now.clock ≤ now }
     ensures packet { given now (peek_packet kept now tree.now.tree) ≡ given now tree.now.tree }
     ensures quiet { noted_by_take now (peek_packet kept now tree.now.tree) ≡ [] }
     ensures same { peek_packet kept now (peek_packet kept now tree.now.tree) ≡ peek_packet kept now tree.now.tree }
 {
-    // The tree is lawful, and a moment is at most 2^62 nanoseconds.
+    // The tree is lawful, and a time is at most 2^62 nanoseconds.
     let _ = &tree.mtu;
     let _ = now.ns();
 }
 
-/// A take right after a peek gives the packet that was shown, and leaves the tree that a take alone leaves.
+/// A take right after a peek returns the packet that was shown, and leaves the tree that a take alone leaves.
 ///
-/// `now` is at or after the latest moment that the tree was given.
+/// `now` is at or after the latest time that the tree was given.
 pub fn take_gives_what_peek_shows(tree: &Tree, now: Moment)
     requires { tree.now.clock ≤ now }
     ensures packet { given now (peek_packet kept now tree.now.tree) ≡ given now tree.now.tree }
     ensures after { take_packet kept now (peek_packet kept now tree.now.tree) ≡ take_packet kept now tree.now.tree }
 {
-    // The tree is lawful, and a moment is at most 2^62 nanoseconds.
+    // The tree is lawful, and a time is at most 2^62 nanoseconds.
     let _ = &tree.mtu;
     let _ = now.ns();
 }
 
-/// A put changes the nodes on the packet's route alone. Whatever stands beneath another child is as it was, with its
+/// A put changes the nodes on the packet's route alone. Whatever is below another child is as it was, with its
 /// counters.
 pub fn put_leaves_other_subtrees()
     ensures { PutLeavesOtherSubtrees }
@@ -60,24 +60,24 @@ pub fn put_keeps_places()
 
 /// A peek and a take leave every queue the places that it had. The place of a packet that goes stays.
 ///
-/// `now` is at or after the latest moment that the tree was given.
+/// `now` is at or after the latest time that the tree was given.
 pub fn take_keeps_places(tree: &Tree, now: Moment)
     requires { tree.now.clock ≤ now }
     ensures peek { (way : List ℕ) → places_at way (peek_packet kept now tree.now.tree).root ≡ places_at way tree.now.tree.root }
     ensures take { (way : List ℕ) → places_at way (take_packet kept now tree.now.tree).root ≡ places_at way tree.now.tree.root }
 {
-    // The tree is lawful, and a moment is at most 2^62 nanoseconds.
+    // The tree is lawful, and a time is at most 2^62 nanoseconds.
     let _ = &tree.mtu;
     let _ = now.ns();
 }
 
-/// A command changes the node that it names, and counters above it. Whatever stands beneath another child is as it was, with its
+/// A command changes the node that it names, and counters above it. Whatever is below another child is as it was, with its
 /// counters and the places of its queues.
 pub fn command_leaves_other_subtrees()
     ensures { EditLeavesOtherSubtrees }
 {}
 
-/// What a call tells of lost packets is what the device's counters show of it: refused grows by those that were refused, and
+/// What a call reports of lost packets is what the device's counters show of it: refused grows by those that were refused, and
 /// dropped by the others, in packets and in bytes.
 pub fn losses_are_counted()
     ensures put { PutCountsItsLosses }

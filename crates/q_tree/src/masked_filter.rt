@@ -7,7 +7,7 @@ use q_model::{Filter, Protocol};
 use q_packet::{FlowKey, Packet};
 use std::marker::Model;
 
-/// A filter, and what it asks of ports, protocol and family as one word under a mask: one comparison tells whether a packet
+/// A filter, and what it asks of ports, protocol and family as one word under a mask: one comparison says whether a packet
 /// agrees with all of these.
 ///
 /// A contract sees the filter.

@@ -55,7 +55,7 @@ pub(crate) fn takes_addresses(keys: &FilterKeys, key: &FlowKey) -> bool
         .map_or(true, |prefix| has_prefix(&prefix, key, key.dst))
 }
 
-/// The class that the first matching filter names. Filters stand in the order in which they are asked.
+/// The class that the first matching filter names. Filters are in the order in which they are asked.
 pub(crate) fn named_class(filters: &[MaskedFilter], packet: &Packet) -> Option<Minor>
     ensures { result ≡ named_class filters.now packet.now }
 {
@@ -70,7 +70,7 @@ pub(crate) fn named_class(filters: &[MaskedFilter], packet: &Packet) -> Option<M
     named_by_address(filters, packet)
 }
 
-// How many filters stand before the first that takes the numbers of a key; all, where none does. All are compared, from the last
+// How many filters are before the first that takes the numbers of a key; all, where none does. All are compared, from the last
 // to the first, with no branch between: at which of them a search would end is what a processor cannot foresee.
 #[inline(always)]
 fn before_taker(filters: &[MaskedFilter], key: &FlowKey) -> usize

@@ -18,10 +18,10 @@ use q_model::{Handle, Totals};
 use q_packet::{Cause, Packet};
 use std::marker::Model;
 
-/// A qdisc of the tree, with those beneath it.
+/// A qdisc of the tree, with those below it.
 ///
 /// A contract sees it as the model's node, which remembers what it counted, and how many packets its own queue has places
-/// for. It keeps its counters: what is queued is what is beneath it, the row is balanced, marks are bounded, and no child has more
+/// for. It keeps its counters: what is queued is what is below it, the row is balanced, marks are bounded, and no child has more
 /// arrivals.
 #[cycle(node)]
 #[derive(Drop)]
@@ -33,7 +33,7 @@ pub(crate) struct Node {
     pub(crate) discipline: Discipline,
 }
 
-// What a packet reads at each node of its way: a path of four nodes is 27 lines of a cache at most.
+// What a packet reads at each node of its path: a path of four nodes is 27 lines of a cache at most.
 const _: () = prove!(size_of::<Node>() <= 432);
 
 /// What a qdisc does, with its own queue and its children in class order.
@@ -54,7 +54,7 @@ pub(crate) enum Discipline {
         active: Active,
         classes: Vec<Node>,
     },
-    /// Its queue is larger than the rest of a node, which is small for the sake of the nodes on a packet's way.
+    /// Its queue is larger than the rest of a node, which is small for the sake of the nodes on a packet's path.
     FqCodel(Box<FqCodel>),
 }
 
@@ -85,21 +85,21 @@ impl Node {
     ghost use Rattle.q_model.specs.Node as spec;
     ghost use Rattle.q_model.specs.Tally.{no_counts};
 
-    /// Whether nothing is queued at the node or beneath it.
+    /// Whether nothing is queued at the node or below it.
     pub(crate) fn is_empty(&self) -> bool
         ensures { result ≡ is_empty self.now }
     {
         self.row.queued().packets == 0
     }
 
-    /// What is queued at the node and beneath it.
+    /// What is queued at the node and below it.
     pub(crate) fn queued(&self) -> Totals
         ensures { result ≡ totals_in (beneath self.now) }
     {
         self.row.queued()
     }
 
-    /// Goes on with the way of a packet, down from the node, from where it has come to.
+    /// Goes on with the path of a packet, down from the node, from where it has come to.
     #[cycle(go)]
     pub(crate) fn go(&self, packet: &Packet, way: &mut NodeRoute)
         requires room { length way.old.path + depth self.now ≤ 8 }

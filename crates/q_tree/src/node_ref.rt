@@ -9,9 +9,9 @@ use crate::node::Node;
 use q_model::{ClassView, FilterView, NodeView, Place};
 use std::marker::Model;
 
-/// A node of a tree, as [`crate::Nodes`] gives it: what show prints of it is read without looking for it again.
+/// A node of a tree, as [`crate::Nodes`] returns it: what show prints of it is read without looking for it again.
 ///
-/// A contract sees the place where it stands, and the node.
+/// A contract sees the place where it is, and the node.
 #[derive(Drop)]
 pub struct NodeRef<'a> {
     place: Place,

@@ -4,7 +4,7 @@ use arrayvec::ArrayVec;
 use q_packet::Cause;
 use std::marker::Model;
 
-/// The way of a packet from a node down: the place among its children that it goes to at each node, and the cause where it
+/// The path of a packet from a node down: the place among its children that it goes to at each node, and the cause where it
 /// is refused at the end.
 ///
 /// A contract sees it as the record `Route`. A tree has at most eight levels, so that eight places are enough.
@@ -23,7 +23,7 @@ impl Model for NodeRoute {
 }
 
 impl NodeRoute {
-    /// A way that ends where it begins.
+    /// A path that ends where it begins.
     pub(crate) fn new() -> NodeRoute
         ensures { result ≡ record { path = []; refusal = None } }
     {

@@ -16,12 +16,12 @@ use std::marker::Model;
 
 /// The nodes of a tree that are still to come in the order of show, from [`Tree::nodes`].
 ///
-/// It remembers the way to the node that it gave last, so that each step takes as many moves as the tree has levels at most,
-/// however many nodes it has. A contract sees the list of the nodes to come, each with the place where it stands.
+/// It remembers the path to the node that it returned last, so that each step takes as many moves as the tree has levels at most,
+/// however many nodes it has. A contract sees the list of the nodes to come, each with the place where it is.
 #[derive(Drop)]
 pub struct Nodes<'a> {
     root: &'a Node,
-    /// The way to the node that was given last; `None` before the first.
+    /// The path to the node that was returned last; `None` before the first.
     last: Option<Path>,
 }
 
@@ -64,7 +64,7 @@ impl<'a> Nodes<'a> {
 }
 
 impl Tree {
-    /// All nodes in the order in which `tc qdisc show` lists them: the k-th is the one of which [`Tree::node`] of `k` tells.
+    /// All nodes in the order in which `tc qdisc show` lists them: the k-th is the one that [`Tree::node`] of `k` shows.
     pub fn nodes(&self) -> Nodes<'_>
         ensures standing { result ≡ standing place.Root self.now.tree.root }
         ensures views { map (λ x. node_view kept x.0 x.1) result ≡ views kept self.now.tree }
@@ -80,8 +80,8 @@ impl Tree {
 }
 
 impl Node {
-    // The node that comes next behind the one at the end of a way, with the place where it stands. The way to it is put behind
-    // the way that leads to this node.
+    // The node that comes next behind the one at the end of a path, with the place where it is. The path to it is put behind
+    // the path that leads to this node.
     fn next_behind(&self, way: &[usize], here: &mut Path) -> Option<(Place, &Node)>
         requires numbered { IsNumbered self.now }
         requires levels { length here.old.items + depth self.now ≤ 8 }
@@ -102,7 +102,7 @@ impl Node {
         self.child_from(i + 1, here)
     }
 
-    // The child in this place, with the place where it stands, to which the way goes on then.
+    // The child in this place, with the place where it is, to which the path goes on then.
     fn child_from(&self, i: usize, here: &mut Path) -> Option<(Place, &Node)>
         requires numbered { IsNumbered self.now }
         requires levels { length here.old.items + depth self.now ≤ 8 }

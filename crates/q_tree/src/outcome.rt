@@ -7,7 +7,7 @@ use q_codel::Sink;
 use q_model::Totals;
 use q_packet::{Cause, Packet};
 
-/// What putting a packet came to: whether it was itself lost, and all that was lost for it where its way ended.
+/// What putting a packet came to: whether it was itself lost, and all that was lost for it where its path ended.
 #[derive(Clone, Copy)]
 pub(crate) struct Outcome {
     /// The cause where the packet itself was lost.

@@ -21,10 +21,10 @@ use q_codel::Sink;
 use q_packet::{Moment, Packet};
 
 impl Node {
-    /// Asks the node for its packet, which is at hand then, and books what CoDel dropped and marked for it, here and beneath.
+    /// Asks the node for its packet, which is at hand then, and books what CoDel dropped and marked for it, here and below.
     ///
     /// A tbf, a drr and an fq_codel dequeue the packet that they show, and hold it until it is popped; one that holds a packet
-    /// shows that one, and nobody beneath it is asked. It takes no memory. `sink` needs room for what is queued.
+    /// shows that one, and no node below it is asked. It takes no memory. `sink` needs room for what is queued.
     #[cycle(peek)]
     #[inline(always)]
     pub(crate) fn peek<S: Sink>(

@@ -8,8 +8,8 @@ use crate::node::{Discipline, Node};
 use std::alloc::AllocError;
 
 impl Node {
-    /// Makes a place for one packet more in the queue where this way ends, if it ends in one. The places are all that
-    /// changes, also where memory is refused, and no queue has fewer; it succeeds where there is a place already.
+    /// Makes a place for one packet more in the queue where this path ends, if it ends in one. The places are all that
+    /// changes, also if an allocation fails, and no queue has fewer; it succeeds where there is a place already.
     #[cycle(prepare)]
     pub(crate) fn prepare(&mut self, path: &[usize]) -> Result<(), AllocError>
         requires { IsSome (node_at path.now self.old) }
@@ -43,7 +43,7 @@ impl Discipline {
         }
     }
 
-    // Makes a place beneath the child in this place.
+    // Makes a place below the child in this place.
     #[cycle(prepare)]
     fn prepare_beneath(&mut self, place: usize, rest: &[usize]) -> Result<(), AllocError>
         requires { Leads rest.now place (children_seen self.old) }

@@ -21,7 +21,7 @@ use q_codel::Sink;
 use q_packet::{Cause, Moment, Packet, Stamped};
 
 impl Node {
-    /// Puts a packet along its way, or refuses it where that ends, and books it at each node on the way.
+    /// Puts a packet along its path, or refuses it where that ends, and books it at each node on the path.
     ///
     /// It takes no memory. `path` and `refusal` are what [`Node::go`] says of the packet, and the queue at the end has a
     /// place for it. `sink` needs room for what is queued and one packet more.

@@ -13,13 +13,13 @@ use q_packet::Moment;
 /// What is known of the packets that a node shows, before it is asked.
 #[derive(Clone, Copy)]
 pub(crate) struct Outlook {
-    /// It shows none before this moment; where there is no moment, none ever.
+    /// It shows none before this time, and never one where this is `None`.
     pub(crate) at: Option<Moment>,
     /// It shows none that has fewer bytes.
     pub(crate) least: u16,
-    /// The bytes of what it shows from `at` on; `None` where they depend on the moment at which it is asked.
+    /// The bytes of what it shows from `at` on; `None` where they depend on the time at which it is asked.
     pub(crate) len: Option<u16>,
-    /// When it may show another one, or none; where there is no moment, never.
+    /// When it may show another one, or none; `None` if never.
     pub(crate) until: Option<Moment>,
 }
 
@@ -58,12 +58,12 @@ impl Outlook {
 }
 
 impl Tree {
-    /// The moment before which no take gives a packet, from `now` on, as long as nothing arrives and no command comes; `None` where
-    /// none ever will. It is `now` itself where a take may give one at once. `now` is at or after the latest moment that the tree
+    /// The time before which no take gives a packet, from `now` on, as long as nothing arrives and no command comes; `None` where
+    /// none ever will. It is `now` itself where a take may give one at once. `now` is at or after the latest time that the tree
     /// was given.
     ///
-    /// A take at that moment gives a packet where the length that each tbf waits for is known: that of what its child has at
-    /// hand. It changes nothing and takes no memory, and looks at each node once at most.
+    /// A take at that time gives a packet where the length that each tbf waits for is known: that of what its child has at
+    /// hand. It changes nothing and takes no memory, and visits each node at most once.
     pub fn ready_at(&self, now: Moment) -> Option<Moment>
         requires order { self.now.clock ≤ now }
         ensures value { result ≡ ready_at now self.now.tree.root }
@@ -72,7 +72,7 @@ impl Tree {
         ensures some { is_sure now self.now.tree.root ≡ true → IfSome result (λ at. IsSome (given at self.now.tree)) }
         ensures never { IfNone result ((t : ℕ) → now ≤ t → t ≤ 2 ^ 62 → given t self.now.tree ≡ None) }
     {
-        // The tree is lawful, and a moment is at most 2^62 nanoseconds.
+        // The tree is lawful, and a time is at most 2^62 nanoseconds.
         let _ = &self.mtu;
         let _ = now.ns();
         let at = self.root.outlook(now).at?;
@@ -100,14 +100,14 @@ impl Node {
     }
 }
 
-/// The later of two moments; none where either never comes.
+/// The later of two times; none where either never comes.
 pub(crate) fn later(a: Option<Moment>, b: Option<Moment>) -> Option<Moment>
     ensures { result ≡ later a b }
 {
     Some(a?.max(b?))
 }
 
-/// Whether a moment comes, and before the other one.
+/// Whether a time comes, and before the other one.
 pub(crate) fn is_before(a: Option<Moment>, b: Option<Moment>) -> bool
     ensures { result ≡ is_before a b }
 {
@@ -120,7 +120,7 @@ pub(crate) fn is_before(a: Option<Moment>, b: Option<Moment>) -> bool
     first < second
 }
 
-/// The sooner of two moments; the other one where one never comes.
+/// The sooner of two times; the other one where one never comes.
 pub(crate) fn sooner(a: Option<Moment>, b: Option<Moment>) -> Option<Moment>
     ensures { result ≡ sooner a b }
 {

@@ -44,16 +44,16 @@ use std::marker::Model;
 ///
 /// A contract sees the device of the model, whose nodes remember what they counted and the places of their queues. The type
 /// keeps all that holds of every device after any events: what each node counted is what it has passed on, lost and has still,
-/// every discipline is lawful, a tree has at most eight levels, and the index has its handles and no others, each with the way there.
+/// every discipline is lawful, a tree has at most eight levels, and the index has its handles and no others, each with the path there.
 #[derive(Drop)]
 pub struct Tree {
     pub(crate) mtu: u16,
     txqueuelen: u32,
-    /// The latest moment that it was given.
+    /// The latest time that it was given.
     pub(crate) clock: Moment,
     pub(crate) top: Counters,
     pub(crate) root: Node,
-    /// The ways to the handles beneath the root, by which commands find their qdiscs.
+    /// The paths to the handles below the root, by which commands find their qdiscs.
     pub(crate) handles: Handles,
 }
 
@@ -89,7 +89,7 @@ impl Tree {
         }
     }
 
-    /// The latest moment that it was given.
+    /// The latest time that it was given.
     pub fn clock(&self) -> Moment
         ensures { result ≡ self.now.clock }
     {
@@ -103,7 +103,7 @@ impl Tree {
         self.top.row()
     }
 
-    /// What the node in this place counted, and what is queued there; `None` where none stands there.
+    /// What the node in this place counted, and what is queued there; `None` where there is none.
     pub fn stats(&self, place: Place) -> Option<Row>
         ensures { result ≡ stats kept place self.now.tree }
     {
@@ -114,7 +114,7 @@ impl Tree {
         }
     }
 
-    /// The node in this place of the order in which `tc qdisc show` lists them, each before those beneath it and children in class
+    /// The node in this place of the order in which `tc qdisc show` lists them, each before those below it and children in class
     /// order, with all that is printed of it; `None` past the last.
     pub fn node(&self, i: usize) -> Option<NodeView>
         ensures { result ≡ node kept i self.now.tree }
@@ -157,7 +157,7 @@ impl Tree {
         }
     }
 
-    // What a command comes to, planned over the tree as it stands.
+    // What a command comes to, planned over the tree as it is.
     pub(crate) fn plan(
         &self,
         alloc: Global,
@@ -168,7 +168,7 @@ impl Tree {
         ensures plan { IsPlanOf (WantsMemory command.now (plan_of command.now now self.now)) command.now now self.now.tree.device self.now.tree.root result }
         ensures lossless { IsLossless command.now → IfOk result (λ p. LosesNothing p.edit) }
     {
-        // A moment is at most 2^62 nanoseconds.
+        // A time is at most 2^62 nanoseconds.
         let _ = now.ns();
         let planner = Planner {
             qdiscs: self.qdiscs(),
@@ -197,7 +197,7 @@ impl Tree {
         ensures not_lost { OnErr result ((S.losses sink.new ≡ S.losses sink.old) × (S.room sink.new ≡ S.room sink.old)) }
         ensures kept { S.keeps sink.old sink.new }
     {
-        // A moment is at most 2^62 nanoseconds.
+        // A time is at most 2^62 nanoseconds.
         let _ = now.ns();
         self.top.fit();
         let Planned { path, edit } = planned;
@@ -213,7 +213,7 @@ impl Tree {
         Ok(())
     }
 
-    // A node in the order of show, and where it stands.
+    // A node in the order of show, and where it is.
     pub(crate) fn nth(&self, i: usize) -> Option<(Place, &Node)>
         ensures found { option_map (λ x. (x.0, x.1.now)) result ≡ slice_get (standing place.Root self.now.tree.root) i }
         ensures numbered { IfSome result (λ x. IsNumbered x.1.now) }
@@ -228,7 +228,7 @@ impl Tree {
     pub fn route(&self, packet: &Packet) -> Route
         ensures { result ≡ route_seen packet.now self.now.tree.device.mtu self.now.tree.root }
     {
-        // A way has 80 bytes, so that it is made where it stands.
+        // A path has 80 bytes, so that it is made in its place.
         let mut route = Route {
             way: NodeRoute::new(),
             len: packet.len,
@@ -245,7 +245,7 @@ impl Tree {
     ///
     /// # Errors
     ///
-    /// `AllocError` where memory is refused, or the packet would take what the device counts of arrivals past 2^64 - 1, in packets
+    /// `AllocError` if an allocation fails, or if the packet would take what the device counts of arrivals past 2^64 - 1, in packets
     /// or in bytes. The tree is as it was, but for places, of which no queue has fewer.
     pub fn prepare(&mut self, route: &Route) -> Result<(), AllocError>
         requires { IsRouteIn route.now self.old }
@@ -270,7 +270,7 @@ impl Tree {
     }
 
     /// Puts a packet on its route, for which [`Tree::prepare`] has made the place, and says what became of it. `now` is at or
-    /// after the latest moment that the tree was given.
+    /// after the latest time that the tree was given.
     ///
     /// It takes no memory. What is lost for it goes to `sink`, which needs room for what is queued and one packet more.
     pub fn put<S: Sink>(&mut self, route: &Route, packet: Packet, now: Moment, sink: &mut S) -> Fate
@@ -284,7 +284,7 @@ impl Tree {
         ensures room { S.room sink.new + length (losses_in (noted_by_put now packet self.old.tree)) ≡ S.room sink.old }
         ensures kept { S.keeps sink.old sink.new }
     {
-        // A moment is at most 2^62 nanoseconds, and a packet has a byte at least.
+        // A time is at most 2^62 nanoseconds, and a packet has a byte at least.
         let _ = (now.ns(), packet.len);
         let outcome = put_on(&mut self.root, route, &packet, now, sink);
         book_arrival(&mut self.top, &packet, &outcome);
@@ -292,8 +292,8 @@ impl Tree {
         fate_of(outcome.loss)
     }
 
-    /// The packet whose turn it is, which a take at this moment gives; `None` where none may go now. `now` is at or after the
-    /// latest moment that the tree was given.
+    /// The packet whose turn it is, which a take at this time returns; `None` where none may go now. `now` is at or after the
+    /// latest time that the tree was given.
     ///
     /// To show it, a tbf, a drr and an fq_codel dequeue it and hold it, which counts as queued at them alone. What CoDel drops
     /// for it goes to `sink`, which needs room for what is queued. It takes no memory.
@@ -306,7 +306,7 @@ impl Tree {
         ensures room { S.room sink.new + length (losses_in (noted_by_take now self.old.tree)) ≡ S.room sink.old }
         ensures kept { S.keeps sink.old sink.new }
     {
-        // A moment is at most 2^62 nanoseconds.
+        // A time is at most 2^62 nanoseconds.
         let _ = now.ns();
         self.top.fit();
         let mut signals = NO_SIGNALS;
@@ -317,10 +317,10 @@ impl Tree {
         self.root.at_hand()
     }
 
-    /// Takes the packet whose turn it is; `None` where none may go now. `now` is at or after the latest moment that the tree
+    /// Takes the packet whose turn it is; `None` where none may go now. `now` is at or after the latest time that the tree
     /// was given.
     ///
-    /// It takes no memory. What CoDel drops on the way goes to `sink`, which needs room for what is queued.
+    /// It takes no memory. What CoDel drops for it goes to `sink`, which needs room for what is queued.
     pub fn take<S: Sink>(&mut self, now: Moment, sink: &mut S) -> Option<Packet>
         requires order { self.old.clock ≤ now }
         requires sink { length (beneath self.old.tree.root) ≤ S.room sink.old }
@@ -348,7 +348,7 @@ pub(crate) fn fate_of(loss: Option<Cause>) -> Fate
     }
 }
 
-// Puts the packet on its way from the root, or refuses it above where it has none.
+// Puts the packet on its path from the root, or refuses it above where it has none.
 fn put_on<S: Sink>(
     root: &mut Node,
     route: &Route,

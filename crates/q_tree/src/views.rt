@@ -13,8 +13,8 @@ use q_model::{
 };
 
 impl Node {
-    /// The node so many places on in the order of show, which has each node before those beneath it, with the place where it
-    /// stands. `None` where there are not so many; `left` says then how many are still to pass.
+    /// The node so many places on in the order of show, which has each node before those below it, with the place where it
+    /// is. `None` where there are not so many; `left` says then how many are still to pass.
     pub(crate) fn nth(&self, place: Place, left: &mut usize) -> Option<(Place, &Node)>
         requires { IsNumbered self.now }
         ensures found { option_map (λ x. (x.0, x.1.now)) result ≡ slice_get (standing place self.now) left.old }
@@ -33,7 +33,7 @@ impl Node {
         None
     }
 
-    /// What `tc -s qdisc show` prints of the node, which stands in this place.
+    /// What `tc -s qdisc show` prints of the node, which is in this place.
     pub(crate) fn view(&self, place: Place) -> NodeView
         requires { IsNumbered self.now }
         ensures { result ≡ node_view kept place self.now }
@@ -85,7 +85,7 @@ impl Node {
         })
     }
 
-    // A class by the kind of its qdisc: one of a drr is active with a deficit, or asleep.
+    // A class by the kind of its qdisc: one of a drr is active with a deficit, or inactive.
     fn class_kind(&self, minor: Minor) -> ClassKind
         requires { HasClass minor self.now.own.discipline }
         ensures { result ≡ class_kind self.now.own.discipline minor }
@@ -121,7 +121,7 @@ impl Node {
         Some(FilterView { parent, filter })
     }
 
-    // Where the child in this place stands: in its class, if the node has a handle.
+    // Where the child in this place is: in its class, if the node has a handle.
     pub(crate) fn place_beneath(&self, i: usize) -> Place
         requires { IsNumbered self.now }
         ensures { result ≡ unwrap_or (slice_get (places_below self.now.own self.now.below) i) place.Root }

@@ -27,18 +27,18 @@ pub struct Share {
     pub classes: u32,
 }
 
-/// The way from the root down to a class, with nothing but drrs on it, below a tbf at the root or none.
+/// The path from the root down to a class, with nothing but drrs on it, below a tbf at the root or none.
 #[derive(Drop)]
 pub struct Way {
     /// The tbf at the root. There is no other in the tree then.
     pub link: Option<Link>,
-    /// The classes on the way, from the root down. A tree has at most eight levels.
+    /// The classes on the path, from the root down. A tree has at most eight levels.
     pub shares: ArrayVec<Share, 8>,
 }
 
 impl Tree {
-    /// The way from the root down to a class of a drr; `None` where there is no such class, where something other than a drr stands on
-    /// the way, a tbf at the root apart, or where another tbf stands beneath that one. It takes no memory.
+    /// The path from the root down to a class of a drr; `None` where there is no such class, where something other than a drr is on
+    /// the path, a tbf at the root apart, or where another tbf is below that one. It takes no memory.
     pub fn way_to(&self, class: ClassId) -> Option<Way>
         ensures link { option_map (λ w. w.link) result ≡ option_map (λ w. w.link) (way_to class self.now.tree.root) }
         ensures shares { option_map (λ w. w.shares.items) result ≡ option_map shares_of (way_to class self.now.tree.root) }
@@ -50,7 +50,7 @@ impl Tree {
 }
 
 impl Node {
-    // The way from the root down, of which this is the way.
+    // The [`Way`] from the root down along this path.
     fn way_from(&self, path: &[usize]) -> Option<Way>
         requires { length path.now ≤ 8 }
         ensures link { option_map (λ w. w.link) result ≡ option_map (λ w. w.link) (way_from path.now self.now self.now.own.discipline) }
@@ -100,7 +100,7 @@ impl Node {
         })
     }
 
-    // The classes on a way down, behind those above, if each is one of a drr.
+    // The classes on a path down, behind those above, if each is one of a drr.
     fn shares(&self, path: &[usize], above: ArrayVec<Share, 8>) -> Option<ArrayVec<Share, 8>>
         requires short { length above.items + length path.now ≤ 8 }
         requires above { All IsShare above.items }
@@ -132,7 +132,7 @@ impl Node {
         }
     }
 
-    // Whether a tbf stands here or beneath.
+    // Whether a tbf is here or below.
     fn has_tbf(&self) -> bool
         ensures { result ≡ has_tbf self.now }
     {

@@ -37,7 +37,7 @@ pub enum Call {
     Take(u64),
     // The number of the packet that is shown; 0 where none is.
     Peek(u64),
-    // The moment, in nanoseconds.
+    // The time, in nanoseconds.
     At(u64),
     // The packets that arrived, were sent, refused and dropped, and that are queued.
     Counts(Spot, [u64; 5]),
@@ -51,7 +51,7 @@ pub enum Call {
     Nodes(usize),
     // How far on in the order of show, and how many flows are listed there as new and as old, if it is an fq_codel.
     Flows(usize, Option<(u32, u32)>),
-    // How many losses were told.
+    // How many losses were reported.
     Losses(u64),
 }
 
@@ -104,7 +104,7 @@ fn make_room(tree: &Tree, losses: &mut Losses) -> Result<(), Fail>
     Ok(())
 }
 
-// The moment of a call: the latest that was named.
+// The time of a call: the latest that was named.
 fn later(tree: &Tree, now: Moment) -> Moment
     ensures { tree.now.clock ≤ result }
 {
@@ -117,7 +117,7 @@ fn later(tree: &Tree, now: Moment) -> Moment
 pub struct Bench {
     tree: Tree,
     losses: Losses,
-    // The moment of the calls to come.
+    // The time of the calls to come.
     now: Moment,
 }
 
@@ -286,7 +286,7 @@ impl Bench {
         }
     }
 
-    // The packets that a place counted; the most there can be where none stands there.
+    // The packets that a place counted; the most there can be where there is none.
     fn counts(&self, place: Place) -> [u64; 5] {
         match self.tree.stats(place) {
             Some(row) => [
@@ -327,7 +327,7 @@ impl Bench {
         Ok(self.counts(spot.place()?) == counts)
     }
 
-    // Whether a qdisc with this handle stands here, and comes so far on in the order of show; the handle is 0 for an implicit leaf.
+    // Whether a qdisc with this handle is here, and comes so far on in the order of show; the handle is 0 for an implicit leaf.
     fn is_shown(&self, i: usize, spot: Spot, major: u16) -> Result<bool, Fail> {
         let place = spot.place()?;
         match self.tree.node(i) {

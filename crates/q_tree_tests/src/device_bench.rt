@@ -1,6 +1,6 @@
 //! A device that commands make, and calls on it with what each has to answer.
 //!
-//! With ample memory no call is refused for want of it. `rt try --test --fail-alloc N` refuses the Nth allocation of each test,
+//! With ample memory no allocation fails. `rt try --test --fail-alloc N` refuses the Nth allocation of each test,
 //! and the tests pass for every N: an event that was refused has changed nothing that is seen, and the same event with memory is
 //! then answered as it has to be.
 use crate::lines::{self, New, Spot, at, packet};
@@ -73,15 +73,15 @@ pub fn poll_at(ns: u64) -> Result<Event, Fail> {
 /// A call, and what it has to answer.
 #[derive(Clone, Copy, Debug)]
 pub enum Call {
-    // The line, its moment, and the refusal.
+    // The line, its time, and the refusal.
     Do(Ask, u64, Option<Refusal>),
-    // The number, the length, the priority and the moment of a packet, and what becomes of it.
+    // The number, the length, the priority and the time of a packet, and what becomes of it.
     Arrive(u64, u16, u8, u64, Fate),
-    // The moment, and the number of the packet that is given; 0 where the device is idle.
+    // The time, and the number of the packet that is given; 0 where the device is idle.
     Poll(u64, u64),
-    // The moment of a poll that gives no packet, though one is queued.
+    // The time of a poll that gives no packet, though one is queued.
     Later(u64),
-    // The moment before which no poll gives a packet.
+    // The time before which no poll gives a packet.
     Ready(u64),
     // No poll gives one, however late.
     NeverReady,
@@ -89,9 +89,9 @@ pub enum Call {
     Reap(u64, Cause),
     // No loss waits.
     ReapNone,
-    // A place in the recorder, and the line and the moment there.
+    // A place in the recorder, and the line and the time there.
     Recorded(usize, Ask, u64),
-    // A place in the recorder, and the number, the length, the priority and the moment of the arrival there.
+    // A place in the recorder, and the number, the length, the priority and the time of the arrival there.
     RecordedArrival(usize, u64, u16, u8, u64),
     // How many events are recorded, and how many there were.
     Events(usize, u64),
@@ -170,7 +170,7 @@ struct Seen {
     totals: Row,
     root: Option<Row>,
     nodes: [NodeSeen; 6],
-    // The moment that the tree was given last.
+    // The time that the tree was given last.
     clock: Moment,
     recorded: usize,
     last: Option<Event>,
@@ -200,7 +200,7 @@ impl Seen {
     }
 }
 
-/// What an event is answered; `None` where memory was refused.
+/// What an event is answered; `None` if an allocation failed.
 pub fn reply(device: &mut Device, event: Event) -> Option<Reply> {
     match event {
         Event::Arrive(packet, now) => match device.arrive(packet, now) {
@@ -373,7 +373,7 @@ pub fn called(alloc: Global, calls: &[Call]) -> Result<(), Fail> {
     called_small(alloc, 100, calls)
 }
 
-/// Room for so many items. Where memory is refused it is asked for again.
+/// Room for so many items. If the allocation fails, it is tried again.
 pub fn room<E>(alloc: Global, count: usize) -> Result<Vec<E>, Fail> {
     match Vec::with_capacity(alloc, count) {
         Ok(items) => Ok(items),
@@ -425,7 +425,7 @@ fn replies_once(
     play(alloc, settings, events)
 }
 
-/// What a play of these events answers. Where memory is refused they are played again.
+/// What a play of these events answers. If an allocation fails, they are played again.
 pub fn replies(alloc: Global, settings: Settings, events: &[Event]) -> Result<Vec<Reply>, Fail> {
     match replies_once(alloc, settings, events) {
         Ok(replies) => Ok(replies),

@@ -7,7 +7,7 @@ use std::test::Fail;
 
 const KEPT: Fate = Fate::Kept;
 
-// What is refused names the moment 9, which does not count: the next event is at 3.
+// What is refused names the time 9, which does not count: the next event is at 3.
 #[test]
 fn the_first_refusal_is_told_and_nothing_changes(rt: HostRuntime) -> Result<(), Fail> {
     called(

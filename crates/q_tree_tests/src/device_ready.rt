@@ -1,4 +1,4 @@
-//! From which moment on a device may give its next packet, as long as nothing arrives and no command comes.
+//! From which time on a device may give its next packet, as long as nothing arrives and no command comes.
 use crate::device_bench::{Ask, Call, called};
 use crate::lines::{New, Spot};
 use q_device::Fate;
@@ -9,7 +9,7 @@ const KEPT: Fate = Fate::Kept;
 
 const SECOND: u64 = 1_000_000_000;
 
-// The latest moment.
+// The latest time.
 const LATEST: u64 = 1 << 62;
 
 // 8000 bits a second bring a byte in a millisecond.
@@ -49,7 +49,7 @@ fn a_tbf_is_ready_once_its_level_covers_the_head(rt: HostRuntime) -> Result<(), 
     )
 }
 
-// What an fq_codel would show is known once it was asked: before that its moment is the least that it can be.
+// What an fq_codel would show is known once it was asked: before that its time is the least that it can be.
 #[test]
 fn a_tbf_waits_for_what_the_first_band_has_at_hand(rt: HostRuntime) -> Result<(), Fail> {
     called(
@@ -189,7 +189,7 @@ fn wait_for_both(alloc: Global, outer: u64, inner: u64) -> Result<(), Fail> {
     )
 }
 
-// The later of the two moments counts, whichever bucket has it.
+// The later of the two times counts, whichever bucket has it.
 #[test]
 fn of_two_tbfs_the_later_one_decides(rt: HostRuntime) -> Result<(), Fail> {
     wait_for_both(rt.alloc(), 8_000, 4_000)?;

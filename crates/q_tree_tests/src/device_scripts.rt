@@ -1,6 +1,6 @@
 //! Ten thousand scripts, whose numbers come from a fixed seed: after each poll that gives nothing though something is queued, the next
-//! one goes a nanosecond before the moment that the device tells, and the next one at it. Of 53,480 polls at it 645 give none: what the
-//! moment was told for is not known then of an fq_codel, of a drr's front class, or beneath a tbf over a prio.
+//! one goes a nanosecond before the time that the device reports, and the next one at it. Of 53,480 polls at it 645 give none: what the
+//! time was reported for is not known then of an fq_codel, of a drr's front class, or below a tbf over a prio.
 use crate::device_bench::{Ask, set_up};
 use crate::lines::{New, Spot, at, packet};
 use q_device::{Device, Polled, Settings};
@@ -27,14 +27,14 @@ impl Dice {
     }
 }
 
-// How the polls at the moments that were told went.
+// How the polls at the times that were reported went.
 #[derive(Clone, Copy, PartialEq, Eq, Debug)]
 struct Told {
     gave: u64,
     gave_none: u64,
     // Polls before it that gave a packet, or after which it was sooner.
     broken: u64,
-    // Moments that were not after the poll that gave nothing.
+    // Times that were not after the poll that gave nothing.
     not_later: u64,
 }
 
@@ -67,7 +67,7 @@ fn add_classes(device: &mut Device, major: u16, inner: New) -> Result<(), Fail> 
     )
 }
 
-// Two bands beneath a tbf, over an fq_codel each.
+// Two bands below a tbf, over an fq_codel each.
 fn graft_bands(device: &mut Device, outer: New) -> Result<(), Fail> {
     set_up(
         device,
@@ -166,7 +166,7 @@ impl Script {
         }
     }
 
-    // Nothing was given: two polls more, a nanosecond before the moment that is told, and at it.
+    // Nothing was given: two polls more, a nanosecond before the time that is reported, and at it.
     fn wait(&mut self) -> Result<(), Fail> {
         let Some(ready) = self.device.ready_at() else {
             return Ok(());
@@ -216,7 +216,7 @@ fn played(alloc: Global, seed: u64, scripts: u64) -> Result<Told, Fail> {
     Ok(all)
 }
 
-// A seed, and how many polls at the moments told give a packet, and how many none, in a thousand scripts of it.
+// A seed, and how many polls at the times reported give a packet, and how many none, in a thousand scripts of it.
 const SEEDS: [(u64, u64, u64); 10] = [
     (1, 5_538, 62),
     (2, 5_296, 64),
@@ -252,7 +252,7 @@ fn try_seeds(alloc: Global, seeds: &[(u64, u64, u64)]) -> Result<(), Fail> {
     Ok(())
 }
 
-// No poll before the moment that is told gives a packet or makes it sooner, and no moment that is told is past.
+// No poll before the time that is reported gives a packet or makes it sooner, and no time that is reported is past.
 #[test]
 fn ten_thousand_scripts(rt: HostRuntime) -> Result<(), Fail> {
     try_seeds(rt.alloc(), &SEEDS)

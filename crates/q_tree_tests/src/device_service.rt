@@ -17,7 +17,7 @@ fn opened(alloc: Global) -> Result<Device, Fail> {
     Ok(Device::open(alloc, settings)?)
 }
 
-// What a device tells of the class in this place.
+// What a device reports of the class in this place.
 fn told(device: &Device, spot: Spot) -> Result<Option<Told>, Fail> {
     match &device.service(spot.place()?) {
         None => Ok(None),
@@ -45,7 +45,7 @@ fn tells_all(
     Ok(())
 }
 
-// Checks what a device tells after these lines.
+// Checks what a device reports after these lines.
 fn promises(alloc: Global, lines: &[Ask], rows: &[(Spot, Option<Told>)]) -> Result<(), Fail> {
     tells_all(&mut opened(alloc)?, lines, rows)
 }
@@ -142,7 +142,7 @@ fn a_burst_without_room_for_a_longest_packet_promises_nothing(rt: HostRuntime) -
     )
 }
 
-// The promise that the customers' device gives the first one, once a tbf stands in the class of the second.
+// The promise that the customers' device gives the first one, once a tbf is in the class of the second.
 fn told_beside_a_tbf(device: &mut Device) -> Result<Option<Told>, Fail> {
     set_up(device, &customers(LINK))?;
     set_up(device, &[Ask::Graft(Spot::Class(4, 2), 5, LINK)])?;

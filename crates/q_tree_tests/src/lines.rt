@@ -98,7 +98,7 @@ pub fn packet(number: u64, len: u16, prio: u8) -> Result<Packet, Fail> {
     Ok(Packet::new(0, number, 0, len, key, u32::from(prio), prio, Ecn::NotEct).ok_or("packet")?)
 }
 
-/// The moment of this nanosecond.
+/// The time of this nanosecond.
 pub fn at(ns: u64) -> Result<Moment, Fail> {
     Ok(Moment::new(ns).ok_or("moment")?)
 }

@@ -1,4 +1,4 @@
-//! The rounds of a drr or of an fq_codel, worked out apart from them: who stands in which list, what each has left to send, and how
+//! The rounds of a drr or of an fq_codel, worked out apart from them: who is in which list, what each has left to send, and how
 //! often each was granted its quantum.
 
 /// The most classes or flows.
@@ -7,7 +7,7 @@ pub const MOST: usize = 5;
 /// More visits than one poll makes.
 const VISITS: u64 = 1_000_000;
 
-/// Where a class or a flow stands. The classes of a drr have one list.
+/// Where a class or a flow is. The classes of a drr have one list.
 #[derive(Clone, Copy, PartialEq, Eq)]
 pub enum List {
     Nowhere,
@@ -94,7 +94,7 @@ impl Rounds {
         );
     }
 
-    /// A packet comes. Who stands nowhere joins with a quantum.
+    /// A packet comes. One that is in no list joins with a quantum.
     pub fn arrives(&mut self, i: usize) {
         let mut member = self.member(i);
         member.queued = member.queued.saturating_add(1);
@@ -106,7 +106,7 @@ impl Rounds {
         self.stand(i, member, list);
     }
 
-    /// All its packets go, and it stands nowhere.
+    /// All its packets go, and it is in no list.
     pub fn sleeps(&mut self, i: usize) {
         let member = Member {
             left: 0,

@@ -7,7 +7,7 @@ use std::test::Fail;
 /// The most events of a script.
 pub const MOST: usize = 512;
 
-/// What happens at moment 0.
+/// What happens at time 0.
 #[derive(Drop)]
 pub struct Script {
     pub events: Vec<Event>,

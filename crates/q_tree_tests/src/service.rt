@@ -58,7 +58,7 @@ fn run(
 }
 
 // A class of quantum 1000 that stays backlogged is granted once each time, and the other sends its own quantum of 500 for each grant,
-// however often it wakes with a packet as long as its quantum and sleeps again: no byte less than `class_against_any` lets it.
+// however often it becomes active with a packet as long as its quantum and inactive again: no byte less than `class_against_any` lets it.
 #[test]
 fn a_class_that_wakes_and_sleeps_gets_its_quantum_each_round(rt: HostRuntime) -> Result<(), Fail> {
     run(

@@ -33,7 +33,7 @@ impl Span {
 }
 
 /// Whether class j sent no more than class i, which was backlogged, lets it send: a quantum for each grant to i, and its first deficit;
-/// of that, where it did not stand before class i, only what is above a quantum.
+/// of that, where it was not before class i, only what is above a quantum.
 pub fn class_against_any(i: &Span, j: &Span, mtu: i64) -> bool {
     let granted = i.grants().saturating_mul(j.quantum());
     let most = granted.saturating_add(deficit_counted(i, j));
@@ -91,7 +91,7 @@ fn reach(credits: i64, mtu: i64) -> i64 {
 }
 
 /// Whether flow j gave no more than flow i, which was backlogged, lets it give: two quanta less a byte for each grant to i, a quantum if it
-/// did not stand in the new list, and what its credits let it give.
+/// was not in the new list, and what its credits let it give.
 pub fn flow_against_any(i: &Span, j: &Span, mtu: i64) -> bool {
     let each = i.quantum().saturating_mul(2).saturating_sub(1);
     let joins = if j.first.list == List::New {

@@ -45,7 +45,7 @@ impl Classes {
 }
 
 /// A time at which no packet came: how many bytes had been given, how many the child of the backlogged class had given to the drr, and
-/// how many that of the backlogged class beneath it.
+/// how many that of the backlogged class below it.
 #[derive(Clone, Copy)]
 pub struct Wait {
     pub ns: u64,
@@ -54,7 +54,7 @@ pub struct Wait {
     pub beneath: u64,
 }
 
-/// A rate, who shares it, and who shares the part of the first of those, if there is a drr beneath.
+/// A rate, who shares it, and who shares the part of the first of those, if there is a drr below.
 #[derive(Clone, Copy)]
 pub struct Link {
     pub rate: u64,
@@ -96,8 +96,8 @@ impl Link {
         part < all.saturating_mul(UNITS)
     }
 
-    // What the backlogged class beneath may lack of its part of the rate, times the sums of both drrs' quanta: what each level lacks, and a
-    // longest packet that the drr beneath holds.
+    // What the backlogged class below may lack of its part of the rate, times the sums of both drrs' quanta: what each level lacks, and a
+    // longest packet that the drr below holds.
     fn lacks_beneath(&self) -> u128 {
         let (quantum, sum) = (self.beneath.quantum(), self.classes.sum());
         let above = self
@@ -112,7 +112,7 @@ impl Link {
             .saturating_add(own)
     }
 
-    /// Whether the backlogged class beneath gets its part of that part, if there is a drr beneath.
+    /// Whether the backlogged class below gets its part of that part, if there is a drr below.
     pub fn shares_beneath(&self, from: &Wait, to: &Wait) -> bool {
         if self.beneath.count == 0 {
             return true;

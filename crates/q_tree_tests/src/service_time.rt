@@ -81,7 +81,7 @@ impl Drained {
         Ok(())
     }
 
-    // How many classes may get packets: those of the drr, and all but the first of the one beneath, which have the priorities behind.
+    // How many classes may get packets: those of the drr, and all but the first of the one below, which have the priorities behind.
     fn places(&self) -> usize {
         let beneath = self.link.beneath.count.saturating_sub(1);
         self.link.classes.count.saturating_add(beneath)

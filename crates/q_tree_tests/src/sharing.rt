@@ -1,5 +1,5 @@
 //! What a play sends of each class of a drr, and of each flow of an fq_codel, while they stay backlogged: sums of lengths, and
-//! what quanta, deficits and credits make of them. A priority is a class or a flow. And what a tbf sends over each stretch of a play.
+//! what quanta, deficits and credits make of them. A priority is a class or a flow. And what a tbf sends over each interval of a play.
 use crate::device_bench::{Ask, add, add_event, poll_at, room};
 use crate::lines::{New, Spot};
 use crate::script::{MOST, Script, given};
@@ -30,14 +30,14 @@ fn expect(given: [u64; 2], expected: [u64; 2]) -> Result<(), Fail> {
     }
 }
 
-// The first class has two grants, and a deficit of 1000 at both ends; the second has one, and uses the quantum that it woke with.
+// The first class has two grants, and a deficit of 1000 at both ends; the second has one, and uses the quantum that it began with.
 #[test]
 fn classes_send_as_their_quanta(rt: HostRuntime) -> Result<(), Fail> {
     let mut script = two_classes(rt.alloc())?;
     expect(script.polls(rt.alloc(), 6)?, [2 * 1000, 500 + 500])
 }
 
-// Another quantum begins another stretch. At 100 the first class has five grants and a deficit of 1000, of which 500 are left; the
+// Another quantum begins another interval. At 100 the first class has five grants and a deficit of 1000, of which 500 are left; the
 // second has five of its own.
 #[test]
 fn a_class_sends_as_its_new_quantum(rt: HostRuntime) -> Result<(), Fail> {
@@ -144,7 +144,7 @@ fn is_within_from(bytes: &[u64], from: usize) -> bool {
     true
 }
 
-// Whether the polls of each stretch give no more than the burst and what the rate brings from its first to its last.
+// Whether the polls of each interval give no more than the burst and what the rate brings from its first to its last.
 fn is_within(bytes: &[u64]) -> bool {
     for from in 0..bytes.len() {
         if !is_within_from(bytes, from) {

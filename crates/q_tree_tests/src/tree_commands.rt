@@ -245,7 +245,7 @@ fn each_priority_has_a_band_of_sixteen(rt: HostRuntime) -> Result<(), Fail> {
     play(rt.alloc(), calls.as_slice())
 }
 
-// A prio of sixteen stands in each of the first fourteen bands.
+// A prio of sixteen is in each of the first fourteen bands.
 #[test]
 fn a_tree_has_at_most_256_nodes(rt: HostRuntime) -> Result<(), Fail> {
     let mut calls = Vec::new(rt.alloc());

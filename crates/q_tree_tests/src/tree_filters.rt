@@ -239,7 +239,7 @@ fn the_first_of_many_filters_decides(rt: HostRuntime) -> Result<(), Fail> {
         ((4, 17, 1, 2, 5, 1038), 1),
         ((4, 17, 1, 41, 5, 6), 2),
         ((4, 17, 1, 58, 5, 6), 1),
-        // The filter of the port stands before that of the address.
+        // The filter of the port is before that of the address.
         ((4, 17, 1, 41, 5, 1000), 1),
         ((6, 17, 1, 41, 5, 6), 1),
     ];

@@ -1,4 +1,4 @@
-//! Handles of a tree that is edited: each is found where it stands, until it goes, and may then be given again.
+//! Handles of a tree that is edited: each is found where it is, until it goes, and may then be given again.
 use crate::bench::{Call, play};
 use crate::lines::{New, Spot};
 use q_model::Refusal;

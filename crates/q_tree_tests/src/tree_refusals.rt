@@ -1,4 +1,4 @@
-//! Each refusal of each command, and commands that two neighbours in the order of refusals would refuse: the earlier is told.
+//! Each refusal of each command, and commands that two neighbours in the order of refusals would refuse: the earlier is reported.
 //!
 //! Memory, the last of each, is refused by an allocator and not by a tree, so that no row has it.
 use crate::bench::{Bench, Call};
@@ -117,7 +117,7 @@ fn a_new_qdisc_is_refused(rt: HostRuntime) -> Result<(), Fail> {
                 Ask::Graft(Spot::Class(5, 1), 2, New::Pfifo),
                 Refusal::NotClassful,
             ),
-            // Not with Exists: in a class that is not there stands nothing.
+            // Not with Exists: there is nothing in a class that is not there.
             (
                 Ask::Graft(Spot::Class(1, 5), 6, New::Pfifo),
                 Refusal::NoClass,

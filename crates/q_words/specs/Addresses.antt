@@ -60,7 +60,7 @@ begins_with_two (a ∷ b ∷ bytes) = is_colon a && is_colon b
 begins_with_two (a ∷ []) = false
 begins_with_two [] = false
 
--- where the two colons stand, or the length
+-- where the two colons are, or the length
 abbrev pub gap_at : List ℕ → ℕ
 gap_at word = least (λ i. begins_with_two (drop i word)) (length word)
 

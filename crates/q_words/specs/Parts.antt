@@ -42,7 +42,7 @@ address_from high low gap =
 abbrev pub byte_of : List ℕ → Result ℕ Wrong
 byte_of word = if is_numeral 16 word then (if nat_le (digits_value 16 word) 255 then Ok (digits_value 16 word) else Err OutOfRange) else Err BadNumber
 
--- a prefix of the address that was read, with the length that stands there
+-- a prefix of the address that was read, with the length that is there
 abbrev pub prefix_with : Result Address Wrong → Option (List ℕ) → Result Prefix Wrong
 prefix_with (Ok a) len = prefix_from a len
 prefix_with (Err e) len = if has_bad_length len then Err BadNumber else Err e

@@ -29,11 +29,11 @@ is_colon b = b == 58
 abbrev pub is_major : List ℕ → Bool
 is_major digits = nat_le (length digits) 4 && (nat_le 1 (digits_value 16 digits) && nat_le (digits_value 16 digits) 65534)
 
--- what may stand behind a handle's colon: nothing, or the digit 0
+-- what may be behind a handle's colon: nothing, or the digit 0
 abbrev pub is_no_minor : List ℕ → Bool
 is_no_minor digits = nat_le (length digits) 1 && digits_value 16 digits == 0
 
--- the major number of a handle, given what stands before its colon and behind it
+-- the major number of a handle, given what is before its colon and behind it
 abbrev pub handle_from : List ℕ → List ℕ → Result ℕ Wrong
 handle_from major minor =
     if is_numeral 16 major && is_digits 16 minor

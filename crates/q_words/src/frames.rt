@@ -12,7 +12,7 @@ use q_packet::{Head, read_head};
 /// The most bytes from which a header is read: an IPv4 header has at most 60, and the ports come after it.
 const HEAD_BYTES: usize = 64;
 
-/// HEX: the first bytes of a packet, in two hexadecimal digits each, one byte or more; gives the head that they begin with.
+/// HEX: the first bytes of a packet, in two hexadecimal digits each, one byte or more; returns the head that they begin with.
 ///
 /// A word of another form is `BadNumber`.
 pub fn frame_head(word: &[u8]) -> Result<Head, Wrong>

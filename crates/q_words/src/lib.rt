@@ -11,7 +11,7 @@
 //! let wrong = number(b"1k", 0, 1000);          // Err(Wrong::BadNumber): a number has no suffix
 //! ```
 //!
-//! Each reader takes the bytes of one word and gives exactly what its definition in `specs/` says: `Words` has how a line is
+//! Each reader takes the bytes of one word and returns exactly what its definition in `specs/` says: `Words` has how a line is
 //! cut, `Values` numbers, handles and names, `Units` numbers with a unit, `Addresses` the rest. None allocates.
 #![tactic(auto)]
 

@@ -38,7 +38,7 @@ fn hexadecimal(word: &[u8]) -> Result<u8, Wrong>
     }
 }
 
-/// The protocol of the packets that a filter looks at: `ip`, `ipv6` or `all`. Any other word is `UnknownWord`.
+/// The protocol of the packets that a filter tests: `ip`, `ipv6` or `all`. Any other word is `UnknownWord`.
 pub fn protocol(word: &str) -> Result<Protocol, Wrong>
     ensures { result ≡ protocol_of word.now }
 {

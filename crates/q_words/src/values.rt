@@ -75,7 +75,7 @@ pub fn cut_at_colon(word: &[u8]) -> (&[u8], &[u8])
     }
 }
 
-/// HANDLE: `M`, `M:` or `M:0` (tc(8), a qdisc's handle), M of one to four hexadecimal digits, 1 to fffe; gives M.
+/// HANDLE: `M`, `M:` or `M:0` (tc(8), a qdisc's handle), M of one to four hexadecimal digits, 1 to fffe; returns M.
 ///
 /// Another form of the whole word is `BadNumber`; digits alone that are too many or out of range are `OutOfRange`.
 pub fn handle(word: &[u8]) -> Result<Handle, Wrong>

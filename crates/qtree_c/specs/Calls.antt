@@ -1,5 +1,5 @@
 -- What each call from C does to an open device, and what it answers.
--- The calls are this project's own; what their events do stands in q_model's specs/Step.antt.
+-- The calls are this project's own; what their events do is in q_model's specs/Step.antt.
 use Rattle.std.specs.Prelude.{◌≡◌, ◌≢◌, ℕ, ◌<◌, ◌≤◌, length, slice_get, Option, Some, None}
 use Rattle.q_packet.specs.Descriptor.{Descriptor}
 use Rattle.q_codel.specs.declared.loss.Loss.{Loss}
@@ -26,8 +26,8 @@ Calls does code None new = (code ≡ 50) × (new ≡ None)
 Calls does code (Some d) None = ⊥
 Calls does code (Some d) (Some n) = does d n
 
--- A packet arrived, and its fate is answered; or a field is out of its range, or memory is refused, and nothing happened but that there may
--- be more places.
+-- A packet arrived, and its fate is answered; or a field is out of its range, or an allocation fails, and nothing happened but that there
+-- may be more places.
 pub record IsArrival (c : CPacket) (now : ℕ) (code : ℕ) (d n : DeviceSeen) : Type 0 where
   pub arrived : code ≤ 6 → n ≡ with_memory n.memory (after_event (event.Arrive (descriptor c) now) d)
   pub fate : code ≤ 6 → code ≡ reply_number (reply_to (event.Arrive (descriptor c) now) d)
@@ -39,13 +39,13 @@ pub record IsArrival (c : CPacket) (now : ℕ) (code : ℕ) (d n : DeviceSeen) :
   pub places : KeepsPlaces d n
   pub keeps : 6 < code → (other : Descriptor) → HasRoomFor other d → HasRoomFor other n
 
--- a poll, which takes no memory, and what is told of the packet that it gives, in the place of what was told before
+-- a poll, which takes no memory, and what is reported of the packet that it gives, in the place of what was reported before
 pub record IsPoll {A : Type 0} (told : Descriptor → A) (now code : ℕ) (before after : A) (d n : DeviceSeen) : Type 0 where
   pub polled : n ≡ after_poll now d
   pub answer : code ≡ reply_number (reply_to (event.Poll now) d)
   pub packet : after ≡ told_or told before (given_at now d)
 
--- the answer where one may be there, and what then stands in the place of what stood there before
+-- the answer where one may be there, and what is then in the place of what was there before
 abbrev pub found_number : {A : Type 0} → Option A → ℕ
 found_number None = 32
 found_number (Some x) = 0
@@ -70,7 +70,7 @@ pub record IsRow (place : Place) (code : ℕ) (before after : CRow) (d n : Devic
   pub answer : code ≡ found_number (stats totals place d.device.tree)
   pub row : after ≡ row_or before (stats totals place d.device.tree)
 
--- the event that is told, where it is recorded
+-- the event that is reported, where it is recorded
 abbrev pub event_or : CEvent → Option Event → CEvent
 event_or before None = before
 event_or before (Some e) = event_of e

@@ -21,7 +21,8 @@ abbrev pub answer_by : ℕ → ℕ → DeviceSeen → ℕ
 answer_by zero now d = 0
 answer_by (suc n) now d = or_last (given_at now d) (reply_number (reply_to (Poll now) d)) (answer_by n now (after_poll now d))
 
--- Polls into lent places, in each of which this is told of a packet. Those behind the last packet stay as they were; the polls take no memory.
+-- Polls into lent places, in each of which this is reported of a packet. Those behind the last packet stay as they were; the polls take no
+-- memory.
 pub record IsPolls {A : Type 0} (told : Descriptor → A) (now code count : ℕ) (before after : List A) (d n : DeviceSeen) : Type 0 where
   pub polled : n ≡ polled_by (length before) now d
   pub answer : code ≡ answer_by (length before) now d
@@ -43,7 +44,8 @@ fates_by now [] d = []
 fates_by now (c ∷ cs) d = reply_number (reply_to (arrival now c) d) ∷ fates_by now cs (after_event (arrival now c) d)
 
 -- These packets arrived, for which no place was lost. The device then had no room for the next one, and but for more places it has stayed
--- as it was. Where no packet had arrived it was the very device of before. So who gave the device room for all is never refused.
+-- as it was. Where no packet had arrived it was the very device of before. So a caller who gave the device room for all gets no allocation
+-- failure.
 pub record StopsAtNext (now : ℕ) (arrived : List CPacket) (next : CPacket) (d n : DeviceSeen) : Type 0 where
   pub full : DeviceSeen
   pub made : full ≡ with_memory full.memory (arrived_by now arrived d)
@@ -53,8 +55,8 @@ pub record StopsAtNext (now : ℕ) (arrived : List CPacket) (next : CPacket) (d 
   pub room : HasRoomFor (descriptor next) full → ⊥
   pub stays : StaysButForPlaces full n
 
--- The first packets arrived, to the end, or to one that is out of its range (42) or for which memory is refused (90). What
--- stands behind the numbers of their fates stays as it was.
+-- The first packets arrived, to the end, or to one that is out of its range (42) or for which an allocation fails (90). What
+-- is behind the numbers of their fates stays as it was.
 pub record IsArrivals (now : ℕ) (packets : List CPacket) (code done : ℕ) (before after : List ℕ) (d n : DeviceSeen) : Type 0 where
   pub arrived : n ≡ with_memory n.memory (arrived_by now (take done packets) d)
   pub fates : after ≡ fates_by now (take done packets) d ++ drop done before

@@ -2,7 +2,7 @@
 -- The names of the other answers are this project's own.
 use Rattle.std.specs.Prelude.{ℕ, ◌==◌, List, codes, if◌then◌else◌}
 
--- an answer: a cause of a loss (1 to 6), a refusal (10 to 21 and 90), or what a call has to tell
+-- an answer: a cause of a loss (1 to 6), a refusal (10 to 21 and 90), or what a call has to report
 abbrev pub code_in_words : ℕ → List ℕ
 code_in_words n =
     if n == 0 then codes "Done" else if n == 1 then codes "TooLong" else if n == 2 then codes "NoClass" else

@@ -1,4 +1,4 @@
--- The nodes and classes of a tree, as C is told of them.
+-- The nodes and classes of a tree, as they are reported to C.
 -- Nodes, classes and their order are those of tc's show lines, and the numbers of kinds and places this project's own.
 use Rattle.std.specs.Prelude.{◌≡◌, ℕ, List, [], ◌∷◌, if◌then◌else◌, Option, Some, None, unwrap_or}
 use Rattle.q_device.specs.DeviceSeen.{DeviceSeen}
@@ -32,7 +32,7 @@ place_in (place.Class c) = (2, c.major, c.minor)
 abbrev pub no_bands : List ℕ
 no_bands = 0 ∷ 0 ∷ 0 ∷ 0 ∷ 0 ∷ 0 ∷ 0 ∷ 0 ∷ 0 ∷ 0 ∷ 0 ∷ 0 ∷ 0 ∷ 0 ∷ 0 ∷ 0 ∷ []
 
--- what is told of each node, whatever its kind; nothing of its settings
+-- what is reported of each node, whatever its kind; nothing of its settings
 abbrev pub standing_of : NodeView → CNodeView
 standing_of v = record {
   row = row_of v.row;
@@ -92,7 +92,7 @@ unlisted_of v = with_options v.qdisc (standing_of v)
 abbrev pub node_of : NodeView → Option ListedFlows → CNodeView
 node_of v listed = with_listed listed (unlisted_of v)
 
--- what stands in the place of what stood there before
+-- what is in the place of what was there before
 abbrev pub node_or : CNodeView → Option NodeView → Option ListedFlows → CNodeView
 node_or before None listed = before
 node_or before (Some v) listed = node_of v listed

@@ -1,4 +1,4 @@
--- What the calls from C note in the ring of the last events that stands beside a device, and what they tell of it.
+-- What the calls from C note in the ring of the last events that is beside a device, and what they report of it.
 -- The ring is q_device's (LastNoted.antt); the calls are this project's own.
 use Rattle.std.specs.Prelude.{◌≡◌, ℕ, ◌+◌, ◌==◌, if◌then◌else◌, List, [], ◌∷◌, length, map, replicate, slice_get, Result, Ok, Err, Option, Some, None}
 use Rattle.q_device.specs.DeviceSeen.{DeviceSeen, as_counted}
@@ -31,11 +31,11 @@ Notes events (Some d) before after = after ≡ noting (events d) before
 abbrev pub one_event : Event → DeviceSeen → List Event
 one_event e d = as_counted d.device e ∷ []
 
--- these packets arrive at one moment
+-- these packets arrive, all at the same time
 abbrev pub arrival_events : ℕ → List Descriptor → DeviceSeen → List Event
 arrival_events now packets d = map (λ p. as_counted d.device (Arrive p now)) packets
 
--- as many polls at one moment as give so many packets, and the one that gives none where the answer says so
+-- as many polls, all at the same time, as give so many packets, and the one that gives none where the answer says so
 abbrev pub poll_events : ℕ → ℕ → ℕ → DeviceSeen → List Event
 poll_events now code count d = replicate (if code == 0 then count else count + 1) (as_counted d.device (Poll now))
 

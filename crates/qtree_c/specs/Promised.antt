@@ -1,4 +1,4 @@
--- What a class is promised, as C is told.
+-- What a class is promised, as it is reported to C.
 -- The numbers are those of q_device's specs/Promise.antt, and their layout this project's own.
 use Rattle.std.specs.Prelude.{◌≡◌, ℕ, Option, Some, None, option_map, unwrap_or}
 use Rattle.q_device.specs.DeviceSeen.{DeviceSeen}
@@ -21,7 +21,7 @@ abbrev pub told_or : CPromise → Option Promise → CPromise
 told_or before None = before
 told_or before (Some p) = told_of p
 
--- what the class in this place is promised (0); or nothing is (32), and what stood there stays
+-- what the class in this place is promised (0); or nothing is (32), and what was there stays
 pub record IsPromised (place : Place) (code : ℕ) (before after : CPromise) (d n : DeviceSeen) : Type 0 where
   pub same : n ≡ d
   pub answer : code ≡ found_number (promise_of place d.settings.mtu d.device.tree.root)

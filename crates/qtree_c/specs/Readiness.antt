@@ -1,12 +1,12 @@
--- When a device next gives a packet, as C is told.
--- The moment is that of q_tree's specs/ReadyAt.antt, and the numbers this project's own.
+-- When a device next gives a packet, as it is reported to C.
+-- The time is that of q_tree's specs/ReadyAt.antt, and the numbers this project's own.
 use Rattle.std.specs.Prelude.{◌≡◌, ◌≢◌, ℕ, ◌<◌, ◌≤◌, ◌^◌, None, unwrap_or}
 use Rattle.q_device.specs.DeviceSeen.{DeviceSeen}
 use Rattle.q_model.specs.TreeState.{given}
 use Rattle.q_tree.specs.ReadyAt.{ready_at}
 use Rattle.qtree_c.specs.Calls.{found_number}
 
--- The moment before which no poll gives a packet (0); or no poll ever will, as things stand (32), and the moment stays.
+-- The time before which no poll gives a packet (0); or no poll ever will, as things are (32), and the time stays.
 pub record IsReady (code before after : ℕ) (d n : DeviceSeen) : Type 0 where
   pub same : n ≡ d
   pub answer : code ≡ found_number (ready_at d.device.clock d.device.tree.root)

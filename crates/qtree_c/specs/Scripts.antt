@@ -6,7 +6,7 @@ use Rattle.q_model.specs.declared.event.Event.{Event}
 use Rattle.q_spelling.specs.Events.{event_text, script_text}
 
 -- A text is written into the first of the lent bytes (0); or there are too few of them (43), and nothing is written. How many it needs
--- is told.
+-- is reported.
 pub record IsWritten (text : List ℕ) (code needed : ℕ) (before after : List ℕ) : Type 0 where
   pub long : needed ≡ length text
   pub done : code ≡ 0 → after ≡ text ++ drop needed before
@@ -29,7 +29,7 @@ pub record IsRecordedLine (index code needed : ℕ) (before after : List ℕ) (d
   pub same : n ≡ d
   pub line : IsLineOf (slice_get d.recorded index) code needed before after
 
--- the script of all recorded events, or memory is refused for it (90)
+-- the script of all recorded events, or an allocation fails for it (90)
 pub record IsScript (code needed : ℕ) (before after : List ℕ) (d n : DeviceSeen) : Type 0 where
   pub same : n ≡ d
   pub script : code ≢ 90 → IsWritten (script_text d.recorded) code needed before after

@@ -16,8 +16,8 @@ shown_text what tree =
     if what == 1 then flat_map (qdisc_text true) (views totals tree) else
     if what == 2 then listed_text class_line class_views tree else listed_text filter_line filter_views tree
 
--- The text is written into the first of the lent bytes (0); or there are too few of them (43) or memory is refused (90), and
--- nothing is written. How many bytes it needs is told but where memory is refused.
+-- The text is written into the first of the lent bytes (0); or there are too few of them (43) or an allocation fails (90), and
+-- nothing is written. How many bytes it needs is reported unless an allocation fails.
 pub record IsShow (what code needed : ℕ) (before after : List ℕ) (d n : DeviceSeen) : Type 0 where
   pub same : n ≡ d
   pub long : code ≢ 90 → needed ≡ length (shown_text what d.device.tree)

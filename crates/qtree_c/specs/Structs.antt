@@ -66,7 +66,7 @@ packet_of p = record {
   ecn = codepoint p.ecn;
 }
 
--- what is told of the packet that a poll gives; what stood in its place where it gives none
+-- what is reported of the packet that a poll gives; what was in its place where it gives none
 abbrev pub told_or : {A : Type 0} → (Descriptor → A) → A → Option Descriptor → A
 told_or told before None = before
 told_or told before (Some p) = told p

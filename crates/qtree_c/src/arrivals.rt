@@ -35,7 +35,7 @@ pub extern "C" fn qtree_arrive(device: &mut CDevice, packet: &CPacket, now: u64)
     arrive(device.held.lend(), packet, now)
 }
 
-/// Packets arrive in order at one moment, to the first that is out of its range or for which memory is refused.
+/// Packets arrive in order, all at the same time, to the first that is out of its range or for which an allocation fails.
 #[unsafe(no_mangle)]
 pub extern "C" fn qtree_arrive_many(
     device: &mut CDevice,

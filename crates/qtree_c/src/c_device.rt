@@ -1,4 +1,4 @@
-//! The place in C's memory in which a device stands.
+//! The place in C's memory in which a device is.
 ghost use Rattle.std.specs.Prelude.{◌≡◌, ◌<◌, true, false, Some, None, IfSome, IfNone, IsSome};
 ghost use Rattle.q_device.specs.contracts.Device.{the_row as device_row};
 ghost use Rattle.qtree_c.specs.Holding.{IsClosed, IsClosed-prop};
@@ -34,7 +34,7 @@ impl CDevice {
         }
     }
 
-    /// Whether a device stands here.
+    /// Whether a device is here.
     pub fn is_open(&self) -> bool
         ensures open { result ≡ true → IsSome self.now.held.device }
         ensures closed { result ≡ false → self.now.held.device ≡ None }

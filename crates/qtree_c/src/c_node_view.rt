@@ -6,7 +6,7 @@ use q_device::ListedFlows;
 use q_fqcodel::Settings;
 use q_model::{NodeView, Place, QdiscView};
 
-/// A qdisc, where it stands, its settings and what it counted, as C has them. What its kind lacks is 0.
+/// A qdisc, where it is, its settings and what it counted, as C has them. What its kind lacks is 0.
 #[repr(C)]
 #[derive(Clone, Copy, Drop)]
 pub struct CNodeView {
@@ -37,7 +37,7 @@ pub struct CNodeView {
     pub place: u32,
     /// 0 for a leaf that nobody added.
     pub handle: u16,
-    /// The class in which it stands; 0 at the root.
+    /// The class in which it is; 0 at the root.
     pub parent_major: u16,
     pub parent_minor: u16,
     /// An fq_codel's, in bytes.

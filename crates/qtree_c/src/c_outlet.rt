@@ -1,4 +1,4 @@
-//! The place in C's memory in which an outlet stands.
+//! The place in C's memory in which an outlet is.
 ghost use Rattle.std.specs.Prelude.{◌≡◌, ◌<◌, true, false, Some, None, IfSome, IfNone, IsSome};
 ghost use Rattle.q_ports.specs.contracts.Outlet.{the_row as outlet_row};
 ghost use Rattle.qtree_c.specs.Holding.{IsClosed, IsClosed-prop};
@@ -32,7 +32,7 @@ impl COutlet {
         }
     }
 
-    /// Whether an outlet stands here.
+    /// Whether an outlet is here.
     pub fn is_open(&self) -> bool
         ensures open { result ≡ true → IsSome self.now.held.outlet }
         ensures closed { result ≡ false → self.now.held.outlet ≡ None }

@@ -1,4 +1,4 @@
-//! The place in C's memory in which a port stands.
+//! The place in C's memory in which a port is.
 ghost use Rattle.std.specs.Prelude.{◌≡◌, ◌<◌, true, false, Some, None, IfSome, IfNone, IsSome};
 ghost use Rattle.q_ports.specs.contracts.Port.{the_row as port_row};
 ghost use Rattle.qtree_c.specs.Holding.{IsClosed, IsClosed-prop};
@@ -32,7 +32,7 @@ impl CPort {
         }
     }
 
-    /// Whether a port stands here.
+    /// Whether a port is here.
     pub fn is_open(&self) -> bool
         ensures open { result ≡ true → IsSome self.now.held.port }
         ensures closed { result ≡ false → self.now.held.port ≡ None }

@@ -15,7 +15,7 @@ pub struct CPromise {
     pub slack: u64,
 }
 
-/// A billion bytes, of which `part` tells the part of a class.
+/// A billion bytes, of which `part` says the part of a class.
 const BILLION: u64 = 1_000_000_000;
 
 impl CPromise {

@@ -15,7 +15,7 @@ pub struct CSent {
 }
 
 impl CSent {
-    /// What is told of this packet.
+    /// What is reported of this packet.
     #[inline(always)]
     pub fn of(packet: &Packet) -> CSent
         ensures { result ≡ sent_of packet.now }

@@ -3,13 +3,13 @@
 /// It was done.
 pub const DONE: u32 = 0;
 
-/// No packet is given, and none is queued.
+/// The poll gives no packet, and none is queued.
 pub const IDLE: u32 = 30;
 
-/// No packet is given, though one is queued.
+/// The poll gives no packet, though one is queued.
 pub const LATER: u32 = 31;
 
-/// No loss waits, no node stands there, there is no such event, or a class is promised nothing.
+/// No loss waits, there is no such node, there is no such event, or a class is promised nothing.
 pub const NOTHING: u32 = 32;
 
 /// The ring of a port has no room.
@@ -33,5 +33,5 @@ pub const IS_CLOSED: u32 = 50;
 /// It is open already.
 pub const IS_OPEN: u32 = 51;
 
-/// Memory is refused.
+/// An allocation failed.
 pub const MEMORY: u32 = 90;

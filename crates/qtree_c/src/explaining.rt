@@ -45,7 +45,7 @@ pub extern "C" fn qtree_explain(
 ///
 /// # Errors
 ///
-/// `OUT_OF_RANGE` where there is nothing to explain, `MEMORY` where memory is refused.
+/// `OUT_OF_RANGE` where there is nothing to explain, `MEMORY` if an allocation fails.
 fn told(alloc: Global, line: &[u8], number: u64, code: u32, fault: &CFault) -> Result<String, u32>
     ensures explained { IfOk result (λ _. IsExplained code fault.now) }
     ensures memory { IfErr result (λ why. why ≢ 42 → (why ≡ 90) × IsExplained code fault.now) }

@@ -1,4 +1,4 @@
-//! An open device is polled, and C is told of each packet that it gives.
+//! An open device is polled, and each packet that it gives is reported to C.
 ghost use Rattle.std.specs.Prelude.{◌≡◌, ◌≤◌, Some, None, OnErr, OnOk, IfOk, IfErr, option_map};
 ghost use Rattle.q_model.specs.declared.event.Event.TheVariants as event;
 ghost use Rattle.q_model.specs.Step.{counts_at};
@@ -51,7 +51,7 @@ pub fn poll_many<T: Told>(opened: &mut Opened, places: &mut [T], now: Moment) ->
     (places.len(), DONE)
 }
 
-/// What is told of the packet that a poll gives, by way of a place that the caller has.
+/// What is reported of the packet that a poll gives, by way of a place that the caller has.
 ///
 /// # Errors
 ///

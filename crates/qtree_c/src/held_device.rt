@@ -46,7 +46,7 @@ impl HeldDevice {
         HeldDevice { at: at as *mut u8 }
     }
 
-    /// The device with its ring where they stand: the address itself is only read.
+    /// The device with its ring where they are: the address itself is only read.
     #[inline(always)]
     pub fn lend(&mut self) -> &mut Opened
         requires { IsSome self.old.device }

@@ -42,7 +42,7 @@ impl HeldOutlet {
         HeldOutlet { at: at as *mut u8 }
     }
 
-    /// The outlet where it stands: the address itself is only read.
+    /// The outlet where it is: the address itself is only read.
     #[inline(always)]
     pub fn lend(&mut self) -> &mut Outlet
         requires { IsSome self.old.outlet }

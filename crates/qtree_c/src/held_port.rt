@@ -42,7 +42,7 @@ impl HeldPort {
         HeldPort { at: at as *mut u8 }
     }
 
-    /// The port where it stands: the address itself is only read.
+    /// The port where it is: the address itself is only read.
     #[inline(always)]
     pub fn lend(&mut self) -> &mut Port
         requires { IsSome self.old.port }

@@ -99,7 +99,7 @@ pub extern "C" fn qtree_last_line(
 ///
 /// # Errors
 ///
-/// `AllocError` where memory is refused; never for no places.
+/// `AllocError` if an allocation fails; never for no places.
 fn new_ring(alloc: Global, places: u32) -> Result<Option<LastEvents>, AllocError>
     ensures made { IfOk result (λ last. last ≡ (if places == 0 then None else Some (none_noted places))) }
     ensures none { places ≡ 0 → IsOk result }

@@ -1,4 +1,4 @@
-//! Lines as C gives them.
+//! Lines as C passes them.
 ghost use Rattle.std.specs.Prelude.{◌≡◌};
 ghost use Rattle.std.specs.Io.BufRead.{strip_last};
 

@@ -1,6 +1,6 @@
 use q_device::{Device, LastEvents};
 
-/// What stands at the address in an open place: a device, and the ring of its last events where the program asked for one.
+/// What is at the address in an open place: a device, and the ring of its last events where the program asked for one.
 #[derive(Drop)]
 pub struct Opened {
     pub device: Device,

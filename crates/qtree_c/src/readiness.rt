@@ -7,7 +7,7 @@ use crate::c_device::CDevice;
 use crate::codes::{DONE, IS_CLOSED, NOTHING};
 use q_device::Device;
 
-/// The moment before which no poll gives a packet, as things stand. A poll at that moment need not give one.
+/// The time before which no poll gives a packet, as things are. A poll at that time need not give one.
 #[unsafe(no_mangle)]
 pub extern "C" fn qtree_ready_at(device: &mut CDevice, moment: &mut u64) -> u32
     ensures ready { Calls (IsReady result moment.old moment.new) result device.old.held.device device.new.held.device }
@@ -21,7 +21,7 @@ pub extern "C" fn qtree_ready_at(device: &mut CDevice, moment: &mut u64) -> u32
     ready_at(&device.held.lend().device, moment)
 }
 
-/// The moment before which no poll of an open device gives a packet.
+/// The time before which no poll of an open device gives a packet.
 fn ready_at(device: &Device, moment: &mut u64) -> u32
     ensures ready { IsReady result moment.old moment.new device.now device.now }
     ensures kept { result ≢ 0 → moment.new ≡ moment.old }

@@ -64,7 +64,7 @@ pub extern "C" fn qtree_outlet_close(alloc: Global, outlet: &mut COutlet)
 ///
 /// # Errors
 ///
-/// `AllocError` where memory is refused.
+/// `AllocError` if an allocation fails.
 fn open_both(
     alloc: Global,
     index: u32,

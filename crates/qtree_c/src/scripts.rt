@@ -78,7 +78,7 @@ fn recorded_script(alloc: Global, device: &Device, text: &mut [u8], needed: &mut
     }
 }
 
-/// Writes a text into the first of the lent places, if they are enough, and tells how many it needs.
+/// Writes a text into the first of the lent places, if they are enough, and reports how many it needs.
 pub fn lend(text: &[u8], places: &mut [u8], needed: &mut usize) -> u32
     ensures written { IsWritten text.now result needed.new places.old places.new }
     ensures codes { result ≢ 0 → result ≡ 43 }

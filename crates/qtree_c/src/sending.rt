@@ -3,7 +3,7 @@ ghost use Rattle.std.specs.Prelude.{◌≡◌};
 
 use q_ports::{Outlet, Port};
 
-/// The ends as they were. It is here for its proof that each box is `Send`, on which the header's rule for threads stands.
+/// The ends as they were. It is here for its proof that each box is `Send`, on which the header's rule for threads rests.
 pub fn sent_apart(port: Box<Port>, outlet: Box<Outlet>) -> (Box<Port>, Box<Outlet>)
     ensures { (result.0.value ≡ port.value) × (result.1.value ≡ outlet.value) }
 {

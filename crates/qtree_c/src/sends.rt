@@ -12,7 +12,7 @@ use crate::codes::{IS_CLOSED, OUT_OF_RANGE};
 use crate::giving::{poll, poll_many};
 use q_packet::Moment;
 
-/// Takes the packet whose turn it is, as `qtree_poll` does, and tells what it takes to send it on.
+/// Takes the packet whose turn it is, as `qtree_poll` does, and reports what it takes to send it on.
 #[unsafe(no_mangle)]
 pub extern "C" fn qtree_poll_buf(device: &mut CDevice, now: u64, sent: &mut CSent) -> u32
     ensures poll { now ≤ 2 ^ 62 → Calls (IsPoll sent_of now result sent.old sent.new) result device.old.held.device device.new.held.device }

@@ -61,7 +61,7 @@ fn show(alloc: Global, device: &Device, what: u32, text: &mut [u8], needed: &mut
 ///
 /// # Errors
 ///
-/// `AllocError` where memory is refused.
+/// `AllocError` if an allocation fails.
 fn shown(alloc: Global, tree: &Tree, what: u32) -> Result<Vec<u8>, AllocError>
     requires { what ≤ 3 }
     ensures { IfOk result (λ text. text.items ≡ shown_text what (tree_numbers tree.now.tree)) }

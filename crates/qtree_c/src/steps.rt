@@ -24,7 +24,7 @@ use std::alloc::AllocError;
 ///
 /// # Errors
 ///
-/// `AllocError` where memory is refused. Nothing has changed then but for places: what there was room for there is room for still.
+/// `AllocError` if an allocation fails. Nothing has changed then but for places: what there was room for there is room for still.
 #[inline(always)]
 pub fn arrive(opened: &mut Opened, packet: &Packet, now: Moment) -> Result<Fate, AllocError>
     ensures event { OnOk result (opened.new.device ≡ with_memory opened.new.device.memory (after_event (event.Arrive packet.now now) opened.old.device)) }

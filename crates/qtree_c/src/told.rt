@@ -1,4 +1,4 @@
-//! What C is told of a packet that the device gives.
+//! What is reported to C of a packet that the device gives.
 ghost use Rattle.std.specs.Prelude.{◌≡◌};
 ghost use Rattle.q_packet.specs.Descriptor.{Descriptor};
 ghost use Rattle.qtree_c.specs.Structs.{packet_of, sent_of};
@@ -9,10 +9,10 @@ use q_packet::Packet;
 
 /// A struct of C into which a packet is written that the device gives.
 pub trait Told: Copy {
-    /// What it tells of a packet.
+    /// What it says of a packet.
     ghost told: { Descriptor → Self };
 
-    /// What it tells of this packet.
+    /// What it says of this packet.
     fn told(packet: &Packet) -> Self
         ensures { result ≡ told packet.now };
 }

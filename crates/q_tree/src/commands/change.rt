@@ -24,7 +24,7 @@ use std::alloc::Global;
 
 impl Tree {
     /// Gives a qdisc, named by its place, its handle or both, which then name the same one, other settings of its kind
-    /// (`tc qdisc change`, tc(8)). What is not given stays as it is. `now` is at or after the latest moment that the tree was given.
+    /// (`tc qdisc change`, tc(8)). What is not given stays as it is. `now` is at or after the latest time that the tree was given.
     ///
     /// A smaller limit removes nothing. A bucket first fills at its old rate up to `now`. New bands of a prio are implicit pfifos; of
     /// bands fewer the last go, and what waits there is lost to `sink`, which needs room for what is queued in the tree.

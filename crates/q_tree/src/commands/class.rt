@@ -31,7 +31,7 @@ impl Tree {
     ///
     /// The first that holds: `NoParent` where `parent` is not the class's qdisc; `NoQdisc` where that is not there;
     /// `NotClassful` where it has no classes; `CannotChange` where its classes come with it; `Exists` where it has the class;
-    /// `TooDeep` where the pfifo would stand below 8 levels; `TooMany` beyond 256 nodes, implicit leaves among them; `Memory`.
+    /// `TooDeep` where the pfifo would be below 8 levels; `TooMany` beyond 256 nodes, implicit leaves among them; `Memory`.
     /// The tree is as it was.
     pub fn class_add(
         &mut self,
@@ -50,7 +50,7 @@ impl Tree {
         self.lossless(alloc, command)
     }
 
-    /// Removes a class of a drr, with all that is beneath it (`tc class del`, tc-drr(8)).
+    /// Removes a class of a drr, with all that is below it (`tc class del`, tc-drr(8)).
     ///
     /// What waits there is lost to `sink`, which needs room for what is queued in the tree. It takes no memory.
     ///

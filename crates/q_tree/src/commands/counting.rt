@@ -13,7 +13,7 @@ pub(crate) const MOST_NODES: usize = 256;
 pub(crate) const MOST_LEVELS: usize = 8;
 
 impl Node {
-    /// How many nodes stand here and beneath.
+    /// How many nodes are here and below.
     pub(crate) fn count_nodes(&self) -> usize
         requires { count_nodes self.now ≤ most_nodes }
         ensures { result ≡ count_nodes self.now }
@@ -26,7 +26,7 @@ impl Node {
     }
 }
 
-/// How deep a new qdisc of this kind is: a prio and a tbf have leaves beneath them.
+/// How deep a new qdisc of this kind is: a prio and a tbf have leaves below them.
 pub(crate) fn levels_made(kind: &Kind) -> usize
     ensures { result ≡ levels_made kind.now }
 {

@@ -25,7 +25,7 @@ pub(crate) enum DisciplineChange {
     SetBucket(Bucket, u64),
     /// An fq_codel has these options, but as many flows as before.
     SetOptions(FqCodelOptions),
-    /// A drr has a class more with this leaf, asleep; one that it has stays as it is.
+    /// A drr has a class more with this leaf, inactive; one that it has stays as it is.
     AddClass(Minor, Quantum, Node),
     /// A class of a drr has another quantum, where one is given.
     SetQuantum(Minor, Option<Quantum>),
@@ -56,7 +56,7 @@ impl Discipline {
     ///
     /// # Errors
     ///
-    /// `AllocError` where memory is refused; nothing has changed then.
+    /// `AllocError` if an allocation fails; nothing has changed then.
     pub(crate) fn change<S: Sink>(
         &mut self,
         change: DisciplineChange,

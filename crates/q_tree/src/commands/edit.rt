@@ -20,10 +20,10 @@ use q_codel::Sink;
 use q_model::{Filter, FilterPrio, Totals};
 use std::alloc::AllocError;
 
-/// What a command makes of the node at the end of its way.
+/// What a command makes of the node at the end of its path.
 #[derive(Drop)]
 pub(crate) enum Edit {
-    /// This new node stands in its place.
+    /// This new node takes its place.
     Graft(Node),
     /// It has a filter more, behind those of the same priority.
     AddFilter(Filter),
@@ -34,7 +34,7 @@ pub(crate) enum Edit {
 }
 
 impl Edit {
-    /// Whether it brings nodes beneath another.
+    /// Whether it brings nodes below another.
     pub(crate) fn adds_nodes(&self) -> bool
         ensures { result ≡ adds_nodes self.now }
     {
@@ -47,11 +47,11 @@ impl Edit {
 }
 
 impl Node {
-    /// Edits the node at the end of this way, and says what was lost there, which each node on the way books as dropped.
+    /// Edits the node at the end of this path, and says what was lost there, which each node on the path books as dropped.
     ///
     /// # Errors
     ///
-    /// `AllocError` where memory is refused; nothing has changed then.
+    /// `AllocError` if an allocation fails; nothing has changed then.
     #[cycle(edit)]
     pub(crate) fn edit<S: Sink>(
         &mut self,
@@ -117,7 +117,7 @@ impl Node {
 }
 
 impl Discipline {
-    // Edits the node at the end of the way that goes on beneath the child in this place.
+    // Edits the node at the end of the path that goes on below the child in this place.
     #[cycle(edit)]
     fn edit_beneath<S: Sink>(
         &mut self,

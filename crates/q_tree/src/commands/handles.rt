@@ -17,18 +17,18 @@ use q_model::Handle;
 use std::alloc::{AllocError, Global};
 use std::marker::Model;
 
-/// The way to each handle beneath the root, in the order of show.
+/// The path to each handle below the root, in the order of show.
 type Ways = IndexMap<u16, Path>;
 
-/// The most handles beneath a root.
+/// The most handles below a root.
 const MOST_BENEATH: usize = MOST_NODES - 1;
 
 /// The least major number that a qdisc gets which is added without a handle.
 const FIRST_FREE: u16 = 0x8001;
 
-/// An index of the handles of a tree, with the ways to their qdiscs.
+/// An index of the handles of a tree, with the paths to their qdiscs.
 ///
-/// A contract sees the handles with their ways, in the order of show, and for how many beneath the root there is room.
+/// A contract sees the handles with their paths, in the order of show, and for how many below the root there is room.
 #[derive(Drop)]
 pub(crate) struct Handles {
     /// That of the root, which needs no room: no step leads there.
@@ -50,7 +50,7 @@ impl Model for Handles {
 }
 
 impl Handles {
-    /// No handles, and no room for any beneath a root. It takes no memory.
+    /// No handles, and no room for any below a root. It takes no memory.
     pub(crate) fn new(alloc: Global) -> Handles
         ensures { result.addresses ≡ [] }
     {
@@ -65,11 +65,11 @@ impl Handles {
         *self.beneath.allocator()
     }
 
-    /// Makes room for the handles of every tree, where this edit brings nodes beneath another.
+    /// Makes room for the handles of every tree, where this edit brings nodes below another.
     ///
     /// # Errors
     ///
-    /// `AllocError` where memory is refused.
+    /// `AllocError` if an allocation fails.
     pub(crate) fn make_room_for(&mut self, edit: &Edit) -> Result<(), AllocError>
         ensures same { self.new.addresses ≡ self.old.addresses }
         ensures more { self.old.room ≤ self.new.room }
@@ -92,7 +92,7 @@ impl Handles {
         self.beneath.reserve(missing)
     }
 
-    /// The way to the qdisc with this handle.
+    /// The path to the qdisc with this handle.
     pub(crate) fn path_to(&self, handle: Handle) -> Option<Path>
         ensures { option_map (λ p. p.items) result ≡ path_among handle self.now.addresses }
     {
@@ -156,7 +156,7 @@ impl Handles {
     }
 }
 
-// Adds the handles beneath a node, to which this way leads.
+// Adds the handles below a node, to which this path leads.
 fn add_beneath(ways: &mut Ways, node: &Node, path: &mut Path)
     requires levels { length path.old.items + depth node.now ≤ 8 }
     requires room { length (addresses_beneath node.now) ≤ spare ways.old }
@@ -186,7 +186,7 @@ fn add_own(ways: &mut Ways, node: &Node, path: &Path)
     };
 }
 
-// The same way again.
+// The same path again.
 fn copied(path: &Path) -> Path
     ensures { result.items ≡ path.now.items }
 {

@@ -18,14 +18,14 @@ impl<'a> Qdiscs<'a> {
         self.root.at(&path)
     }
 
-    /// The qdisc with this handle, and the way to it (tc(8), "NAMING").
+    /// The qdisc with this handle, and the path to it (tc(8), "NAMING").
     pub(crate) fn qdisc(&self, handle: Handle) -> Option<(Path, &'a Node)>
         ensures { option_map (λ x. (x.0.items, x.1.now)) result ≡ reached self.now.root.now (path_of handle (shape self.now.root.now)) }
     {
         self.reached(self.path_to(handle))
     }
 
-    /// The qdisc that a line names by its place, its handle or both, which then name the same one, and the way to it. An implicit
+    /// The qdisc that a line names by its place, its handle or both, which then name the same one, and the path to it. An implicit
     /// leaf is none.
     pub(crate) fn target(
         &self,
@@ -48,7 +48,7 @@ impl<'a> Qdiscs<'a> {
         }
     }
 
-    // The node at the end of a way, with the way.
+    // The node at the end of a path, with the path.
     fn reached(&self, path: Option<Path>) -> Option<(Path, &'a Node)>
         ensures { option_map (λ x. (x.0.items, x.1.now)) result ≡ reached self.now.root.now (option_map (λ p. p.items) path) }
     {
@@ -57,7 +57,7 @@ impl<'a> Qdiscs<'a> {
         Some((path, node))
     }
 
-    // The way to the qdisc in this place, where it is no implicit leaf: those have no handle.
+    // The path to the qdisc in this place, where it is no implicit leaf: those have no handle.
     fn explicit_at(&self, place: Place) -> Option<Path>
         ensures { option_map (λ p. p.items) result ≡ explicit_at (Some place) (shape self.now.root.now) }
     {
@@ -69,7 +69,7 @@ impl<'a> Qdiscs<'a> {
         }
     }
 
-    /// Whether a qdisc with a handle stands at the end of this way.
+    /// Whether a qdisc with a handle is at the end of this path.
     pub(crate) fn is_explicit(&self, path: &[usize]) -> bool
         ensures { result ≡ is_explicit path.now self.now.root.now }
     {
@@ -79,7 +79,7 @@ impl<'a> Qdiscs<'a> {
         node.handle.is_some()
     }
 
-    // The way to a place beneath the device.
+    // The path to a place below the device.
     fn place_path(&self, place: Place) -> Option<Path>
         ensures { option_map (λ p. p.items) result ≡ place_path place self.now.root.now }
     {
@@ -90,7 +90,7 @@ impl<'a> Qdiscs<'a> {
         }
     }
 
-    /// The way to a class: that to its qdisc, and the child there.
+    /// The path to a class: that to its qdisc, and the child there.
     pub(crate) fn class_path(&self, class: ClassId) -> Option<Path>
         ensures { option_map (λ p. p.items) result ≡ class_path class self.now.root.now }
     {
@@ -100,7 +100,7 @@ impl<'a> Qdiscs<'a> {
         Some(path)
     }
 
-    // The way to the qdisc with this handle.
+    // The path to the qdisc with this handle.
     fn path_to(&self, handle: Handle) -> Option<Path>
         ensures { option_map (λ p. p.items) result ≡ path_of handle self.now.root.now }
     {

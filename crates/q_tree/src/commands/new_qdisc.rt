@@ -22,7 +22,7 @@ impl Planner<'_> {
     ///
     /// # Errors
     ///
-    /// `AllocError` where memory is refused, to a prio, a tbf or an fq_codel: the others need none.
+    /// `AllocError` if an allocation fails, for a prio, a tbf or an fq_codel: the others need none.
     pub(crate) fn made(&self, handle: Handle, kind: &Kind) -> Result<Node, AllocError>
         ensures new { IfOk result (λ n. IsNewNode n (made (device_of self.now) self.now.moment (Some handle) kind.now)) }
         ensures memory { OnErr result (NeedsMemory kind.now) }

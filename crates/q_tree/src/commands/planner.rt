@@ -4,7 +4,7 @@ use crate::commands::qdiscs::Qdiscs;
 use q_packet::Moment;
 use std::alloc::Global;
 
-/// What a command is planned over: the qdiscs of a tree, what the device lends to new ones (ip-link(8)), their memory, and the moment.
+/// What a command is planned over: the qdiscs of a tree, what the device lends to new ones (ip-link(8)), their memory, and the time.
 #[derive(Clone, Copy)]
 pub(crate) struct Planner<'a> {
     pub(crate) qdiscs: Qdiscs<'a>,

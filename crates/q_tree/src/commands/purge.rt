@@ -11,8 +11,8 @@ use q_codel::Sink;
 use q_packet::{Cause, Packet};
 
 impl Node {
-    /// Removes the node with all that is beneath it. Lost are the packet that it holds, those of its own queue, and then those
-    /// beneath each child in class order.
+    /// Removes the node with all that is below it. Lost are the packet that it holds, those of its own queue, and then those
+    /// below each child in class order.
     #[cycle(purge)]
     pub(crate) fn purge<S: Sink>(self, sink: &mut S)
         requires { length (beneath self) ≤ S.room sink.old }

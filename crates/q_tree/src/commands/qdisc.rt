@@ -27,14 +27,14 @@ use std::alloc::Global;
 
 impl Tree {
     /// Puts a new qdisc into a place, instead of the implicit leaf there (`tc qdisc add`, tc(8)). Without a handle it gets the least
-    /// major number from 8001 (hexadecimal) on that no qdisc has. `now` is at or after the latest moment that the tree was given.
+    /// major number from 8001 (hexadecimal) on that no qdisc has. `now` is at or after the latest time that the tree was given.
     ///
     /// What waits in the leaf is lost to `sink`, which needs room for what is queued in the tree.
     ///
     /// # Errors
     ///
     /// The first that holds: `Exists` where the place is the device itself; `NoParent` where the class's qdisc is not there;
-    /// `NotClassful` where it has no classes; `NoClass` where it has no such class; `Exists` where a qdisc with a handle stands
+    /// `NotClassful` where it has no classes; `NoClass` where it has no such class; `Exists` where a qdisc with a handle is
     /// there; `HandleTaken`; `TooDeep` beyond 8 levels; `TooMany` beyond 256 nodes, implicit leaves among them; `Memory`,
     /// of a prio, a tbf or an fq_codel. The tree is as it was.
     pub fn graft<S: Sink>(
@@ -61,7 +61,7 @@ impl Tree {
         self.command(alloc, command, now, sink)
     }
 
-    /// Removes a qdisc with all that is beneath it, named by its place, its handle or both, which then name the same one
+    /// Removes a qdisc with all that is below it, named by its place, its handle or both, which then name the same one
     /// (`tc qdisc del`, tc(8)). The implicit leaf of its place comes back, empty.
     ///
     /// What waits there is lost to `sink`, which needs room for what is queued in the tree. It takes no memory.
@@ -125,7 +125,7 @@ impl Planner<'_> {
         Ok(Planned { path, edit })
     }
 
-    // The way to a place for a new qdisc, or why there is none.
+    // The path to a place for a new qdisc, or why there is none.
     fn way_in(&self, place: Place) -> Result<Path, Refusal>
         ensures { result_map_both (λ p. p.items) (λ e. e) result ≡ done_unless (place_checks place (shape (root_of self.now))) (unwrap_or (place_path place (shape (root_of self.now))) []) }
     {
@@ -148,7 +148,7 @@ impl Planner<'_> {
         Ok(path)
     }
 
-    // Whether a new qdisc may stand at the end of this way.
+    // Whether a new qdisc may be at the end of this path.
     fn can_graft(&self, path: &[usize], handle: &Option<Handle>, kind: &Kind) -> Result<(), Refusal>
         requires there { IsSome (node_at path.now (root_of self.now)) }
         ensures { result ≡ done_unless (graft_checks handle.now kind.now path.now (root_of self.now)) (record {}) }
@@ -168,7 +168,7 @@ impl Planner<'_> {
         Ok(())
     }
 
-    // How many nodes stand at the end of this way and beneath.
+    // How many nodes are at the end of this path and below.
     fn nodes_at(&self, path: &[usize]) -> usize
         ensures value { result ≡ nodes_at path.now (root_of self.now) }
         ensures few { result ≤ most_nodes }
@@ -199,7 +199,7 @@ impl Planner<'_> {
         }
     }
 
-    // The implicit leaf of the place where this way ends: beneath a tbf a bfifo of its limit.
+    // The implicit leaf of the place where this path ends: below a tbf a bfifo of its limit.
     fn leaf_at(&self, path: &[usize]) -> Node
         ensures { IsNewNode result (leaf_at (device_of self.now) path.now (shape (root_of self.now))) }
     {
@@ -212,7 +212,7 @@ impl Planner<'_> {
         self.implicit_beneath(parent)
     }
 
-    // The leaf that stands in a class of this qdisc where nothing else does.
+    // The leaf that is in a class of this qdisc where nothing else is.
     fn implicit_beneath(&self, parent: &Node) -> Node
         ensures { IsNewNode result (implicit_beneath (device_of self.now) parent.now.own.discipline) }
     {

@@ -7,7 +7,7 @@ ghost use Rattle.q_tree.specs.Index.{address_code};
 use crate::commands::handles::Handles;
 use crate::node::Node;
 
-/// The qdiscs of a tree within its bounds, as a line of tc names them: the index of their handles has the ways to them.
+/// The qdiscs of a tree within its bounds, as a line of tc names them: the index of their handles has the paths to them.
 #[derive(Clone, Copy)]
 pub(crate) struct Qdiscs<'a> {
     pub(crate) root: &'a Node,

@@ -73,7 +73,7 @@ pub(crate) fn settle(active: &mut Active, place: usize, is_empty: bool)
 }
 
 /// Asks the classes of the active list in turn, and grants to each whose packet is longer than its deficit, until one is met
-/// that can send its packet, which it gives to `out`, or that shows none (tc-drr(8)).
+/// that can send its packet, which it writes to `out`, or that shows none (tc-drr(8)).
 #[cycle(peek)]
 pub(crate) fn dequeue_class<S: Sink>(
     active: &mut Active,
@@ -104,7 +104,7 @@ pub(crate) fn dequeue_class<S: Sink>(
         };
         match active.turn(len) {
             Turn::Send => {
-                // What is given is what was shown.
+                // What is handed out is what was shown.
                 dequeue_class_at_hand(active, classes, place, out);
                 return shown;
             }
@@ -116,7 +116,7 @@ pub(crate) fn dequeue_class<S: Sink>(
     Shown::at_hand(&None)
 }
 
-// The class in this place gives its packet, and sleeps where that was its last.
+// The class in this place hands out its packet, and becomes inactive where that was its last.
 fn dequeue_class_at_hand(active: &mut Active, classes: &mut [Node], place: usize, out: &mut Packet)
     requires { place < length classes.old }
     ensures packet { (c : spec.Node Kept) → slice_get classes.old place ≡ Some c → out.new ≡ unwrap_or (pop c).shown out.old }
@@ -265,11 +265,11 @@ impl Node {
 }
 
 impl Discipline {
-    /// Adds a class to a drr, asleep, behind the others (tc-drr(8)). One that it has already stays as it is.
+    /// Adds a class to a drr, inactive, behind the others (tc-drr(8)). One that it has already stays as it is.
     ///
     /// # Errors
     ///
-    /// `AllocError` where memory is refused; nothing has changed then.
+    /// `AllocError` if an allocation fails; nothing has changed then.
     pub(crate) fn add_class(
         &mut self,
         class: Minor,
@@ -300,7 +300,7 @@ impl Discipline {
         }
     }
 
-    /// Removes a class of a drr, with all that is beneath it, and says what was lost (tc-drr(8)).
+    /// Removes a class of a drr, with all that is below it, and says what was lost (tc-drr(8)).
     pub(crate) fn remove_class<S: Sink>(&mut self, class: Minor, sink: &mut S) -> Totals
         requires sink { length (lost_with (RemoveClass class) (discipline_seen self.old) (children_seen self.old)) ≤ S.room sink.old }
         ensures after { IsChangedBy (RemoveClass class) self.old self.new }

@@ -53,7 +53,7 @@ impl Node {
 }
 
 impl Planner<'_> {
-    /// The leaf that stands where nothing else does, but beneath a tbf.
+    /// The leaf of a place where nothing else is, but below a tbf.
     pub(crate) fn implicit_pfifo(&self) -> Node
         ensures { IsNewNode result (implicit_pfifo (device_of self.now)) }
     {
@@ -98,7 +98,7 @@ pub(crate) fn enqueue_in_fifo<S: Sink>(
     Ok(Arrived::kept())
 }
 
-/// Gives the head of a fifo to `out`.
+/// Writes the head of a fifo to `out`.
 #[inline(always)]
 pub(crate) fn dequeue_head(fifo: &mut Fifo, out: &mut Packet) -> Shown
     ensures shown { result.packet ≡ option_map (λ (s : Stamped). s.packet) (slice_get fifo.old.packets 0) }

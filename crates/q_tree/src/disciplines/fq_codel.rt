@@ -90,7 +90,7 @@ pub(crate) fn enqueue_in_flows<S: Sink>(
     Ok(enqueue_over(queue, packet, now, lost, sink))
 }
 
-// The same over the limit. A call by itself, so that the usual way makes no place for an outcome.
+// The same over the limit. A call by itself, so that the usual path makes no place for an outcome.
 #[cold]
 #[inline(never)]
 fn enqueue_over<S: Sink>(
@@ -138,7 +138,7 @@ pub(crate) fn put_in_flow<S: Sink>(
     }
 }
 
-/// Gives the packet that the flow in front sends (RFC 8290, section 4.2) to `out`, and counts what CoDel drops and marks.
+/// Writes the packet that the flow in front sends (RFC 8290, section 4.2) to `out`, and counts what CoDel drops and marks.
 pub(crate) fn dequeue_flow<S: Sink>(
     queue: &mut FqCodel,
     out: &mut Packet,
@@ -164,7 +164,7 @@ pub(crate) fn dequeue_flow<S: Sink>(
     }
 }
 
-// The same where CoDel found the packet in front late. A call by itself, so that the usual way counts nothing and saves no registers.
+// The same where CoDel found the packet in front late. A call by itself, so that the usual path counts nothing and saves no registers.
 #[cold]
 #[inline(never)]
 fn dequeue_late<S: Sink>(

@@ -276,7 +276,7 @@ impl Node {
         Ok(more)
     }
 
-    // How many nodes stand at the children from this place on, and beneath them.
+    // How many nodes are at the children from this place on, and below them.
     fn nodes_from(&self, place: usize) -> usize
         requires { count_nodes self.now ≤ most_nodes }
         ensures value { result ≡ nodes_from place self.now }
@@ -296,7 +296,7 @@ impl Discipline {
     ///
     /// # Errors
     ///
-    /// `AllocError` where memory is refused; nothing has changed then.
+    /// `AllocError` if an allocation fails; nothing has changed then.
     pub(crate) fn set_bands<S: Sink>(
         &mut self,
         options: PrioOptions,

@@ -55,7 +55,7 @@ pub(crate) fn limit_bytes(rate: Rate, burst: Burst, limit: TbfLimit) -> u64
 /// Units of a bucket's level in a byte: a nanosecond brings as many units as the rate has bits a second.
 const UNITS_IN_BYTE: u128 = 8_000_000_000;
 
-/// Asks the child of a tbf, and gives the packet that it shows to `out` where the bucket allows it (tc-tbf(8)).
+/// Asks the child of a tbf, and writes the packet that it shows to `out` where the bucket allows it (tc-tbf(8)).
 #[cycle(peek)]
 pub(crate) fn dequeue_child<S: Sink>(
     bucket: &mut Bucket,
@@ -83,7 +83,7 @@ pub(crate) fn dequeue_child<S: Sink>(
     if !bucket.spend(now, len) {
         return shown.showing(&None);
     }
-    // What is given is what was shown.
+    // What is handed out is what was shown.
     child.dequeue_at_hand(out);
     shown
 }
@@ -137,7 +137,7 @@ impl Outlook {
         self.shaped_after(bucket, self.until)
     }
 
-    // The same from this moment on, where no more is known of the child than how short its packets are.
+    // The same from this time on, where no more is known of the child than how short its packets are.
     fn shaped_after(&self, bucket: &Bucket, from: Option<Moment>) -> Outlook
         ensures { result ≡ shaped_after bucket.now self.now from }
     {
@@ -146,11 +146,11 @@ impl Outlook {
     }
 }
 
-// The least moment, from its last spend on, at which the bucket covers this length.
+// The least time, from its last spend on, at which the bucket covers this length.
 fn covers_at(bucket: &Bucket, len: u16) -> Option<Moment>
     ensures { result ≡ covers_at bucket.now len }
 {
-    // A bucket is in range, and a moment is at most 2^62 nanoseconds.
+    // A bucket is in range, and a time is at most 2^62 nanoseconds.
     let _ = bucket.rate();
     let at = bucket.ready_at(len)?;
     let _ = at.ns();
