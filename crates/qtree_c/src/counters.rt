@@ -7,7 +7,7 @@ ghost use Rattle.qtree_c.specs.Structs.{place_of, IsPlaceOf};
 use crate::c_device::CDevice;
 use crate::c_row::CRow;
 use crate::codes::{DONE, IS_CLOSED, NOTHING, OUT_OF_RANGE};
-use q_device::{Device, Place};
+use q_device::Place;
 use q_model::{ClassId, Handle, Minor};
 
 /// What the node in a place counted.
