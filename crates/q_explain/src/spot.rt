@@ -30,7 +30,11 @@ impl Spot {
     }
 
     /// Behind so many words of a line.
-    pub fn behind(alloc: Global, mut words: LineWords<'_>, count: usize) -> Result<Spot, AllocError> {
+    pub fn behind(
+        alloc: Global,
+        mut words: LineWords<'_>,
+        count: usize,
+    ) -> Result<Spot, AllocError> {
         let mut spot = Spot::new(alloc);
         for _ in 0..count {
             match words.next() {

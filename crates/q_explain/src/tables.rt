@@ -206,18 +206,38 @@ const TBF: &[TableEntry] = &[
     TableEntry("rate", &[RATE], WordPlace::Tbf),
     TableEntry("burst", &[Value::Size("1 to 4294967295")], WordPlace::Tbf),
     TableEntry("buffer", &[Value::Size("1 to 4294967295")], WordPlace::Tbf),
-    TableEntry("maxburst", &[Value::Size("1 to 4294967295")], WordPlace::Tbf),
+    TableEntry(
+        "maxburst",
+        &[Value::Size("1 to 4294967295")],
+        WordPlace::Tbf,
+    ),
     TableEntry("limit", &[Value::Size(MOST)], WordPlace::Tbf),
     TableEntry("latency", &[Value::Time("0 to 1000s")], WordPlace::Tbf),
 ];
 
 const FQ_CODEL: &[TableEntry] = &[
-    TableEntry("limit", &[Value::Number("1 to 4294967295")], WordPlace::FqCodel),
+    TableEntry(
+        "limit",
+        &[Value::Number("1 to 4294967295")],
+        WordPlace::FqCodel,
+    ),
     TableEntry("flows", &[Value::Number("1 to 65536")], WordPlace::FqCodel),
-    TableEntry("quantum", &[Value::Size("1 to 4294967295")], WordPlace::FqCodel),
+    TableEntry(
+        "quantum",
+        &[Value::Size("1 to 4294967295")],
+        WordPlace::FqCodel,
+    ),
     TableEntry("target", &[Value::Time("0 to 1000s")], WordPlace::FqCodel),
-    TableEntry("interval", &[Value::Time("1us to 1000s")], WordPlace::FqCodel),
-    TableEntry("drop_batch", &[Value::Number("1 to 65536")], WordPlace::FqCodel),
+    TableEntry(
+        "interval",
+        &[Value::Time("1us to 1000s")],
+        WordPlace::FqCodel,
+    ),
+    TableEntry(
+        "drop_batch",
+        &[Value::Number("1 to 65536")],
+        WordPlace::FqCodel,
+    ),
     TableEntry("ecn", &[], WordPlace::FqCodel),
     TableEntry("noecn", &[], WordPlace::FqCodel),
 ];

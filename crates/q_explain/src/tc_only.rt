@@ -19,7 +19,11 @@ pub fn instead(place: WordPlace, word: &[u8]) -> &'static str {
 
 /// The kind of filter that has a `handle` of its own, if that is in the head of a line on filters: the first of its kinds in
 /// the rest of the line.
-pub fn filter_of_handle(place: WordPlace, word: &[u8], rest: LineWords<'_>) -> Option<&'static str> {
+pub fn filter_of_handle(
+    place: WordPlace,
+    word: &[u8],
+    rest: LineWords<'_>,
+) -> Option<&'static str> {
     let of_filter = matches!(place, WordPlace::FilterAdd | WordPlace::FilterDel);
     if !of_filter || word != "handle".as_bytes() {
         return None;
@@ -107,7 +111,14 @@ pub fn words_of_tc(place: WordPlace) -> &'static [&'static str] {
             "ingress_block",
             "egress_block",
         ],
-        WordPlace::ClassAdd | WordPlace::ClassChange => &["root", "htb", "hfsc", "qfq", "cbq", "estimator"],
+        WordPlace::ClassAdd | WordPlace::ClassChange => &[
+            "root",
+            "htb",
+            "hfsc",
+            "qfq",
+            "cbq",
+            "estimator",
+        ],
         WordPlace::ClassDel => &["root"],
         WordPlace::FilterAdd | WordPlace::FilterDel => &[
             "root",
