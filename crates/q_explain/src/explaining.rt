@@ -1,11 +1,11 @@
 use crate::fault_sentence::push_fault;
+use crate::line_words::LineWords;
 use crate::marked::push_marked;
 use crate::refusal_sentence::refusal_sentence;
 use crate::refused_word::{marked_word, refused_word};
 use crate::remark::Remark;
 use crate::spot::Spot;
 use crate::word::Word;
-use crate::words::Words;
 use q_model::Refusal;
 use q_words::LineFault;
 use std::alloc::{AllocError, Global};
@@ -25,14 +25,14 @@ pub fn explain_fault(
 ) -> Result<String, AllocError> {
     let line = trimmed(line);
     let left = fault.word().saturating_sub(1);
-    let mut words = Words::new(line);
+    let mut words = LineWords::new(line);
     for _ in 0..left {
         if words.next().is_none() {
             break;
         }
     }
     let word = words.next().unwrap_or(behind(line));
-    let spot = Spot::behind(alloc, Words::new(line), left)?;
+    let spot = Spot::behind(alloc, LineWords::new(line), left)?;
     let mut text = String::new(alloc);
     push_marked(&mut text, number, line, word.start, word.bytes.len())?;
     text.push_str("  ")?;
@@ -54,8 +54,8 @@ pub fn explain_refusal(
     refusal: Refusal,
 ) -> Result<String, AllocError> {
     let line = trimmed(line);
-    let word = refused_word(alloc, Words::new(line), refusal)?.unwrap_or(behind(line));
-    let head = Spot::behind(alloc, Words::new(line), usize::MAX)?.head;
+    let word = refused_word(alloc, LineWords::new(line), refusal)?.unwrap_or(behind(line));
+    let head = Spot::behind(alloc, LineWords::new(line), usize::MAX)?.head;
     let mut text = String::new(alloc);
     push_marked(&mut text, number, line, word.start, word.bytes.len())?;
     text.push_str("  ")?;
@@ -76,7 +76,7 @@ pub fn explain_remark(
     remark: Remark,
 ) -> Result<String, AllocError> {
     let line = trimmed(line);
-    let word = marked_word(alloc, Words::new(line), remark.words())?.unwrap_or(behind(line));
+    let word = marked_word(alloc, LineWords::new(line), remark.words())?.unwrap_or(behind(line));
     let mut text = String::new(alloc);
     push_marked(&mut text, number, line, word.start, word.bytes.len())?;
     text.push_str("  ")?;
@@ -109,7 +109,7 @@ fn behind(line: &[u8]) -> Word<'_> {
 
 /// A line without the blanks behind its last word.
 fn trimmed(line: &[u8]) -> &[u8] {
-    let mut words = Words::new(line);
+    let mut words = LineWords::new(line);
     let mut end = 0usize;
     for _ in 0..line.len() {
         let Some(word) = words.next() else {

@@ -1,13 +1,13 @@
 //! What a fault of a line means.
+use crate::line_words::LineWords;
 use crate::missing::{push_entries, push_missing};
 use crate::near::{meant, shortened};
-use crate::place::Place;
 use crate::quoting::push_word;
 use crate::spot::{Spot, find};
 use crate::tables::{ALTERNATIVES, entries};
 use crate::tc_only::{filter_of_handle, instead, words_of_tc};
 use crate::value::Value;
-use crate::words::Words;
+use crate::word_place::WordPlace;
 use q_words::LineFault;
 use std::alloc::AllocError;
 
@@ -17,7 +17,7 @@ pub fn push_fault(
     fault: LineFault,
     spot: &Spot,
     word: &[u8],
-    rest: Words<'_>,
+    rest: LineWords<'_>,
 ) -> Result<(), AllocError> {
     match fault {
         LineFault::UnknownWord(_) | LineFault::BadNumber(_) if word.starts_with(b"#") => {
@@ -105,7 +105,7 @@ fn push_unknown(
     text: &mut String,
     spot: &Spot,
     word: &[u8],
-    rest: Words<'_>,
+    rest: LineWords<'_>,
 ) -> Result<(), AllocError> {
     if spot.value().is_some() {
         return push_form(text, spot, word);
@@ -126,12 +126,12 @@ fn push_unknown(
         return text.push_str(".");
     }
     push_word(text, word)?;
-    if spot.place == Place::First && find(spot.place, word).is_some() {
+    if spot.place == WordPlace::First && find(spot.place, word).is_some() {
         return text.push_str(
             " sets up no device; qtree drive reads lines of tc, blank ones and comments alone.",
         );
     }
-    if spot.place == Place::End {
+    if spot.place == WordPlace::End {
         return text.push_str(" is one word too many: the line is whole before it.");
     }
     if is_of_head(spot, word) {
@@ -143,8 +143,8 @@ fn push_unknown(
 }
 
 /// Adds that a word is none of those at a place, and the one that was meant, or all of these.
-fn push_no_word(text: &mut String, place: Place, word: &[u8]) -> Result<(), AllocError> {
-    if place == Place::First {
+fn push_no_word(text: &mut String, place: WordPlace, word: &[u8]) -> Result<(), AllocError> {
+    if place == WordPlace::First {
         text.push_str(" begins no line")?;
     } else {
         text.push_str(what(place))?;
@@ -165,8 +165,8 @@ fn push_no_word(text: &mut String, place: Place, word: &[u8]) -> Result<(), Allo
 }
 
 /// Adds the words that may be at a place.
-fn push_all_words(text: &mut String, place: Place) -> Result<(), AllocError> {
-    if place == Place::First {
+fn push_all_words(text: &mut String, place: WordPlace) -> Result<(), AllocError> {
+    if place == WordPlace::First {
         text.push_str("a line begins with ")?;
     } else if entries(place).is_empty() {
         return text.push_str("it has none.");
@@ -186,12 +186,12 @@ fn is_of_head(spot: &Spot, word: &[u8]) -> bool {
 }
 
 /// What a word is not.
-fn what(place: Place) -> &'static str {
+fn what(place: WordPlace) -> &'static str {
     match place {
-        Place::Tc | Place::TcCounters => " is no object of ",
-        Place::Qdisc | Place::Class | Place::Filter => " is no verb of ",
-        Place::Flower => " is no key of ",
-        place if place.is_head() || place == Place::Show => " is no word of ",
+        WordPlace::Tc | WordPlace::TcCounters => " is no object of ",
+        WordPlace::Qdisc | WordPlace::Class | WordPlace::Filter => " is no verb of ",
+        WordPlace::Flower => " is no key of ",
+        place if place.is_head() || place == WordPlace::Show => " is no word of ",
         _ => " is no option of ",
     }
 }

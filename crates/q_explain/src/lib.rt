@@ -15,23 +15,23 @@
 #![tactic(auto)]
 
 mod cut;
-mod entry;
 mod explaining;
 mod fault_sentence;
+mod line_words;
 mod marked;
 mod missing;
 mod near;
-mod place;
 mod quoting;
 mod refusal_sentence;
 mod refused_word;
 mod remark;
 mod spot;
+mod table_entry;
 mod tables;
 mod tc_only;
 mod value;
 mod word;
-mod words;
+mod word_place;
 
 pub use explaining::{explain_fault, explain_refusal, explain_remark};
 pub use remark::Remark;

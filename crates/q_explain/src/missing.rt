@@ -1,7 +1,7 @@
 //! What a line lacks that ends too soon.
-use crate::place::Place;
 use crate::spot::Spot;
 use crate::tables::{entries, needs};
+use crate::word_place::WordPlace;
 use std::alloc::AllocError;
 
 /// Adds the sentence that says what is missing behind the last word of a line.
@@ -30,12 +30,12 @@ pub fn push_missing(text: &mut String, spot: &Spot) -> Result<(), AllocError> {
 }
 
 /// Whether a word that is needed at a place is not there.
-fn is_needy(spot: &Spot, place: Place) -> bool {
+fn is_needy(spot: &Spot, place: WordPlace) -> bool {
     needs(place).iter().any(|names| !spot.has_one_of(names))
 }
 
 /// Adds what is needed at a place and is not there; whether anything was added.
-fn push_needs(text: &mut String, spot: &Spot, place: Place) -> Result<bool, AllocError> {
+fn push_needs(text: &mut String, spot: &Spot, place: WordPlace) -> Result<bool, AllocError> {
     let mut added = false;
     for names in needs(place) {
         if spot.has_one_of(names) {
@@ -54,18 +54,18 @@ fn push_needs(text: &mut String, spot: &Spot, place: Place) -> Result<bool, Allo
 }
 
 /// Adds the sentence on the word that ends a head.
-fn push_kind(text: &mut String, head: Place) -> Result<(), AllocError> {
+fn push_kind(text: &mut String, head: WordPlace) -> Result<(), AllocError> {
     text.push_str(head.name())?;
     text.push_str(match head {
-        Place::ClassAdd | Place::ClassChange => " needs drr behind these words.",
-        Place::FilterAdd => " needs flower behind these words.",
+        WordPlace::ClassAdd | WordPlace::ClassChange => " needs drr behind these words.",
+        WordPlace::FilterAdd => " needs flower behind these words.",
         _ => " needs a kind behind these words: pfifo, bfifo, prio, tbf, drr or fq_codel.",
     })
 }
 
 /// Adds the sentence on the word that has to be at a place.
-fn push_next(text: &mut String, place: Place) -> Result<(), AllocError> {
-    if place == Place::Prio {
+fn push_next(text: &mut String, place: WordPlace) -> Result<(), AllocError> {
+    if place == WordPlace::Prio {
         return text.push_str("two bands need a priomap of 16 bands.");
     }
     text.push_str(place.name())?;
@@ -75,7 +75,7 @@ fn push_next(text: &mut String, place: Place) -> Result<(), AllocError> {
 }
 
 /// Adds the words that may be at a place, with `or` before the last.
-pub fn push_entries(text: &mut String, place: Place) -> Result<(), AllocError> {
+pub fn push_entries(text: &mut String, place: WordPlace) -> Result<(), AllocError> {
     let mut left = entries(place).len();
     for entry in entries(place) {
         text.push_str(entry.name())?;

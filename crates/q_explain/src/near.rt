@@ -1,13 +1,13 @@
 //! Words that were meant: shortened as tc lets them be, or mistyped by one letter.
-use crate::entry::Entry;
-use crate::place::Place;
+use crate::table_entry::TableEntry;
 use crate::tables::entries;
+use crate::word_place::WordPlace;
 
 /// The fewest bytes of a word that is taken for a mistyped one.
 const SHORTEST: usize = 3;
 
 /// The word of a place that this one shortens.
-pub fn shortened(place: Place, word: &[u8]) -> Option<&'static str> {
+pub fn shortened(place: WordPlace, word: &[u8]) -> Option<&'static str> {
     for entry in entries(place) {
         let name = entry.name().as_bytes();
         if name.len() > word.len() && name.starts_with(word) {
@@ -19,7 +19,7 @@ pub fn shortened(place: Place, word: &[u8]) -> Option<&'static str> {
 
 /// The word of a place from which this one differs by a letter more, a letter less, another letter, or two letters that changed
 /// places.
-pub fn meant(place: Place, word: &[u8]) -> Option<&'static str> {
+pub fn meant(place: WordPlace, word: &[u8]) -> Option<&'static str> {
     if word.len() < SHORTEST {
         return None;
     }
@@ -32,7 +32,7 @@ pub fn meant(place: Place, word: &[u8]) -> Option<&'static str> {
 }
 
 /// Whether a word differs by so much from that of an entry.
-fn is_near(entry: &Entry, word: &[u8]) -> bool {
+fn is_near(entry: &TableEntry, word: &[u8]) -> bool {
     let (name, word) = without_same_front(entry.name().as_bytes(), word);
     let (name, word) = without_same_end(name, word);
     match (name, word) {

@@ -1,12 +1,12 @@
 //! What a refusal means, and what can be done.
-use crate::place::Place;
+use crate::word_place::WordPlace;
 use q_model::Refusal;
 
 /// The sentences on a refusal, in a line with this head.
-pub fn refusal_sentence(refusal: Refusal, head: Place) -> &'static str {
+pub fn refusal_sentence(refusal: Refusal, head: WordPlace) -> &'static str {
     match head {
-        Place::ClassAdd | Place::ClassChange | Place::ClassDel => of_class(refusal),
-        Place::FilterAdd | Place::FilterDel => of_filter(refusal),
+        WordPlace::ClassAdd | WordPlace::ClassChange | WordPlace::ClassDel => of_class(refusal),
+        WordPlace::FilterAdd | WordPlace::FilterDel => of_filter(refusal),
         _ => of_qdisc(refusal),
     }
 }

@@ -1,6 +1,6 @@
+use crate::line_words::LineWords;
 use crate::spot::{Spot, find};
 use crate::word::Word;
-use crate::words::Words;
 use q_model::Refusal;
 use std::alloc::{AllocError, Global};
 
@@ -29,7 +29,7 @@ fn candidates(refusal: Refusal) -> &'static [&'static str] {
 /// The word of a line that was refused, which has no fault: the first one if it is no other; `None` where it has none.
 pub fn refused_word<'a>(
     alloc: Global,
-    words: Words<'a>,
+    words: LineWords<'a>,
     refusal: Refusal,
 ) -> Result<Option<Word<'a>>, AllocError> {
     marked_word(alloc, words, candidates(refusal))
@@ -38,7 +38,7 @@ pub fn refused_word<'a>(
 /// The first of these words that a line without a fault has, or its value; the line's first word where it has none of them.
 pub fn marked_word<'a>(
     alloc: Global,
-    words: Words<'a>,
+    words: LineWords<'a>,
     names: &[&str],
 ) -> Result<Option<Word<'a>>, AllocError> {
     for name in names {
@@ -53,7 +53,7 @@ pub fn marked_word<'a>(
 /// The first value of the word of this name, or the word itself where it has no value.
 fn named<'a>(
     alloc: Global,
-    mut words: Words<'a>,
+    mut words: LineWords<'a>,
     name: &str,
 ) -> Result<Option<Word<'a>>, AllocError> {
     let mut spot = Spot::new(alloc);

@@ -1,19 +1,19 @@
-use crate::entry::Entry;
-use crate::place::Place;
+use crate::line_words::LineWords;
+use crate::table_entry::TableEntry;
 use crate::tables::{POLLS, entries};
 use crate::value::Value;
-use crate::words::Words;
+use crate::word_place::WordPlace;
 use std::alloc::{AllocError, Global};
 
 /// What the words of a line left of one say of it. They have no fault.
 #[derive(Drop)]
 pub struct Spot {
     /// The place of the word, if it is no value.
-    pub place: Place,
-    /// The head of a tc line that was there, or [`Place::First`].
-    pub head: Place,
+    pub place: WordPlace,
+    /// The head of a tc line that was there, or [`WordPlace::First`].
+    pub head: WordPlace,
     /// The words that were there with their tables, without values.
-    pub seen: Vec<Entry>,
+    pub seen: Vec<TableEntry>,
     /// The values that have to follow the last of these.
     pub values: &'static [Value],
 }
@@ -22,15 +22,19 @@ impl Spot {
     /// The beginning of a line.
     pub fn new(alloc: Global) -> Spot {
         Spot {
-            place: Place::First,
-            head: Place::First,
+            place: WordPlace::First,
+            head: WordPlace::First,
             seen: Vec::new(alloc),
             values: &[],
         }
     }
 
     /// Behind so many words of a line.
-    pub fn behind(alloc: Global, mut words: Words<'_>, count: usize) -> Result<Spot, AllocError> {
+    pub fn behind(
+        alloc: Global,
+        mut words: LineWords<'_>,
+        count: usize,
+    ) -> Result<Spot, AllocError> {
         let mut spot = Spot::new(alloc);
         for _ in 0..count {
             match words.next() {
@@ -45,7 +49,7 @@ impl Spot {
     pub fn value(&self) -> Option<(&'static str, Value)> {
         match (self.values, self.seen.last()) {
             ([value, ..], Some(entry)) => Some((entry.name(), *value)),
-            _ if self.place == Place::Poll => Some(("poll", POLLS)),
+            _ if self.place == WordPlace::Poll => Some(("poll", POLLS)),
             _ => None,
         }
     }
@@ -67,7 +71,7 @@ impl Spot {
             return Ok(());
         }
         let Some(entry) = find(self.place, word) else {
-            self.place = Place::End;
+            self.place = WordPlace::End;
             return Ok(());
         };
         if entry.next().is_head() {
@@ -81,7 +85,7 @@ impl Spot {
 }
 
 /// The entry of a word at a place.
-pub fn find(place: Place, word: &[u8]) -> Option<Entry> {
+pub fn find(place: WordPlace, word: &[u8]) -> Option<TableEntry> {
     for entry in entries(place) {
         if entry.name().as_bytes() == word {
             return Some(*entry);

@@ -1,7 +1,7 @@
 //! The words that may be at each place, with their values.
-use crate::entry::Entry;
-use crate::place::Place;
+use crate::table_entry::TableEntry;
 use crate::value::Value;
+use crate::word_place::WordPlace;
 
 const MOST: &str = "0 to 4294967295";
 
@@ -58,244 +58,264 @@ const BANDS: &[Value] = &[
     BAND, BAND, BAND, BAND, BAND, BAND, BAND, BAND, BAND, BAND, BAND, BAND, BAND, BAND, BAND, BAND,
 ];
 
-const FIRST: &[Entry] = &[
-    Entry(
+const FIRST: &[TableEntry] = &[
+    TableEntry(
         "at",
         &[Value::Number("0 to 4611686018427387904")],
-        Place::End,
+        WordPlace::End,
     ),
-    Entry("pkt", &[LEN], Place::Packet),
-    Entry("frame", LEN_AND_HEX, Place::End),
-    Entry("poll", &[], Place::Poll),
-    Entry("reap", &[], Place::End),
-    Entry("totals", &[], Place::End),
-    Entry("tc", &[], Place::Tc),
+    TableEntry("pkt", &[LEN], WordPlace::Packet),
+    TableEntry("frame", LEN_AND_HEX, WordPlace::End),
+    TableEntry("poll", &[], WordPlace::Poll),
+    TableEntry("reap", &[], WordPlace::End),
+    TableEntry("totals", &[], WordPlace::End),
+    TableEntry("tc", &[], WordPlace::Tc),
 ];
 
-const TC: &[Entry] = &[
-    Entry("-s", &[], Place::TcCounters),
-    Entry("qdisc", &[], Place::Qdisc),
-    Entry("class", &[], Place::Class),
-    Entry("filter", &[], Place::Filter),
+const TC: &[TableEntry] = &[
+    TableEntry("-s", &[], WordPlace::TcCounters),
+    TableEntry("qdisc", &[], WordPlace::Qdisc),
+    TableEntry("class", &[], WordPlace::Class),
+    TableEntry("filter", &[], WordPlace::Filter),
 ];
 
-const TC_COUNTERS: &[Entry] = &[
-    Entry("qdisc", &[], Place::Qdisc),
-    Entry("class", &[], Place::Class),
-    Entry("filter", &[], Place::Filter),
+const TC_COUNTERS: &[TableEntry] = &[
+    TableEntry("qdisc", &[], WordPlace::Qdisc),
+    TableEntry("class", &[], WordPlace::Class),
+    TableEntry("filter", &[], WordPlace::Filter),
 ];
 
-const QDISC: &[Entry] = &[
-    Entry("add", &[], Place::QdiscAdd),
-    Entry("change", &[], Place::QdiscChange),
-    Entry("del", &[], Place::QdiscDel),
-    Entry("delete", &[], Place::QdiscDel),
-    Entry("show", &[], Place::Show),
-    Entry("list", &[], Place::Show),
-    Entry("ls", &[], Place::Show),
+const QDISC: &[TableEntry] = &[
+    TableEntry("add", &[], WordPlace::QdiscAdd),
+    TableEntry("change", &[], WordPlace::QdiscChange),
+    TableEntry("del", &[], WordPlace::QdiscDel),
+    TableEntry("delete", &[], WordPlace::QdiscDel),
+    TableEntry("show", &[], WordPlace::Show),
+    TableEntry("list", &[], WordPlace::Show),
+    TableEntry("ls", &[], WordPlace::Show),
 ];
 
-const CLASS_VERBS: &[Entry] = &[
-    Entry("add", &[], Place::ClassAdd),
-    Entry("change", &[], Place::ClassChange),
-    Entry("del", &[], Place::ClassDel),
-    Entry("delete", &[], Place::ClassDel),
-    Entry("show", &[], Place::Show),
-    Entry("list", &[], Place::Show),
-    Entry("ls", &[], Place::Show),
+const CLASS_VERBS: &[TableEntry] = &[
+    TableEntry("add", &[], WordPlace::ClassAdd),
+    TableEntry("change", &[], WordPlace::ClassChange),
+    TableEntry("del", &[], WordPlace::ClassDel),
+    TableEntry("delete", &[], WordPlace::ClassDel),
+    TableEntry("show", &[], WordPlace::Show),
+    TableEntry("list", &[], WordPlace::Show),
+    TableEntry("ls", &[], WordPlace::Show),
 ];
 
-const FILTER: &[Entry] = &[
-    Entry("add", &[], Place::FilterAdd),
-    Entry("del", &[], Place::FilterDel),
-    Entry("delete", &[], Place::FilterDel),
-    Entry("show", &[], Place::Show),
-    Entry("list", &[], Place::Show),
-    Entry("ls", &[], Place::Show),
+const FILTER: &[TableEntry] = &[
+    TableEntry("add", &[], WordPlace::FilterAdd),
+    TableEntry("del", &[], WordPlace::FilterDel),
+    TableEntry("delete", &[], WordPlace::FilterDel),
+    TableEntry("show", &[], WordPlace::Show),
+    TableEntry("list", &[], WordPlace::Show),
+    TableEntry("ls", &[], WordPlace::Show),
 ];
 
-const QDISC_ADD: &[Entry] = &[
-    Entry("dev", &[NAME], Place::QdiscAdd),
-    Entry("root", &[], Place::QdiscAdd),
-    Entry("parent", &[CLASS], Place::QdiscAdd),
-    Entry("handle", &[HANDLE], Place::QdiscAdd),
-    Entry("pfifo", &[], Place::Pfifo),
-    Entry("bfifo", &[], Place::Bfifo),
-    Entry("prio", &[], Place::Prio),
-    Entry("tbf", &[], Place::Tbf),
-    Entry("drr", &[], Place::Drr),
-    Entry("fq_codel", &[], Place::FqCodel),
+const QDISC_ADD: &[TableEntry] = &[
+    TableEntry("dev", &[NAME], WordPlace::QdiscAdd),
+    TableEntry("root", &[], WordPlace::QdiscAdd),
+    TableEntry("parent", &[CLASS], WordPlace::QdiscAdd),
+    TableEntry("handle", &[HANDLE], WordPlace::QdiscAdd),
+    TableEntry("pfifo", &[], WordPlace::Pfifo),
+    TableEntry("bfifo", &[], WordPlace::Bfifo),
+    TableEntry("prio", &[], WordPlace::Prio),
+    TableEntry("tbf", &[], WordPlace::Tbf),
+    TableEntry("drr", &[], WordPlace::Drr),
+    TableEntry("fq_codel", &[], WordPlace::FqCodel),
 ];
 
-const QDISC_CHANGE: &[Entry] = &[
-    Entry("dev", &[NAME], Place::QdiscChange),
-    Entry("root", &[], Place::QdiscChange),
-    Entry("parent", &[CLASS], Place::QdiscChange),
-    Entry("handle", &[HANDLE], Place::QdiscChange),
-    Entry("pfifo", &[], Place::Pfifo),
-    Entry("bfifo", &[], Place::Bfifo),
-    Entry("prio", &[], Place::Prio),
-    Entry("tbf", &[], Place::Tbf),
-    Entry("drr", &[], Place::Drr),
-    Entry("fq_codel", &[], Place::FqCodel),
+const QDISC_CHANGE: &[TableEntry] = &[
+    TableEntry("dev", &[NAME], WordPlace::QdiscChange),
+    TableEntry("root", &[], WordPlace::QdiscChange),
+    TableEntry("parent", &[CLASS], WordPlace::QdiscChange),
+    TableEntry("handle", &[HANDLE], WordPlace::QdiscChange),
+    TableEntry("pfifo", &[], WordPlace::Pfifo),
+    TableEntry("bfifo", &[], WordPlace::Bfifo),
+    TableEntry("prio", &[], WordPlace::Prio),
+    TableEntry("tbf", &[], WordPlace::Tbf),
+    TableEntry("drr", &[], WordPlace::Drr),
+    TableEntry("fq_codel", &[], WordPlace::FqCodel),
 ];
 
-const QDISC_DEL: &[Entry] = &[
-    Entry("dev", &[NAME], Place::QdiscDel),
-    Entry("root", &[], Place::QdiscDel),
-    Entry("parent", &[CLASS], Place::QdiscDel),
-    Entry("handle", &[HANDLE], Place::QdiscDel),
-    Entry("pfifo", &[], Place::End),
-    Entry("bfifo", &[], Place::End),
-    Entry("prio", &[], Place::End),
-    Entry("tbf", &[], Place::End),
-    Entry("drr", &[], Place::End),
-    Entry("fq_codel", &[], Place::End),
+const QDISC_DEL: &[TableEntry] = &[
+    TableEntry("dev", &[NAME], WordPlace::QdiscDel),
+    TableEntry("root", &[], WordPlace::QdiscDel),
+    TableEntry("parent", &[CLASS], WordPlace::QdiscDel),
+    TableEntry("handle", &[HANDLE], WordPlace::QdiscDel),
+    TableEntry("pfifo", &[], WordPlace::End),
+    TableEntry("bfifo", &[], WordPlace::End),
+    TableEntry("prio", &[], WordPlace::End),
+    TableEntry("tbf", &[], WordPlace::End),
+    TableEntry("drr", &[], WordPlace::End),
+    TableEntry("fq_codel", &[], WordPlace::End),
 ];
 
-const CLASS_ADD: &[Entry] = &[
-    Entry("dev", &[NAME], Place::ClassAdd),
-    Entry("parent", &[HANDLE], Place::ClassAdd),
-    Entry("classid", &[CLASS], Place::ClassAdd),
-    Entry("drr", &[], Place::DrrClass),
+const CLASS_ADD: &[TableEntry] = &[
+    TableEntry("dev", &[NAME], WordPlace::ClassAdd),
+    TableEntry("parent", &[HANDLE], WordPlace::ClassAdd),
+    TableEntry("classid", &[CLASS], WordPlace::ClassAdd),
+    TableEntry("drr", &[], WordPlace::DrrClass),
 ];
 
-const CLASS_CHANGE: &[Entry] = &[
-    Entry("dev", &[NAME], Place::ClassChange),
-    Entry("parent", &[HANDLE], Place::ClassChange),
-    Entry("classid", &[CLASS], Place::ClassChange),
-    Entry("drr", &[], Place::DrrClass),
+const CLASS_CHANGE: &[TableEntry] = &[
+    TableEntry("dev", &[NAME], WordPlace::ClassChange),
+    TableEntry("parent", &[HANDLE], WordPlace::ClassChange),
+    TableEntry("classid", &[CLASS], WordPlace::ClassChange),
+    TableEntry("drr", &[], WordPlace::DrrClass),
 ];
 
-const CLASS_DEL: &[Entry] = &[
-    Entry("dev", &[NAME], Place::ClassDel),
-    Entry("parent", &[HANDLE], Place::ClassDel),
-    Entry("classid", &[CLASS], Place::ClassDel),
+const CLASS_DEL: &[TableEntry] = &[
+    TableEntry("dev", &[NAME], WordPlace::ClassDel),
+    TableEntry("parent", &[HANDLE], WordPlace::ClassDel),
+    TableEntry("classid", &[CLASS], WordPlace::ClassDel),
 ];
 
-const FILTER_ADD: &[Entry] = &[
-    Entry("dev", &[NAME], Place::FilterAdd),
-    Entry("parent", &[HANDLE], Place::FilterAdd),
-    Entry("prio", &[PRIO], Place::FilterAdd),
-    Entry("pref", &[PRIO], Place::FilterAdd),
-    Entry("protocol", &[PROTOCOL], Place::FilterAdd),
-    Entry("flower", &[], Place::Flower),
+const FILTER_ADD: &[TableEntry] = &[
+    TableEntry("dev", &[NAME], WordPlace::FilterAdd),
+    TableEntry("parent", &[HANDLE], WordPlace::FilterAdd),
+    TableEntry("prio", &[PRIO], WordPlace::FilterAdd),
+    TableEntry("pref", &[PRIO], WordPlace::FilterAdd),
+    TableEntry("protocol", &[PROTOCOL], WordPlace::FilterAdd),
+    TableEntry("flower", &[], WordPlace::Flower),
 ];
 
-const FILTER_DEL: &[Entry] = &[
-    Entry("dev", &[NAME], Place::FilterDel),
-    Entry("parent", &[HANDLE], Place::FilterDel),
-    Entry("prio", &[PRIO], Place::FilterDel),
-    Entry("pref", &[PRIO], Place::FilterDel),
-    Entry("protocol", &[PROTOCOL], Place::FilterDel),
-    Entry("flower", &[], Place::End),
+const FILTER_DEL: &[TableEntry] = &[
+    TableEntry("dev", &[NAME], WordPlace::FilterDel),
+    TableEntry("parent", &[HANDLE], WordPlace::FilterDel),
+    TableEntry("prio", &[PRIO], WordPlace::FilterDel),
+    TableEntry("pref", &[PRIO], WordPlace::FilterDel),
+    TableEntry("protocol", &[PROTOCOL], WordPlace::FilterDel),
+    TableEntry("flower", &[], WordPlace::End),
 ];
 
-const SHOW: &[Entry] = &[Entry("dev", &[NAME], Place::Show)];
+const SHOW: &[TableEntry] = &[TableEntry("dev", &[NAME], WordPlace::Show)];
 
-const PFIFO: &[Entry] = &[Entry("limit", &[Value::Number(MOST)], Place::Pfifo)];
+const PFIFO: &[TableEntry] = &[TableEntry("limit", &[Value::Number(MOST)], WordPlace::Pfifo)];
 
-const BFIFO: &[Entry] = &[Entry("limit", &[Value::Size(MOST)], Place::Bfifo)];
+const BFIFO: &[TableEntry] = &[TableEntry("limit", &[Value::Size(MOST)], WordPlace::Bfifo)];
 
-const PRIO_OPTIONS: &[Entry] = &[
-    Entry("bands", &[Value::Number("2 to 16")], Place::Prio),
-    Entry("priomap", BANDS, Place::Prio),
+const PRIO_OPTIONS: &[TableEntry] = &[
+    TableEntry("bands", &[Value::Number("2 to 16")], WordPlace::Prio),
+    TableEntry("priomap", BANDS, WordPlace::Prio),
 ];
 
-const TBF: &[Entry] = &[
-    Entry("rate", &[RATE], Place::Tbf),
-    Entry("burst", &[Value::Size("1 to 4294967295")], Place::Tbf),
-    Entry("buffer", &[Value::Size("1 to 4294967295")], Place::Tbf),
-    Entry("maxburst", &[Value::Size("1 to 4294967295")], Place::Tbf),
-    Entry("limit", &[Value::Size(MOST)], Place::Tbf),
-    Entry("latency", &[Value::Time("0 to 1000s")], Place::Tbf),
+const TBF: &[TableEntry] = &[
+    TableEntry("rate", &[RATE], WordPlace::Tbf),
+    TableEntry("burst", &[Value::Size("1 to 4294967295")], WordPlace::Tbf),
+    TableEntry("buffer", &[Value::Size("1 to 4294967295")], WordPlace::Tbf),
+    TableEntry(
+        "maxburst",
+        &[Value::Size("1 to 4294967295")],
+        WordPlace::Tbf,
+    ),
+    TableEntry("limit", &[Value::Size(MOST)], WordPlace::Tbf),
+    TableEntry("latency", &[Value::Time("0 to 1000s")], WordPlace::Tbf),
 ];
 
-const FQ_CODEL: &[Entry] = &[
-    Entry("limit", &[Value::Number("1 to 4294967295")], Place::FqCodel),
-    Entry("flows", &[Value::Number("1 to 65536")], Place::FqCodel),
-    Entry("quantum", &[Value::Size("1 to 4294967295")], Place::FqCodel),
-    Entry("target", &[Value::Time("0 to 1000s")], Place::FqCodel),
-    Entry("interval", &[Value::Time("1us to 1000s")], Place::FqCodel),
-    Entry("drop_batch", &[Value::Number("1 to 65536")], Place::FqCodel),
-    Entry("ecn", &[], Place::FqCodel),
-    Entry("noecn", &[], Place::FqCodel),
+const FQ_CODEL: &[TableEntry] = &[
+    TableEntry(
+        "limit",
+        &[Value::Number("1 to 4294967295")],
+        WordPlace::FqCodel,
+    ),
+    TableEntry("flows", &[Value::Number("1 to 65536")], WordPlace::FqCodel),
+    TableEntry(
+        "quantum",
+        &[Value::Size("1 to 4294967295")],
+        WordPlace::FqCodel,
+    ),
+    TableEntry("target", &[Value::Time("0 to 1000s")], WordPlace::FqCodel),
+    TableEntry(
+        "interval",
+        &[Value::Time("1us to 1000s")],
+        WordPlace::FqCodel,
+    ),
+    TableEntry(
+        "drop_batch",
+        &[Value::Number("1 to 65536")],
+        WordPlace::FqCodel,
+    ),
+    TableEntry("ecn", &[], WordPlace::FqCodel),
+    TableEntry("noecn", &[], WordPlace::FqCodel),
 ];
 
-const DRR_CLASS: &[Entry] = &[Entry(
+const DRR_CLASS: &[TableEntry] = &[TableEntry(
     "quantum",
     &[Value::Size("1 to 4294967295")],
-    Place::DrrClass,
+    WordPlace::DrrClass,
 )];
 
-const FLOWER: &[Entry] = &[
-    Entry("ip_proto", &[IP_PROTO], Place::Flower),
-    Entry("src_ip", &[PREFIX], Place::Flower),
-    Entry("dst_ip", &[PREFIX], Place::Flower),
-    Entry("src_port", &[PORT], Place::Flower),
-    Entry("dst_port", &[PORT], Place::Flower),
-    Entry("classid", &[CLASS], Place::Flower),
-    Entry("flowid", &[CLASS], Place::Flower),
+const FLOWER: &[TableEntry] = &[
+    TableEntry("ip_proto", &[IP_PROTO], WordPlace::Flower),
+    TableEntry("src_ip", &[PREFIX], WordPlace::Flower),
+    TableEntry("dst_ip", &[PREFIX], WordPlace::Flower),
+    TableEntry("src_port", &[PORT], WordPlace::Flower),
+    TableEntry("dst_port", &[PORT], WordPlace::Flower),
+    TableEntry("classid", &[CLASS], WordPlace::Flower),
+    TableEntry("flowid", &[CLASS], WordPlace::Flower),
 ];
 
-const PACKET: &[Entry] = &[
-    Entry("hash", &[Value::Number(MOST)], Place::Packet),
-    Entry("prio", &[Value::Number("0 to 15")], Place::Packet),
-    Entry("ip_proto", &[IP_PROTO], Place::Packet),
-    Entry("src_ip", &[ADDRESS], Place::Packet),
-    Entry("dst_ip", &[ADDRESS], Place::Packet),
-    Entry("src_port", &[PORT], Place::Packet),
-    Entry("dst_port", &[PORT], Place::Packet),
-    Entry("ecn", &[Value::Number("0 to 3")], Place::Packet),
+const PACKET: &[TableEntry] = &[
+    TableEntry("hash", &[Value::Number(MOST)], WordPlace::Packet),
+    TableEntry("prio", &[Value::Number("0 to 15")], WordPlace::Packet),
+    TableEntry("ip_proto", &[IP_PROTO], WordPlace::Packet),
+    TableEntry("src_ip", &[ADDRESS], WordPlace::Packet),
+    TableEntry("dst_ip", &[ADDRESS], WordPlace::Packet),
+    TableEntry("src_port", &[PORT], WordPlace::Packet),
+    TableEntry("dst_port", &[PORT], WordPlace::Packet),
+    TableEntry("ecn", &[Value::Number("0 to 3")], WordPlace::Packet),
 ];
 
 /// How many polls a line may ask for: the number comes after `poll`, without a word of its own.
 pub const POLLS: Value = Value::Number("1 to 100000");
 
 /// The words that may be at a place.
-pub fn entries(place: Place) -> &'static [Entry] {
+pub fn entries(place: WordPlace) -> &'static [TableEntry] {
     match place {
-        Place::First => FIRST,
-        Place::Tc => TC,
-        Place::TcCounters => TC_COUNTERS,
-        Place::Qdisc => QDISC,
-        Place::Class => CLASS_VERBS,
-        Place::Filter => FILTER,
-        Place::QdiscAdd => QDISC_ADD,
-        Place::QdiscChange => QDISC_CHANGE,
-        Place::QdiscDel => QDISC_DEL,
-        Place::ClassAdd => CLASS_ADD,
-        Place::ClassChange => CLASS_CHANGE,
-        Place::ClassDel => CLASS_DEL,
-        Place::FilterAdd => FILTER_ADD,
-        Place::FilterDel => FILTER_DEL,
-        Place::Show => SHOW,
-        Place::Pfifo => PFIFO,
-        Place::Bfifo => BFIFO,
-        Place::Prio => PRIO_OPTIONS,
-        Place::Tbf => TBF,
-        Place::FqCodel => FQ_CODEL,
-        Place::DrrClass => DRR_CLASS,
-        Place::Flower => FLOWER,
-        Place::Packet => PACKET,
-        Place::Drr | Place::Poll | Place::End => &[],
+        WordPlace::First => FIRST,
+        WordPlace::Tc => TC,
+        WordPlace::TcCounters => TC_COUNTERS,
+        WordPlace::Qdisc => QDISC,
+        WordPlace::Class => CLASS_VERBS,
+        WordPlace::Filter => FILTER,
+        WordPlace::QdiscAdd => QDISC_ADD,
+        WordPlace::QdiscChange => QDISC_CHANGE,
+        WordPlace::QdiscDel => QDISC_DEL,
+        WordPlace::ClassAdd => CLASS_ADD,
+        WordPlace::ClassChange => CLASS_CHANGE,
+        WordPlace::ClassDel => CLASS_DEL,
+        WordPlace::FilterAdd => FILTER_ADD,
+        WordPlace::FilterDel => FILTER_DEL,
+        WordPlace::Show => SHOW,
+        WordPlace::Pfifo => PFIFO,
+        WordPlace::Bfifo => BFIFO,
+        WordPlace::Prio => PRIO_OPTIONS,
+        WordPlace::Tbf => TBF,
+        WordPlace::FqCodel => FQ_CODEL,
+        WordPlace::DrrClass => DRR_CLASS,
+        WordPlace::Flower => FLOWER,
+        WordPlace::Packet => PACKET,
+        WordPlace::Drr | WordPlace::Poll | WordPlace::End => &[],
     }
 }
 
 /// The words that a line needs at a place, or in the head that was there: one of each row.
-pub fn needs(place: Place) -> &'static [&'static [&'static str]] {
+pub fn needs(place: WordPlace) -> &'static [&'static [&'static str]] {
     match place {
-        Place::QdiscAdd => &[&["dev"], &["root", "parent"]],
-        Place::QdiscChange | Place::QdiscDel => &[&["dev"], &["root", "parent", "handle"]],
-        Place::ClassAdd => &[&["dev"], &["parent"], &["classid"]],
-        Place::ClassChange | Place::ClassDel => &[&["dev"], &["classid"]],
-        Place::FilterAdd | Place::FilterDel => &[&["dev"], &["parent"], &["prio", "pref"]],
-        Place::Tbf => &[
+        WordPlace::QdiscAdd => &[&["dev"], &["root", "parent"]],
+        WordPlace::QdiscChange | WordPlace::QdiscDel => &[&["dev"], &["root", "parent", "handle"]],
+        WordPlace::ClassAdd => &[&["dev"], &["parent"], &["classid"]],
+        WordPlace::ClassChange | WordPlace::ClassDel => &[&["dev"], &["classid"]],
+        WordPlace::FilterAdd | WordPlace::FilterDel => &[&["dev"], &["parent"], &["prio", "pref"]],
+        WordPlace::Tbf => &[
             &["rate"],
             &["burst", "buffer", "maxburst"],
             &["limit", "latency"],
         ],
-        Place::Flower => &[&["classid", "flowid"]],
+        WordPlace::Flower => &[&["classid", "flowid"]],
         _ => &[],
     }
 }

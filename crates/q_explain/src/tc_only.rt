@@ -1,6 +1,6 @@
 //! What tc has and qtree has not, and what to use in its place.
-use crate::place::Place;
-use crate::words::Words;
+use crate::line_words::LineWords;
+use crate::word_place::WordPlace;
 
 /// The kinds of filter that tc has besides flower.
 const FILTERS: &[&str] = &[
@@ -8,19 +8,23 @@ const FILTERS: &[&str] = &[
 ];
 
 /// What to use in the place of a word that tc alone has; empty where nothing does the same.
-pub fn instead(place: Place, word: &[u8]) -> &'static str {
+pub fn instead(place: WordPlace, word: &[u8]) -> &'static str {
     match (place, word) {
-        (Place::Filter, b"replace" | b"change") => ": use del and add",
-        (Place::Qdisc | Place::Class, b"replace") => ": use change, or del and add",
-        (Place::Tc | Place::TcCounters, b"-stats" | b"-statistics") => ": use -s",
+        (WordPlace::Filter, b"replace" | b"change") => ": use del and add",
+        (WordPlace::Qdisc | WordPlace::Class, b"replace") => ": use change, or del and add",
+        (WordPlace::Tc | WordPlace::TcCounters, b"-stats" | b"-statistics") => ": use -s",
         _ => "",
     }
 }
 
 /// The kind of filter that has a `handle` of its own, if that is in the head of a line on filters: the first of its kinds in
 /// the rest of the line.
-pub fn filter_of_handle(place: Place, word: &[u8], rest: Words<'_>) -> Option<&'static str> {
-    let of_filter = matches!(place, Place::FilterAdd | Place::FilterDel);
+pub fn filter_of_handle(
+    place: WordPlace,
+    word: &[u8],
+    rest: LineWords<'_>,
+) -> Option<&'static str> {
+    let of_filter = matches!(place, WordPlace::FilterAdd | WordPlace::FilterDel);
     if !of_filter || word != "handle".as_bytes() {
         return None;
     }
@@ -39,9 +43,9 @@ pub fn filter_of_handle(place: Place, word: &[u8], rest: Words<'_>) -> Option<&'
 }
 
 /// The words that tc reads at a place, and qtree does not.
-pub fn words_of_tc(place: Place) -> &'static [&'static str] {
+pub fn words_of_tc(place: WordPlace) -> &'static [&'static str] {
     match place {
-        Place::Tc | Place::TcCounters => &[
+        WordPlace::Tc | WordPlace::TcCounters => &[
             "-d",
             "-r",
             "-p",
@@ -68,10 +72,10 @@ pub fn words_of_tc(place: Place) -> &'static [&'static str] {
             "monitor",
             "exec",
         ],
-        Place::Qdisc | Place::Class | Place::Filter => {
+        WordPlace::Qdisc | WordPlace::Class | WordPlace::Filter => {
             &["replace", "link", "get", "change", "chg", "lst"]
         }
-        Place::QdiscAdd | Place::QdiscChange | Place::QdiscDel => &[
+        WordPlace::QdiscAdd | WordPlace::QdiscChange | WordPlace::QdiscDel => &[
             "htb",
             "hfsc",
             "sfq",
@@ -107,9 +111,16 @@ pub fn words_of_tc(place: Place) -> &'static [&'static str] {
             "ingress_block",
             "egress_block",
         ],
-        Place::ClassAdd | Place::ClassChange => &["root", "htb", "hfsc", "qfq", "cbq", "estimator"],
-        Place::ClassDel => &["root"],
-        Place::FilterAdd | Place::FilterDel => &[
+        WordPlace::ClassAdd | WordPlace::ClassChange => &[
+            "root",
+            "htb",
+            "hfsc",
+            "qfq",
+            "cbq",
+            "estimator",
+        ],
+        WordPlace::ClassDel => &["root"],
+        WordPlace::FilterAdd | WordPlace::FilterDel => &[
             "root",
             "ingress",
             "egress",
@@ -126,7 +137,7 @@ pub fn words_of_tc(place: Place) -> &'static [&'static str] {
             "matchall",
             "route",
         ],
-        Place::Tbf => &[
+        WordPlace::Tbf => &[
             "mtu",
             "minburst",
             "mpu",
@@ -134,8 +145,8 @@ pub fn words_of_tc(place: Place) -> &'static [&'static str] {
             "overhead",
             "linklayer",
         ],
-        Place::FqCodel => &["ce_threshold", "ce_threshold_selector", "memory_limit"],
-        Place::Flower => &[
+        WordPlace::FqCodel => &["ce_threshold", "ce_threshold_selector", "memory_limit"],
+        WordPlace::Flower => &[
             "action",
             "indev",
             "verbose",
@@ -166,7 +177,7 @@ pub fn words_of_tc(place: Place) -> &'static [&'static str] {
             "hw_tc",
             "police",
         ],
-        Place::Show => &[
+        WordPlace::Show => &[
             "root",
             "parent",
             "handle",

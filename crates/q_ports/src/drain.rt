@@ -8,11 +8,11 @@ ghost use Rattle.q_ports.specs.Turned.{PublishesSome, TurnedSome, WithholdsSome}
 
 use crate::booked::Booked;
 use crate::intake::Intake;
-use crate::laws::{settle_on, turn_on};
 use crate::port::Port;
 use crate::publisher::Publisher;
 use crate::settled::Settled;
-use crate::turn::Turn;
+use crate::settling::settle_on;
+use crate::turn::{Turn, turn_on};
 use crate::unsettled::Unsettled;
 use q_packet::Moment;
 use std::alloc::{AllocError, Global};

@@ -193,14 +193,11 @@ impl<P: Ledger, B: Ledger> Intake<P, B> {
             self.go_on_after(at);
             return Ok(Some(at));
         }
-        match self.take_within(0, start, booked, now) {
-            Ok(Some(at)) => {
-                self.go_on_after(at);
-                Ok(Some(at))
-            }
-            Ok(None) => Ok(None),
-            Err(error) => Err(error),
+        if let Some(at) = self.take_within(0, start, booked, now)? {
+            self.go_on_after(at);
+            return Ok(Some(at));
         }
+        Ok(None)
     }
 
     /// Takes up to `most` packets, one from each ring in turn, and answers how many; and whether an allocation was refused, which

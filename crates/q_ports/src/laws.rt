@@ -1,6 +1,5 @@
-//! What is true of every book and of every ring; and [`turn_on`] and [`settle_on`], the work of `Drain::turn` and `Drain::settle` once
-//! they have the lock: a contract can name the locked value only where it is in hand.
-ghost use Rattle.std.specs.Prelude.{◌≡◌, ◌≤◌, ◌++◌, [], length};
+//! What is true of every book and of every ring.
+ghost use Rattle.std.specs.Prelude.{◌≡◌, ◌≤◌, ◌++◌, length};
 ghost use mathlib.Core.List.{IsPrefix};
 ghost use Rattle.q_ports.specs.Placed.{placed_by, ring_of_port};
 ghost use Rattle.q_ports.specs.Rings.{with_known};
@@ -11,8 +10,6 @@ use crate::outlet::Outlet;
 use crate::port::Port;
 use crate::seat::Seat;
 use crate::settled::Settled;
-pub use crate::settling::settle_on;
-pub use crate::turn::turn_on;
 use q_device::Totals as Share;
 use q_device::laws::{
     device_has_its_memory, device_is_lawful, device_is_replayed, device_tells_its_losses,

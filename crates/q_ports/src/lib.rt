@@ -23,7 +23,9 @@
 //! [`open_ring`] and [`Outlet`].
 //!
 //! No packet is lost between a port and the device. The device is in a [`Booked`], whose ledger counts what has arrived, so that after
-//! [`Drain::settle`] the device's count of arrivals is the sum of what the ports placed ([`laws::settled`]).
+//! [`Drain::settle`] the device's count of arrivals is the sum of what the ports placed ([`laws::settled`]). What a turn and settling do to the
+//! device is the contract of [`turn_on`] and [`settle_on`], their work once they have the lock: a contract can name the locked value only
+//! where it is in hand.
 #![tactic(auto)]
 
 mod batch;
@@ -82,7 +84,8 @@ pub use q_device::Totals as Share;
 pub use running::run_with_ports;
 pub use seat::Seat;
 pub use settled::Settled;
+pub use settling::settle_on;
 pub use taken_in::TakenIn;
 pub use told::Told;
-pub use turn::Turn;
+pub use turn::{Turn, turn_on};
 pub use unsettled::Unsettled;

@@ -1,5 +1,4 @@
 ghost use Rattle.std.specs.Prelude.{◌≡◌, ◌≤◌, ◌<◌, ℕ, [], length, get_or, map, replicate, All, IfOk, IfErr};
-ghost use Rattle.q_packet.specs.Descriptor.{Descriptor};
 ghost use Rattle.q_ports.specs.Held.{held};
 ghost use Rattle.q_ports.specs.Placed.{placed_by, port_seen, ring_of_port, HasRing, PortSeen};
 ghost use Rattle.q_ports.specs.Rings.{received_from, ring_id, ring_seen};

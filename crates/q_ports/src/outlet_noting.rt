@@ -67,12 +67,8 @@ impl Outlet {
         ensures clock { OnOk result (device.new.device.clock ≡ counts_at now device.old.device) }
     {
         let packet = self.first();
-        match self.take_first(device, now) {
-            Ok(()) => {
-                last.note(Event::Arrive(packet, device.clock()));
-                Ok(())
-            }
-            Err(error) => Err(error),
-        }
+        self.take_first(device, now)?;
+        last.note(Event::Arrive(packet, device.clock()));
+        Ok(())
     }
 }

@@ -1,8 +1,7 @@
-ghost use Rattle.std.specs.Prelude.{◌≡◌, ◌<◌, ◌≤◌, ◌+◌, ◌^◌, ◌++◌, ◌⊎◌, [], true, false, get_or, length, take, OnOk, OnErr, IfErr, IfSome, IfNone};
+ghost use Rattle.std.specs.Prelude.{◌≡◌, ◌<◌, ◌≤◌, ◌+◌, ◌^◌, ◌++◌, ◌⊎◌, [], true, false, get_or, length, take, OnOk, OnErr, IfErr};
 ghost use Rattle.std.specs.List.{fold};
 ghost use Rattle.q_packet.specs.Descriptor.{Descriptor};
 ghost use Rattle.q_model.specs.Beneath.{totals_in};
-ghost use Rattle.q_model.specs.Tally.{with_packet};
 ghost use Rattle.q_ports.specs.Offered.{MayBeFull};
 ghost use Rattle.q_ports.specs.Placed.{bytes_in, placed_by, placing, port_seen, ring_at, ring_length, ring_of, ring_of_port, HasRing};
 ghost use Rattle.rtrb.specs.Ring.{known_items, producer_capacity, received, sent, ConsumerLooked};

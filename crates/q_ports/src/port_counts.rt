@@ -1,4 +1,4 @@
-ghost use Rattle.std.specs.Prelude.{◌≡◌, ◌≤◌, ◌↔◌, IfSome, IsSome};
+ghost use Rattle.std.specs.Prelude.{◌≡◌, ◌↔◌, IfSome, IsSome};
 ghost use Rattle.q_ports.specs.PortRanges.{AreInRange};
 
 /// How many ports and gauges a device has, and how long the ports' rings are. Code that would leave another number there is refused.

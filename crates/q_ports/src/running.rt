@@ -1,5 +1,4 @@
 ghost use Rattle.std.specs.Prelude.{◌≡◌, IfOk};
-ghost use Rattle.q_model.specs.Tally.{no_totals};
 ghost use Rattle.q_device.specs.DeviceSeen.{opened};
 
 use crate::booked::Booked;

@@ -41,13 +41,9 @@ pub fn settle_on<P: Ledger, B: Ledger, R: Wait>(
     ensures beginnings { IfErr result (λ u. AreBeginnings (map received_from u.drain.rings) (map placed_by ports.items)) }
     ensures board { IfErr result (λ u. u.drain.board ≡ drain.board) }
 {
-    match settle_parts(drain, booked, ports, now) {
-        Ok((settled, publisher)) => {
-            publisher.end(rt);
-            Ok(settled)
-        }
-        Err(unsettled) => Err(unsettled),
-    }
+    let (settled, publisher) = settle_parts(drain, booked, ports, now)?;
+    publisher.end(rt);
+    Ok(settled)
 }
 
 // The same but for the end of the publisher, which stays as it was: without the right to wait nobody can publish here.

@@ -1,5 +1,5 @@
 //! A drain that ends while senders offer and gauges read.
-ghost use Rattle.std.specs.Prelude.{◌≡◌, ◌≤◌, length};
+ghost use Rattle.std.specs.Prelude.{◌≡◌};
 
 use crate::common::{assert_count, device, packet, row, take_turn};
 use crate::traffic::Traffic;

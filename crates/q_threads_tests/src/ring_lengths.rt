@@ -1,7 +1,5 @@
 //! Rings that are filled to their length.
-ghost use Rattle.std.specs.Prelude.{◌≡◌, ◌≤◌, ◌<◌, length, map};
-ghost use Rattle.q_ports.specs.Placed.{ring_of_port};
-ghost use Rattle.q_ports.specs.Rings.{ring_id};
+ghost use Rattle.std.specs.Prelude.{◌≡◌};
 
 use crate::common::{assert_full, assert_settles, device, fill, hundreds, packet};
 use crate::unbooked::Unbooked;

@@ -1,5 +1,5 @@
 //! Senders in threads of their own, while the drain takes turns and gauges read.
-ghost use Rattle.std.specs.Prelude.{◌≡◌, ◌≤◌, length};
+ghost use Rattle.std.specs.Prelude.{◌≡◌};
 
 use crate::common::{
     assert_count, assert_totals, device, driven_all, hundreds, loads, packet, row,
@@ -10,7 +10,7 @@ use crate::rows::{NO_ROW, is_balanced};
 use crate::shaped::{kinds, set_up};
 use crate::unbooked::Unbooked;
 use q_device::{Event, Row, Totals};
-use q_packet::{Moment, Packet};
+use q_packet::Packet;
 use q_ports::{Booked, Gauge};
 use std::alloc::{AllocError, Global};
 use std::marker::Brand;

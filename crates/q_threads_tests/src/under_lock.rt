@@ -1,8 +1,7 @@
 //! What turns and settling do to the device behind its lock, event by event and loss by loss. A contract can't name what is behind a
 //! lock, so that a packet that got lost there in the very call would be seen here alone.
-ghost use Rattle.std.specs.Prelude.{◌≡◌, ◌≤◌, ◌<◌, length, map};
+ghost use Rattle.std.specs.Prelude.{◌≡◌, ◌<◌, length, map};
 ghost use Rattle.q_ports.specs.Placed.{ring_of_port};
-ghost use Rattle.q_ports.specs.Rings.{ring_id};
 
 use crate::common::{
     assert_count, assert_settles_at, assert_totals, hundreds, limited, moment, offer_at, packet,
@@ -11,7 +10,7 @@ use crate::common::{
 use crate::unbooked::Unbooked;
 use q_device::{Event, Lost};
 use q_packet::{Cause, Packet};
-use q_ports::{Booked, Drain, Port};
+use q_ports::{Booked, Port};
 use std::alloc::Global;
 use std::marker::Brand;
 use std::process::Abort;

@@ -1,6 +1,6 @@
 //! Loads that are longer than their rings while nobody drains, what the first turn of a drive takes after that, and that nothing else
 //! happens to the device.
-ghost use Rattle.std.specs.Prelude.{◌≡◌, ◌≤◌, length, map};
+ghost use Rattle.std.specs.Prelude.{◌≡◌, length, map};
 ghost use Rattle.q_ports.specs.Placed.{ring_of_port};
 ghost use Rattle.q_ports.specs.Rings.{ring_id};
 

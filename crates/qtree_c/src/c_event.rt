@@ -1,5 +1,5 @@
 ghost use Rattle.std.specs.Prelude.{◌≡◌};
-ghost use Rattle.qtree_c.specs.Structs.{event_of, zero_packet};
+ghost use Rattle.qtree_c.specs.Structs.{event_of};
 
 use crate::c_packet::CPacket;
 use q_device::Event;

@@ -90,9 +90,7 @@ impl CPacket {
         ensures in_range { IsSome result ↔ IsPacket self.now }
         ensures value { IfSome result (λ p. p ≡ descriptor self.now) }
     {
-        let Some(key) = self.key() else {
-            return None;
-        };
+        let key = self.key()?;
         if self.ecn > 3 {
             return None;
         }

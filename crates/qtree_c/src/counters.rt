@@ -7,7 +7,7 @@ ghost use Rattle.qtree_c.specs.Structs.{place_of, IsPlaceOf};
 use crate::c_device::CDevice;
 use crate::c_row::CRow;
 use crate::codes::{DONE, IS_CLOSED, NOTHING, OUT_OF_RANGE};
-use q_device::{Device, Place};
+use q_device::Place;
 use q_model::{ClassId, Handle, Minor};
 
 /// What the node in a place counted.
@@ -81,11 +81,7 @@ fn class_at(major: u16, minor: u16) -> Option<Place>
     ensures in_range { IsSome result ↔ IsPlaceOf 2 major minor }
     ensures value { IfSome result (λ p. p ≡ place_of 2 major minor) }
 {
-    let Some(major) = Handle::new(major) else {
-        return None;
-    };
-    let Some(minor) = Minor::new(minor) else {
-        return None;
-    };
+    let major = Handle::new(major)?;
+    let minor = Minor::new(minor)?;
     Some(Place::Class(ClassId { major, minor }))
 }

@@ -1,5 +1,5 @@
 //! Why a line was not done, in words for its writer.
-ghost use Rattle.std.specs.Prelude.{◌≡◌, ◌≢◌, Some, IsSome, IfOk, IfErr};
+ghost use Rattle.std.specs.Prelude.{◌≡◌, ◌≢◌, IfOk, IfErr};
 ghost use Rattle.q_model.specs.Refusal.{refusal_number};
 ghost use Rattle.q_model.specs.declared.refusal.Refusal.{Refusal as Refused};
 ghost use Rattle.q_words.specs.declared.line_fault.LineFault.{LineFault as Faulty};

@@ -107,10 +107,8 @@ fn new_ring(alloc: Global, places: u32) -> Result<Option<LastEvents>, AllocError
     if places == 0 {
         return Ok(None);
     }
-    match LastEvents::new(alloc, places) {
-        Ok(last) => Ok(Some(last)),
-        Err(error) => Err(error),
-    }
+    let last = LastEvents::new(alloc, places)?;
+    Ok(Some(last))
 }
 
 /// One of the last events, where there is a ring that has it.

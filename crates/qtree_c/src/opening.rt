@@ -1,5 +1,5 @@
 //! A device is opened and closed.
-ghost use Rattle.std.specs.Prelude.{◌≡◌, ◌≢◌, Some, None, IsSome, IfSome};
+ghost use Rattle.std.specs.Prelude.{◌≡◌, ◌≢◌, None, IsSome, IfSome};
 ghost use Rattle.q_device.specs.DeviceSeen.{opened};
 ghost use Rattle.q_model.specs.Settings.{IsInRange};
 ghost use Rattle.qtree_c.specs.Structs.{settings_of};

@@ -1,7 +1,7 @@
 //! Recorded events as lines of a script.
-ghost use Rattle.std.specs.Prelude.{◌≡◌, ◌≢◌, slice_get};
+ghost use Rattle.std.specs.Prelude.{◌≡◌, ◌≢◌};
 ghost use Rattle.qtree_c.specs.Calls.{Calls};
-ghost use Rattle.qtree_c.specs.Scripts.{IsLineOf, IsRecordedLine, IsScript, IsWritten};
+ghost use Rattle.qtree_c.specs.Scripts.{IsRecordedLine, IsScript, IsWritten};
 
 use crate::c_device::CDevice;
 use crate::codes::{DONE, IS_CLOSED, MEMORY, NOTHING, ROOM};

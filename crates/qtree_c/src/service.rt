@@ -1,5 +1,5 @@
 //! What a class is promised.
-ghost use Rattle.std.specs.Prelude.{◌≡◌, ◌≢◌, ◌≤◌};
+ghost use Rattle.std.specs.Prelude.{◌≡◌, ◌≢◌};
 ghost use Rattle.qtree_c.specs.Calls.{Calls};
 ghost use Rattle.qtree_c.specs.Promised.{IsPromised};
 ghost use Rattle.qtree_c.specs.Structs.{place_of, IsPlaceOf};

@@ -1,6 +1,6 @@
 /// The place of a word in a line.
 #[derive(Clone, Copy, PartialEq, Eq)]
-pub enum Place {
+pub enum WordPlace {
     /// First.
     First,
     /// Behind `tc`.
@@ -55,26 +55,26 @@ pub enum Place {
     End,
 }
 
-impl Place {
+impl WordPlace {
     /// Whether it is the head of a tc line.
     pub fn is_head(self) -> bool {
         matches!(
             self,
-            Place::QdiscAdd
-                | Place::QdiscChange
-                | Place::QdiscDel
-                | Place::ClassAdd
-                | Place::ClassChange
-                | Place::ClassDel
-                | Place::FilterAdd
-                | Place::FilterDel
+            WordPlace::QdiscAdd
+                | WordPlace::QdiscChange
+                | WordPlace::QdiscDel
+                | WordPlace::ClassAdd
+                | WordPlace::ClassChange
+                | WordPlace::ClassDel
+                | WordPlace::FilterAdd
+                | WordPlace::FilterDel
         )
     }
 
     /// What is said to need the words that are missing there.
     pub fn needing(self) -> &'static str {
         match self {
-            Place::Tbf => "a tbf",
+            WordPlace::Tbf => "a tbf",
             _ => self.name(),
         }
     }
@@ -82,30 +82,30 @@ impl Place {
     /// The table of the words that may be there.
     pub fn name(self) -> &'static str {
         match self {
-            Place::Qdisc => "tc qdisc",
-            Place::Class => "tc class",
-            Place::Filter => "tc filter",
-            Place::QdiscAdd => "tc qdisc add",
-            Place::QdiscChange => "tc qdisc change",
-            Place::QdiscDel => "tc qdisc del",
-            Place::ClassAdd => "tc class add",
-            Place::ClassChange => "tc class change",
-            Place::ClassDel => "tc class del",
-            Place::FilterAdd => "tc filter add",
-            Place::FilterDel => "tc filter del",
-            Place::Show => "a line that shows",
-            Place::Pfifo => "pfifo",
-            Place::Bfifo => "bfifo",
-            Place::Prio => "prio",
-            Place::Tbf => "tbf",
-            Place::Drr => "drr",
-            Place::FqCodel => "fq_codel",
-            Place::DrrClass => "a class of drr",
-            Place::Flower => "flower",
-            Place::Packet => "pkt",
-            Place::Poll => "poll",
-            Place::First | Place::End => "the line",
-            Place::Tc | Place::TcCounters => "tc",
+            WordPlace::Qdisc => "tc qdisc",
+            WordPlace::Class => "tc class",
+            WordPlace::Filter => "tc filter",
+            WordPlace::QdiscAdd => "tc qdisc add",
+            WordPlace::QdiscChange => "tc qdisc change",
+            WordPlace::QdiscDel => "tc qdisc del",
+            WordPlace::ClassAdd => "tc class add",
+            WordPlace::ClassChange => "tc class change",
+            WordPlace::ClassDel => "tc class del",
+            WordPlace::FilterAdd => "tc filter add",
+            WordPlace::FilterDel => "tc filter del",
+            WordPlace::Show => "a line that shows",
+            WordPlace::Pfifo => "pfifo",
+            WordPlace::Bfifo => "bfifo",
+            WordPlace::Prio => "prio",
+            WordPlace::Tbf => "tbf",
+            WordPlace::Drr => "drr",
+            WordPlace::FqCodel => "fq_codel",
+            WordPlace::DrrClass => "a class of drr",
+            WordPlace::Flower => "flower",
+            WordPlace::Packet => "pkt",
+            WordPlace::Poll => "poll",
+            WordPlace::First | WordPlace::End => "the line",
+            WordPlace::Tc | WordPlace::TcCounters => "tc",
         }
     }
 }

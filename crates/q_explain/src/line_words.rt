@@ -5,23 +5,23 @@ use q_words::{cut_word, skip_blanks};
 
 /// The words of a line that are still to come, from the left.
 #[derive(Clone, Copy)]
-pub struct Words<'a> {
+pub struct LineWords<'a> {
     rest: &'a [u8],
     len: usize,
     ghost within: { length rest.now ≤ len },
 }
 
-impl<'a> Words<'a> {
+impl<'a> LineWords<'a> {
     /// All words of a line.
-    pub fn new(line: &'a [u8]) -> Words<'a> {
-        Words {
+    pub fn new(line: &'a [u8]) -> LineWords<'a> {
+        LineWords {
             rest: line,
             len: line.len(),
         }
     }
 }
 
-impl<'a> Words<'a> {
+impl<'a> LineWords<'a> {
     /// The next word; `None` behind the last.
     pub fn next(&mut self) -> Option<Word<'a>> {
         let filled = skip_blanks(self.rest);

@@ -1,11 +1,11 @@
-use crate::place::Place;
 use crate::value::Value;
+use crate::word_place::WordPlace;
 
 /// A word that may be at a place, the values behind it, and the place of the word behind them.
 #[derive(Clone, Copy)]
-pub struct Entry(pub &'static str, pub &'static [Value], pub Place);
+pub struct TableEntry(pub &'static str, pub &'static [Value], pub WordPlace);
 
-impl Entry {
+impl TableEntry {
     /// The word.
     pub fn name(self) -> &'static str {
         self.0
@@ -17,7 +17,7 @@ impl Entry {
     }
 
     /// The place of the word behind them.
-    pub fn next(self) -> Place {
+    pub fn next(self) -> WordPlace {
         self.2
     }
 }
