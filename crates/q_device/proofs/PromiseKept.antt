@@ -18,7 +18,7 @@ use Rattle.q_model.specs.Lawful.{IsLawfulDiscipline}
 use Rattle.q_model.specs.Node.{Discipline, Fifo, Prio, Tbf, Drr, FqCodel, Own, Forest, none, more, Node, children, each, from_below}
 use Rattle.q_model.specs.Settings.{DeviceSettings, IsInRange}
 use Rattle.q_model.specs.Step.{DeviceState}
-use Rattle.q_model.specs.Stretches.{tbf_of, Throughout}
+use Rattle.q_model.specs.Stretches.{tbf_of}
 use Rattle.q_model.specs.Tally.{Note}
 use Rattle.q_invariants.proofs.Forests.{each-nodes}
 use Rattle.q_invariants.proofs.Replays.{IsKept, replay-kept}
@@ -253,9 +253,6 @@ module _ (settings : DeviceSettings) (range : IsInRange settings) (before during
   kept-at : (seen later : List Event) → seen ++ later ≡ during → IsKept (device_after settings (before ++ seen))
   kept-at seen later e =
       replay-kept settings (before ++ seen) range (All-append IsEvent before seen all_before (all-front IsEvent seen later (subst (All IsEvent) (sym e) all_during)))
-
-  at-first : (P : DeviceState (List Note) → Type 0) → Throughout P settings before during → P (device_after settings (before ++ []))
-  at-first P h = h [] during refl
 
 -- ---- the promise
 

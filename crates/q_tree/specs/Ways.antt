@@ -74,9 +74,6 @@ share_among c classes = record { quantum = c.quantum; quanta = sum_by (λ (k : C
 abbrev pub share_of : DrrClass → Share
 share_of d = share_among d.class d.classes
 
-abbrev pub link_of : Way → Option Link
-link_of w = w.link
-
 abbrev pub shares_of : Way → List Share
 shares_of w = map share_of w.drrs
 
