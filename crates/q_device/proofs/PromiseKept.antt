@@ -24,28 +24,19 @@ use Rattle.q_invariants.proofs.Forests.{each-nodes}
 use Rattle.q_invariants.proofs.Replays.{IsKept, replay-kept}
 use Rattle.q_invariants.proofs.Within.{IsOf}
 use Rattle.q_tree.specs.declared.ways.Link.{Link}
-use Rattle.q_tree.specs.Ways.{DrrClass, Way, drrs_on, has_tbf, share_of, way_below, way_from, way_to}
-use Rattle.q_tree.specs.Ways as ways
+use Rattle.q_tree.specs.Ways.{DrrClass, Way, drrs_on, has_tbf, is_tbf, share_of, way_below, way_from, way_to}
 use Rattle.q_device.specs.InTime.{Level, IsLinkOver, IsWay, last_level, quanta_on, sums_on, lacks_on, sent_at}
 use Rattle.q_device.specs.Promise.{Promise, IsPart, IsServed, ServiceIsDelivered, ShareIsDelivered, SlackIsTheLaws, has_room, lack_of_link, level_of, levels_of, part_of, promise_on, rate_of, slack_on}
 use Rattle.q_device.specs.Service.{all_sent}
 use Rattle.q_device.specs.Sharing.{device_after}
-use Rattle.q_device.specs.Work.{is_tbf}
 use Rattle.q_device.proofs.PromiseNumbers.{enough, no-more, rounded-down, some-sums, timed-numbers, timed-part, shared-part}
 use Rattle.q_device.proofs.PromiseWays.{of-child, qdisc-of, queued-above, whole-way}
 use Rattle.q_device.proofs.WayStretches.{shares-multiply, way-shares}
 
 -- ---- beneath a tbf at the root
 
-same-tbf : (d : Discipline) → ways.is_tbf d ≡ is_tbf d
-same-tbf (Fifo limit queue) = refl
-same-tbf (Prio priomap) = refl
-same-tbf (Tbf bucket limit) = refl
-same-tbf (Drr s) = refl
-same-tbf (FqCodel s) = refl
-
 abbrev tbf_here : Own → List Bool → Bool
-tbf_here own below = ways.is_tbf own.discipline || list_any (λ b. b) below
+tbf_here own below = is_tbf own.discipline || list_any (λ b. b) below
 
 abbrev IsOther : Node (List Note) → Type 0
 IsOther n = is_tbf n.own.discipline ≡ false
@@ -54,8 +45,8 @@ none-beneath : (x : Forest (List Note)) → list_any (λ b. b) (each tbf_here x)
 none-beneath none e = All-nil IsOther
 none-beneath (more own m below others) e =
     let both = or_parts (tbf_here own (each tbf_here below)) (list_any (λ b. b) (each tbf_here others)) e in
-    let here = or_parts (ways.is_tbf own.discipline) (list_any (λ b. b) (each tbf_here below)) both.0 in
-    All-cons IsOther (record { own = own; memory = m; below = below }) (nodes_of below ++ nodes_of others) (sym (same-tbf own.discipline) ∙ here.0)
+    let here = or_parts (is_tbf own.discipline) (list_any (λ b. b) (each tbf_here below)) both.0 in
+    All-cons IsOther (record { own = own; memory = m; below = below }) (nodes_of below ++ nodes_of others) here.0
     (All-append IsOther (nodes_of below) (nodes_of others) (none-beneath below here.1) (none-beneath others both.1))
 
 one-child : {X : Type 0} (xs : List X) (i : ℕ) (c : X) → length xs ≡ 1 → slice_get xs i ≡ Some c → xs ≡ c ∷ []

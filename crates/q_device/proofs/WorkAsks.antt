@@ -31,9 +31,9 @@ use Rattle.q_invariants.proofs.EditClasses.{class_known}
 use Rattle.q_invariants.proofs.EditClassPlans.{position_of}
 use Rattle.q_invariants.proofs.Exact.{AreExact, active-served, classes-served, exact-length}
 use Rattle.q_invariants.proofs.Weights.{weigh-count}
+use Rattle.q_tree.specs.Ways.{is_tbf}
 use Rattle.q_tree.proofs.FlowCounts.{count-sum, packets-all}
 use Rattle.q_tree.proofs.ForeseenAsks.{first_of, or_else, prio-shown, met-shown}
-use Rattle.q_device.specs.Work.{is_tbf}
 use Rattle.q_fqcodel.proofs.FlowsShow.{take_leaves_none}
 
 -- a node that shows nothing only where nothing is queued

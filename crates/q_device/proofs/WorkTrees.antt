@@ -40,9 +40,10 @@ use Rattle.q_invariants.proofs.StepNodes.{IsAsked, becomes}
 use Rattle.q_invariants.proofs.Told.{noted-history}
 use Rattle.q_invariants.proofs.Weights.{weigh, weigh-count, weigh-one}
 use Rattle.q_invariants.proofs.Within.{found, lawful-of}
+use Rattle.q_tree.specs.Ways.{is_tbf}
 use Rattle.q_tree.proofs.ForeseenAsks.{or_else, first_of, prio-shown}
 use Rattle.q_device.specs.Sharing.{device_after}
-use Rattle.q_device.specs.Work.{is_tbf, HasNoTbf, IsNeverHeldBack, WorkIsConserved, GivesInOrder, BandsAreStrict}
+use Rattle.q_device.specs.Work.{HasNoTbf, IsNeverHeldBack, WorkIsConserved, GivesInOrder, BandsAreStrict}
 use Rattle.q_device.proofs.RenewedTrees.{take-empty}
 use Rattle.q_device.proofs.ReplayLemmas.{replay_from-append}
 use Rattle.q_device.proofs.WorkAsks.{Rests, AreRests, own-rests}
