@@ -5,14 +5,13 @@ use Rattle.std.specs.List.{list_any}
 use Rattle.std.proofs.Math.Nat.{add-mul, mul_assoc}
 use Rattle.std.proofs.lemmas.Bool.{leb-true, or_parts}
 use Rattle.std.proofs.lemmas.List.{length-map}
-use Rattle.std.proofs.lemmas.List.Elements.{All-nil, All-cons, All-head, All-tail, All-append}
+use Rattle.std.proofs.lemmas.List.Elements.{All-nil, All-cons, All-append}
 use Rattle.std.proofs.lemmas.Option.{none-some, same_Some}
 use Rattle.q_bucket.specs.Level.{TokenBucket, units_in_byte}
 use Rattle.q_model.specs.declared.class_id.ClassId.{ClassId}
 use Rattle.q_model.specs.declared.event.Event.{Event}
 use Rattle.q_model.specs.Beneath.{beneath_own}
 use Rattle.q_model.specs.Conserved.{nodes_of}
-use Rattle.q_model.specs.Events.{IsEvent}
 use Rattle.q_model.specs.Find.{class_path}
 use Rattle.q_model.specs.Lawful.{IsLawfulDiscipline}
 use Rattle.q_model.specs.Node.{Discipline, Fifo, Prio, Tbf, Drr, FqCodel, Own, Forest, none, more, Node, children, each, from_below}
@@ -21,7 +20,7 @@ use Rattle.q_model.specs.Step.{DeviceState}
 use Rattle.q_model.specs.Stretches.{tbf_of}
 use Rattle.q_model.specs.Tally.{Note}
 use Rattle.q_invariants.proofs.Forests.{each-nodes}
-use Rattle.q_invariants.proofs.Replays.{IsKept, replay-kept}
+use Rattle.q_invariants.proofs.Replays.{IsKept}
 use Rattle.q_invariants.proofs.Within.{IsOf}
 use Rattle.q_tree.specs.declared.ways.Link.{Link}
 use Rattle.q_tree.specs.Ways.{DrrClass, Way, drrs_on, has_tbf, is_tbf, share_of, way_below, way_from, way_to}
@@ -29,6 +28,7 @@ use Rattle.q_device.specs.InTime.{Level, IsLinkOver, IsWay, last_level, quanta_o
 use Rattle.q_device.specs.Promise.{Promise, IsPart, IsServed, ServiceIsDelivered, ShareIsDelivered, SlackIsTheLaws, has_room, lack_of_link, level_of, levels_of, part_of, promise_on, rate_of, slack_on}
 use Rattle.q_device.specs.Service.{all_sent}
 use Rattle.q_device.specs.Sharing.{device_after}
+use Rattle.q_device.proofs.LeastShare.{kept-at}
 use Rattle.q_device.proofs.PromiseNumbers.{enough, no-more, rounded-down, some-sums, timed-numbers, timed-part, shared-part}
 use Rattle.q_device.proofs.PromiseWays.{of-child, qdisc-of, queued-above, whole-way}
 use Rattle.q_device.proofs.WayStretches.{shares-multiply, way-shares}
@@ -233,17 +233,6 @@ module _ (dev : DeviceState (List Note)) (kept : IsKept dev) (d : DrrClass) (ds 
       let at = path-of-way root (record { major = last.major; minor = last.minor }) (record { link = None; drrs = d ∷ ds }) served.0 in
       let whole = whole-way dev kept at.0 root d ds (bare root (d ∷ ds) at.0 at.1) root-is served.1 in
       record { way = whole.way; parts = whole.parts }
-
--- ---- over a stretch
-
-all-front : {X : Type 0} (P : X → Type 0) (xs ys : List X) → All P (xs ++ ys) → All P xs
-all-front P [] ys h = All-nil P
-all-front P (x ∷ xs) ys h = All-cons P x xs (All-head P x (xs ++ ys) h) (all-front P xs ys (All-tail P x (xs ++ ys) h))
-
-module _ (settings : DeviceSettings) (range : IsInRange settings) (before during : List Event) (all_before : All IsEvent before) (all_during : All IsEvent during) where
-  kept-at : (seen later : List Event) → seen ++ later ≡ during → IsKept (device_after settings (before ++ seen))
-  kept-at seen later e =
-      replay-kept settings (before ++ seen) range (All-append IsEvent before seen all_before (all-front IsEvent seen later (subst (All IsEvent) (sym e) all_during)))
 
 -- ---- the promise
 
