@@ -18,9 +18,7 @@ impl Tree {
     pub fn flows(&self, i: usize) -> Option<ListedFlows>
         ensures { result ≡ flows_of i self.now.tree }
     {
-        let Some((_, node)) = self.nth(i) else {
-            return None;
-        };
+        let (_, node) = self.nth(i)?;
         node.listed_flows()
     }
 }

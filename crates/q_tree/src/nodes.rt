@@ -55,9 +55,7 @@ impl<'a> Nodes<'a> {
             return Some(NodeRef::new(Place::Root, root));
         };
         let mut way = Path::new();
-        let Some((place, node)) = root.next_behind(last, &mut way) else {
-            return None;
-        };
+        let (place, node) = root.next_behind(last, &mut way)?;
         self.last = Some(way);
         Some(NodeRef::new(place, node))
     }

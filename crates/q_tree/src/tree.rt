@@ -119,9 +119,7 @@ impl Tree {
     pub fn node(&self, i: usize) -> Option<NodeView>
         ensures { result ≡ node kept i self.now.tree }
     {
-        let Some((place, node)) = self.nth(i) else {
-            return None;
-        };
+        let (place, node) = self.nth(i)?;
         Some(node.view(place))
     }
 
@@ -130,9 +128,7 @@ impl Tree {
     pub fn class(&self, i: usize, j: usize) -> Option<ClassView>
         ensures { result ≡ class_of i j self.now.tree }
     {
-        let Some((_, node)) = self.nth(i) else {
-            return None;
-        };
+        let (_, node) = self.nth(i)?;
         node.class_view(j)
     }
 
@@ -141,9 +137,7 @@ impl Tree {
     pub fn filter(&self, i: usize, j: usize) -> Option<FilterView>
         ensures { result ≡ filter_of i j self.now.tree }
     {
-        let Some((_, node)) = self.nth(i) else {
-            return None;
-        };
+        let (_, node) = self.nth(i)?;
         node.filter_view(j)
     }
 
