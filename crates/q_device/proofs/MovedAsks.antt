@@ -16,7 +16,7 @@ use Rattle.q_drr.proofs.TakeLemmas.{served_nobody}
 use Rattle.q_fqcodel.specs.FqState.{FqState}
 use Rattle.q_fqcodel.specs.Take.{selected, after_sending, sent_from}
 use Rattle.q_model.specs.declared.filter.Filter.{Filter}
-use Rattle.q_model.specs.Ask.{Asked, befores, head_of, Service, service_of, place_met, gives_nothing, class_gives, class_serves, ask_drr, ask_tbf, spends, waits, ask_fq_codel, ask_own, is_among}
+use Rattle.q_model.specs.Ask.{Asked, befores, head_of, service_of, gives_nothing, ask_drr, ask_tbf, spends, waits, ask_fq_codel, ask_own, is_among}
 use Rattle.q_model.specs.Beneath.{beneath, packets_of}
 use Rattle.q_model.specs.Grants.{asked_entries}
 use Rattle.q_model.specs.Lawful.{IsLawfulOwn}
@@ -36,7 +36,7 @@ use Rattle.q_tree.proofs.ForeseenAsks.{prio-shown}
 use Rattle.q_fqcodel.proofs.FlowsShow.{take_leaves_none}
 use Rattle.q_device.proofs.Moved.{Moves, none-moves, hand-moves, IsMoved, AreMoved, bands-move, shaped-hidden, shaped-waits}
 use Rattle.q_device.proofs.Renewed.{Outlook}
-use Rattle.q_device.proofs.RenewedAsks.{asked-outlook}
+use Rattle.q_device.proofs.RenewedAsks.{asked-outlook, drr-asked}
 use Rattle.q_device.proofs.RenewedBands.{paid-at}
 use Rattle.q_device.proofs.SilentDrrs.{hides, list-left, place-front}
 
@@ -88,31 +88,10 @@ module _ (t : ℕ) where
     -- one that gives a packet holds it
     drr-moves : (s : Schedule) (below : List Asked) → ((ask_drr (drr s) below s).shown ≡ None → Moves t None (outlook t (gives_nothing (drr s) below (service_of s below)).peeked))
         → Moves t (ask_drr (drr s) below s).shown (outlook t (ask_drr (drr s) below s).peeked)
-    drr-moves s below = by (place_met s below)
-      where
-        v : Service
-        v = service_of s below
-
-        nothing : Asked
-        nothing = gives_nothing (drr s) below v
-
-        P : Asked → Type 0
-        P x = (x.shown ≡ None → Moves t None (outlook t nothing.peeked)) → Moves t x.shown (outlook t x.peeked)
-
-        gave-none : P nothing
-        gave-none k = k refl
-
-        shows : (i : ℕ) (a : Asked) (x : Option Descriptor) → P (option_map_or (class_gives (drr s) below v i a) x nothing)
-        shows i a None = gave-none
-        shows i a (Some p) = λ k. hand-moves t p
-
-        child : (i : ℕ) (x : Option Asked) → P (option_map_or (class_serves (drr s) below v i) x nothing)
-        child i None = gave-none
-        child i (Some a) = shows i a a.shown
-
-        by : (x : Option ℕ) → P (option_map_or (λ i. option_map_or (class_serves (drr s) below v i) (slice_get below i) nothing) x nothing)
-        by None = gave-none
-        by (Some i) = child i (slice_get below i)
+    drr-moves s below =
+        drr-asked (drr s) s below
+        (λ (x : Asked). (x.shown ≡ None → Moves t None (outlook t (gives_nothing (drr s) below (service_of s below)).peeked)) → Moves t x.shown (outlook t x.peeked))
+        (λ k. k refl) (λ i a p k. hand-moves t p)
 
     module _ (s : Schedule) (below : List Asked) (same : length s.classes ≡ length below) (all : AreMoved t below) (silent : (ask_drr (drr s) below s).shown ≡ None) where
       abbrev heads : ℕ → Option ℕ
