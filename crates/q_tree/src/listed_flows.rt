@@ -18,7 +18,9 @@ impl Tree {
     pub fn flows(&self, i: usize) -> Option<ListedFlows>
         ensures { result ≡ flows_of i self.now.tree }
     {
-        let (_, node) = self.nth(i)?;
+        let Some((_, node)) = self.nth(i) else {
+            return None;
+        };
         node.listed_flows()
     }
 }

@@ -55,7 +55,9 @@ impl<'a> Nodes<'a> {
             return Some(NodeRef::new(Place::Root, root));
         };
         let mut way = Path::new();
-        let (place, node) = root.next_behind(last, &mut way)?;
+        let Some((place, node)) = root.next_behind(last, &mut way) else {
+            return None;
+        };
         self.last = Some(way);
         Some(NodeRef::new(place, node))
     }

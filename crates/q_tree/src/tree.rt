@@ -119,7 +119,9 @@ impl Tree {
     pub fn node(&self, i: usize) -> Option<NodeView>
         ensures { result ≡ node kept i self.now.tree }
     {
-        let (place, node) = self.nth(i)?;
+        let Some((place, node)) = self.nth(i) else {
+            return None;
+        };
         Some(node.view(place))
     }
 
@@ -128,7 +130,9 @@ impl Tree {
     pub fn class(&self, i: usize, j: usize) -> Option<ClassView>
         ensures { result ≡ class_of i j self.now.tree }
     {
-        let (_, node) = self.nth(i)?;
+        let Some((_, node)) = self.nth(i) else {
+            return None;
+        };
         node.class_view(j)
     }
 
@@ -137,7 +141,9 @@ impl Tree {
     pub fn filter(&self, i: usize, j: usize) -> Option<FilterView>
         ensures { result ≡ filter_of i j self.now.tree }
     {
-        let (_, node) = self.nth(i)?;
+        let Some((_, node)) = self.nth(i) else {
+            return None;
+        };
         node.filter_view(j)
     }
 

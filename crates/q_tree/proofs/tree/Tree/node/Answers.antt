@@ -6,13 +6,13 @@ use Rattle.q_tree.specs.Kept.{Kept, kept}
 use Rattle.q_tree.proofs.ShowLemmas.{node-shown}
 use Rattle.q_tree.proofs.tree.Tree.node.Goals as goal
 
-pub returns-in_err-place : goal.returns-in_err-place
-returns-in_err-place c =
-    c.from_residual.ensures ∙ ap (option_map (λ (y : Place × Node Kept). node_view kept y.0 y.1)) (sym (ap (option_map (λ x. (x.0, x.1.now))) c.in_err-place.was) ∙ c.nth.ensures.found)
+pub returns-in_default : goal.returns-in_default
+returns-in_default c =
+    ap (option_map (λ (y : Place × Node Kept). node_view kept y.0 y.1)) (sym (ap (option_map (λ x. (x.0, x.1.now))) c.in_default.is) ∙ c.nth.ensures.found)
     ∙ node-shown c.args.self.now.tree c.args.i
 
 pub returns : goal.returns
 returns c =
     ap Some c.view.ensures
-    ∙ ap (option_map (λ (y : Place × Node Kept). node_view kept y.0 y.1)) (sym (ap (option_map (λ x. (x.0, x.1.now))) c.in_ok-place.was) ∙ c.nth.ensures.found)
+    ∙ ap (option_map (λ (y : Place × Node Kept). node_view kept y.0 y.1)) (sym (ap (option_map (λ x. (x.0, x.1.now))) c.in-Some.is) ∙ c.nth.ensures.found)
     ∙ node-shown c.args.self.now.tree c.args.i
