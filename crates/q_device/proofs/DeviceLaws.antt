@@ -1,8 +1,8 @@
 -- What the invariant of a device comes to for its caller.
-use Rattle.std.proofs.Common.{ℕ, ◌≤◌, ◌∙◌, zero, suc, List, [], ◌∷◌, ◌++◌, length, sym, subst, Option, Some, None, option_and_then, option_map, arith}
+use Rattle.std.proofs.Common.{ℕ, ◌≤◌, ◌∙◌, zero, suc, List, [], ◌∷◌, length, sym, subst, Option, Some, None, option_and_then, option_map, arith}
 use Rattle.std.specs.Prelude.{All, IfSome, slice_get}
 use Rattle.std.proofs.lemmas.List.{take_all}
-use Rattle.std.proofs.lemmas.List.Elements.{All-nil, All-cons, All-head, All-tail}
+use Rattle.std.proofs.lemmas.List.Elements.{All-head, All-tail}
 use Rattle.q_model.specs.declared.event.Event.{Event}
 use Rattle.q_model.specs.declared.place.Place.{Place}
 use Rattle.q_model.specs.declared.place.Place.TheVariants as place
@@ -15,29 +15,21 @@ use Rattle.q_model.specs.Node.{Forest, none, more, Node, children, nodes_in}
 use Rattle.q_model.specs.Settings.{IsInRange}
 use Rattle.q_model.specs.Tally.{Counts, totals}
 use Rattle.q_model.specs.TreeState.{TreeState, stats}
+use Rattle.q_invariants.proofs.Members.{All-front, All-back}
 use Rattle.q_device.specs.DeviceLaws.{IsReplayOfRecorded, IsLawfulDevice, TellsItsLosses}
 use Rattle.q_device.specs.DeviceSeen.{DeviceSeen}
 use Rattle.q_device.specs.Replayed.{IsReplayOf}
 use Rattle.q_device.proofs.LawfulLemmas.{losses-told, seen-lawful}
-
--- what is true of all of two lists is true of all of each
-all-left : {A : Type 0} (P : A → Type 0) (xs ys : List A) → All P (xs ++ ys) → All P xs
-all-left P [] ys all = All-nil P
-all-left P (x ∷ xs) ys all = All-cons P x xs (All-head P x (xs ++ ys) all) (all-left P xs ys (All-tail P x (xs ++ ys) all))
-
-all-right : {A : Type 0} (P : A → Type 0) (xs ys : List A) → All P (xs ++ ys) → All P ys
-all-right P [] ys all = all
-all-right P (x ∷ xs) ys all = all-right P xs ys (All-tail P x (xs ++ ys) all)
 
 -- what is true of every node of a tree is true of every node beneath a child, and of the one at the end of a way
 at-child : (P : Node Counts → Type 0) (x : Forest Counts) (i : ℕ) → All P (nodes_of x) → IfSome (slice_get (nodes_in x) i) (λ c. All P (every_node c))
 at-child P none i all = tt
 at-child P (more own m below others) zero all =
     let c : Node Counts = record { own = own; memory = m; below = below } in
-    all-left P (c ∷ nodes_of below) (nodes_of others) all
+    All-front P (c ∷ nodes_of below) (nodes_of others) all
 at-child P (more own m below others) (suc i) all =
     let c : Node Counts = record { own = own; memory = m; below = below } in
-    at-child P others i (all-right P (c ∷ nodes_of below) (nodes_of others) all)
+    at-child P others i (All-back P (c ∷ nodes_of below) (nodes_of others) all)
 
 at-way : (P : Node Counts → Type 0) (path : List ℕ) (n : Node Counts) → All P (every_node n) → IfSome (node_at path n) P
 at-way P [] n all = All-head P n (nodes_of n.below) all

@@ -19,6 +19,7 @@ use Rattle.q_model.specs.Settings.{DeviceSettings, IsInRange}
 use Rattle.q_model.specs.Step.{DeviceState}
 use Rattle.q_model.specs.Stretches.{qdisc, ClassAt, class_of, class_in, IsBackloggedClass, Throughout}
 use Rattle.q_invariants.proofs.Exact.{exact-length}
+use Rattle.q_invariants.proofs.Members.{All-front}
 use Rattle.q_invariants.proofs.Replays.{IsKept, replay-kept}
 use Rattle.q_invariants.proofs.ClassChildren.{child_for, child-at, child-has, here-is, there-is}
 use Rattle.q_invariants.proofs.ClassMoves.{class-node, drr-lawful}
@@ -99,11 +100,6 @@ own-quanta (k ∷ classes) differ =
         let far : eqb c.name k.name ≡ false = other c first.0 in
         All-cons (IsOwn (k ∷ classes)) c cs (or_right (eqb c.name k.name) (has_class c.name classes) first.0, quantum_behind c.name k classes far ∙ first.1) (behind cs (All-tail (IsOwn classes) c cs h))
 
--- those in front
-all-front : {X : Type 0} (P : X → Type 0) (xs ys : List X) → All P (xs ++ ys) → All P xs
-all-front P [] ys h = All-nil P
-all-front P (x ∷ xs) ys h = All-cons P x xs (All-head P x (xs ++ ys) h) (all-front P xs ys (All-tail P x (xs ++ ys) h))
-
 -- ---- the sum
 
 -- Class i has quantum a and sent `s`; p is a longest packet less a byte, and `sent` what each class sent.
@@ -179,15 +175,18 @@ module _ (i a s p : ℕ) (sent : Class → ℕ) where
 
 -- ---- over a stretch
 
+-- at each point of a stretch a device is one that is kept
+pub kept-at : (settings : DeviceSettings) → IsInRange settings → (before during : List Event) → All IsEvent before → All IsEvent during
+    → (seen later : List Event) → seen ++ later ≡ during → IsKept (device_after settings (before ++ seen))
+kept-at settings range before during all_before all_during seen later e =
+    replay-kept settings (before ++ seen) range (All-append IsEvent before seen all_before (All-front IsEvent seen later (subst (All IsEvent) (sym e) all_during)))
+
 module _ (settings : DeviceSettings) (range : IsInRange settings) (before during : List Event) (all_before : All IsEvent before) (all_during : All IsEvent during) (major i quantum : ℕ) (classes : List Class) where
   sent : ℕ → ℕ
   sent c = class_sent major c (device_after settings before) during
 
   abbrev Within : Class → Type 0
   Within c = IsWithin i quantum (sent i) (settings.mtu - 1) (λ (c : Class). sent c.name) c
-
-  kept-at : (seen later : List Event) → seen ++ later ≡ during → IsKept (device_after settings (before ++ seen))
-  kept-at seen later e = replay-kept settings (before ++ seen) range (All-append IsEvent before seen all_before (all-front IsEvent seen later (subst (All IsEvent) (sym e) all_during)))
 
   module _ (there : Throughout (HasClasses major classes) settings before during) (stays : Throughout (IsBackloggedClass major i quantum) settings before during) (own : quantum_of i classes ≡ quantum) where
     one : (first last : ClassAt) → class_in major i (device_after settings before) ≡ Some first → class_in major i (device_after settings (before ++ during)) ≡ Some last → (c : Class) → IsOwn classes c → Within c
@@ -199,7 +198,7 @@ module _ (settings : DeviceSettings) (range : IsInRange settings) (before during
           omega (arith, ap (λ m. sent i * m) q, ap (λ m. sent m * quantum) name)
       | inr apart ↦
           let law = class-against-any settings range before during major i c.name quantum c.quantum first last (eqb-false i c.name apart) all_before all_during stays
-          (λ seen later e. is-class major classes (device_after settings (before ++ seen)) (kept-at seen later e) (there seen later e) c.name c.quantum owned.0 owned.1) is at in
+          (λ seen later e. is-class major classes (device_after settings (before ++ seen)) (kept-at settings range before during all_before all_during seen later e) (there seen later e) c.name c.quantum owned.0 owned.1) is at in
           law.in_quanta
     ]
 

@@ -49,6 +49,7 @@ mod RestSteps
 pub mod ServiceStretches
 mod ShareInTime
 pub mod ShrinkLemmas
+mod SilentDrrs
 pub mod StatsStands
 pub mod StepStands
 pub mod ToldLemmas

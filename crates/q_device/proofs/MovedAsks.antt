@@ -9,14 +9,14 @@ use Rattle.q_packet.specs.Descriptor.{Descriptor}
 use Rattle.q_codel.specs.declared.taken.Taken.{Taken}
 use Rattle.q_bucket.specs.Level.{TokenBucket, IsInRange, allows}
 use Rattle.q_drr.specs.Schedule.{Class, Entry, Schedule, is_active}
-use Rattle.q_drr.specs.Take.{choice_of, prepared, served, met_in}
+use Rattle.q_drr.specs.Take.{choice_of, prepared, served}
 use Rattle.q_drr.specs.declared.met.Met.{Met}
 use Rattle.q_drr.proofs.ServedLemmas.{chosen_is_met}
-use Rattle.q_drr.proofs.TakeLemmas.{Front, served_nothing, served_nobody}
+use Rattle.q_drr.proofs.TakeLemmas.{served_nobody}
 use Rattle.q_fqcodel.specs.FqState.{FqState}
 use Rattle.q_fqcodel.specs.Take.{selected, after_sending, sent_from}
 use Rattle.q_model.specs.declared.filter.Filter.{Filter}
-use Rattle.q_model.specs.Ask.{Asked, befores, class_answer, length_of, head_of, Service, service_of, place_met, gives_nothing, class_gives, class_serves, ask_drr, ask_tbf, spends, waits, ask_fq_codel, ask_own, is_among}
+use Rattle.q_model.specs.Ask.{Asked, befores, head_of, service_of, gives_nothing, ask_drr, ask_tbf, spends, waits, ask_fq_codel, ask_own, is_among}
 use Rattle.q_model.specs.Beneath.{beneath, packets_of}
 use Rattle.q_model.specs.Grants.{asked_entries}
 use Rattle.q_model.specs.Lawful.{IsLawfulOwn}
@@ -32,12 +32,13 @@ use Rattle.q_invariants.proofs.SecondPeek.{node}
 use Rattle.q_invariants.proofs.SecondPrio.{ready}
 use Rattle.q_tree.specs.ReadyAt.{no_packet, with_bands, paid, of_fifo, of_flows, of_class, outlook}
 use Rattle.q_tree.proofs.Foreseeing.{Covers}
-use Rattle.q_tree.proofs.ForeseenAsks.{prio-shown, met-shown}
+use Rattle.q_tree.proofs.ForeseenAsks.{prio-shown}
 use Rattle.q_fqcodel.proofs.FlowsShow.{take_leaves_none}
 use Rattle.q_device.proofs.Moved.{Moves, none-moves, hand-moves, IsMoved, AreMoved, bands-move, shaped-hidden, shaped-waits}
 use Rattle.q_device.proofs.Renewed.{Outlook}
-use Rattle.q_device.proofs.RenewedAsks.{asked-outlook}
+use Rattle.q_device.proofs.RenewedAsks.{asked-outlook, drr-asked}
 use Rattle.q_device.proofs.RenewedBands.{paid-at}
+use Rattle.q_device.proofs.SilentDrrs.{hides, list-left, place-front}
 
 module _ (t : ℕ) where
   fifo-moves : (o : Option Descriptor) → Moves t o (of_fifo t o)
@@ -87,31 +88,10 @@ module _ (t : ℕ) where
     -- one that gives a packet holds it
     drr-moves : (s : Schedule) (below : List Asked) → ((ask_drr (drr s) below s).shown ≡ None → Moves t None (outlook t (gives_nothing (drr s) below (service_of s below)).peeked))
         → Moves t (ask_drr (drr s) below s).shown (outlook t (ask_drr (drr s) below s).peeked)
-    drr-moves s below = by (place_met s below)
-      where
-        v : Service
-        v = service_of s below
-
-        nothing : Asked
-        nothing = gives_nothing (drr s) below v
-
-        P : Asked → Type 0
-        P x = (x.shown ≡ None → Moves t None (outlook t nothing.peeked)) → Moves t x.shown (outlook t x.peeked)
-
-        gave-none : P nothing
-        gave-none k = k refl
-
-        shows : (i : ℕ) (a : Asked) (x : Option Descriptor) → P (option_map_or (class_gives (drr s) below v i a) x nothing)
-        shows i a None = gave-none
-        shows i a (Some p) = λ k. hand-moves t p
-
-        child : (i : ℕ) (x : Option Asked) → P (option_map_or (class_serves (drr s) below v i) x nothing)
-        child i None = gave-none
-        child i (Some a) = shows i a a.shown
-
-        by : (x : Option ℕ) → P (option_map_or (λ i. option_map_or (class_serves (drr s) below v i) (slice_get below i) nothing) x nothing)
-        by None = gave-none
-        by (Some i) = child i (slice_get below i)
+    drr-moves s below =
+        drr-asked (drr s) s below
+        (λ (x : Asked). (x.shown ≡ None → Moves t None (outlook t (gives_nothing (drr s) below (service_of s below)).peeked)) → Moves t x.shown (outlook t x.peeked))
+        (λ k. k refl) (λ i a p k. hand-moves t p)
 
     module _ (s : Schedule) (below : List Asked) (same : length s.classes ≡ length below) (all : AreMoved t below) (silent : (ask_drr (drr s) below s).shown ≡ None) where
       abbrev heads : ℕ → Option ℕ
@@ -131,33 +111,18 @@ module _ (t : ℕ) where
 
       -- the class that is met shows nothing
       module _ (e : Entry) (rest : List Entry) (first : (prepared heads s).active ≡ e ∷ rest) where
-        place-front : place_met s below ≡ class_at e.class s
-        place-front = ap (λ (es : List Entry). option_and_then (λ (m : Met). class_at m.class s) (met_in heads es)) first
-
-        hides : option_and_then (λ (a : Asked). a.shown) (class_answer s below e.class) ≡ None
-        hides = ap (λ i. option_and_then (λ (a : Asked). a.shown) (option_and_then (slice_get below) i)) (sym place-front) ∙ sym (met-shown (drr s) s below) ∙ silent
-
-        no-head : (o : Option Asked) → option_and_then (λ (a : Asked). a.shown) o ≡ None → option_and_then length_of o ≡ None
-        no-head None h = refl
-        no-head (Some a) h = ap (option_map (λ (p : Descriptor). p.len)) h
-
-        list-left : left.active ≡ e ∷ rest
-        list-left =
-            let front : Front e.class (prepared heads s) = record { first = e; rest = rest; is = first; class = refl } in
-            ap (λ (x : Schedule). x.active) (sym (served_nothing heads s (prepared heads s) e.class front (no-head (class_answer s below e.class) hides) refl)) ∙ first
-
         child : (i : ℕ) → class_at e.class s ≡ Some i → (o : Option Asked) → slice_get below i ≡ o → Moves t None (option_map_or (paid e.deficit) (option_map (λ (a : Asked). outlook t a.peeked) o) no_packet)
         child i at None there = none-moves t
         child i at (Some a) there =
             let h = moved-at below all i a there in
-            let hidden : a.shown ≡ None = sym (ap (option_and_then (λ (x : Asked). x.shown)) (ap (option_and_then (slice_get below)) at ∙ there)) ∙ hides in
+            let hidden : a.shown ≡ None = sym (ap (option_and_then (λ (x : Asked). x.shown)) (ap (option_and_then (slice_get below)) at ∙ there)) ∙ hides s below e rest first (drr s) silent in
             record {
               hidden = λ f c. h.moved.hidden hidden (subst (Covers t) (paid-at e.deficit (outlook t a.peeked)) c);
               shows = λ q f. absurd (none-some q f);
             }
 
         met-there : (i : ℕ) → class_at e.class s ≡ Some i → IsMetAt s entries i
-        met-there i at = met-asked s heads (choice_of heads s) i (sym (ap (option_and_then (λ (m : Met). class_at m.class s)) (chosen_is_met s heads)) ∙ place-front ∙ at)
+        met-there i at = met-asked s heads (choice_of heads s) i (sym (ap (option_and_then (λ (m : Met). class_at m.class s)) (chosen_is_met s heads)) ∙ place-front s below e rest first ∙ at)
 
         place : (i : Option ℕ) → class_at e.class s ≡ i → Moves t None (option_map_or (paid e.deficit) (option_and_then (slice_get ps) i) no_packet)
         place None at = none-moves t
@@ -168,7 +133,7 @@ module _ (t : ℕ) where
 
         front-moves : Moves t None (of_class left ps (slice_get left.active 0))
         front-moves =
-            subst (λ (es : List Entry). Moves t None (of_class left ps (slice_get es 0))) (sym list-left)
+            subst (λ (es : List Entry). Moves t None (of_class left ps (slice_get es 0))) (sym (list-left s below e rest first (drr s) silent))
             (subst (λ (i : Option ℕ). Moves t None (option_map_or (paid e.deficit) (option_and_then (slice_get ps) i) no_packet)) (sym (place-left e.class)) (place (class_at e.class s) refl))
 
       of-front : (es : List Entry) → (prepared heads s).active ≡ es → Moves t None (of_class left ps (slice_get left.active 0))

@@ -14,7 +14,7 @@ use Rattle.q_model.specs.declared.event.Event.{Event}
 use Rattle.q_model.specs.declared.event.Event.TheVariants as event
 use Rattle.q_model.specs.Ask.{Asked, head_of, service_of, ask_own, ask}
 use Rattle.q_model.specs.Events.{IsEvent}
-use Rattle.q_model.specs.Node.{Discipline, Tbf, Drr, none, more, Node, nodes_in, side_by_side, children, each, shape}
+use Rattle.q_model.specs.Node.{Tbf, Drr, none, more, Node, nodes_in, side_by_side, children, each, shape}
 use Rattle.q_model.specs.Route.{class_at}
 use Rattle.q_model.specs.Step.{DeviceState, step}
 use Rattle.q_model.specs.Stretches.{sent_by, spent_by, bytes_sent, bytes_spent, length_held, qdisc, ClassAt, class_in, TbfAt, tbf_in}
@@ -118,9 +118,6 @@ command-quiet now n after (inr edit) = by edit.by
     }
 
 -- ---- one event
-
-same-drr : (s t : Schedule) → ◌≡◌ {A = Discipline} (Drr s) (Drr t) → s ≡ t
-same-drr s t e = cc
 
 leaves-stage : (a : Asked) (w : Worked) (taken : ℕ) → Leaves a w taken → IsStageOf a w
 leaves-stage a w taken (inl h) = inl h.0

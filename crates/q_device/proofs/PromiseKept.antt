@@ -5,47 +5,38 @@ use Rattle.std.specs.List.{list_any}
 use Rattle.std.proofs.Math.Nat.{add-mul, mul_assoc}
 use Rattle.std.proofs.lemmas.Bool.{leb-true, or_parts}
 use Rattle.std.proofs.lemmas.List.{length-map}
-use Rattle.std.proofs.lemmas.List.Elements.{All-nil, All-cons, All-head, All-tail, All-append}
+use Rattle.std.proofs.lemmas.List.Elements.{All-nil, All-cons, All-append}
 use Rattle.std.proofs.lemmas.Option.{none-some, same_Some}
 use Rattle.q_bucket.specs.Level.{TokenBucket, units_in_byte}
 use Rattle.q_model.specs.declared.class_id.ClassId.{ClassId}
 use Rattle.q_model.specs.declared.event.Event.{Event}
 use Rattle.q_model.specs.Beneath.{beneath_own}
 use Rattle.q_model.specs.Conserved.{nodes_of}
-use Rattle.q_model.specs.Events.{IsEvent}
 use Rattle.q_model.specs.Find.{class_path}
 use Rattle.q_model.specs.Lawful.{IsLawfulDiscipline}
 use Rattle.q_model.specs.Node.{Discipline, Fifo, Prio, Tbf, Drr, FqCodel, Own, Forest, none, more, Node, children, each, from_below}
 use Rattle.q_model.specs.Settings.{DeviceSettings, IsInRange}
 use Rattle.q_model.specs.Step.{DeviceState}
-use Rattle.q_model.specs.Stretches.{tbf_of, Throughout}
+use Rattle.q_model.specs.Stretches.{tbf_of}
 use Rattle.q_model.specs.Tally.{Note}
 use Rattle.q_invariants.proofs.Forests.{each-nodes}
-use Rattle.q_invariants.proofs.Replays.{IsKept, replay-kept}
+use Rattle.q_invariants.proofs.Replays.{IsKept}
 use Rattle.q_invariants.proofs.Within.{IsOf}
 use Rattle.q_tree.specs.declared.ways.Link.{Link}
-use Rattle.q_tree.specs.Ways.{DrrClass, Way, drrs_on, has_tbf, share_of, way_below, way_from, way_to}
-use Rattle.q_tree.specs.Ways as ways
+use Rattle.q_tree.specs.Ways.{DrrClass, Way, drrs_on, has_tbf, is_tbf, share_of, way_below, way_from, way_to}
 use Rattle.q_device.specs.InTime.{Level, IsLinkOver, IsWay, last_level, quanta_on, sums_on, lacks_on, sent_at}
 use Rattle.q_device.specs.Promise.{Promise, IsPart, IsServed, ServiceIsDelivered, ShareIsDelivered, SlackIsTheLaws, has_room, lack_of_link, level_of, levels_of, part_of, promise_on, rate_of, slack_on}
 use Rattle.q_device.specs.Service.{all_sent}
 use Rattle.q_device.specs.Sharing.{device_after}
-use Rattle.q_device.specs.Work.{is_tbf}
+use Rattle.q_device.proofs.LeastShare.{kept-at}
 use Rattle.q_device.proofs.PromiseNumbers.{enough, no-more, rounded-down, some-sums, timed-numbers, timed-part, shared-part}
 use Rattle.q_device.proofs.PromiseWays.{of-child, qdisc-of, queued-above, whole-way}
 use Rattle.q_device.proofs.WayStretches.{shares-multiply, way-shares}
 
 -- ---- beneath a tbf at the root
 
-same-tbf : (d : Discipline) → ways.is_tbf d ≡ is_tbf d
-same-tbf (Fifo limit queue) = refl
-same-tbf (Prio priomap) = refl
-same-tbf (Tbf bucket limit) = refl
-same-tbf (Drr s) = refl
-same-tbf (FqCodel s) = refl
-
 abbrev tbf_here : Own → List Bool → Bool
-tbf_here own below = ways.is_tbf own.discipline || list_any (λ b. b) below
+tbf_here own below = is_tbf own.discipline || list_any (λ b. b) below
 
 abbrev IsOther : Node (List Note) → Type 0
 IsOther n = is_tbf n.own.discipline ≡ false
@@ -54,8 +45,8 @@ none-beneath : (x : Forest (List Note)) → list_any (λ b. b) (each tbf_here x)
 none-beneath none e = All-nil IsOther
 none-beneath (more own m below others) e =
     let both = or_parts (tbf_here own (each tbf_here below)) (list_any (λ b. b) (each tbf_here others)) e in
-    let here = or_parts (ways.is_tbf own.discipline) (list_any (λ b. b) (each tbf_here below)) both.0 in
-    All-cons IsOther (record { own = own; memory = m; below = below }) (nodes_of below ++ nodes_of others) (sym (same-tbf own.discipline) ∙ here.0)
+    let here = or_parts (is_tbf own.discipline) (list_any (λ b. b) (each tbf_here below)) both.0 in
+    All-cons IsOther (record { own = own; memory = m; below = below }) (nodes_of below ++ nodes_of others) here.0
     (All-append IsOther (nodes_of below) (nodes_of others) (none-beneath below here.1) (none-beneath others both.1))
 
 one-child : {X : Type 0} (xs : List X) (i : ℕ) (c : X) → length xs ≡ 1 → slice_get xs i ≡ Some c → xs ≡ c ∷ []
@@ -242,20 +233,6 @@ module _ (dev : DeviceState (List Note)) (kept : IsKept dev) (d : DrrClass) (ds 
       let at = path-of-way root (record { major = last.major; minor = last.minor }) (record { link = None; drrs = d ∷ ds }) served.0 in
       let whole = whole-way dev kept at.0 root d ds (bare root (d ∷ ds) at.0 at.1) root-is served.1 in
       record { way = whole.way; parts = whole.parts }
-
--- ---- over a stretch
-
-all-front : {X : Type 0} (P : X → Type 0) (xs ys : List X) → All P (xs ++ ys) → All P xs
-all-front P [] ys h = All-nil P
-all-front P (x ∷ xs) ys h = All-cons P x xs (All-head P x (xs ++ ys) h) (all-front P xs ys (All-tail P x (xs ++ ys) h))
-
-module _ (settings : DeviceSettings) (range : IsInRange settings) (before during : List Event) (all_before : All IsEvent before) (all_during : All IsEvent during) where
-  kept-at : (seen later : List Event) → seen ++ later ≡ during → IsKept (device_after settings (before ++ seen))
-  kept-at seen later e =
-      replay-kept settings (before ++ seen) range (All-append IsEvent before seen all_before (all-front IsEvent seen later (subst (All IsEvent) (sym e) all_during)))
-
-  at-first : (P : DeviceState (List Note) → Type 0) → Throughout P settings before during → P (device_after settings (before ++ []))
-  at-first P h = h [] during refl
 
 -- ---- the promise
 

@@ -86,9 +86,3 @@ module _ (mtu : ℕ) where
   pub some-way : (o : Option Way) (link : Option Link) (shares : List Share) → Some link ≡ option_map (λ (w : Way). w.link) o → Some shares ≡ option_map shares_of o → promise_on mtu link shares ≡ promised o
   some-way None link shares e f = absurd (none-some link (sym e))
   some-way (Some w) link shares e f = ap₂ (promise_on mtu) (same_Some link w.link e) (same_Some shares (shares_of w) f)
-
--- a place that is no class
-pub no-class : (p : Place) (mtu : ℕ) (n : Node Kept) → ((class : ClassId) → p ≡ place.Class class → ⊥) → None ≡ promise_of p mtu n
-no-class place.Top mtu n other = refl
-no-class place.Root mtu n other = refl
-no-class (place.Class class) mtu n other = absurd (other class refl)

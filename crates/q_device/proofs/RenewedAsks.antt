@@ -40,6 +40,29 @@ use Rattle.q_device.proofs.RenewedBands.{AllRenew, bands-renew, paid-at, paid-le
 pub asked-outlook : (t : ℕ) (own : Own) (notes : List Note) (ws : List Worked) → outlook t (worked own notes ws) ≡ outlook_own t own (map (outlook t) ws)
 asked-outlook t own notes ws = ap (outlook_own t own) (each-side (outlook_own t) ws)
 
+-- what holds of a drr that gives nothing, and of one that gives a packet of whichever class, holds of a drr that is asked
+pub drr-asked : (own : Own) (s : Schedule) (below : List Asked) (P : Asked → Type 0) → P (gives_nothing own below (service_of s below))
+    → ((i : ℕ) (a : Asked) (p : Descriptor) → P (class_gives own below (service_of s below) i a p)) → P (ask_drr own below s)
+drr-asked own s below P silent gives = by (place_met s below)
+  where
+    v : Service
+    v = service_of s below
+
+    nothing : Asked
+    nothing = gives_nothing own below v
+
+    shows : (i : ℕ) (a : Asked) (x : Option Descriptor) → P (option_map_or (class_gives own below v i a) x nothing)
+    shows i a None = silent
+    shows i a (Some p) = gives i a p
+
+    child : (i : ℕ) (x : Option Asked) → P (option_map_or (class_serves own below v i) x nothing)
+    child i None = silent
+    child i (Some a) = shows i a a.shown
+
+    by : (x : Option ℕ) → P (option_map_or (λ i. option_map_or (class_serves own below v i) (slice_get below i) nothing) x nothing)
+    by None = silent
+    by (Some i) = child i (slice_get below i)
+
 module _ (now t : ℕ) (order : now ≤ t) where
   -- ---- a node that shows what it has at hand, and the packets of an fq_codel
 
@@ -182,31 +205,10 @@ module _ (now t : ℕ) (order : now ≤ t) where
     -- one that gives a packet holds it
     drr-renews : (o : Outlook) (s : Schedule) (below : List Asked) → Foresees now t o (ask_drr (drr s) below s).shown
         → ((ask_drr (drr s) below s).shown ≡ None → Renews t o (outlook t (gives_nothing (drr s) below (service_of s below)).peeked)) → Renews t o (outlook t (ask_drr (drr s) below s).peeked)
-    drr-renews o s below = by (place_met s below)
-      where
-        v : Service
-        v = service_of s below
-
-        nothing : Asked
-        nothing = gives_nothing (drr s) below v
-
-        P : Asked → Type 0
-        P x = Foresees now t o x.shown → (x.shown ≡ None → Renews t o (outlook t nothing.peeked)) → Renews t o (outlook t x.peeked)
-
-        gave-none : P nothing
-        gave-none f k = k refl
-
-        shows : (i : ℕ) (a : Asked) (x : Option Descriptor) → P (option_map_or (class_gives (drr s) below v i a) x nothing)
-        shows i a None = gave-none
-        shows i a (Some p) = λ f k. held-renews now t o p f
-
-        child : (i : ℕ) (x : Option Asked) → P (option_map_or (class_serves (drr s) below v i) x nothing)
-        child i None = gave-none
-        child i (Some a) = shows i a a.shown
-
-        by : (x : Option ℕ) → P (option_map_or (λ i. option_map_or (class_serves (drr s) below v i) (slice_get below i) nothing) x nothing)
-        by None = gave-none
-        by (Some i) = child i (slice_get below i)
+    drr-renews o s below =
+        drr-asked (drr s) s below
+        (λ (x : Asked). Foresees now t o x.shown → (x.shown ≡ None → Renews t o (outlook t (gives_nothing (drr s) below (service_of s below)).peeked)) → Renews t o (outlook t x.peeked))
+        (λ f k. k refl) (λ i a p f k. held-renews now t o p f)
 
     -- what is known of a drr, whatever its list
     class-formed : (s : Schedule) (os ps : List Outlook) → AllRenew t os ps → (e : Option Entry) → Formed t (of_class s ps e)

@@ -27,8 +27,8 @@ use Rattle.q_model.specs.ClassCommands.{of_schedule, class_add_checks, class_cha
 use Rattle.q_model.specs.FilterCommands.{with_filters, filter_add_checks, filter_added, has_prio, filter_del_checks, filters_removed}
 use Rattle.q_model.specs.TreeState.{edit_of}
 use Rattle.q_invariants.proofs.EditClassPlans.{deleted_class}
-use Rattle.q_invariants.proofs.EditNodes.{refused_not_done, same_edit, AtNode, AtSchedule, node_there, drr_there, schedule_there}
-use Rattle.q_invariants.proofs.EditSuits.{done_is}
+use Rattle.q_invariants.proofs.EditNodes.{same_edit, AtNode, AtSchedule, node_there, drr_there, schedule_there}
+use Rattle.q_invariants.proofs.EditSuits.{refused_not_done, done_is}
 use Rattle.q_invariants.proofs.Within.{Within, IsOf, child-within, within-set}
 use Rattle.q_device.specs.Rest.{IsAtRest, FlowRests}
 use Rattle.q_device.proofs.RestSteps.{retuned-rests}

@@ -1,6 +1,6 @@
 -- In every replay each flow of each fq_codel is in one of the lists or at rest: so CoDel remembers nothing against one that joins.
-use Rattle.std.proofs.Common.{◌≡◌, ℕ, ◌≤◌, max, ◌⊎◌, inl, inr, Bool, true, false, List, [], ◌∷◌, length, refl, sym, ap, subst, ◌∙◌, Option, Some, None, Ok, Err, Result}
-use Rattle.std.specs.Prelude.{All, is_some, if◌then◌else◌}
+use Rattle.std.proofs.Common.{◌≡◌, ℕ, ◌≤◌, max, ◌⊎◌, inl, inr, true, false, List, [], ◌∷◌, length, refl, sym, ap, subst, ◌∙◌, Option, Some, None, Ok, Err, Result}
+use Rattle.std.specs.Prelude.{All, is_some}
 use Rattle.std.proofs.lemmas.Bool.{true≢false}
 use Rattle.std.proofs.lemmas.List.{length-map}
 use Rattle.std.proofs.lemmas.List.Elements.{All-head, All-tail}
@@ -35,6 +35,7 @@ use Rattle.q_invariants.proofs.Forests.{lawful-with_memory, each-nodes}
 use Rattle.q_invariants.proofs.Kept.{IsLawfulRoot}
 use Rattle.q_invariants.proofs.PutStages.{IsPutOf, quiet-related, along-related}
 use Rattle.q_invariants.proofs.Replays.{IsKept, not-before, step-kept, new-kept-device}
+use Rattle.q_invariants.proofs.StepNodes.{taken-stage}
 use Rattle.q_invariants.proofs.Within.{IsOf, found, lawful-of}
 use Rattle.q_device.specs.Rest.{FlowRests}
 use Rattle.q_device.specs.Sharing.{device_after}
@@ -59,11 +60,7 @@ module _ (now : ℕ) (d : DeviceState (List Note)) (kept : IsKept d) (later : d.
       let a : Asked = ask now (shape root) in
       let law : IsLawfulRoot d.tree.device.mtu now (shape root) = lawful-with_memory d.tree.device.mtu now (λ m. tt) root lawful in
       form-rests (IsAskOf now) root (take_from now (shape root)).node (ask-keeps now)
-      (asked-related d.tree.device.mtu now (shape root) (take_from now (shape root)).node law (stage (is_some a.shown) a)) all
-    where
-      stage : (t : Bool) (a : Asked) → ((if t then a.taken else a.peeked) ≡ a.before) ⊎ ((if t then a.taken else a.peeked) ≡ a.peeked) ⊎ ((if t then a.taken else a.peeked) ≡ a.taken)
-      stage true a = inr (inr refl)
-      stage false a = inr (inl refl)
+      (asked-related d.tree.device.mtu now (shape root) (take_from now (shape root)).node law (taken-stage (is_some a.shown) a)) all
 
   many-of : (old : Node (List Note)) → IsOf old d.tree.root → HasSoMany old.own.discipline (length (children old))
   many-of old there =

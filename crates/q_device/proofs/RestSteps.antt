@@ -35,6 +35,7 @@ use Rattle.q_invariants.proofs.EditForms.{IsForm}
 use Rattle.q_invariants.proofs.EditComes.{IsAbove}
 use Rattle.q_invariants.proofs.StepNodes.{IsAsked, IsPut, IsRemadeSo, IsEdited, Becomes, becomes}
 use Rattle.q_invariants.proofs.FlowMoves.{fq-node}
+use Rattle.q_invariants.proofs.FlowSteps.{same-state}
 use Rattle.q_invariants.proofs.Replays.{IsKept}
 use Rattle.q_device.specs.Rest.{IsAtRest, FlowRests}
 use Rattle.q_device.proofs.RestLemmas.{rests-adjust}
@@ -124,9 +125,6 @@ module _ (j now : ℕ) (s : FqState) where
         by None e st = asked-stage rise w (subst (λ (d : Discipline). IsStageOf (ask_discipline now own below d) w) is st)
 
 -- ---- the step of a node
-
-same-state : (s t : FqState) → ◌≡◌ {A = Discipline} (FqCodel s) (FqCodel t) → s ≡ t
-same-state s t e = cc
 
 pub record RestStep (j now : ℕ) (s t : FqState) (m k : List Note) : Type 0 where
   pub notes : List Note

@@ -11,14 +11,14 @@ use Rattle.q_packet.specs.declared.stamped.Stamped.{Stamped}
 use Rattle.q_codel.specs.declared.taken.Taken.{Taken}
 use Rattle.q_drr.specs.Schedule.{Class, Entry, Schedule, IsEntry, IsLawful, has_class, is_active}
 use Rattle.q_drr.specs.Changes.{HeadsFit}
-use Rattle.q_drr.specs.Take.{choice_of, prepared, served, met_in}
+use Rattle.q_drr.specs.Take.{choice_of, prepared, served}
 use Rattle.q_drr.specs.declared.met.Met.{Met}
 use Rattle.q_drr.proofs.ServedLemmas.{chosen_is_met, served_lawful}
-use Rattle.q_drr.proofs.TakeLemmas.{Front, served_nothing, served_nobody}
+use Rattle.q_drr.proofs.TakeLemmas.{served_nobody}
 use Rattle.q_fqcodel.specs.FqState.{FqState, all_packets}
 use Rattle.q_fqcodel.specs.Take.{selected, after_sending, sent_from}
 use Rattle.q_model.specs.declared.filter.Filter.{Filter}
-use Rattle.q_model.specs.Ask.{Asked, befores, class_answer, length_of, head_of, place_met, ask_drr, ask_fq_codel, ask_own}
+use Rattle.q_model.specs.Ask.{Asked, befores, head_of, ask_drr, ask_fq_codel, ask_own}
 use Rattle.q_model.specs.Beneath.{beneath, packets_of, packets_in}
 use Rattle.q_model.specs.Grants.{asked_entries}
 use Rattle.q_model.specs.Lawful.{IsLawfulOwn, IsLawfulDrr}
@@ -31,9 +31,10 @@ use Rattle.q_invariants.proofs.EditClasses.{class_known}
 use Rattle.q_invariants.proofs.EditClassPlans.{position_of}
 use Rattle.q_invariants.proofs.Exact.{AreExact, active-served, classes-served, exact-length}
 use Rattle.q_invariants.proofs.Weights.{weigh-count}
+use Rattle.q_tree.specs.Ways.{is_tbf}
 use Rattle.q_tree.proofs.FlowCounts.{count-sum, packets-all}
-use Rattle.q_tree.proofs.ForeseenAsks.{first_of, or_else, prio-shown, met-shown}
-use Rattle.q_device.specs.Work.{is_tbf}
+use Rattle.q_tree.proofs.ForeseenAsks.{first_of, or_else, prio-shown}
+use Rattle.q_device.proofs.SilentDrrs.{hides, list-left, place-front}
 use Rattle.q_fqcodel.proofs.FlowsShow.{take_leaves_none}
 
 -- a node that shows nothing only where nothing is queued
@@ -136,38 +137,23 @@ module _ (mtu now : ℕ) (own : Own) (s : Schedule) (below : List Asked) (h : Is
 
   -- the class that is met shows nothing, though something is queued there
   module _ (e : Entry) (others : List Entry) (first : (prepared heads s).active ≡ e ∷ others) where
-    place-front : place_met s below ≡ class_at e.class s
-    place-front = ap (λ (es : List Entry). option_and_then (λ (m : Met). class_at m.class s) (met_in heads es)) first
-
-    hides : option_and_then (λ (a : Asked). a.shown) (class_answer s below e.class) ≡ None
-    hides = ap (λ i. option_and_then (λ (a : Asked). a.shown) (option_and_then (slice_get below) i)) (sym place-front) ∙ sym (met-shown own s below) ∙ silent
-
-    headless : (o : Option Asked) → option_and_then (λ (a : Asked). a.shown) o ≡ None → option_and_then length_of o ≡ None
-    headless None e = refl
-    headless (Some a) e = ap (option_map (λ (p : Descriptor). p.len)) e
-
-    list-left : left.active ≡ e ∷ others
-    list-left =
-        let front : Front e.class (prepared heads s) = record { first = e; rest = others; is = first; class = refl } in
-        ap (λ (x : Schedule). x.active) (sym (served_nothing heads s (prepared heads s) e.class front (headless (class_answer s below e.class) hides) refl)) ∙ first
-
     active : is_active e.class s.active ≡ true
-    active = sym (active-served e.class heads s) ∙ ap (is_active e.class) list-left ∙ or_left (e.class == e.class) (is_active e.class others) (eq-eqb e.class e.class refl)
+    active = sym (active-served e.class heads s) ∙ ap (is_active e.class) (list-left s below e others first own silent) ∙ or_left (e.class == e.class) (is_active e.class others) (eq-eqb e.class e.class refl)
 
     abbrev place : ℕ
     place = unwrap_or (class_at e.class s) 0
 
     class-there : class_at e.class s ≡ Some place
     class-there =
-        let entry : IsEntry left.max_len left.classes e = All-head (IsEntry left.max_len left.classes) e others (subst (λ (es : List Entry). All (IsEntry left.max_len left.classes) es) list-left lawful.entries) in
+        let entry : IsEntry left.max_len left.classes e = All-head (IsEntry left.max_len left.classes) e others (subst (λ (es : List Entry). All (IsEntry left.max_len left.classes) es) (list-left s below e others first own silent) lawful.entries) in
         position_of (class_at e.class s) (class_known 0 e.class s ∙ ap (has_class e.class) (sym (classes-served heads s)) ∙ entry.there)
 
     contradicts : ⊥
     contradicts =
         let met : IsMetAt s (asked_entries (choice_of heads s) s.active) place =
-        met-asked s heads (choice_of heads s) place (sym (ap (option_and_then (λ (m : Met). class_at m.class s)) (chosen_is_met s heads)) ∙ place-front ∙ class-there) in
+        met-asked s heads (choice_of heads s) place (sym (ap (option_and_then (λ (m : Met). class_at m.class s)) (chosen_is_met s heads)) ∙ place-front s below e others first ∙ class-there) in
         let child = child-there s.classes below place met.class same met.there in
-        let hidden : child.0.shown ≡ None = sym (ap (option_and_then (λ (x : Asked). x.shown)) (ap (option_and_then (slice_get below)) class-there ∙ child.1)) ∙ hides in
+        let hidden : child.0.shown ≡ None = sym (ap (option_and_then (λ (x : Asked). x.shown)) (ap (option_and_then (slice_get below)) class-there ∙ child.1)) ∙ hides s below e others first own silent in
         let name : e.class ≡ met.class.name = named met.class met.there in
         let asleep = not-active (λ n. is_active n s.active) s.classes (map beneath (befores below)) place met.class (beneath child.0.before) h.exact met.there (packets-at below place child.0 child.1)
         (rest-at below rest place child.0 child.1 hidden) in

@@ -5,7 +5,7 @@ use Rattle.std.specs.List.{filter_map}
 use Rattle.std.specs.Option.{option_map_or}
 use Rattle.std.proofs.lemmas.Bool.{true≢false, ne_eqb}
 use Rattle.std.proofs.lemmas.List.{append_cancel_left}
-use Rattle.std.proofs.lemmas.List.Elements.{All-nil, All-cons, All-head, All-tail, filter_map-append}
+use Rattle.std.proofs.lemmas.List.Elements.{All-head, All-tail, filter_map-append}
 use Rattle.std.proofs.lemmas.Option.{none-some, same_Some, slice_get-map}
 use Rattle.q_packet.specs.Descriptor.{Descriptor}
 use Rattle.q_model.specs.declared.event.Event.{Event}
@@ -31,6 +31,7 @@ use Rattle.q_invariants.proofs.AskStages.{IsStageOf}
 use Rattle.q_invariants.proofs.EditLater.{root-later}
 use Rattle.q_invariants.proofs.Forests.{each-nodes, lawful-with_memory}
 use Rattle.q_invariants.proofs.Kept.{AllLawful, IsLawfulRoot}
+use Rattle.q_invariants.proofs.Members.{All-front, All-back}
 use Rattle.q_invariants.proofs.NoteSums.{AreRisen}
 use Rattle.q_invariants.proofs.Quiet.{beneath-quiet, child-lawful}
 use Rattle.q_invariants.proofs.Replays.{IsKept, not-before, not-after, replay-kept}
@@ -40,9 +41,10 @@ use Rattle.q_invariants.proofs.StepNodes.{IsAsked, becomes}
 use Rattle.q_invariants.proofs.Told.{noted-history}
 use Rattle.q_invariants.proofs.Weights.{weigh, weigh-count, weigh-one}
 use Rattle.q_invariants.proofs.Within.{found, lawful-of}
+use Rattle.q_tree.specs.Ways.{is_tbf}
 use Rattle.q_tree.proofs.ForeseenAsks.{or_else, first_of, prio-shown}
 use Rattle.q_device.specs.Sharing.{device_after}
-use Rattle.q_device.specs.Work.{is_tbf, HasNoTbf, IsNeverHeldBack, WorkIsConserved, GivesInOrder, BandsAreStrict}
+use Rattle.q_device.specs.Work.{HasNoTbf, IsNeverHeldBack, WorkIsConserved, GivesInOrder, BandsAreStrict}
 use Rattle.q_device.proofs.RenewedTrees.{take-empty}
 use Rattle.q_device.proofs.ReplayLemmas.{replay_from-append}
 use Rattle.q_device.proofs.WorkAsks.{Rests, AreRests, own-rests}
@@ -53,19 +55,13 @@ abbrev pub NoTbfs : {M : Type 0} → Forest M → Type 0
 NoTbfs none = Unit {0}
 NoTbfs (more own m below others) = (is_tbf own.discipline ≡ false) × NoTbfs below × NoTbfs others
 
-All-split : {X : Type 0} (P : X → Type 0) (xs ys : List X) → All P (xs ++ ys) → All P xs × All P ys
-All-split P [] ys h = (All-nil P, h)
-All-split P (x ∷ xs) ys h =
-    let rest = All-split P xs ys (All-tail P x (xs ++ ys) h) in
-    (All-cons P x xs (All-head P x (xs ++ ys) h) rest.0, rest.1)
-
 pub no-tbfs : {M : Type 0} (x : Forest M) → All (λ (n : Node M). is_tbf n.own.discipline ≡ false) (nodes_of x) → NoTbfs x
 no-tbfs none h = tt
 no-tbfs {M} (more own m below others) h =
     let P : Node M → Type 0 = λ n. is_tbf n.own.discipline ≡ false in
     let n : Node M = record { own = own; memory = m; below = below } in
-    let rest = All-split P (nodes_of below) (nodes_of others) (All-tail P n (nodes_of below ++ nodes_of others) h) in
-    (All-head P n (nodes_of below ++ nodes_of others) h, no-tbfs below rest.0, no-tbfs others rest.1)
+    let rest : All P (nodes_of below ++ nodes_of others) = All-tail P n (nodes_of below ++ nodes_of others) h in
+    (All-head P n (nodes_of below ++ nodes_of others) h, no-tbfs below (All-front P (nodes_of below) (nodes_of others) rest), no-tbfs others (All-back P (nodes_of below) (nodes_of others) rest))
 
 pub tbfs-memory : {M N : Type 0} (f : M → N) (x : Forest M) → NoTbfs x → NoTbfs (each_memory f x)
 tbfs-memory f none h = tt

@@ -1,7 +1,7 @@
 -- What is true of work after every list of events: a tree without a tbf gives a packet to every poll that finds one queued, and a
 -- prio gives one of a band only where the bands before it gave nothing. tc-prio(8) calls itself work-conserving, and dequeues its
 -- classes in order; tc-tbf(8) alone is not work-conserving, and may hold back a packet that is there.
-use Rattle.std.specs.Prelude.{◌≡◌, ◌≢◌, ℕ, ◌<◌, ◌≤◌, ◌^◌, Bool, true, false, List, [], ◌∷◌, ◌++◌, All, Some, None, slice_get}
+use Rattle.std.specs.Prelude.{◌≡◌, ◌≢◌, ℕ, ◌<◌, ◌≤◌, ◌^◌, true, false, List, [], ◌∷◌, ◌++◌, All, Some, None, slice_get}
 use Rattle.std.specs.List.{filter_map}
 use Rattle.q_packet.specs.Descriptor.{Descriptor}
 use Rattle.q_model.specs.declared.event.Event.{Event}
@@ -13,19 +13,13 @@ use Rattle.q_model.specs.Ask.{ask}
 use Rattle.q_model.specs.Beneath.{is_empty}
 use Rattle.q_model.specs.Conserved.{every_node, sent_in}
 use Rattle.q_model.specs.Events.{IsEvent}
-use Rattle.q_model.specs.Node.{Discipline, Fifo, Prio, Tbf, Drr, FqCodel, Node, children, shape}
+use Rattle.q_model.specs.Node.{Prio, Node, children, shape}
 use Rattle.q_model.specs.Settings.{DeviceSettings}
 use Rattle.q_model.specs.Step.{DeviceState, step}
 use Rattle.q_model.specs.Stretches.{qdisc}
 use Rattle.q_model.specs.Tally.{Note, history}
+use Rattle.q_tree.specs.Ways.{is_tbf}
 use Rattle.q_device.specs.Sharing.{device_after}
-
-abbrev pub is_tbf : Discipline → Bool
-is_tbf (Tbf bucket limit) = true
-is_tbf (Fifo limit queue) = false
-is_tbf (Prio priomap) = false
-is_tbf (Drr s) = false
-is_tbf (FqCodel s) = false
 
 -- neither the node nor one below it is a tbf
 abbrev pub HasNoTbf : {M : Type 0} → Node M → Type 0

@@ -294,9 +294,7 @@ impl Device {
         ensures rest { self.new ≡ reaped self.old }
         ensures keeps { (packet : Descriptor) → HasRoomFor packet self.old → HasRoomFor packet self.new }
     {
-        let Some(lost) = self.losses.reap() else {
-            return None;
-        };
+        let lost = self.losses.reap()?;
         self.handed_out += 1;
         Some(lost)
     }
@@ -383,8 +381,7 @@ fn make_room(tree: &Tree, losses: &mut Losses) -> Result<(), AllocError>
     ensures succeeds { length losses.old.waiting + length (beneath tree.now.tree.root) + 1 ≤ losses.old.places → IsOk result }
 {
     let queued = tree.totals().queued.packets;
-    make_places(losses, queued)?;
-    Ok(())
+    make_places(losses, queued)
 }
 
 // How many packets may arrive with nothing else asked: as many as there are places for their losses and as the device can count,

@@ -37,7 +37,7 @@ use Rattle.q_invariants.proofs.TakeTurns.{one_if, Stands, stands, take-books, ta
 use Rattle.q_invariants.proofs.ClassChildren.{child_for, child-at}
 use Rattle.q_invariants.proofs.ClassLooks.{answer-for, before-at, booked-child}
 use Rattle.q_invariants.proofs.ClassTakes.{heads, none-sends, looked-gives, service-gives, met-sends, asleep-sends}
-use Rattle.q_invariants.proofs.ClassSteps.{DrrStep, Stays, quiet-step}
+use Rattle.q_invariants.proofs.ClassSteps.{DrrStep, Stays, quiet-step, same-schedule}
 use Rattle.q_invariants.proofs.StepNodes.{IsAsked}
 
 module _ (now : ℕ) (x : Forest (Unit {0})) (s : Schedule) (differ : EntriesDiffer s.active) where
@@ -311,14 +311,11 @@ module _ (mtu now : ℕ) (least : 1 ≤ mtu) (low : now ≤ 2 ^ 62) (n : Node (L
       by (inl nothing) = ap (λ (y : Schedule). y.classes) nothing.schedule ∙ classes-served shows s
       by (inr gave) = ap (λ (y : Schedule). y.classes) gave.schedule ∙ class-settled gave.place (is_empty gave.answer.taken) (served shows s) ∙ classes-served shows s
 
-  same-schedule : (t u : Schedule) → ◌≡◌ {A = Discipline} (Drr t) (Drr u) → t ≡ u
-  same-schedule t u e = cc
-
   pub asked-step : (after : Node (List Note)) (t : Schedule) → after.own.discipline ≡ Drr t → IsAsked now n after → DrrStep now s t n after
   asked-step after t now_is asked =
       let w : Worked = asked.worked in
       let st = own-stage now (shape n).below s apart n.own is w asked.stage in
-      let schedule : st.schedule ≡ t = same-schedule st.schedule t (sym st.is ∙ ap (λ (k : Node (List Note)). k.own.discipline) asked.is ∙ now_is) in
+      let schedule : st.schedule ≡ t = sym (same-schedule st.schedule t (sym st.is ∙ ap (λ (k : Node (List Note)). k.own.discipline) asked.is ∙ now_is)) in
       subst (λ (y : Schedule). DrrStep now s y n after) schedule (by st.schedule st.children st.below_is st.how)
     where
       child-of : (ws : List Worked) (t : Schedule) → side_by_side ws ≡ asked.worked.below → t.classes ≡ s.classes → (c : ℕ) (k m : Node (List Note)) → child_for c s.classes (children n) ≡ Some k → child_for c t.classes (children after) ≡ Some m

@@ -18,7 +18,8 @@ child_for c [] xs = None
 child_for c (k ∷ classes) [] = None
 child_for c (k ∷ classes) (x ∷ xs) = if c == k.name then Some x else child_for c classes xs
 
-all-stay : (n : ℕ) (classes : List Class) → has_class n classes ≡ false → others (λ (k : Class). k.name) n classes ≡ classes
+-- without a class that is not there all stay
+pub all-stay : (n : ℕ) (classes : List Class) → has_class n classes ≡ false → others (λ (k : Class). k.name) n classes ≡ classes
 all-stay n [] e = refl
 all-stay n (k ∷ classes) e =
     let parts = or_parts (eqb n k.name) (has_class n classes) e in

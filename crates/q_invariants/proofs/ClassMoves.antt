@@ -33,7 +33,7 @@ use Rattle.q_invariants.proofs.AgainstTurns.{left_before}
 use Rattle.q_invariants.proofs.TakeTurns.{one_if}
 use Rattle.q_invariants.proofs.ClassChildren.{child_for, child-at}
 use Rattle.q_invariants.proofs.ClassLooks.{active-of}
-use Rattle.q_invariants.proofs.ClassSteps.{DrrStep, Stays, put-step, same-step, edited-step}
+use Rattle.q_invariants.proofs.ClassSteps.{DrrStep, Stays, put-step, same-schedule, same-step, edited-step}
 use Rattle.q_invariants.proofs.ClassAsks.{asked-step}
 
 -- ---- what stands in a device
@@ -159,10 +159,7 @@ pub record PairMoves (i j : ℕ) (x y : ClassAt) : Type 0 where
 pub same-drr : (major i j : ℕ) (d : DeviceState (List Note)) (x z : ClassAt) → ClassNode major i d x → ClassNode major j d z → z.schedule ≡ x.schedule
 same-drr major i j d x z a b =
     let node : b.node ≡ a.node = same_Some b.node a.node (sym b.there ∙ a.there) in
-    drr-is z.schedule x.schedule (sym b.discipline ∙ ap (λ (n : Node (List Note)). n.own.discipline) node ∙ a.discipline)
-  where
-    drr-is : (s t : Schedule) → ◌≡◌ {A = Discipline} (Drr s) (Drr t) → s ≡ t
-    drr-is s t e = cc
+    sym (same-schedule z.schedule x.schedule (sym b.discipline ∙ ap (λ (n : Node (List Note)). n.own.discipline) node ∙ a.discipline))
 
 pub pair-moves : (major i j : ℕ) (d : DeviceState (List Note)) (e : Event) (x y z w : ClassAt) → i ≢ j → IsKept d → IsEvent e
     → class_in major i d ≡ Some x → class_in major i (step history d e).device ≡ Some y → class_in major j d ≡ Some z → class_in major j (step history d e).device ≡ Some w

@@ -101,7 +101,7 @@ quiet-step now s t n after notes memory grants same gave = record {
         let zero : grants_to c notes * quantum_of c s.classes ≡ 0 = ap (λ x. x * quantum_of c s.classes) (grants c) ∙ omega arith in
         record { given = g.0; gives = g.1; books = let sent = g.2 in omega (arith, zero, sent, same.deficit c stays.before stays.after quantum) }
 
-same-schedule : (s t : Schedule) → ◌≡◌ {A = Discipline} (Drr s) (Drr t) → t ≡ s
+pub same-schedule : (s t : Schedule) → ◌≡◌ {A = Discipline} (Drr s) (Drr t) → t ≡ s
 same-schedule s t e = cc
 
 module _ (now : ℕ) (n : Node (List Note)) (s : Schedule) (is : n.own.discipline ≡ Drr s) where

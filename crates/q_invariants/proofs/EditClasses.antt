@@ -2,7 +2,7 @@
 use Rattle.std.proofs.Common.{◌≡◌, ℕ, zero, suc, ◌+◌, ◌-◌, ◌<◌, ◌≤◌, min, Bool, true, false, eqb, ◌||◌, not, cond, ltb, List, [], ◌∷◌, ◌++◌, length, map, take, drop, get_or, refl, sym, ap, ap₂, subst, ◌∙◌, Option, Some, None, inl, inr, arith}
 use Rattle.std.specs.Prelude.{IfSome, option_map, slice_get, is_some, if◌then◌else◌, ◌==◌}
 use Rattle.std.specs.List.{All, list_any, position, position_or_len, remove}
-use Rattle.std.proofs.lemmas.Bool.{eqb-true, eq-eqb, false≢true, cases_Bool, cases_lt, lt-ltb, le-ltb, or_parts, or_from, or_left, false_from_ne_true}
+use Rattle.std.proofs.lemmas.Bool.{eqb-true, eq-eqb, false≢true, cases_Bool, cases_lt, lt-ltb, le-ltb, or_from, or_left, false_from_ne_true}
 use Rattle.std.proofs.lemmas.Option.{none-some, same_Some, slice_get-get_or, slice_get-map}
 use Rattle.std.proofs.lemmas.List.{length-map, map-append, take_all}
 use Rattle.std.proofs.lemmas.List.Elements.{All-append, All-drop, All-filter, All-map, All-push, All-take, All-weaker}
@@ -27,6 +27,7 @@ use Rattle.q_model.specs.QdiscCommands.{all_kept}
 use Rattle.q_model.specs.ClassCommands.{with_new_quantum}
 use Rattle.q_model.specs.Lawful.{IsLawfulDiscipline, IsLawfulDrr, IsLawfulOwn}
 use Rattle.q_invariants.proofs.Weights.{weigh}
+use Rattle.q_invariants.proofs.ClassChildren.{all-stay}
 use Rattle.q_invariants.proofs.Kept.{IsLawfulRoot, IsCountedRoot}
 use Rattle.q_invariants.proofs.Joined.{weigh-joined-cons}
 use Rattle.q_invariants.proofs.Members.{fails-at}
@@ -180,13 +181,6 @@ remakes_class_changed mtu now old lawful counted s class quantum is range =
 
 -- ---- one less
 
-without_absent : (n : ℕ) (classes : List Class) → has_class n classes ≡ false → others (λ (c : Class). c.name) n classes ≡ classes
-without_absent n [] e = refl
-without_absent n (c ∷ classes) e =
-    let parts = or_parts (eqb n c.name) (has_class n classes) e in
-    ap (λ (t : Bool). if not t then c ∷ others (λ (c : Class). c.name) n classes else others (λ (c : Class). c.name) n classes) parts.0
-    ∙ ap (λ (cs : List Class). c ∷ cs) (without_absent n classes parts.1)
-
 module _ (old new : ℕ → Bool) (n : ℕ) (same : (m : ℕ) → (m == n) ≡ false → new m ≡ old m) where
   exact_removed : (classes : List Class) (below : List (List Descriptor)) (i : ℕ) (c : Class) → ClassesDiffer classes → slice_get classes i ≡ Some c → c.name ≡ n
       → AreExact old classes below → AreExact new (others (λ (c : Class). c.name) n classes) (remove below i)
@@ -196,7 +190,7 @@ module _ (old new : ℕ → Bool) (n : ℕ) (same : (m : ℕ) → (m == n) ≡ f
       let is : x.name ≡ n = ap (λ (k : Class). k.name) (same_Some x c e) ∙ name in
       let absent : has_class n classes ≡ false = ap (λ m. has_class m classes) (sym is) ∙ differ.0 in
       let left : others (λ (c : Class). c.name) n (x ∷ classes) ≡ classes =
-      ap (λ (t : Bool). if not t then x ∷ others (λ (c : Class). c.name) n classes else others (λ (c : Class). c.name) n classes) (eq-eqb n x.name (sym is)) ∙ without_absent n classes absent in
+      ap (λ (t : Bool). if not t then x ∷ others (λ (c : Class). c.name) n classes else others (λ (c : Class). c.name) n classes) (eq-eqb n x.name (sym is)) ∙ all-stay n classes absent in
       subst (λ (cs : List Class). AreExact new cs below) (sym left) (exact-others old new n classes below absent same h.1)
   exact_removed (x ∷ classes) (ps ∷ below) (suc i) c differ e name h =
       let apart : eqb x.name n ≡ false = ap (eqb x.name) (sym name) ∙ fails-at (λ (k : Class). x.name == k.name) classes i c differ.0 e in

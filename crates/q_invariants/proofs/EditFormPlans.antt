@@ -32,9 +32,9 @@ use Rattle.q_invariants.proofs.Forests.{side-nodes}
 use Rattle.q_invariants.proofs.AskStages.{HasSoMany}
 use Rattle.q_invariants.proofs.Within.{Within, IsOf, HasHandle}
 use Rattle.q_invariants.proofs.EditChildren.{kids, kids_all, kids-append, kids_removed, kids_kept, kids_new, kept_from}
-use Rattle.q_invariants.proofs.EditSuits.{length-shape, children-shape, done_is}
+use Rattle.q_invariants.proofs.EditSuits.{length-shape, children-shape, refused_not_done, done_is}
 use Rattle.q_invariants.proofs.EditClassPlans.{DeletedClass, deleted_class}
-use Rattle.q_invariants.proofs.EditNodes.{refused_not_done, same_edit, AtNode, AtSchedule, node_there, drr_there, schedule_there}
+use Rattle.q_invariants.proofs.EditNodes.{same_edit, AtNode, AtSchedule, node_there, drr_there, schedule_there}
 use Rattle.q_invariants.proofs.EditFront.{front_and_new}
 use Rattle.q_invariants.proofs.EditForms.{Stay, Retuned_one, Added_one, Removed_one, IsForm, IsRemade, FormOf, keeps-all, keeps-front, keeps-more, keeps-removed, leaf-kept}
 

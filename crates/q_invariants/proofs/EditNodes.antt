@@ -13,10 +13,7 @@ use Rattle.q_model.specs.Edit.{Edit}
 use Rattle.q_model.specs.Refusals.{Check, first_refusal, is_so}
 use Rattle.q_model.specs.QdiscCommands.{at_target}
 use Rattle.q_model.specs.ClassCommands.{of_schedule, at_drr}
-use Rattle.q_invariants.proofs.EditSuits.{node_at-shape, check_passed, AtTarget, target_there}
-
-pub refused_not_done : (refusal : Refusal) (edit : Edit) → ◌≡◌ {A = Result Edit Refusal} (Err refusal) (Ok edit) → ⊥
-refused_not_done refusal edit e = cc
+use Rattle.q_invariants.proofs.EditSuits.{node_at-shape, refused_not_done, check_passed, AtTarget, target_there}
 
 pub same_edit : (a b : Edit) → ◌≡◌ {A = Result Edit Refusal} (Ok a) (Ok b) → a ≡ b
 same_edit a b e = cc

@@ -29,11 +29,11 @@ use Rattle.q_model.specs.Lawful.{IsLawfulDiscipline, IsLawfulOwn, CanHold}
 use Rattle.q_invariants.proofs.EditHandles.{one, times_below, times, times-absent, free_handle-absent}
 use Rattle.q_invariants.proofs.EditNew.{IsNew, times-memory}
 use Rattle.q_invariants.proofs.EditMade.{new_leaf, new_implicit, new_made, options_in_range}
-use Rattle.q_invariants.proofs.EditSuits.{done_is, check_passed}
+use Rattle.q_invariants.proofs.EditSuits.{refused_not_done, done_is, check_passed}
 use Rattle.q_invariants.proofs.EditRetuned.{Planned, planned_remake, own_lawful, remakes_retuned, changed_packets, changed_lawful}
 use Rattle.q_invariants.proofs.EditFront.{front_and_new, remakes_bands}
 use Rattle.q_invariants.proofs.EditBucket.{remakes_bucket}
-use Rattle.q_invariants.proofs.EditNodes.{refused_not_done, same_edit, AtNode, node_there, later_passed}
+use Rattle.q_invariants.proofs.EditNodes.{same_edit, AtNode, node_there, later_passed}
 
 module _ (d : Device) (now : ℕ) (root : Node (List Note)) (once : (h : ℕ) → times h root ≤ 1) (positive : 1 ≤ d.mtu) (small : d.mtu < 2 ^ 16) where
   -- ---- add

@@ -98,8 +98,8 @@ module _ (mtu now : ℕ) (fresh : Option ℕ) (positive : 1 ≤ mtu) (root : Nod
 
 -- ---- what a plan says
 
-err_not_ok : (refusal : Refusal) (edit : Edit) → ◌≡◌ {A = Result Edit Refusal} (Err refusal) (Ok edit) → ⊥
-err_not_ok refusal edit e = cc
+pub refused_not_done : (refusal : Refusal) (edit : Edit) → ◌≡◌ {A = Result Edit Refusal} (Err refusal) (Ok edit) → ⊥
+refused_not_done refusal edit e = cc
 
 -- a command that is done is refused by none of its checks
 pub done_is : {A : Type 0} (checks : List Check) (a edit : A) → done_unless checks a ≡ Ok edit → (first_refusal checks ≡ None) × (a ≡ edit)
@@ -126,9 +126,9 @@ pub record AtTarget (found : Option (List ℕ)) (f : List ℕ → Shape → Resu
 
 pub target_there : (refusal : Refusal) (found : Option (List ℕ)) (f : List ℕ → Shape → Result Edit Refusal) (root : Shape) (edit : Edit)
     → at_target refusal found f root ≡ Ok edit → AtTarget found f root edit
-target_there refusal None f root edit e = absurd (err_not_ok refusal edit e)
+target_there refusal None f root edit e = absurd (refused_not_done refusal edit e)
 target_there refusal (Some path) f root edit e = go (node_at path root) refl e
   where
     go : (o : Option Shape) → node_at path root ≡ o → option_map_or (f path) o (Err refusal) ≡ Ok edit → AtTarget (Some path) f root edit
-    go None at e = absurd (err_not_ok refusal edit e)
+    go None at e = absurd (refused_not_done refusal edit e)
     go (Some n) at e = record { path = path; node = n; found_is = refl; node_is = at; edit_is = e }

@@ -30,9 +30,8 @@ use Rattle.q_invariants.proofs.EditHandles.{times, once-apart, apart-once}
 use Rattle.q_invariants.proofs.EditAbove.{Becomes}
 use Rattle.q_invariants.proofs.EditNew.{IsNew, new_lawful, new_counted, new_times}
 use Rattle.q_invariants.proofs.EditMade.{new_leaf}
-use Rattle.q_invariants.proofs.EditSuits.{done_is, check_passed, becomes-suited}
+use Rattle.q_invariants.proofs.EditSuits.{refused_not_done, done_is, check_passed, becomes-suited}
 use Rattle.q_invariants.proofs.EditRetuned.{Planned}
-use Rattle.q_invariants.proofs.EditNodes.{refused_not_done}
 use Rattle.q_invariants.proofs.EditFilters.{planned_filter_add, planned_filter_del}
 use Rattle.q_invariants.proofs.EditClassPlans.{planned_class_add, planned_class_change, planned_class_del}
 use Rattle.q_invariants.proofs.EditQdiscPlans.{planned_qdisc_add, planned_qdisc_change, planned_qdisc_del}

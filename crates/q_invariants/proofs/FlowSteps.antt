@@ -160,7 +160,7 @@ pub record FqStep (now : ℕ) (s t : FqState) (m k : List Note) : Type 0 where
   pub is : k ≡ m ++ notes
   pub by : Changes now s t notes
 
-same-state : (s t : FqState) → ◌≡◌ {A = Discipline} (FqCodel s) (FqCodel t) → s ≡ t
+pub same-state : (s t : FqState) → ◌≡◌ {A = Discipline} (FqCodel s) (FqCodel t) → s ≡ t
 same-state s t e = cc
 
 module _ (now : ℕ) (node : Node (List Note)) (s : FqState) (is : node.own.discipline ≡ FqCodel s) where

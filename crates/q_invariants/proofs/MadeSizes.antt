@@ -30,7 +30,7 @@ use Rattle.q_invariants.proofs.Forests.{each-side}
 use Rattle.q_invariants.proofs.EditClasses.{member_at}
 use Rattle.q_invariants.proofs.Edits.{found_in_shape}
 use Rattle.q_invariants.proofs.RemadeSizes.{leaves-depth, leaves-count, some-depth}
-use Rattle.q_invariants.proofs.EditSizes.{levels_own, nodes_own, depths, counts, depth-node, count-node, Down, down}
+use Rattle.q_invariants.proofs.EditSizes.{levels_own, nodes_own, Down, down}
 use Rattle.q_invariants.proofs.SizeChecks.{sizes}
 use Rattle.q_invariants.proofs.SizedPlans.{plan-qdisc_add}
 use Rattle.q_invariants.proofs.SizedChanges.{node-lawful, length-below}
@@ -147,14 +147,6 @@ module _ (mtu now : ℕ) (root : Shape) (lawful : IsLawfulRoot mtu now root) whe
       by : (o : Option (List ℕ)) → class_path class root ≡ o → Stands (unwrap_or o [])
       by None e = (root, refl)
       by (Some path) e = class-there class path e
-
--- ---- a node without children
-
-pub alone : (n : Shape) → children n ≡ [] → (depth n ≡ 1) × (count_nodes n ≡ 1)
-alone n e = (
-  depth-node n ∙ ap (λ (cs : List Shape). suc (greatest (depths cs))) e,
-  count-node n ∙ ap (λ (cs : List Shape). suc (sum (counts cs))) e,
-)
 
 -- ---- the plan of a new qdisc
 

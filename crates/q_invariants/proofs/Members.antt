@@ -1,8 +1,11 @@
--- The member at a place of a list: what holds of all holds of it, and a test that it passes is passed there.
-use Rattle.std.proofs.Common.{◌≡◌, ℕ, zero, suc, Bool, true, false, List, [], ◌∷◌, sym, ap, subst, ◌∙◌, Some}
+-- The member at a place of a list, and the front and the back of a list: what holds of all holds of them, and a test that the member
+-- passes is passed there.
+use Rattle.std.proofs.Common.{◌≡◌, ℕ, zero, suc, Bool, true, false, List, [], ◌∷◌, ◌++◌, length, refl, sym, ap, subst, ◌∙◌, Some}
 use Rattle.std.specs.Prelude.{slice_get}
 use Rattle.std.specs.List.{All, list_any}
 use Rattle.std.proofs.lemmas.Bool.{or_parts, or_left, or_right}
+use Rattle.std.proofs.lemmas.List.{take_at, drop_at}
+use Rattle.std.proofs.lemmas.List.Elements.{All-take, All-drop}
 use Rattle.std.proofs.lemmas.Option.{none-some, same_Some, slice_get_within, get_or_from_slice_get}
 
 pub All-at : {X : Type 0} (P : X → Type 0) (xs : List X) (i : ℕ) (x : X) → All P xs → slice_get xs i ≡ Some x → P x
@@ -18,3 +21,9 @@ pub passes-at : {X : Type 0} (test : X → Bool) (xs : List X) (i : ℕ) (x : X)
 passes-at test [] i x e p = absurd (none-some x e)
 passes-at test (y ∷ xs) zero x e p = or_left (test y) (list_any test xs) (ap test (same_Some y x e) ∙ p)
 passes-at test (y ∷ xs) (suc i) x e p = or_right (test y) (list_any test xs) (passes-at test xs i x e p)
+
+pub All-front : {X : Type 0} (P : X → Type 0) (xs ys : List X) → All P (xs ++ ys) → All P xs
+All-front P xs ys h = subst (All P) (take_at xs ys (length xs) refl) (All-take P (length xs) (xs ++ ys) h)
+
+pub All-back : {X : Type 0} (P : X → Type 0) (xs ys : List X) → All P (xs ++ ys) → All P ys
+All-back P xs ys h = subst (All P) (drop_at xs ys (length xs) refl) (All-drop P (length xs) (xs ++ ys) h)

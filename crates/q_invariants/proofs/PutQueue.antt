@@ -73,14 +73,6 @@ module _ (mtu now : ℕ) (p : Descriptor) (fits : IsWithin 1 mtu p.len) (handle 
       })
 
 -- every packet of a flow has a byte
-all-left : {X : Type 0} (P : X → Type 0) (xs ys : List X) → All P (xs ++ ys) → All P xs
-all-left P [] ys h = All-nil P
-all-left P (x ∷ xs) ys h = All-cons P x xs (All-head P x (xs ++ ys) h) (all-left P xs ys (All-tail P x (xs ++ ys) h))
-
-all-right : {X : Type 0} (P : X → Type 0) (xs ys : List X) → All P (xs ++ ys) → All P ys
-all-right P [] ys h = h
-all-right P (x ∷ xs) ys h = all-right P xs ys (All-tail P x (xs ++ ys) h)
-
 queue-bytes : (mtu : ℕ) (queue : List Stamped) (rest : List Stamped) → All (HasLength mtu) (packets_of (queue ++ rest)) → All (λ (x : Stamped). 1 ≤ x.packet.len) queue × All (HasLength mtu) (packets_of rest)
 queue-bytes mtu [] rest h = (All-nil (λ (x : Stamped). 1 ≤ x.packet.len), h)
 queue-bytes mtu (x ∷ queue) rest h =

@@ -1,8 +1,8 @@
 -- A second peek at the same moment changes nothing, and a take right after a peek gives what the peek has shown and loses nothing.
 use Rattle.std.proofs.Common.{◌≡◌, ℕ, ◌≤◌, ◌^◌, List, [], ◌++◌, map, length, refl, sym, ap, ap₂, subst, ◌∙◌, Option, Some, None, arith}
 use Rattle.std.specs.Prelude.{All}
-use Rattle.std.proofs.lemmas.List.{length-map, take_at, drop_at}
-use Rattle.std.proofs.lemmas.List.Elements.{All-head, All-tail, All-take, All-drop}
+use Rattle.std.proofs.lemmas.List.{length-map}
+use Rattle.std.proofs.lemmas.List.Elements.{All-head, All-tail}
 use Rattle.q_packet.specs.Descriptor.{Descriptor}
 use Rattle.q_drr.specs.Schedule.{Schedule, IsLawful, is_active}
 use Rattle.q_drr.specs.Changes.{HeadsFit}
@@ -19,6 +19,7 @@ use Rattle.q_model.specs.Work.{Worked, quiet, each_booked}
 use Rattle.q_model.specs.Ask.{Asked, befores, head_of, ask_own, ask}
 use Rattle.q_model.specs.TreeState.{TreeState, with_work, given, noted_by_take, peek_packet}
 use Rattle.q_invariants.proofs.Kept.{AllLawful, IsLawfulRoot, IsKeptTree}
+use Rattle.q_invariants.proofs.Members.{All-front, All-back}
 use Rattle.q_invariants.proofs.Told.{IsRootTold, root-memory, root-booked}
 use Rattle.q_invariants.proofs.Forests.{lawful-with_memory}
 use Rattle.q_invariants.proofs.Answer.{IsAnswer, AreAnswers}
@@ -133,12 +134,6 @@ module _ {M : Type 0} (t : Tally M) (now : ℕ) (s : TreeState M) (least : 1 ≤
 -- ---- of a tree that is known to be lawful
 
 -- one with any tally
-all-front : {X : Type 0} (P : X → Type 0) (xs ys : List X) → All P (xs ++ ys) → All P xs
-all-front P xs ys h = subst (All P) (take_at xs ys (length xs) refl) (All-take P (length xs) (xs ++ ys) h)
-
-all-back : {X : Type 0} (P : X → Type 0) (xs ys : List X) → All P (xs ++ ys) → All P ys
-all-back P xs ys h = subst (All P) (drop_at xs ys (length xs) refl) (All-drop P (length xs) (xs ++ ys) h)
-
 lawful-forest : {M : Type 0} (t : Tally M) (mtu clock : ℕ) (x : Forest M) → All (IsLawfulNode t mtu clock) (nodes_of x)
     → AllLawful mtu clock x
 lawful-forest t mtu clock none h = tt
@@ -147,8 +142,8 @@ lawful-forest {M} t mtu clock (more own m below others) h =
     let n : Node M = record { own = own; memory = m; below = below } in
     let rest : All P (nodes_of below ++ nodes_of others) = All-tail P n (nodes_of below ++ nodes_of others) h in (
       (All-head P n (nodes_of below ++ nodes_of others) h).own,
-      lawful-forest t mtu clock below (all-front P (nodes_of below) (nodes_of others) rest),
-      lawful-forest t mtu clock others (all-back P (nodes_of below) (nodes_of others) rest),
+      lawful-forest t mtu clock below (All-front P (nodes_of below) (nodes_of others) rest),
+      lawful-forest t mtu clock others (All-back P (nodes_of below) (nodes_of others) rest),
     )
 
 pub lawful-shape : {M : Type 0} (t : Tally M) (clock now : ℕ) (s : TreeState M) → IsLawfulTree t clock s → clock ≤ now

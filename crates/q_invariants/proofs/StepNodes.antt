@@ -31,7 +31,7 @@ use Rattle.q_invariants.proofs.EditRetuned.{Planned}
 use Rattle.q_invariants.proofs.Edits.{plan_checked, planned}
 use Rattle.q_invariants.proofs.Within.{IsOf, HasHandle, Found, found, of-counts, same-node, lawful-of}
 use Rattle.q_invariants.proofs.Related.{IsRelated, comes-of}
-use Rattle.q_invariants.proofs.AskStages.{HasSoMany, so-many, IsAskOf, asked-related}
+use Rattle.q_invariants.proofs.AskStages.{IsStageOf, HasSoMany, so-many, IsAskOf, asked-related}
 use Rattle.q_invariants.proofs.PutStages.{IsPutOf, quiet-related, along-related}
 use Rattle.q_invariants.proofs.EditComes.{IsEditOf, ComesBy, Ends, comes-edited}
 use Rattle.q_invariants.proofs.EditForms.{IsRemade, FormOf}
@@ -72,6 +72,11 @@ Becomes now (event.Arrive p moment) n after = IsPut now p n after
 Becomes now (event.Poll moment) n after = IsAsked now n after
 Becomes now (event.Command c moment) n after = (after ≡ n) ⊎ IsEdited now n after
 
+-- what a take leaves, and what a peek alone leaves, are two of the stages of an answer
+pub taken-stage : (t : Bool) (a : Asked) → IsStageOf a (if t then a.taken else a.peeked)
+taken-stage true a = inr (inr refl)
+taken-stage false a = inr (inl refl)
+
 module _ (h clock now : ℕ) (d : DeviceState (List Note)) (kept : IsKept d) (same_clock : d.clock ≡ clock) (later : clock ≤ now) (n : Node (List Note)) (is : qdisc h d ≡ Some n) where
   abbrev root : Node (List Note)
   root = d.tree.root
@@ -100,12 +105,8 @@ module _ (h clock now : ℕ) (d : DeviceState (List Note)) (kept : IsKept d) (sa
   asked-so : (after : Node (List Note)) → IsOf after (booked history root (take_from now (shape root)).node) → HasHandle h after → IsAsked now n after
   asked-so after there handle =
       let a : Asked = ask now (shape root) in
-      let r = same-form (IsAskOf now) (take_from now (shape root)).node after (asked-related d.tree.device.mtu now (shape root) (take_from now (shape root)).node shape-lawful (stage (is_some a.shown) a)) there handle in
+      let r = same-form (IsAskOf now) (take_from now (shape root)).node after (asked-related d.tree.device.mtu now (shape root) (take_from now (shape root)).node shape-lawful (taken-stage (is_some a.shown) a)) there handle in
       record { worked = r.0; stage = r.1; is = r.2 }
-    where
-      stage : (t : Bool) (a : Asked) → ((if t then a.taken else a.peeked) ≡ a.before) ⊎ ((if t then a.taken else a.peeked) ≡ a.peeked) ⊎ ((if t then a.taken else a.peeked) ≡ a.taken)
-      stage true a = inr (inr refl)
-      stage false a = inr (inl refl)
 
   put-so : (p : Descriptor) (r : Option Route) (after : Node (List Note)) → IsOf after (booked history root (put_on now p r (shape root)).node) → HasHandle h after → IsPut now p n after
   put-so p None after there handle =

@@ -1,22 +1,20 @@
 -- Bands that go one after the other, from the first behind those that stay.
-use Rattle.std.proofs.Common.{◌≡◌, ℕ, zero, suc, ◌+◌, ◌<◌, ◌≤◌, ◌^◌, ◌∙◌, List, [], ◌∷◌, ◌++◌, append-nil, append_assoc, take, drop, length, refl, sym, ap, subst, arith}
+use Rattle.std.proofs.Common.{◌≡◌, ℕ, zero, suc, ◌+◌, ◌<◌, ◌∙◌, List, [], ◌∷◌, ◌++◌, append_assoc, take, drop, length, refl, sym, ap, arith}
 use Rattle.std.specs.Prelude.{slice_index_or}
 use Rattle.std.specs.List.{remove}
-use Rattle.std.proofs.lemmas.List.{drop_more, length-append, take_all}
+use Rattle.std.proofs.lemmas.List.{drop_more, length-append}
 use Rattle.std.proofs.lemmas.List.Sums.{sum_by-append}
 use Rattle.q_codel.specs.declared.loss.Loss.{Loss}
 use Rattle.q_packet.specs.Descriptor.{Descriptor}
 use Rattle.q_model.specs.declared.totals.Totals.{Totals}
 use Rattle.q_model.specs.Beneath.{beneath, totals_in}
 use Rattle.q_model.specs.Node.{Node}
-use Rattle.q_model.specs.Tally.{no_totals}
 use Rattle.q_tree.specs.AskSteps.{IsTold}
 use Rattle.q_tree.specs.Arrivals.{plus}
 use Rattle.q_tree.specs.Kept.{Kept}
 use Rattle.q_tree.specs.Purging.{purged}
 use Rattle.q_tree.specs.PutSteps.{packets_beneath}
-use Rattle.q_tree.specs.DisciplineChanges.{FitsCounters}
-use Rattle.q_tree.proofs.PurgeLemmas.{room-taken, told-both}
+use Rattle.q_tree.proofs.PurgeLemmas.{told-both}
 use Rattle.q_tree.proofs.Rows.{same-totals}
 
 drop-removed : (ns : List (Node Kept)) (i : ℕ) → drop i (remove ns i) ≡ drop (suc i) ns
@@ -38,15 +36,6 @@ pub record IsGoing (count : ℕ) (before ns : List (Node Kept)) (lost : Totals) 
   pub totals : lost ≡ totals_in gone
   pub told : IsTold (purged gone) losses_before losses room_before room
 
-pub none-gone : (count : ℕ) (ns : List (Node Kept)) (losses : List Loss) (room : ℕ) → IsGoing count ns ns no_totals losses losses room room
-none-gone count ns losses room = record {
-  gone = [];
-  front = refl;
-  back = refl;
-  totals = same-totals no_totals (totals_in []) (omega arith) (omega arith);
-  told = record { lost = sym (append-nil losses); room_taken = omega arith };
-}
-
 totals-append : (ps qs : List Descriptor) → plus (totals_in ps) (totals_in qs) ≡ totals_in (ps ++ qs)
 totals-append ps qs = same-totals (plus (totals_in ps) (totals_in qs)) (totals_in (ps ++ qs)) (omega (arith, length-append ps qs)) (omega (arith, sum_by-append (λ (p : Descriptor). p.len) ps qs))
 
@@ -58,26 +47,6 @@ module _ (count : ℕ) (before ns : List (Node Kept)) (lost : Totals) (losses_be
     whole : packets_beneath (drop count before) ≡ (h.gone ++ beneath x) ++ packets_beneath (drop (suc count) ns)
     whole = h.back ∙ ap (λ ps. h.gone ++ ps) split ∙ sym (append_assoc h.gone (beneath x) (packets_beneath (drop (suc count) ns)))
 
-    lengths : length (packets_beneath (drop count before)) ≡ length h.gone + length (beneath x) + length (packets_beneath (drop (suc count) ns))
-    lengths = omega (arith, ap (λ xs. length xs) whole, length-append (h.gone ++ beneath x) (packets_beneath (drop (suc count) ns)), length-append h.gone (beneath x))
-
-    bytes : (totals_in (packets_beneath (drop count before))).bytes ≡ (totals_in h.gone).bytes + (totals_in (beneath x)).bytes + (totals_in (packets_beneath (drop (suc count) ns))).bytes
-    bytes = omega (
-      arith,
-      ap (λ ps. (totals_in ps).bytes) whole,
-      sum_by-append (λ (p : Descriptor). p.len) (h.gone ++ beneath x) (packets_beneath (drop (suc count) ns)),
-      sum_by-append (λ (p : Descriptor). p.len) h.gone (beneath x),
-    )
-
-    pub fits-packets : FitsCounters (packets_beneath (drop count before)) → lost.packets + length (beneath x) < 2 ^ 64
-    fits-packets fits = omega (arith, fits.packets, lengths, ap (λ (t : Totals). t.packets) h.totals)
-
-    pub fits-bytes : FitsCounters (packets_beneath (drop count before)) → lost.bytes + (totals_in (beneath x)).bytes < 2 ^ 64
-    fits-bytes fits = omega (arith, fits.bytes, bytes, ap (λ (t : Totals). t.bytes) h.totals)
-
-    pub has-room : length (packets_beneath (drop count before)) ≤ room_before → length (beneath x) ≤ room
-    has-room le = omega (arith, le, lengths, room-taken h.gone losses_before losses room_before room h.told)
-
     pub one-goes : (sum : Totals) → sum ≡ plus lost (totals_in (beneath x)) → (after : List Loss) (left : ℕ) → IsTold (purged (beneath x)) losses after room left
         → IsGoing count before (remove ns count) sum losses_before after room_before left
     one-goes sum sum_is after left told = record {
@@ -87,22 +56,3 @@ module _ (count : ℕ) (before ns : List (Node Kept)) (lost : Totals) (losses_be
       totals = sum_is ∙ ap (λ t. plus t (totals_in (beneath x))) h.totals ∙ totals-append h.gone (beneath x);
       told = told-both h.gone (beneath x) losses_before losses after room_before room left h.told told;
     }
-
-  -- none is behind them
-  module _ (done : length ns ≤ count) where
-    all-gone : packets_beneath (drop count before) ≡ h.gone
-    all-gone = h.back ∙ ap (λ xs. h.gone ++ packets_beneath xs) (none-behind ns count done) ∙ append-nil h.gone where
-      none-behind : (xs : List (Node Kept)) (k : ℕ) → length xs ≤ k → drop k xs ≡ []
-      none-behind [] zero le = refl
-      none-behind [] (suc k) le = refl
-      none-behind (x ∷ xs) zero le = absurd (omega (arith, le))
-      none-behind (x ∷ xs) (suc k) le = none-behind xs k (omega (arith, le))
-
-    pub stay : ns ≡ take count before
-    stay = sym (take_all count ns done) ∙ h.front
-
-    pub all-counted : lost ≡ totals_in (packets_beneath (drop count before))
-    all-counted = h.totals ∙ ap totals_in (sym all-gone)
-
-    pub all-told : IsTold (purged (packets_beneath (drop count before))) losses_before losses room_before room
-    all-told = subst (λ ps. IsTold (purged ps) losses_before losses room_before room) (sym all-gone) h.told

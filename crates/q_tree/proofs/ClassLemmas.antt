@@ -19,9 +19,6 @@ module _ (class : ℕ) (d : spec.Discipline) (s : Schedule) (ns items : List (No
       ∙ ap (λ p. option_and_then (λ i. option_map {U = ℕ × Node Kept} (λ (c : Node Kept). (i, c)) (slice_get ns i)) p) (sym place)
       ∙ ap (λ xs. option_and_then (λ i. option_map {U = ℕ × Node Kept} (λ (c : Node Kept). (i, c)) (slice_get xs i)) o) same
 
-  pub no-class : None ≡ place_of class s.classes → class_child class d ns ≡ None
-  no-class place = child-by None place
-
   pub found-class : (i : ℕ) (x : Node Kept) → Some i ≡ place_of class s.classes → i < length items → x ≡ slice_index_or items i x → class_child class d ns ≡ Some (i, x)
   found-class i x place lt at =
       let there = member_at items i lt in

@@ -1,6 +1,6 @@
 -- The packets and bytes of an fq_codel's flows, counted by its own numbers and packet by packet.
 use Rattle.std.proofs.Common.{◌≡◌, ℕ, ◌+◌, ◌∙◌, List, [], ◌∷◌, ◌++◌, length, refl, sym, ap, arith}
-use Rattle.std.specs.Prelude.{sum_by, ◌<◌}
+use Rattle.std.specs.Prelude.{sum_by}
 use Rattle.std.proofs.lemmas.List.{length-map}
 use Rattle.std.proofs.lemmas.List.Sums.{sum_by-cons, sum_by-append}
 use Rattle.q_packet.specs.Totals.{size}
@@ -9,10 +9,9 @@ use Rattle.q_packet.specs.declared.cause.Cause.{Cause}
 use Rattle.q_packet.specs.declared.stamped.Stamped.{Stamped}
 use Rattle.q_codel.specs.Losses as codel
 use Rattle.q_codel.specs.declared.loss.Loss.{Loss}
-use Rattle.q_fqcodel.specs.FqState.{Flow, FqState, packets_of, bytes_of, all_packets}
-use Rattle.q_fqcodel.specs.Put.{after_put, lost_by_put, flow_of}
+use Rattle.q_fqcodel.specs.FqState.{Flow, packets_of, bytes_of, all_packets}
 use Rattle.q_fqcodel.proofs.FlowLemmas.{packets_of-cons, packets_of-nil}
-use Rattle.q_fqcodel.proofs.LawLemmas.{all_packets-cons, put_keeps_all}
+use Rattle.q_fqcodel.proofs.LawLemmas.{all_packets-cons}
 use Rattle.q_model.specs.Beneath as beneath
 use Rattle.q_model.specs.Beneath.{totals_in}
 use Rattle.q_model.specs.Step.{losses_in}
@@ -64,17 +63,6 @@ packets-bare (s ∷ queue) = omega (arith, sum_by-cons one s queue, packets-bare
 pub bytes-bare : (queue : List Stamped) → (totals_in (beneath.packets_of queue)).bytes ≡ sum_by len queue
 bytes-bare [] = refl
 bytes-bare (s ∷ queue) = omega (arith, sum_by-cons len s queue, sum_by-cons (λ (p : Descriptor). p.len) s.packet (beneath.packets_of queue), bytes-bare queue)
-
--- what a put makes of both
-pub record IsCountedPut (s : FqState) (p : Descriptor) (now : ℕ) : Type 0 where
-  pub packets : packets_of (after_put s p now).flows + (totals_in (beneath.packets_of (lost_by_put s p now))).packets ≡ packets_of s.flows + 1
-  pub bytes : bytes_of (after_put s p now).flows + (totals_in (beneath.packets_of (lost_by_put s p now))).bytes ≡ bytes_of s.flows + p.len
-
-pub counted-put : (s : FqState) (p : Descriptor) (now : ℕ) → flow_of s p < length s.flows → IsCountedPut s p now
-counted-put s p now inside = record {
-  packets = omega (arith, put_keeps_all one s p now inside, packets-all s.flows, packets-all (after_put s p now).flows, packets-bare (lost_by_put s p now));
-  bytes = omega (arith, put_keeps_all len s p now inside, bytes-all s.flows, bytes-all (after_put s p now).flows, bytes-bare (lost_by_put s p now));
-}
 
 -- losses as a node notes them, and as a sink is told of them
 pub told-losses : (cause : Cause) (queue : List Stamped) → losses_in (losses_of cause (beneath.packets_of queue)) ≡ codel.losses_of cause queue

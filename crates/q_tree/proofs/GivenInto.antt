@@ -1,5 +1,5 @@
 -- A packet that a queue gave into the caller's place: what the call answered is what was queued.
-use Rattle.std.proofs.Common.{◌≡◌, ℕ, zero, suc, ◌<◌, List, [], ◌∷◌, Option, Some, None, option_to_list, length, refl, sym, ap, ap₂, arith}
+use Rattle.std.proofs.Common.{◌≡◌, ℕ, ◌<◌, List, [], ◌∷◌, Option, Some, None, length, refl, sym, ap, ap₂, arith}
 use Rattle.std.specs.Prelude.{Bool, false, not, ◌==◌}
 use Rattle.std.proofs.lemmas.Bool.{eqb-true, not-false}
 use Rattle.std.specs.Option.{option_map_or}
@@ -8,7 +8,6 @@ use Rattle.q_packet.specs.declared.stamped.Stamped.{Stamped}
 use Rattle.q_codel.specs.declared.taken.Taken.{Taken}
 use Rattle.q_model.specs.Beneath.{packets_of, totals_in}
 use Rattle.q_model.specs.Tally.{no_totals}
-use Rattle.q_tree.proofs.TakeCounts.{packet_of}
 
 -- its length is what the call answered
 pub head-len : (o : Option Stamped) (len : ℕ) (old new : Descriptor) → 0 < len → len ≡ option_map_or (λ (s : Stamped). s.packet.len) o 0 → new ≡ option_map_or (λ (s : Stamped). s.packet) o old → len ≡ new.len
@@ -21,15 +20,6 @@ pub sent-some : (sent : Option Taken) (len : ℕ) (marked : Bool) (old new : Des
     → sent ≡ Some (record { packet = new; marked = marked })
 sent-some None len marked old new some l m p = absurd (omega (arith, some, l))
 sent-some (Some t) len marked old new some l m p = ap₂ (λ (packet : Descriptor) (marked : Bool). Some (record { packet = packet; marked = marked })) (sym p) (sym m)
-
--- and one that gave none sends none: it has no packet to send
-pub sent-none : (sent : Option Taken) → length (option_to_list (packet_of sent)) ≡ 0 → sent ≡ None
-sent-none None none = refl
-sent-none (Some t) none = absurd (omega (arith, none))
-
-pub none-there : (packets len : ℕ) → len ≡ 0 → (0 < packets → 0 < len) → packets ≡ 0
-none-there zero len none has = refl
-none-there (suc n) len none has = absurd (omega (arith, none, has (omega arith)))
 
 -- and one that dropped no packet counts none
 pub none-dropped : (xs : List Stamped) → not (length xs == 0) ≡ false → no_totals ≡ totals_in (packets_of xs)

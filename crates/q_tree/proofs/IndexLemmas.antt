@@ -13,7 +13,7 @@ use Rattle.q_drr.proofs.DifferLemmas.{Differ, differ_from_pairs}
 use Rattle.q_drr.proofs.KeyLemmas.{has}
 use Rattle.q_drr.proofs.NameLemmas.{eqb_swap, eqb_sym}
 use Rattle.q_model.specs.Find.{Address, addresses, addresses_own, count_nodes, from_parent}
-use Rattle.q_model.specs.Node.{Forest, none, more, Node, children, each}
+use Rattle.q_model.specs.Node.{Forest, none, more, Node, each}
 use Rattle.q_invariants.proofs.EditHandles.{AreApart}
 use Rattle.q_invariants.proofs.Forests.{each-nodes}
 use Rattle.q_tree.specs.Index.{added, address_of, addresses_beneath, free_among, has_among, listed, own_address, path_among, under}
@@ -156,9 +156,6 @@ module _ (ns : List (Node Kept)) (i : ℕ) where
 
   pub none-left : length ns ≤ i → addresses_from i (drop i ns) ≡ []
   none-left past = ap (addresses_from i) (drop_all i ns past)
-
-pub from-first : (n : Node Kept) (ns : List (Node Kept)) → ns ≡ children n → addresses_from 0 ns ≡ addresses_beneath n
-from-first n ns is = ap (addresses_from 0) is
 
 -- ---- inserting
 

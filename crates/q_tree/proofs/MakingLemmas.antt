@@ -8,13 +8,12 @@ use Rattle.q_model.specs.declared.kind.Kind.{Kind}
 use Rattle.q_model.specs.declared.kind.Kind.TheVariants as kind
 use Rattle.q_model.specs.declared.row.Row.{Row}
 use Rattle.q_model.specs.Beneath.{beneath, beneath_own, totals_in}
-use Rattle.q_model.specs.Conserved.{held_beneath, held_own}
 use Rattle.q_model.specs.Make.{Device, made}
 use Rattle.q_model.specs.Node.{Forest, Node, Own, Shape, blank, children, side_by_side}
 use Rattle.q_model.specs.Ranges.{IsKind}
 use Rattle.q_model.specs.Tally.{history, no_counts, no_totals}
 use Rattle.q_invariants.proofs.EditMade.{new_made}
-use Rattle.q_invariants.proofs.EditNew.{IsNew, new_beneath, new_held}
+use Rattle.q_invariants.proofs.EditNew.{IsNew, new_beneath}
 use Rattle.q_invariants.proofs.Forests.{side-nodes}
 use Rattle.q_tree.specs.CountersSeen.{no_row}
 use Rattle.q_tree.specs.Kept.{Kept, kept}
@@ -30,9 +29,6 @@ more-new ns n s k old new =
     ∙ ap (map (blank kept)) (replicate_more k s)
 
 module _ (n : Node Kept) (s : Shape) (new : IsNewNode n s) where
-  pub new-own : n.own ≡ s.own
-  new-own = ap (λ (m : Node Kept). m.own) new
-
   pub new-counts : n.memory.counts ≡ no_counts
   new-counts = ap (λ (m : Node Kept). m.memory.counts) new
 
@@ -42,12 +38,6 @@ module _ (n : Node Kept) (s : Shape) (new : IsNewNode n s) where
         ap beneath new
         ∙ ap (beneath_own s.own) (each-each_memory beneath_own (λ u. kept.none) s.below ∙ sym (each-each_memory beneath_own (λ u. history.none) s.below))
         ∙ new_beneath mtu clock fresh s is
-
-    pub nothing-held : held_beneath n ≡ []
-    nothing-held =
-        ap held_beneath new
-        ∙ ap (held_own s.own) (each-each_memory held_own (λ u. kept.none) s.below ∙ sym (each-each_memory held_own (λ u. history.none) s.below))
-        ∙ new_held mtu clock fresh s is
 
 -- new children have counted no arrival
 abbrev Within : Node Kept → Type 0

@@ -138,10 +138,6 @@ set-places (n ∷ ns) zero x x2 is grow way (suc j) = omega arith
 set-places (n ∷ ns) (suc i) x x2 is grow way zero = omega arith
 set-places (n ∷ ns) (suc i) x x2 is grow way (suc j) = set-places ns i x x2 is grow way j
 
-pub only-places : (x x2 : Node Kept) → ((way : List ℕ) → places_at way x ≤ places_at way x2) → (way : List ℕ) (j : ℕ) → places_under way j (x ∷ []) ≤ places_under way j (x2 ∷ [])
-only-places x x2 grow way zero = grow way
-only-places x x2 grow way (suc j) = omega arith
-
 -- at a node and beneath it
 pub seen-places : (a : Inside) (d : Discipline) → places_seen a.discipline ≤ places_seen d → ((way : List ℕ) (i : ℕ) → places_under way i (children_seen a.discipline) ≤ places_under way i (children_seen d))
     → (n : Node Kept) → seen a ≡ n → (way : List ℕ) → places_at way n ≤ places_at way (seen (record a { discipline = d }))

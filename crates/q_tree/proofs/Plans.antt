@@ -34,12 +34,11 @@ use Rattle.q_invariants.proofs.EditChildren.{gone_is, gone_none, kept_there, kid
 use Rattle.q_invariants.proofs.EditSuits.{done_is, length-shape, node_at-shape}
 use Rattle.q_invariants.proofs.Forests.{side-nodes}
 use Rattle.q_invariants.proofs.MadeSizes.{count-shape, depth-shape}
-use Rattle.q_tree.specs.Commanding.{WantsMemory}
-use Rattle.q_tree.specs.Commands.{IsAnswered, IsBounded, IsDone, IsPlanned, IsPlannedFor, IsPlanOf, IsRefused, device_edited, plan_of, told}
+use Rattle.q_tree.specs.Commands.{IsAnswered, IsBounded, IsDone, IsPlanned, IsPlannedFor, IsPlanOf, IsRefused, device_edited, told}
 use Rattle.q_tree.specs.Editing.{IsReady, LosesNothing, TakesMemory, edited_by, effect, removed, removed_at}
 use Rattle.q_tree.specs.DisciplineChanges.{KeepsAll, children_after, discipline_after, lost_with}
 use Rattle.q_tree.specs.Kept.{Kept, kept}
-use Rattle.q_tree.specs.Planning.{IsLawful, IsPlanBy, device_of, planned_by, root_of}
+use Rattle.q_tree.specs.Planning.{IsLawful, root_of}
 use Rattle.q_tree.specs.TreeSeen.{IsKeptDevice, numbers, tree_numbers}
 use Rattle.q_tree.specs.declared.commands.edit.Edit.{Edit}
 use Rattle.q_tree.specs.declared.commands.edit.Edit.TheVariants.{Graft, AddFilter, RemoveFilters, DisciplineChange}
@@ -48,7 +47,7 @@ use Rattle.q_tree.specs.declared.commands.discipline_change.DisciplineChange.The
 use Rattle.q_tree.specs.declared.commands.planned.Planned.{Planned}
 use Rattle.q_tree.specs.declared.commands.planner.Planner.{Planner}
 use Rattle.q_tree.specs.declared.tree.Tree.TheInside.{Inside}
-use Rattle.q_tree.proofs.TreeLemmas.{lawful-root, same-shape, stands}
+use Rattle.q_tree.proofs.TreeLemmas.{same-shape, stands}
 use Rattle.q_tree.specs.Showing.{IsNumbered}
 use Rattle.q_tree.proofs.TreePuts.{levels}
 
@@ -73,14 +72,6 @@ numbers-after e path now d after p is = done-numbers now p.edit d after (is ∙ 
 pub err-passed : {T : Type 0} (r : Result T Refusal) (e : Refusal) (P : Result T Refusal → Type 0) → IsErrAnd r (λ q. q ≡ e) → P (Err e) → P r
 err-passed (Ok t) e P same p = absurd same
 err-passed (Err q) e P same p = subst (λ x. P (Err x)) (sym same) p
-
--- what is planned over the tree of a device, as it stands now, is planned in it
-pub planned-in : (p : Planner) (command : Command) (now : ℕ) (d : DeviceState Kept) (answer : Result Planned Refusal) → device_of p ≡ d.tree.device → root_of p ≡ d.tree.root → p.moment ≡ now
-    → IsPlanBy p (WantsMemory command (planned_by p command)) command answer → IsPlanOf (WantsMemory command (plan_of command now d)) command now d.tree.device d.tree.root answer
-planned-in p command now d answer device_is root_is moment_is h =
-    subst (λ n. IsPlanOf (WantsMemory command (plan d.tree.device now command (shape n))) command now d.tree.device n answer) root_is
-    (subst (λ v. IsPlanOf (WantsMemory command (plan v now command (shape (root_of p)))) command now v (root_of p) answer) device_is
-    (subst (λ t. IsPlanOf (WantsMemory command (plan (device_of p) t command (shape (root_of p)))) command t (device_of p) (root_of p) answer) moment_is h))
 
 module _ (memory : Type 0) (command : Command) (d : DeviceState Kept) (now : ℕ) (answer : Result Planned Refusal) (is_plan : IsPlanOf memory command now d.tree.device d.tree.root answer) where
   abbrev planned : Result model.Edit Refusal
@@ -225,9 +216,6 @@ bounded a k = record {
   levels = levels a k;
   nodes = omega (arith, k.keeps.few, count-shape k.history.root, count-shape a.root, ap (λ (s : Shape). count_nodes s) (same-shape a k));
 }
-
-pub numbered : (a : Inside) (k : IsKeptDevice a) → IsNumbered a.root
-numbered a k = record { mtu = a.mtu; clock = a.clock; lawful = lawful-root a k a.clock (omega arith) k.keeps.moment }
 
 -- those of the tree over which a command is planned
 pub bounded-by : (p : Planner) → IsBounded (root_of p)

@@ -245,7 +245,3 @@ pub set-within : (ns : List (Node Kept)) (k : ℕ) (c c2 : Node Kept) → slice_
     → All (λ (child : Node Kept). IsCountedWithin child.memory.counts.arrived t) ns → All (λ (child : Node Kept). IsCountedWithin child.memory.counts.arrived t) (set ns k c2)
 set-within ns k c c2 at same t h =
     All-set (λ (child : Node Kept). IsCountedWithin child.memory.counts.arrived t) ns k c2 (subst (λ (x : Totals). IsCountedWithin x t) (sym same) (All-at (λ (child : Node Kept). IsCountedWithin child.memory.counts.arrived t) ns k c h at)) h
-
--- the same, for a node as the code has it
-pub at-node : (a b : Inside) (n : Node Kept) (packet : Option Descriptor) → seen a ≡ n → IsPoppedAs (seen a) b packet → IsPoppedAs n b packet
-at-node a b n packet view h = subst (λ (m : Node Kept). IsPoppedAs m b packet) view h

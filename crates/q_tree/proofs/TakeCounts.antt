@@ -1,12 +1,11 @@
 -- What a take from an fq_codel counts: what CoDel dropped and marked, by the numbers of its flows before and after.
-use Rattle.std.proofs.Common.{◌≡◌, ℕ, ◌+◌, ◌∙◌, List, [], ◌∷◌, ◌++◌, length, refl, sym, ap, ap₂, Option, Some, None, option_map, option_to_list, subst, arith}
+use Rattle.std.proofs.Common.{◌≡◌, ℕ, ◌+◌, ◌∙◌, List, [], ◌∷◌, ◌++◌, length, refl, sym, ap₂, Option, Some, None, option_map, option_to_list, subst, arith}
 use Rattle.std.specs.Prelude.{Bool, true, false, if◌then◌else◌}
 use Rattle.std.specs.Option.{option_map_or}
 use Rattle.std.proofs.lemmas.List.{append-nil}
 use Rattle.std.proofs.lemmas.List.Elements.{filter_map-append}
 use Rattle.q_packet.specs.Descriptor.{Descriptor}
 use Rattle.q_packet.specs.declared.cause.Cause.TheVariants.{CoDel}
-use Rattle.q_packet.specs.declared.stamped.Stamped.{Stamped}
 use Rattle.q_codel.specs.Losses as codel
 use Rattle.q_codel.specs.declared.loss.Loss.{Loss}
 use Rattle.q_codel.specs.declared.taken.Taken.{Taken}
@@ -22,7 +21,7 @@ use Rattle.q_model.specs.Tally.{Note, Marked, no_counts, no_totals, counts_in, w
 use Rattle.q_model.specs.Work.{losses_of}
 use Rattle.q_invariants.proofs.Answer.{one}
 use Rattle.q_invariants.proofs.Counted.{bytes, all-more}
-use Rattle.q_invariants.proofs.FlowNotes.{take-weighs, nothing-dropped, lost-marks, quiet-marks}
+use Rattle.q_invariants.proofs.FlowNotes.{take-weighs, lost-marks, quiet-marks}
 use Rattle.q_invariants.proofs.Weights.{weigh-count, marked, marked-nil, marked-cons, dropped-append, marked-append, dropped-losses, marked-losses}
 use Rattle.q_tree.specs.AskSteps.{IsShown, IsTold, IsToldOf}
 use Rattle.q_tree.specs.Shown.{Shown}
@@ -123,10 +122,6 @@ flow-shown now q s packet gone marks own below =
           (omega (arith, z.marked_packets, marked-append one (losses_of CoDel lost) (marks_of sent), marked-losses one CoDel lost, marks-packets sent))
           (omega (arith, z.marked_bytes, marked-append bytes (losses_of CoDel lost) (marks_of sent), marked-losses bytes CoDel lost, marks-bytes sent));
     }
-
--- where nothing is sent, nothing is dropped
-pub nothing-taken : (now : ℕ) (q : FqState) → sent_from now (selected q) ≡ None → no_totals ≡ totals_in (beneath.packets_of (dropped_from now (selected q)))
-nothing-taken now q none = sym (ap (λ (queue : List Stamped). totals_in (beneath.packets_of queue)) (nothing-dropped now (selected q) (ap packet_of none)))
 
 -- what a sink is told of it
 pub flow-losses : (now : ℕ) (q : FqState) (own : Own) (below : List Asked) → losses_in (ask_fq_codel now own below q).rises ≡ codel.losses_of CoDel (dropped_from now (selected q))

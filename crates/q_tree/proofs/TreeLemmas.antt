@@ -38,7 +38,7 @@ use Rattle.q_tree.proofs.Asking.{asked-weighs}
 use Rattle.q_tree.proofs.Forms.{noted-kept}
 use Rattle.q_tree.proofs.Peeks.{popped-asked, hand-asked}
 use Rattle.q_tree.proofs.Rows.{counts_in_row}
-use Rattle.q_tree.proofs.RowsOf.{IsRowOf, can-show, row-shown, row-popped}
+use Rattle.q_tree.proofs.RowsOf.{IsRowOf, can-show, row-shown}
 
 pub stands : StandsFor kept totals (λ (k : Kept). k.counts)
 stands = record { nothing = refl; one_more = λ m n. refl }
@@ -181,9 +181,6 @@ module _ (a : Inside) (k : IsKeptDevice a) where
           offered : (ask now (shape a.root)).shown ≡ Some p
           offered = sym shown.packet ∙ some
 
-          pub at-hand : (pop root).shown ≡ Some p
-          at-hand = (popped-asked now a.root root p can-ask-root new offered).at_hand
-
           module _ (r2 : Row) (row2 : r2 ≡ with_sent p r) (root2 : Node Kept) (left : root2 ≡ booked kept root (pop root).after) (b : Inside) (is : b ≡ record a { clock = now; top = r2; root = root2 }) where
             pub one-taken : tree_seen b ≡ record { clock = now; tree = take_packet kept now (tree_seen a).tree }
             one-taken =
@@ -198,10 +195,3 @@ module _ (a : Inside) (k : IsKeptDevice a) where
                 ap tree_seen is
                 ∙ (λ i. record { clock = now; tree = record { device = (tree_seen a).tree.device; top = top i; root = gone i } })
                 ∙ ap (λ t. record { clock = now; tree = t }) (sym tree)
-
-            pub one-kept : root.memory.counts.arrived ≡ a.root.memory.counts.arrived → root2.memory.counts.arrived ≡ root.memory.counts.arrived → IsKeptDevice b
-            one-kept arrived arrived2 =
-                let popped : IsRowOf r2 root2 = subst (λ (y : Row). IsRowOf y root2) (sym row2) (subst (IsRowOf (with_sent p r)) (sym left) (row-popped root r shown-row p at-hand)) in
-                taken-kept b (ap (λ (y : Inside). y.clock) is) (ap (λ (d : DeviceState Kept). d.tree) one-taken) (subst (λ (y : Inside). y.top.queued ≡ totals_in (beneath y.root)) (sym is) popped.queued)
-                (subst (λ (y : Inside). IsCountedWithin y.root.memory.counts.arrived y.top.arrived) (sym is)
-                (subst (λ (t : Totals). IsCountedWithin t r2.arrived) (sym arrived2) (subst (λ (t : Totals). IsCountedWithin root.memory.counts.arrived t) (sym (ap (λ (y : Row). y.arrived) row2)) (shown-within arrived))))

@@ -32,7 +32,6 @@ drrs_on [] n = Some []
 drrs_on (i ∷ path) n =
     option_and_then (λ (d : DrrClass). option_map (λ (rest : List DrrClass). d ∷ rest) (option_and_then (drrs_on path) (slice_get (children n) i))) (drr_class i n.own)
 
--- whether a tbf is here or below
 abbrev pub is_tbf : Discipline → Bool
 is_tbf (Tbf bucket limit) = true
 is_tbf (Fifo limit queue) = false
@@ -40,6 +39,7 @@ is_tbf (Prio priomap) = false
 is_tbf (Drr s) = false
 is_tbf (FqCodel s) = false
 
+-- whether a tbf stands here or beneath
 abbrev pub has_tbf : {M : Type 0} → Node M → Bool
 has_tbf n = from_below (λ own below. is_tbf own.discipline || list_any (λ b. b) below) n
 
@@ -73,9 +73,6 @@ share_among c classes = record { quantum = c.quantum; quanta = sum_by (λ (k : C
 
 abbrev pub share_of : DrrClass → Share
 share_of d = share_among d.class d.classes
-
-abbrev pub link_of : Way → Option Link
-link_of w = w.link
 
 abbrev pub shares_of : Way → List Share
 shares_of w = map share_of w.drrs

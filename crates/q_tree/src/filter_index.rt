@@ -1,4 +1,4 @@
-ghost use Rattle.std.specs.Prelude.{◌≡◌, ◌<◌, ◌≤◌, ◌+◌, IfOk, List, OnOk, Some, false, length, slice_get, true, ℕ};
+ghost use Rattle.std.specs.Prelude.{◌≡◌, ◌<◌, ◌≤◌, ◌+◌, IfOk, Some, false, length, slice_get, true, ℕ};
 ghost use Rattle.std.specs.List.{find};
 ghost use Rattle.std.specs.Option.{IfSome};
 ghost use Rattle.q_model.specs.Filters.{matches, named_class};

@@ -1,4 +1,4 @@
-ghost use Rattle.std.specs.Prelude.{◌≡◌, ◌==◌, [], IfOk, OnErr, OnOk, length, nat_le, not, slice_get};
+ghost use Rattle.std.specs.Prelude.{◌≡◌, ◌==◌, [], IfOk, OnErr, OnOk, length, nat_le, not};
 ghost use Rattle.std.specs.List.{filter, take_while};
 ghost use Rattle.std.specs.Option.{IfSome};
 ghost use Rattle.q_model.specs.Filters.{named_class, with_filter};

@@ -1,6 +1,9 @@
 //! The tree of queueing disciplines.
 //!
-//! - [`Tree`] has the qdiscs of a device: packets are routed, put, peeked at and taken.
+//! - [`Tree`] has the qdiscs of a device: packets are routed, put, peeked at and taken. [`Tree::arrive`] routes and puts a packet in
+//!   one call, [`Tree::send`] takes one into the caller's place, and [`Tree::ready_at`] is when the next take may give one.
+//! - [`Route`] is the way of a packet down from the root, and [`Way`] that of a class: [`Link`] is the tbf at its root, and
+//!   [`Share`] a class of a drr on it, in numbers.
 //! - [`Command`] is a change of the tree, [`Kind`] a qdisc with its options, [`Place`] where it goes.
 //! - [`Refusal`] is why a change was not made, [`Row`] what a node counted, [`NodeView`], [`ClassView`] and
 //!   [`FilterView`] are what `show` prints, and [`ListedFlows`] how many flows an fq_codel has listed. [`Nodes`] goes over all

@@ -26,6 +26,7 @@ impl Tree {
 }
 
 impl Node {
+    /// How many flows it has listed, if it is an fq_codel.
     pub(crate) fn listed_flows(&self) -> Option<ListedFlows>
         ensures { result ≡ listed_flows self.now.own.discipline }
     {

@@ -81,10 +81,6 @@ impl Model for Node {
 }
 
 impl Node {
-    ghost use Rattle.q_model.specs.Make.{node_of};
-    ghost use Rattle.q_model.specs.Node as spec;
-    ghost use Rattle.q_model.specs.Tally.{no_counts};
-
     /// Whether nothing is queued at the node or below it.
     pub(crate) fn is_empty(&self) -> bool
         ensures { result ≡ is_empty self.now }

@@ -24,6 +24,7 @@ pub(crate) struct Outlook {
 }
 
 impl Outlook {
+    /// It never shows a packet.
     pub(crate) const NO_PACKET: Outlook = Outlook {
         at: None,
         least: 0,

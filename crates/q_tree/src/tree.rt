@@ -240,8 +240,8 @@ impl Tree {
         route
     }
 
-    /// Makes the place that a packet on this route needs. Of the calls for a packet it alone takes memory, and none for one that
-    /// is refused.
+    /// Makes the place that a packet on this route needs. Of `route`, `prepare` and `put` it alone allocates, and for a packet that is
+    /// refused it does not.
     ///
     /// # Errors
     ///

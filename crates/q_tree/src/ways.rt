@@ -57,9 +57,7 @@ impl Node {
         ensures shares { option_map (λ w. w.shares.items) result ≡ option_map shares_of (way_from path.now self.now self.now.own.discipline) }
         ensures ranges { IfSome result (λ w. All IsShare w.shares.items) }
     {
-        let Some((&place, rest)) = path.split_first() else {
-            return None;
-        };
+        let (&place, rest) = path.split_first()?;
         match &self.discipline {
             Discipline::Tbf { bucket, child, .. } => {
                 let link = Link {

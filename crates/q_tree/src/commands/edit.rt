@@ -1,9 +1,7 @@
 ghost use Rattle.std.specs.Prelude.{◌≡◌, ◌≤◌, IsSome, Ok, OnErr, OnOk, Some, length, slice_get};
-ghost use Rattle.std.specs.List.{filter};
 ghost use Rattle.q_model.specs.Beneath.{totals_in};
 ghost use Rattle.q_model.specs.Find.{node_at};
 ghost use Rattle.q_model.specs.Node as spec;
-ghost use Rattle.q_model.specs.declared.filter.Filter.{Filter};
 ghost use Rattle.q_tree.specs.AskSteps.{IsTold};
 ghost use Rattle.q_tree.specs.Editing.{IsEditedBeneath, IsReady, TakesMemory, adds_nodes, edited_by, effect, removed, removed_at};
 ghost use Rattle.q_tree.specs.Kept.{Kept};

@@ -37,7 +37,6 @@ pub(crate) struct Handles {
 }
 
 impl Model for Handles {
-    ghost use Rattle.q_tree.specs.Editing.{TakesMemory, adds_nodes};
     ghost use Rattle.q_tree.specs.Index.{Index, index_code};
 
     ghost Value = { Index };

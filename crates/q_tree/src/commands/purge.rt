@@ -8,7 +8,7 @@ ghost use Rattle.q_tree.specs.PutSteps.{packets_beneath};
 use crate::held::Held;
 use crate::node::{Discipline, Node};
 use q_codel::Sink;
-use q_packet::{Cause, Packet};
+use q_packet::Cause;
 
 impl Node {
     /// Removes the node with all that is below it. Lost are the packet that it holds, those of its own queue, and then those

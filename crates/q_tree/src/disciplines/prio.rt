@@ -1,5 +1,5 @@
 //! prio: how one is made, chooses a band, dequeues, shows its packet, is ready, and changes (tc-prio(8)).
-ghost use Rattle.std.specs.Prelude.{◌≡◌, ◌<◌, ◌≤◌, ◌+◌, ◌-◌, IfOk, Ok, OnErr, OnOk, drop, length, map, nat_lt, replicate, slice_index, take, unwrap_or};
+ghost use Rattle.std.specs.Prelude.{◌≡◌, ◌<◌, ◌≤◌, ◌-◌, IfOk, Ok, OnErr, OnOk, drop, length, map, nat_lt, replicate, slice_index, take, unwrap_or};
 ghost use Rattle.std.specs.List.{list_any};
 ghost use Rattle.std.specs.Option.{option_map_or};
 ghost use Rattle.q_invariants.proofs.SizedChanges.{change_sized};
