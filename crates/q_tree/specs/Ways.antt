@@ -39,7 +39,7 @@ is_tbf (Prio priomap) = false
 is_tbf (Drr s) = false
 is_tbf (FqCodel s) = false
 
--- whether a tbf stands here or beneath
+-- whether a tbf is here or below
 abbrev pub has_tbf : {M : Type 0} → Node M → Bool
 has_tbf n = from_below (λ own below. is_tbf own.discipline || list_any (λ b. b) below) n
 
