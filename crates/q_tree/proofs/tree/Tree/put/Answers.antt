@@ -10,8 +10,8 @@ arrive_counted-requires-clause-counted g c = record {
   bytes = omega (arith, c.requires.ready.bytes, ap (λ (r : RouteSeen). r.len) c.requires.route);
 }
 
-pub returns-in_ok-clause-after : goal.returns-in_ok-clause-after
-returns-in_ok-clause-after g c = c.in-Ok.ensures.exact (subst (λ (r : RouteSeen). CanArrive r c.args.self.now) c.requires.route c.requires.ready)
+pub returns-in-Ok-clause-after : goal.returns-in-Ok-clause-after
+returns-in-Ok-clause-after g c = c.in-Ok.ensures.exact (subst (λ (r : RouteSeen). CanArrive r c.args.self.now) c.requires.route c.requires.ready)
 
-pub prove-unreachable-requires : goal.prove-unreachable-requires
-prove-unreachable-requires g c = absurd (false≢true (c.in-Err.ensures.succeeds (subst (λ (r : RouteSeen). CanArrive r c.args.self.now) c.requires.route c.requires.ready)))
+pub unreachable-requires : goal.unreachable-requires
+unreachable-requires g c = false≢true (c.in-Err.ensures.succeeds (subst (λ (r : RouteSeen). CanArrive r c.args.self.now) c.requires.route c.requires.ready))
