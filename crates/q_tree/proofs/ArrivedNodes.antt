@@ -162,6 +162,14 @@ module _ (now : ℕ) (p : Descriptor) (a : Inside) (n : Node Kept) (k : IsKept a
           becomes = come-done.after;
           arrived = ap (λ (x : Row). x.arrived) row_is;
           outcome = come-done.outcome;
+          in_place = λ there.
+              let same = h.in_place (place-within there) in
+              (λ j. record {
+                own = record { handle = a.handle; discipline = h.is_placed.discipline j; held = a.held; filters = a.filters };
+                memory = record { counts = (seen a).memory.counts; places = same.places j };
+                below = side_by_side (same.children j);
+              })
+              ∙ view;
         }
 
 -- where memory was refused beneath it

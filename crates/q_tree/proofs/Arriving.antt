@@ -21,7 +21,7 @@ use Rattle.q_model.specs.Beneath.{is_empty}
 use Rattle.q_model.specs.Filters.{named_class}
 use Rattle.q_model.specs.Find.{node_at}
 use Rattle.q_model.specs.Node as spec
-use Rattle.q_model.specs.Node.{Own, Node, Shape, shape, side_by_side}
+use Rattle.q_model.specs.Node.{Own, Node, Shape, shape}
 use Rattle.q_model.specs.Put.{put_along}
 use Rattle.q_model.specs.Route.{Route, route, way, ends, refused, through, class_at}
 use Rattle.q_model.specs.Tally.{Note, Lost, Counts, counted, no_counts, no_totals, with_packet}
@@ -29,7 +29,7 @@ use Rattle.q_model.specs.Work.{settled_in}
 use Rattle.q_model.proofs.ShrinkLemmas.{each-each_memory, shape-with_memory}
 use Rattle.q_tree.specs.Ahead.{ways}
 use Rattle.q_tree.specs.Arrivals.{HasPlace, HasPlaceIn}
-use Rattle.q_tree.specs.ArriveSteps.{HasCome, HasComeIn, HasPlaceOn, IsPlaced, IsPlacedIn, IsPutOn, rises_along, way_in, IsPutInFlow}
+use Rattle.q_tree.specs.ArriveSteps.{HasCome, HasComeIn, HasPlaceOn, IsAsPlaced, IsPlaced, IsPlacedIn, IsPutOn, rises_along, way_in, IsPutInFlow}
 use Rattle.q_tree.specs.AskSteps.{IsTold, IsToldOf, own_of}
 use Rattle.q_tree.specs.Kept.{Kept}
 use Rattle.q_tree.specs.Places.{unplaced, places_under}
@@ -39,7 +39,7 @@ use Rattle.q_tree.specs.declared.node.Discipline.{Discipline}
 use Rattle.q_tree.specs.declared.node.Discipline.TheVariants as code
 use Rattle.q_tree.specs.declared.outcome.Outcome.{Outcome}
 use Rattle.q_tree.proofs.HereLemmas.{queued-flow, told-here}
-use Rattle.q_tree.proofs.PlacesLemmas.{set-places, set-there, set-unplaced}
+use Rattle.q_tree.proofs.PlacesLemmas.{set-back, set-places, set-there, set-unplaced}
 
 -- ---- places
 
@@ -96,39 +96,20 @@ refused-in now p cause filters d o ls ls2 r r2 refusal way q same is told room =
     notes_are = refl;
   });
   told = record { lost = told ∙ ap (λ (x : Descriptor). ls ++ record { packet = x; cause = cause } ∷ []) same; room_taken = room };
-}
-
--- in a fifo
-pub queued-in-fifo : (now : ℕ) (p : Descriptor) (filters : List Filter) (f f2 : FifoState) (places : ℕ) (o : Outcome) (ls ls2 : List Loss) (r r2 : ℕ) → takes f.limit f.packets p.len ≡ true → f.places ≤ places
-    → length f.packets < places → f2 ≡ record { packets = f.packets ++ record { packet = p; at = now } ∷ []; limit = f.limit; places = places } → o ≡ record { loss = None; refused = no_totals; dropped = no_totals }
-    → ls2 ≡ ls → r2 ≡ r → HasComeIn now p filters (code.Fifo f) (code.Fifo f2) o ls ls2 r r2
-queued-in-fifo now p filters f f2 places o ls ls2 r r2 fits grows room is out told taken = record {
-  placed = code.Fifo (record f { places = places });
-  is_placed = record { discipline = refl; children = refl; places = grows; grows = λ way i. omega arith };
-  notes = [];
-  put = subst (λ b. IsPutOn now p (if b then ends else refused OverLimit).refusal (if b then ends else refused OverLimit).path (code.Fifo (record f { places = places })) (code.Fifo f2) o []) (sym fits) (record {
-    place = λ none. room;
-    queued = record {
-      discipline = ap (λ (x : FifoState). spec.Fifo x.limit x.packets) is;
-      children = refl;
-      places = ap (λ (x : FifoState). x.places) is;
-      outcome = record { loss = ap (λ (x : Outcome). x.loss) out; refused = ap (λ (x : Outcome). x.refused) out; dropped = ap (λ (x : Outcome). x.dropped) out };
-    };
-    notes_are = refl;
-  });
-  told = record { lost = told ∙ sym (append-nil ls); room_taken = omega (arith, taken) };
+  in_place = λ there. record { children = refl; places = refl };
 }
 
 -- in an fq_codel
 pub queued-in-flows : (now : ℕ) (p : Descriptor) (filters : List Filter) (before placed after : Discipline) (s : FqState) (o : Outcome) (notes : List Note) (ls ls2 : List Loss) (r r2 : ℕ) → discipline_seen before ≡ spec.FqCodel s
     → IsPlacedIn before placed → HasPlaceIn (places_seen placed) (discipline_seen placed) → IsQueued now p None placed after o → notes ≡ rises_here now p None (discipline_seen placed)
-    → IsToldOf notes ls ls2 r r2 → HasComeIn now p filters before after o ls ls2 r r2
-queued-in-flows now p filters before placed after s o notes ls ls2 r r2 is h room queued are told = record {
+    → IsToldOf notes ls ls2 r r2 → (((way_in p filters before).refusal ≡ None → HasPlaceOn (way_in p filters before).path before) → IsAsPlaced before placed) → HasComeIn now p filters before after o ls ls2 r r2
+queued-in-flows now p filters before placed after s o notes ls ls2 r r2 is h room queued are told stays = record {
   placed = placed;
   is_placed = h;
   notes = notes;
   put = subst (λ (w : Route). IsPutOn now p w.refusal w.path placed after o notes) (sym (ap (λ d. way p (own_of None filters d) (ways p (children_seen before)) d) is)) (record { place = λ none. room; queued = queued; notes_are = are });
   told = told;
+  in_place = stays;
 }
 
 -- ---- where it goes on
@@ -143,6 +124,13 @@ module _ (now : ℕ) (p : Descriptor) (filters : List Filter) (before placed aft
     (is : x ≡ slice_index_or ns i x) (to : way_in p filters before ≡ through (ways p ns) i) where
   on : slice_get ns i ≡ Some x
   on = slice_get_read ns (length ns) i x refl inside is
+
+  -- the place that is there for the discipline's way is there for the child's
+  pub place-below : ((way_in p filters before).refusal ≡ None → HasPlaceOn (way_in p filters before).path before) → (route p x).refusal ≡ None → HasPlace (route p x).path x
+  place-below h none =
+      let w : way_in p filters before ≡ record { path = i ∷ (route p x).path; refusal = (route p x).refusal } = to ∙ through-at p ns i x on in
+      let there : HasPlaceOn (i ∷ (route p x).path) before = subst (λ (v : Route). HasPlaceOn v.path before) w (h (ap (λ (v : Route). v.refusal) w ∙ none)) in
+      subst (λ (y : Option (Node Kept)). IfSome (option_and_then (node_at (route p x).path) y) (λ (end : Node Kept). HasPlaceIn end.memory.places end.own.discipline)) (ap (λ xs. slice_get xs i) kids ∙ on) there
 
   pub gone-in : (h : HasCome now p x x2 o) → children_seen placed ≡ set ns i h.placed → discipline_seen placed ≡ discipline_seen before → places_seen placed ≡ places_seen before → children_seen after ≡ set ns i x2
       → places_seen after ≡ places_seen before → discipline_seen after ≡ settled_in i (is_empty (put_along now p (route p x).refusal (route p x).path (shape h.placed)).node) (discipline_seen before)
@@ -167,14 +155,11 @@ module _ (now : ℕ) (p : Descriptor) (filters : List Filter) (before placed aft
           notes_are = ap (λ (s : Shape). (put_along now p (route p x).refusal (route p x).path s).rises) (sym (same-shape x h.placed h.is_placed.same));
         });
         told = told;
+        in_place = λ place. record {
+          children = kids2 ∙ ap (set ns i) (h.in_place (place-below place)) ∙ set-back ns i x is ∙ sym kids;
+          places = places2;
+        };
       }
-
-  -- the place that is there for the discipline's way is there for the child's
-  pub place-below : ((way_in p filters before).refusal ≡ None → HasPlaceOn (way_in p filters before).path before) → (route p x).refusal ≡ None → HasPlace (route p x).path x
-  place-below h none =
-      let w : way_in p filters before ≡ record { path = i ∷ (route p x).path; refusal = (route p x).refusal } = to ∙ through-at p ns i x on in
-      let there : HasPlaceOn (i ∷ (route p x).path) before = subst (λ (v : Route). HasPlaceOn v.path before) w (h (ap (λ (v : Route). v.refusal) w ∙ none)) in
-      subst (λ (y : Option (Node Kept)). IfSome (option_and_then (node_at (route p x).path) y) (λ (end : Node Kept). HasPlaceIn end.memory.places end.own.discipline)) (ap (λ xs. slice_get xs i) kids ∙ on) there
 
 -- ---- by what the discipline is
 
@@ -213,14 +198,36 @@ module _ (p : Descriptor) (filters : List Filter) (d : Discipline) where
       by None = refl
       by (Some minor) = refl
 
+-- what a fifo made of it
+pub queued-in-fifo : (now : ℕ) (p : Descriptor) (filters : List Filter) (f f2 : FifoState) (places : ℕ) (o : Outcome) (ls ls2 : List Loss) (r r2 : ℕ) → takes f.limit f.packets p.len ≡ true → f.places ≤ places
+    → length f.packets < places → (length f.packets < f.places → places ≡ f.places) → f2 ≡ record { packets = f.packets ++ record { packet = p; at = now } ∷ []; limit = f.limit; places = places } → o ≡ record { loss = None; refused = no_totals; dropped = no_totals }
+    → ls2 ≡ ls → r2 ≡ r → HasComeIn now p filters (code.Fifo f) (code.Fifo f2) o ls ls2 r r2
+queued-in-fifo now p filters f f2 places o ls ls2 r r2 fits grows room stays is out told taken = record {
+  placed = code.Fifo (record f { places = places });
+  is_placed = record { discipline = refl; children = refl; places = grows; grows = λ way i. omega arith };
+  notes = [];
+  put = subst (λ b. IsPutOn now p (if b then ends else refused OverLimit).refusal (if b then ends else refused OverLimit).path (code.Fifo (record f { places = places })) (code.Fifo f2) o []) (sym fits) (record {
+    place = λ none. room;
+    queued = record {
+      discipline = ap (λ (x : FifoState). spec.Fifo x.limit x.packets) is;
+      children = refl;
+      places = ap (λ (x : FifoState). x.places) is;
+      outcome = record { loss = ap (λ (x : Outcome). x.loss) out; refused = ap (λ (x : Outcome). x.refused) out; dropped = ap (λ (x : Outcome). x.dropped) out };
+    };
+    notes_are = refl;
+  });
+  told = record { lost = told ∙ sym (append-nil ls); room_taken = omega (arith, taken) };
+  in_place = λ there. record { children = refl; places = stays (fifo-place p filters (code.Fifo f) f refl there fits) };
+}
+
 -- what an fq_codel made of it
 pub flows-after : (now : ℕ) (p : Descriptor) (filters : List Filter) (before placed after : Discipline) (s s2 : FqState) (places : ℕ) (res : Result Outcome AllocError) (ls ls2 : List Loss) (r r2 : ℕ)
     → discipline_seen before ≡ spec.FqCodel s → children_seen before ≡ [] → places_seen before ≤ places → discipline_seen placed ≡ spec.FqCodel s → children_seen placed ≡ [] → places_seen placed ≡ places
     → discipline_seen after ≡ spec.FqCodel s2 → children_seen after ≡ [] → places_seen after ≡ places
-    → OnOk res (packets_of s.flows < places) → IfOk res (λ o. IsPutInFlow now p s s2 o ls ls2 r r2)
+    → OnOk res (packets_of s.flows < places) → (packets_of s.flows < places_seen before → places ≡ places_seen before) → IfOk res (λ o. IsPutInFlow now p s s2 o ls ls2 r r2)
     → IfOk res (λ o. HasComeIn now p filters before after o ls ls2 r r2)
-flows-after now p filters before placed after s s2 places (Err e) ls ls2 r r2 is kids more isP kidsP placesP isA kidsA placesA room put = tt
-flows-after now p filters before placed after s s2 places (Ok o) ls ls2 r r2 is kids more isP kidsP placesP isA kidsA placesA room put =
+flows-after now p filters before placed after s s2 places (Err e) ls ls2 r r2 is kids more isP kidsP placesP isA kidsA placesA room stays put = tt
+flows-after now p filters before placed after s s2 places (Ok o) ls ls2 r r2 is kids more isP kidsP placesP isA kidsA placesA room stays put =
     queued-in-flows now p filters before placed after s o (rises_here now p None (discipline_seen placed)) ls ls2 r r2 is
     (record {
       discipline = isP ∙ sym is;
@@ -232,6 +239,7 @@ flows-after now p filters before placed after s s2 places (Ok o) ls ls2 r r2 is 
     (queued-flow now p None placed after s s2 o refl isP isA (kidsA ∙ sym kidsP) (placesA ∙ sym placesP) put.after put.loss put.refused put.dropped)
     refl
     (subst (λ xs. IsTold xs ls ls2 r r2) (sym (told-here now p None placed s refl isP)) put.told)
+    (λ there. record { children = kidsP ∙ sym kids; places = placesP ∙ stays (flows-place p filters before s (places_seen before) is refl there) })
 
 -- ---- where a child was asked, by what it answered
 

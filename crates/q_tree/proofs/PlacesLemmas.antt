@@ -32,6 +32,12 @@ set-unplaced [] i x x2 is e = refl
 set-unplaced (n ∷ ns) zero x x2 is e = ap (λ (y : Node Counts). y ∷ map unplaced ns) (e ∙ ap unplaced is)
 set-unplaced (n ∷ ns) (suc i) x x2 is e = ap (λ (ys : List (Node Counts)). unplaced n ∷ ys) (set-unplaced ns i x x2 is e)
 
+-- a child put back as it was
+pub set-back : (ns : List (Node Kept)) (i : ℕ) (x : Node Kept) → x ≡ slice_index_or ns i x → set ns i x ≡ ns
+set-back [] i x is = refl
+set-back (n ∷ ns) zero x is = ap (λ (y : Node Kept). y ∷ ns) is
+set-back (n ∷ ns) (suc i) x is = ap (λ (ys : List (Node Kept)). n ∷ ys) (set-back ns i x is)
+
 pub set-there : (ns : List (Node Kept)) (i : ℕ) (x : Node Kept) → i < length ns → slice_get (set ns i x) i ≡ Some x
 set-there [] i x e = absurd (omega (arith, e))
 set-there (n ∷ ns) zero x e = refl

@@ -1,17 +1,16 @@
 -- A packet that is put along its way: what each node on it can rely on, and what it is then.
 use Rattle.std.proofs.Common.{◌≡◌, ℕ, zero, suc, ◌≤◌, ◌<◌, ◌∙◌, List, [], ◌∷◌, ◌++◌, map, set, length, refl, sym, ap, subst, Option, Some, None, option_and_then, arith}
-use Rattle.std.specs.Prelude.{Bool, true, false, All, IfSome, slice_get, slice_index_or, ◌==◌, if◌then◌else◌, nat_lt}
+use Rattle.std.specs.Prelude.{Bool, All, IfSome, slice_get, slice_index_or, ◌==◌, if◌then◌else◌}
 use Rattle.std.specs.List.{flat_map}
 use Rattle.std.specs.Option.{option_map_or, option_to_list}
 use Rattle.std.proofs.lemmas.Nat.{mod_below}
-use Rattle.std.proofs.lemmas.Option.{none-some, same_Some, get_or_from_slice_get}
+use Rattle.std.proofs.lemmas.Option.{same_Some, get_or_from_slice_get}
 use Rattle.std.proofs.lemmas.List.{length-append}
 use Rattle.std.proofs.lemmas.List.Sums.{sum_by-append}
 use Rattle.std.proofs.lemmas.List.Elements.{All-nil, All-cons, All-head, All-tail, All-set}
-use Rattle.q_packet.specs.Cause.{is_refusal}
 use Rattle.q_packet.specs.Descriptor.{Descriptor}
 use Rattle.q_packet.specs.declared.cause.Cause.{Cause}
-use Rattle.q_packet.specs.declared.cause.Cause.TheVariants.{TooLong, NoClass, OverLimit, FatFlow}
+use Rattle.q_packet.specs.declared.cause.Cause.TheVariants.{FatFlow}
 use Rattle.q_codel.specs.FifoState.{takes}
 use Rattle.q_fqcodel.specs.FqState.{FqState, all_packets}
 use Rattle.q_fqcodel.specs.Put.{flow_of}
@@ -22,10 +21,9 @@ use Rattle.q_model.specs.Conserved.{held_own, held_beneath, IsBalanced, AreMarks
 use Rattle.q_model.specs.Find.{node_at}
 use Rattle.q_model.specs.Lawful.{IsLawfulOwn}
 use Rattle.q_model.specs.Node as spec
-use Rattle.q_model.specs.Node.{Own, Node, Shape, Forest, shape, each, children, side_by_side, nodes_in}
+use Rattle.q_model.specs.Node.{Node, Shape, shape, each, children, side_by_side}
 use Rattle.q_model.specs.Put.{put_here, put_along, put_beneath, drops_itself}
-use Rattle.q_model.specs.Route.{Route, route, way, ends, refused, through, band_of, class_at}
-use Rattle.q_model.specs.Filters.{named_class}
+use Rattle.q_model.specs.Route.{Route, route, way, ends, through}
 use Rattle.q_model.specs.Tally.{Note, Arrived, noted, totals, with_packet}
 use Rattle.q_model.specs.TreeState.{loss_at_end}
 use Rattle.q_model.specs.Work.{Work, Worked, worked, quiet, booked, each_booked, settled_in}
@@ -34,15 +32,14 @@ use Rattle.q_invariants.proofs.Weights.{weigh, weigh-count}
 use Rattle.q_invariants.proofs.Answer.{one}
 use Rattle.q_invariants.proofs.Counted.{bytes}
 use Rattle.q_invariants.proofs.Told.{IsRootTold, root-memory, root-booked}
-use Rattle.q_invariants.proofs.Forests.{nodes-side, lawful-with_memory, each-side}
+use Rattle.q_invariants.proofs.Forests.{nodes-side, lawful-with_memory}
 use Rattle.q_invariants.proofs.Members.{All-at}
 use Rattle.q_invariants.proofs.Quiet.{child-lawful}
 use Rattle.q_invariants.proofs.PutHere.{IsPut}
 use Rattle.q_invariants.proofs.Puts.{along-put}
-use Rattle.q_invariants.proofs.Ways.{nil-cons, way-ends, route-goes}
+use Rattle.q_invariants.proofs.Ways.{route-goes}
 use Rattle.q_tree.specs.Arrivals.{CanCount, HasPlaceIn, CanPut, IsOutcome, IsLostOf, with_arrival}
 use Rattle.q_tree.specs.Kept.{Kept, kept}
-use Rattle.q_tree.specs.PutSteps as steps
 use Rattle.q_tree.specs.PutSteps.{CanFlow, CanPutInto, IsQueued, IsPutInto, after_here, rises_here, loss_here, packets_beneath}
 use Rattle.q_tree.specs.Seen.{seen, discipline_seen, children_seen, places_seen, IsKept, IsCountedWithin}
 use Rattle.q_tree.specs.declared.node.Discipline.{Discipline}
@@ -94,7 +91,7 @@ module _ (now : ℕ) (p : Descriptor) (path : List ℕ) (refusal : Option Cause)
 
 -- a way that goes on: through a child that is there, into which the packet can be put
 pub goes-on : (now : ℕ) (p : Descriptor) (refusal : Option Cause) (i : ℕ) (rest : List ℕ) (a : Inside) → IsKept a → CanPut now p (i ∷ rest) refusal (seen a)
-    → CanPutInto now p refusal rest i (discipline_seen a.discipline) (children_seen a.discipline)
+    → CanPutInto now p refusal rest i (children_seen a.discipline)
 goes-on now p refusal i rest a kept_a h =
     let on = route-goes p (seen a) i rest refusal h.way in
     let there : slice_get (children_seen a.discipline) i ≡ Some on.child = ap (λ xs. slice_get xs i) (sym (nodes-side (children_seen a.discipline))) ∙ on.there in
@@ -111,19 +108,10 @@ goes-on now p refusal i rest a kept_a h =
             let within = child-within (children_seen a.discipline) i on.child kept_a.within there in
             record { packets = omega (arith, within.packets, h.counts.packets); bytes = omega (arith, within.bytes, h.counts.bytes) };
       };
-      passes = on.passes;
     }
   where
     child-within : (ns : List (Node Kept)) (k : ℕ) (c : Node Kept) → All (λ (child : Node Kept). IsCountedWithin child.memory.counts.arrived a.row.arrived) ns → slice_get ns k ≡ Some c → IsCountedWithin c.memory.counts.arrived a.row.arrived
     child-within ns k c all e = All-at (λ (child : Node Kept). IsCountedWithin child.memory.counts.arrived a.row.arrived) ns k c all e
-
--- a way through a child does not end here, and one that names no child is refused for that
-through-refused : (below : List Route) (i : ℕ) (cause : Cause) → through below i ≡ refused cause → is_refusal cause ≡ true
-through-refused below i cause e = by (slice_get below i) e
-  where
-    by : (o : Option Route) → option_map_or (λ (r : Route). record r { path = i ∷ r.path }) o (refused NoClass) ≡ refused cause → is_refusal cause ≡ true
-    by None w = ap is_refusal (sym (same_Some NoClass cause (ap (λ (r : Route). r.refusal) w)))
-    by (Some r) w = absurd (nil-cons i r.path (sym (ap (λ (r : Route). r.path) w)))
 
 -- a part of what is queued
 pub part-packets : (xs ys zs : List Descriptor) (n : ℕ) → n ≡ length (xs ++ ys ++ zs) → length ys ≤ n
@@ -159,46 +147,6 @@ module _ (now : ℕ) (p : Descriptor) (a : Inside) (k : IsKept a) where
           bytes = omega (arith, counts.bytes, balanced.bytes, own-bytes, ap (λ (d : spec.Discipline). (totals_in (packets_in d)).bytes) e, bytes-bare (all_packets s.flows), bytes-all s.flows);
         };
       }
-
-  queues : (mtu : ℕ) (d : spec.Discipline) → discipline_seen a.discipline ≡ d → IsLawfulOwn mtu now (seen a).own (each beneath_own (seen a).below) → CanCount a.row.arrived p
-      → way p (seen a).own (each (λ own below. way p own below own.discipline) (seen a).below) d ≡ ends → steps.Queues p d
-  queues mtu (spec.Fifo limit queue) e h counts w = by (takes limit queue p.len) refl w
-    where
-      by : (b : Bool) → takes limit queue p.len ≡ b → (if b then ends else refused OverLimit) ≡ ends → takes limit queue p.len ≡ true
-      by true t w = t
-      by false t w = absurd (none-some OverLimit (sym (ap (λ (r : Route). r.refusal) w)))
-  queues mtu (spec.FqCodel s) e h counts w = can-flow mtu s e h counts
-  queues mtu (spec.Prio priomap) e h counts w = absurd (way-ends p (seen a).own (each (λ own below. way p own below own.discipline) (seen a).below) (spec.Prio priomap) w)
-  queues mtu (spec.Tbf b limit) e h counts w = absurd (way-ends p (seen a).own (each (λ own below. way p own below own.discipline) (seen a).below) (spec.Tbf b limit) w)
-  queues mtu (spec.Drr s) e h counts w = absurd (way-ends p (seen a).own (each (λ own below. way p own below own.discipline) (seen a).below) (spec.Drr s) w)
-
-  -- a cause at the end of a way is one of a refusal
-  refusing : (d : spec.Discipline) (cause : Cause) → way p (seen a).own (each (λ own below. way p own below own.discipline) (seen a).below) d ≡ refused cause → is_refusal cause ≡ true
-  refusing (spec.Fifo limit queue) cause w = by (takes limit queue p.len) w
-    where
-      by : (b : Bool) → (if b then ends else refused OverLimit) ≡ refused cause → is_refusal cause ≡ true
-      by true w = absurd (none-some cause (ap (λ (r : Route). r.refusal) w))
-      by false w = ap is_refusal (sym (same_Some OverLimit cause (ap (λ (r : Route). r.refusal) w)))
-  refusing (spec.FqCodel s) cause w = absurd (none-some cause (ap (λ (r : Route). r.refusal) w))
-  refusing (spec.Prio priomap) cause w = through-refused (each (λ own below. way p own below own.discipline) (seen a).below) (band_of (seen a).own priomap p) cause w
-  refusing (spec.Tbf b limit) cause w = by (nat_lt b.burst p.len) w
-    where
-      by : (long : Bool) → (if long then refused TooLong else through (each (λ own below. way p own below own.discipline) (seen a).below) 0) ≡ refused cause → is_refusal cause ≡ true
-      by true w = ap is_refusal (sym (same_Some TooLong cause (ap (λ (r : Route). r.refusal) w)))
-      by false w = through-refused (each (λ own below. way p own below own.discipline) (seen a).below) 0 cause w
-  refusing (spec.Drr s) cause w = by (named_class a.filters p) w
-    where
-      found : (o : Option ℕ) → option_map_or (through (each (λ own below. way p own below own.discipline) (seen a).below)) o (refused NoClass) ≡ refused cause → is_refusal cause ≡ true
-      found None w = ap is_refusal (sym (same_Some NoClass cause (ap (λ (r : Route). r.refusal) w)))
-      found (Some i) w = through-refused (each (λ own below. way p own below own.discipline) (seen a).below) i cause w
-
-      by : (o : Option ℕ) → (elim o [ None ↦ refused NoClass | Some minor ↦ option_map_or (through (each (λ own below. way p own below own.discipline) (seen a).below)) (class_at minor s) (refused NoClass) ]) ≡ refused cause → is_refusal cause ≡ true
-      by None w = ap is_refusal (sym (same_Some NoClass cause (ap (λ (r : Route). r.refusal) w)))
-      by (Some minor) w = found (class_at minor s) w
-
-  pub ends-here : (refusal : Option Cause) → CanPut now p [] refusal (seen a) → steps.CanQueue p refusal (places_seen a.discipline) (discipline_seen a.discipline)
-  ends-here (Some cause) h = refusing (discipline_seen a.discipline) cause h.way
-  ends-here None h = (queues h.mtu (discipline_seen a.discipline) refl h.lawful.0 h.counts h.way, h.place refl)
 
 -- the work at a node where the way ends
 here-is : (now : ℕ) (p : Descriptor) (refusal : Option Cause) (s : Shape) → put_here now p refusal s ≡ record {
@@ -330,37 +278,11 @@ is-empty-put now p path refusal n h = ap (λ (packets : List Descriptor). length
 pub same-child : (ns : List (Node Kept)) (i : ℕ) (x c : Node Kept) → x ≡ slice_index_or ns i x → slice_get ns i ≡ Some c → x ≡ c
 same-child ns i x c is at = is ∙ get_or_from_slice_get ns i c x at
 
-pub put-into : (now : ℕ) (p : Descriptor) (refusal : Option Cause) (rest : List ℕ) (i : ℕ) (before after : Discipline) (ns : List (Node Kept)) (x x2 c : Node Kept) (o : Outcome)
-    → children_seen before ≡ ns → x ≡ slice_index_or ns i x → slice_get (children_seen before) i ≡ Some c
-    → x2 ≡ booked kept x (put_along now p refusal rest (shape x)).node → x2.memory.counts.arrived ≡ with_packet x.memory.counts.arrived p
-    → IsOutcome (loss_at_end now p (shape x) (record { path = rest; refusal = refusal })) (put_along now p refusal rest (shape x)).rises o
-    → children_seen after ≡ set ns i x2 → places_seen after ≡ places_seen before
-    → discipline_seen after ≡ settled_in i (is_empty (put_along now p refusal rest (shape x)).node) (discipline_seen before)
-    → IsPutInto now p refusal rest i before after c o
-put-into now p refusal rest i before after ns x x2 c o kids is at new arrived out kids2 places discipline =
-    subst (λ (y : Node Kept). IsPutInto now p refusal rest i before after y o) (same-child ns i x c is (ap (λ xs. slice_get xs i) (sym kids) ∙ at)) (record {
-      children = kids2 ∙ ap (λ y. set ns i y) new ∙ ap (λ xs. set xs i (booked kept x (put_along now p refusal rest (shape x)).node)) (sym kids);
-      discipline = discipline;
-      arrived = sym (ap (λ (y : Node Kept). y.memory.counts.arrived) new) ∙ arrived;
-      places = places;
-      outcome = out;
-    })
-
 -- the packets beneath a child are among those beneath the node
 pub child-packets : (ns : List (Node Kept)) (i : ℕ) (c : Node Kept) → slice_get ns i ≡ Some c → length (beneath c) ≤ length (packets_beneath ns)
 child-packets [] i c e = cc
 child-packets (n ∷ ns) zero c e = omega (arith, ap (λ (x : Node Kept). length (beneath x)) (same_Some n c e), length-append (beneath n) (packets_beneath ns))
 child-packets (n ∷ ns) (suc i) c e = omega (arith, child-packets ns i c e, length-append (beneath n) (packets_beneath ns))
-
-pub all-packets : (a : Inside) (n : Node Kept) → seen a ≡ n → length (packets_beneath (children_seen a.discipline)) ≤ length (beneath n)
-all-packets a n e =
-    let deep : List Descriptor = flat_map (λ packets. packets) (each beneath_own (side_by_side (children_seen a.discipline))) in
-    omega (
-      arith,
-      ap (λ (x : Node Kept). length (beneath x)) e,
-      ap (λ (bs : List (List Descriptor)). length (flat_map (λ packets. packets) bs)) (each-side beneath_own (children_seen a.discipline)),
-      length-append (option_to_list a.held ++ packets_in (discipline_seen a.discipline)) deep,
-    )
 
 -- the same, for a node and a way as the code has them
 can-at : (now : ℕ) (p : Descriptor) (refusal : Option Cause) (a : Inside) (n : Node Kept) (path path2 : List ℕ) → seen a ≡ n → path ≡ path2 → CanPut now p path refusal n → CanPut now p path2 refusal (seen a)
@@ -371,9 +293,6 @@ done-at now p refusal a n path path2 b o view e h = subst (λ (m : Node Kept). I
 
 module _ (now : ℕ) (p : Descriptor) (refusal : Option Cause) (a : Inside) (n : Node Kept) (path : List ℕ) (k : IsKept a) (view : seen a ≡ n) (h : CanPut now p path refusal n) where
   module _ (e : path ≡ []) where
-    pub here-can : steps.CanQueue p refusal (places_seen a.discipline) (discipline_seen a.discipline)
-    here-can = ends-here now p a k refusal (can-at now p refusal a n path [] view e h)
-
     pub here-lost : (d : Discipline) (o : Outcome) → IsQueued now p refusal a.discipline d o → IsLostOf p o a.row.queued
     here-lost d o q = lost-at now p [] refusal a k (can-at now p refusal a n path [] view e h) o (here-outcome now p refusal a d o q)
 
@@ -387,7 +306,7 @@ module _ (now : ℕ) (p : Descriptor) (refusal : Option Cause) (a : Inside) (n :
         ∙ ap (λ (x : Work). x.rises) (here-is now p refusal (shape (seen a)))
 
   module _ (i : ℕ) (rest : List ℕ) (e : path ≡ i ∷ rest) where
-    pub on-into : CanPutInto now p refusal rest i (discipline_seen a.discipline) (children_seen a.discipline)
+    pub on-into : CanPutInto now p refusal rest i (children_seen a.discipline)
     on-into = goes-on now p refusal i rest a k (can-at now p refusal a n path (i ∷ rest) view e h)
 
     on-there : slice_get (children (seen a)) i ≡ Some on-into.child

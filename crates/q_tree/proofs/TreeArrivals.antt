@@ -44,6 +44,7 @@ above-root now p mtu n m o long same q packet is = subst (λ b. HasComeBelow now
     refused = ap (λ (x : Outcome). x.refused) is ∙ ap (with_packet no_totals) packet ∙ sym (ap (λ (c : Counts). c.refused) (refusal-counted p TooLong refl));
     dropped = ap (λ (x : Outcome). x.dropped) is ∙ sym (ap (λ (c : Counts). c.dropped) (refusal-counted p TooLong refl));
   };
+  in_place = λ there. refl;
 })
 
 pub above-told : (now : ℕ) (p : Descriptor) (mtu : ℕ) (n : Node Kept) (ls ls2 : List Loss) (r r2 : ℕ) → mtu < p.len → (q : Descriptor) → q ≡ p → ls2 ≡ ls ++ record { packet = q; cause = TooLong } ∷ [] → r2 + 1 ≡ r
@@ -59,6 +60,7 @@ at-root now p mtu n m (Ok o) short h = subst (λ b. HasComeBelow now p (if b the
   becomes = h.becomes;
   arrived = inl h.arrived;
   outcome = h.outcome;
+  in_place = h.in_place;
 })
 
 pub at-root-told : (now : ℕ) (p : Descriptor) (mtu : ℕ) (n : Node Kept) (res : Result Outcome AllocError) (ls ls2 : List Loss) (r r2 : ℕ) → p.len ≤ mtu → OnOk res (IsToldOf (rises_along now p n) ls ls2 r r2)
@@ -133,6 +135,12 @@ module _ (a : Inside) (k : IsIndexedDevice a) (now : ℕ) (p : Descriptor) (late
           ∙ ap (λ (t : TreeState Counts). record { clock = now; tree = t })
           (put-stands kept totals (λ (m : Kept). m.counts) stands now p (tree_seen (record a { root = h.placed })).tree
           ∙ ap (λ (d : DeviceState Counts). put totals now p d.tree) (placed-numbers a k h.placed h.is_placed))
+
+      -- where the place was there, places are as they were
+      pub tree-exact : CanArrive (route_seen p a.mtu a.root) (tree_seen a) → tree_seen (record a { clock = now; top = row; root = after }) ≡ record { clock = now; tree = put kept now p (tree_seen a).tree }
+      tree-exact can =
+          put-tree (record a { root = h.placed }) mid-kept p now later low byte (device_route p a.mtu a.root) mid-route mid-ready o h.outcome row row_is after h.becomes (record a { clock = now; top = row; root = after }) refl
+          ∙ ap (λ (n : Node Kept). record { clock = now; tree = put kept now p (tree_seen (record a { root = n })).tree }) (h.in_place can.place)
 
       tree-form : IsSameForm a.root after
       tree-form =

@@ -27,7 +27,7 @@ use Rattle.q_invariants.proofs.Weights.{arrived-nil, arrived-cons, sent-nil, sen
 use Rattle.q_tree.specs.Arrivals.{CanPut, HasPlace, IsOutcome, IsLostOf, with_arrival}
 use Rattle.q_tree.specs.Kept.{Kept, kept}
 use Rattle.q_tree.specs.Places.{unplaced, places_at}
-use Rattle.q_tree.specs.RouteSeen.{RouteSeen, route_seen}
+use Rattle.q_tree.specs.RouteSeen.{RouteSeen}
 use Rattle.q_tree.specs.Seen.{IsCountedWithin}
 use Rattle.q_tree.specs.TreeSeen.{tree_seen, numbers, tree_numbers, IsKeptDevice, CanArrive, IsArrived, IsRouteIn}
 use Rattle.q_tree.specs.declared.outcome.Outcome.{Outcome}
@@ -72,10 +72,6 @@ same-routes p n m mtu e =
 -- a root that a packet never reaches
 pub still : (n : Node Kept) → booked kept n (quiet (shape n)) ≡ n
 still n = ap (λ b. record { own = n.own; memory = n.memory; below = b }) (booked-quiet kept n.below)
-
--- a packet that can arrive on its own route
-pub ready-for : (r : RouteSeen) (p : Descriptor) (mtu : ℕ) (root : Node Kept) (d e : DeviceState Kept) → r ≡ route_seen p mtu root → d ≡ e → CanArrive r e → CanArrive (record { len = p.len; route = r.route }) d
-ready-for r p mtu root d e is same h = subst (λ n. CanArrive (record { len = n; route = r.route }) d) (ap (λ (x : RouteSeen). x.len) is) (subst (CanArrive r) (sym same) h)
 
 -- what could arrive can arrive where the numbers are the same and no queue has fewer places
 pub arrives-still : (r : RouteSeen) (d e : DeviceState Kept) → numbers e ≡ numbers d → ((path : List ℕ) → places_at path d.tree.root ≤ places_at path e.tree.root) → CanArrive r d → CanArrive r e

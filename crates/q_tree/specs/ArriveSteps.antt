@@ -82,7 +82,7 @@ pub record IsPlacedIn (before after : Discipline) : Type 0 where
 abbrev pub rises_along : ℕ → Descriptor → spec.Node Kept → List Note
 rises_along now p n = (put_along now p (route p n).refusal (route p n).path (shape n)).rises
 
--- the packet came to the node: once its place was made, it was put along its route
+-- the packet came to the node: once its place was made, it was put along its route; where the place was there, nothing was made
 pub record HasCome (now : ℕ) (p : Descriptor) (before after : spec.Node Kept) (o : Outcome) : Type 0 where
   pub placed : spec.Node Kept
   pub is_placed : IsPlaced before placed
@@ -90,6 +90,7 @@ pub record HasCome (now : ℕ) (p : Descriptor) (before after : spec.Node Kept) 
   pub becomes : after ≡ booked kept placed (put_along now p (route p before).refusal (route p before).path (shape placed)).node
   pub arrived : after.memory.counts.arrived ≡ with_packet placed.memory.counts.arrived p
   pub outcome : IsOutcome (loss_at_end now p (shape placed) (route p before)) (put_along now p (route p before).refusal (route p before).path (shape placed)).rises o
+  pub in_place : ((route p before).refusal ≡ None → HasPlace (route p before).path before) → placed ≡ before
 
 -- the path from a discipline that has these filters
 abbrev pub way_in : Descriptor → List Filter → Discipline → Route
@@ -118,6 +119,11 @@ abbrev pub IsPutOn : ℕ → Descriptor → Option Cause → List ℕ → Discip
 IsPutOn now p refusal [] placed after o notes = HasEnded now p refusal placed after o notes
 IsPutOn now p refusal (i ∷ rest) placed after o notes = HasGone now p refusal i rest placed after o notes
 
+-- no place was made in a discipline
+pub record IsAsPlaced (before after : Discipline) : Type 0 where
+  pub children : children_seen after ≡ children_seen before
+  pub places : places_seen after ≡ places_seen before
+
 -- the packet came to a discipline, and a sink got its losses
 pub record HasComeIn (now : ℕ) (p : Descriptor) (filters : List Filter) (before after : Discipline) (o : Outcome) (losses losses_after : List Loss) (room room_after : ℕ) : Type 0 where
   pub placed : Discipline
@@ -125,6 +131,7 @@ pub record HasComeIn (now : ℕ) (p : Descriptor) (filters : List Filter) (befor
   pub notes : List Note
   pub put : IsPutOn now p (way_in p filters before).refusal (way_in p filters before).path placed after o notes
   pub told : IsToldOf notes losses losses_after room room_after
+  pub in_place : ((way_in p filters before).refusal ≡ None → HasPlaceOn (way_in p filters before).path before) → IsAsPlaced before placed
 
 -- the packet came to the root, or was refused above it
 pub record HasComeBelow (now : ℕ) (p : Descriptor) (r : Option Route) (before after : spec.Node Kept) (o : Outcome) : Type 0 where
@@ -134,3 +141,4 @@ pub record HasComeBelow (now : ℕ) (p : Descriptor) (r : Option Route) (before 
   pub becomes : after ≡ booked kept placed (put_on now p r (shape placed)).node
   pub arrived : IsArrived p placed after
   pub outcome : IsOutcome (loss_on now p r (shape placed)) (put_on now p r (shape placed)).rises o
+  pub in_place : IfSome r (λ (x : Route). x.refusal ≡ None → HasPlace x.path before) → placed ≡ before

@@ -1,11 +1,9 @@
 -- What putting a packet comes to at one node of its path: in its own queue where the path ends, else in one of its children.
 -- tc-pfifo(8), tc-drr(8), tc-fq_codel(8).
-use Rattle.std.specs.Prelude.{◌≡◌, ℕ, ◌<◌, length, true, List, [], map, set, slice_get, Option, Some, None}
+use Rattle.std.specs.Prelude.{◌≡◌, ℕ, ◌<◌, length, List, [], map, set, slice_get, Option, Some, None}
 use Rattle.std.specs.List.{flat_map}
-use Rattle.q_packet.specs.Cause.{is_refusal}
 use Rattle.q_packet.specs.Descriptor.{Descriptor}
 use Rattle.q_packet.specs.declared.cause.Cause.{Cause}
-use Rattle.q_codel.specs.FifoState.{takes}
 use Rattle.q_fqcodel.specs.FqState.{FqState, packets_of, bytes_of}
 use Rattle.q_fqcodel.specs.Put.{flow_of}
 use Rattle.q_model.specs.Beneath.{beneath, is_empty}
@@ -16,8 +14,7 @@ use Rattle.q_model.specs.Put.{put_here, put_along}
 use Rattle.q_model.specs.Tally.{Note, with_packet}
 use Rattle.q_model.specs.TreeState.{loss_at_end}
 use Rattle.q_model.specs.Work.{booked, settled_in}
-use Rattle.q_invariants.proofs.Ways.{CanPass}
-use Rattle.q_tree.specs.Arrivals.{CanCount, HasPlaceIn, CanPut, IsOutcome}
+use Rattle.q_tree.specs.Arrivals.{CanCount, CanPut, IsOutcome}
 use Rattle.q_tree.specs.Kept.{Kept, kept}
 use Rattle.q_tree.specs.Seen.{discipline_seen, children_seen, places_seen}
 use Rattle.q_tree.specs.declared.node.Discipline.{Discipline}
@@ -27,19 +24,6 @@ use Rattle.q_tree.specs.declared.outcome.Outcome.{Outcome}
 pub record CanFlow (p : Descriptor) (s : FqState) : Type 0 where
   pub flow : flow_of s p < length s.flows
   pub counts : CanCount (record { packets = packets_of s.flows; bytes = bytes_of s.flows }) p
-
--- a queue that takes the packet: a fifo below its limit, or an fq_codel
-abbrev pub Queues : Descriptor → spec.Discipline → Type 0
-Queues p (spec.Fifo limit queue) = takes limit queue p.len ≡ true
-Queues p (spec.FqCodel s) = CanFlow p s
-Queues p (spec.Prio priomap) = ⊥
-Queues p (spec.Tbf bucket limit) = ⊥
-Queues p (spec.Drr s) = ⊥
-
--- the path ends here: in a refusal, or in a queue that takes the packet and has a place for it
-abbrev pub CanQueue : Descriptor → Option Cause → ℕ → spec.Discipline → Type 0
-CanQueue p (Some cause) places d = is_refusal cause ≡ true
-CanQueue p None places d = Queues p d × HasPlaceIn places d
 
 -- what putting it comes to at a node with this discipline where the path ends: what is reported, what is left, and the packet's own loss
 abbrev pub rises_here : ℕ → Descriptor → Option Cause → spec.Discipline → List Note
@@ -58,11 +42,10 @@ pub record IsQueued (now : ℕ) (p : Descriptor) (refusal : Option Cause) (befor
   pub outcome : IsOutcome (loss_here now p refusal (discipline_seen before)) (rises_here now p refusal (discipline_seen before)) o
 
 -- the path goes on: the child is there, and the packet can be put into it
-pub record CanPutInto (now : ℕ) (p : Descriptor) (refusal : Option Cause) (rest : List ℕ) (place : ℕ) (d : spec.Discipline) (children : List (spec.Node Kept)) : Type 0 where
+pub record CanPutInto (now : ℕ) (p : Descriptor) (refusal : Option Cause) (rest : List ℕ) (place : ℕ) (children : List (spec.Node Kept)) : Type 0 where
   pub child : spec.Node Kept
   pub there : slice_get children place ≡ Some child
   pub can : CanPut now p rest refusal child
-  pub passes : CanPass p d
 
 -- the child has the packet then, and a class of a drr is active while its child has something queued
 pub record IsPutInto (now : ℕ) (p : Descriptor) (refusal : Option Cause) (rest : List ℕ) (place : ℕ) (before after : Discipline) (c : spec.Node Kept) (o : Outcome) : Type 0 where

@@ -6,9 +6,9 @@ ghost use Rattle.q_tree.specs.Arrivals.{CanCount, IsLostOf, with_arrival};
 ghost use Rattle.q_tree.specs.ArriveSteps.{nothing_lost};
 ghost use Rattle.q_tree.specs.AskSteps.{IsTold};
 
-use crate::booking::{NOTHING, book_arrival as book_outcome};
+use crate::booking::{NOTHING, book_outcome, one_packet};
 use crate::counters::Counters;
-use crate::outcome::{Outcome, refuse as refused};
+use crate::outcome::Outcome;
 use crate::tree::fate_of;
 use q_codel::Sink;
 use q_model::Fate;
@@ -102,7 +102,12 @@ pub(crate) fn refuse<S: Sink>(
     ensures told { IsTold (record { packet = packet.now; cause = cause } ∷ []) (S.losses sink.old) (S.losses sink.new) (S.room sink.old) (S.room sink.new) }
     ensures kept { S.keeps sink.old sink.new }
 {
-    *lost = refused(*packet, cause, sink);
+    sink.lost(*packet, cause);
+    *lost = Outcome {
+        loss: Some(cause),
+        refused: one_packet(packet),
+        dropped: NOTHING,
+    };
     Arrived::with(lost)
 }
 

@@ -31,7 +31,7 @@ pub(crate) fn one_packet(packet: &Packet) -> Totals
 
 /// Books a packet that has arrived, with all that was lost for it at the node or below.
 #[inline(never)]
-pub(crate) fn book_arrival(row: &mut Counters, packet: &Packet, outcome: &Outcome)
+pub(crate) fn book_outcome(row: &mut Counters, packet: &Packet, outcome: &Outcome)
     requires balanced { IsBalanced row.old }
     requires room { CanCount row.old.arrived packet.now }
     requires lost { IsLostOf packet.now outcome.now row.old.queued }

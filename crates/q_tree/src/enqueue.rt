@@ -11,6 +11,7 @@ ghost use Rattle.q_packet.specs.Descriptor.{Descriptor};
 ghost use Rattle.q_tree.specs.Arrivals.{CanCount, HasPlace};
 ghost use Rattle.q_tree.specs.ArriveSteps.{CanCome, CanComeIn, CanKeep, HasCome, HasComeBelow, HasComeIn, HasPlaceOn, IsPlaced, IsPlacedIn, nothing_lost, rises_along, way_in};
 ghost use Rattle.q_tree.specs.AskSteps.{IsToldOf, packets_within};
+ghost use Rattle.q_tree.specs.Kept.{kept};
 ghost use Rattle.q_tree.specs.Places.{places_at};
 ghost use Rattle.q_tree.specs.RouteSeen.{RouteSeen, route_seen};
 ghost use Rattle.q_tree.specs.TreeSeen.{CanArrive, numbers, tree_numbers};
@@ -89,6 +90,7 @@ impl Tree {
         requires sink { length (beneath self.old.tree.root) + 1 ≤ S.room sink.old }
         ensures fate { IfOk result (λ fate. fate ≡ fate_of (own_loss now packet.now self.old.tree.device (shape self.old.tree.root))) }
         ensures after { OnOk result (numbers self.new ≡ record { clock = now; tree = put totals now packet.now (tree_numbers self.old.tree) }) }
+        ensures exact { OnOk result (CanArrive (route_seen packet.now self.old.tree.device.mtu self.old.tree.root) self.old → self.new ≡ record { clock = now; tree = put kept now packet.now self.old.tree }) }
         ensures lost { OnOk result (S.losses sink.new ≡ S.losses sink.old ++ losses_in (noted_by_put now packet.now self.old.tree)) }
         ensures room { OnOk result (S.room sink.new + length (losses_in (noted_by_put now packet.now self.old.tree)) ≡ S.room sink.old) }
         ensures same { OnErr result (numbers self.new ≡ numbers self.old) }
@@ -124,6 +126,7 @@ impl Tree {
         requires sink { length (beneath self.old.tree.root) + 1 ≤ S.room sink.old }
         ensures fate { IfOk result (λ fate. fate ≡ fate_of (own_loss now packet.now self.old.tree.device (shape self.old.tree.root))) }
         ensures after { OnOk result (numbers self.new ≡ record { clock = now; tree = put totals now packet.now (tree_numbers self.old.tree) }) }
+        ensures exact { OnOk result (CanArrive (route_seen packet.now self.old.tree.device.mtu self.old.tree.root) self.old → self.new ≡ record { clock = now; tree = put kept now packet.now self.old.tree }) }
         ensures told { OnOk result (IsToldOf (noted_by_put now packet.now self.old.tree) (S.losses sink.old) (S.losses sink.new) (S.room sink.old) (S.room sink.new)) }
         ensures same { OnErr result (numbers self.new ≡ numbers self.old) }
         ensures not_lost { OnErr result ((S.losses sink.new ≡ S.losses sink.old) × (S.room sink.new ≡ S.room sink.old)) }

@@ -39,7 +39,6 @@ mod nodes;
 mod outcome;
 mod peek;
 mod prepare;
-mod put;
 mod ready_at;
 mod route;
 mod shown;

@@ -4,14 +4,12 @@ ghost use Rattle.q_model.specs.Node.{shape};
 ghost use Rattle.q_model.specs.Route.{device_route};
 ghost use Rattle.q_model.specs.Step.{fate_of, losses_in};
 ghost use Rattle.q_model.specs.Tally.{totals};
-ghost use Rattle.q_model.specs.TreeState.{given, loss_on, new_tree, noted_by_put, noted_by_take, own_loss, peek_packet, put, put_on, stats, take_packet};
+ghost use Rattle.q_model.specs.TreeState.{given, new_tree, noted_by_put, noted_by_take, own_loss, peek_packet, put, stats, take_packet};
 ghost use Rattle.q_model.specs.Views.{class_of, filter_of, node};
-ghost use Rattle.q_model.specs.Work.{booked};
 ghost use Rattle.q_model.specs.declared.place.Place.TheVariants as place;
 ghost use Rattle.q_model.specs.declared.refusal.Refusal.TheVariants as refusal;
 ghost use Rattle.q_packet.specs.Descriptor.{Descriptor};
-ghost use Rattle.q_tree.specs.Arrivals.{CanPut, IsOutcome};
-ghost use Rattle.q_tree.specs.AskSteps.{IsTold, IsToldOf};
+ghost use Rattle.q_tree.specs.AskSteps.{IsTold};
 ghost use Rattle.q_tree.specs.Commanding.{WantsMemory};
 ghost use Rattle.q_tree.specs.Commands.{IsPlanOf, IsPlanned, device_edited, plan_of};
 ghost use Rattle.q_tree.specs.Editing.{LosesNothing, TakesMemory, removed_at};
@@ -21,9 +19,9 @@ ghost use Rattle.q_tree.specs.Planning.{IsLossless};
 ghost use Rattle.q_tree.specs.Purging.{purged};
 ghost use Rattle.q_tree.specs.RouteSeen.{RouteSeen, route_seen};
 ghost use Rattle.q_tree.specs.Showing.{IsNumbered, standing};
-ghost use Rattle.q_tree.specs.TreeSeen.{CanArrive, IsArrived, IsRouteIn, numbers};
+ghost use Rattle.q_tree.specs.TreeSeen.{CanArrive, IsRouteIn, numbers};
 
-use crate::booking::{book_arrival, book_dropped, book_shown};
+use crate::booking::{book_dropped, book_shown};
 use crate::commands::handles::Handles;
 use crate::commands::planned::Planned;
 use crate::commands::planner::Planner;
@@ -31,7 +29,6 @@ use crate::commands::qdiscs::Qdiscs;
 use crate::counters::Counters;
 use crate::node::Node;
 use crate::node_route::NodeRoute;
-use crate::outcome::{Outcome, refuse};
 use crate::route::Route;
 use crate::signals::NO_SIGNALS;
 use q_codel::{Limit, Sink};
@@ -284,12 +281,12 @@ impl Tree {
         ensures room { S.room sink.new + length (losses_in (noted_by_put now packet self.old.tree)) ≡ S.room sink.old }
         ensures kept { S.keeps sink.old sink.new }
     {
-        // A time is at most 2^62 nanoseconds, and a packet has a byte at least.
-        let _ = (now.ns(), packet.len);
-        let outcome = put_on(&mut self.root, route, &packet, now, sink);
-        book_arrival(&mut self.top, &packet, &outcome);
-        self.clock = now;
-        fate_of(outcome.loss)
+        // Only the contract speaks of the route: the walk finds it again.
+        let _ = route;
+        match self.arrive_counted(&packet, now, sink) {
+            Ok(fate) => return fate,
+            Err(_) => unreachable!(),
+        }
     }
 
     /// The packet whose turn it is, which a take at this time returns; `None` where none may go now. `now` is at or after the
@@ -346,26 +343,4 @@ pub(crate) fn fate_of(loss: Option<Cause>) -> Fate
         None => return Fate::Kept,
         Some(cause) => return Fate::Lost(cause),
     }
-}
-
-// Puts the packet on its path from the root, or refuses it above where it has none.
-fn put_on<S: Sink>(
-    root: &mut Node,
-    route: &Route,
-    packet: &Packet,
-    now: Moment,
-    sink: &mut S,
-) -> Outcome
-    requires ready { IfSome route.now.route (λ r. CanPut now packet.now r.path r.refusal root.old) }
-    requires sink { length (beneath root.old) + 1 ≤ S.room sink.old }
-    ensures after { root.new ≡ booked kept root.old (put_on now packet.now route.now.route (shape root.old)).node }
-    ensures arrived { IsArrived packet.now root.old root.new }
-    ensures outcome { IsOutcome (loss_on now packet.now route.now.route (shape root.old)) (put_on now packet.now route.now.route (shape root.old)).rises result }
-    ensures told { IsToldOf (put_on now packet.now route.now.route (shape root.old)).rises (S.losses sink.old) (S.losses sink.new) (S.room sink.old) (S.room sink.new) }
-    ensures kept { S.keeps sink.old sink.new }
-{
-    if route.is_too_long {
-        return refuse(*packet, Cause::TooLong, sink);
-    }
-    root.put(route.way.places(), route.way.refusal(), packet, now, sink)
 }

@@ -78,6 +78,7 @@ pub(crate) fn enqueue_in_flows<S: Sink>(
     ensures same { OnErr result (queue.new.state ≡ queue.old.state) }
     ensures not_lost { OnErr result ((S.losses sink.new ≡ S.losses sink.old) × (S.room sink.new ≡ S.room sink.old)) }
     ensures grows { queue.old.places ≤ queue.new.places }
+    ensures stays { packets_of queue.old.state.flows < queue.old.places → queue.new.places ≡ queue.old.places }
     ensures succeeds { packets_of queue.old.state.flows < queue.old.places → IsOk result }
     ensures lost_is { IfOk result (λ outcome. lost.new ≡ outcome) }
     ensures kept { S.keeps sink.old sink.new }
@@ -112,9 +113,9 @@ fn enqueue_over<S: Sink>(
     Arrived::with(lost)
 }
 
-/// Puts a packet into its flow, and counts what the fattest flow loses.
+// Puts a packet into its flow, and counts what the fattest flow loses.
 #[inline(always)]
-pub(crate) fn put_in_flow<S: Sink>(
+fn put_in_flow<S: Sink>(
     queue: &mut FqCodel,
     packet: &Packet,
     now: Moment,

@@ -57,7 +57,7 @@ Discipline::enqueue-returns-in-FqCodel-clause-after g t c =
     let places : places_seen c.args.self.now ≡ c.deref_mut.result.now.places = (ap places_seen c.in-FqCodel.is ∙ ap (λ (q : FqView). q.places) (sym c.deref_mut.ensures.value)) in
     flows-after c.args.now c.args.packet.now c.args.filters.now c.args.self.now (code.FqCodel (with_value c.in-FqCodel.queue (record { state = c.deref_mut.result.now.state; places = c.enqueue_in_flows.new.queue.places }))) (code.FqCodel (with_value c.in-FqCodel.queue c.enqueue_in_flows.new.queue))
     c.deref_mut.result.now.state c.enqueue_in_flows.new.queue.state c.enqueue_in_flows.new.queue.places c.enqueue_in_flows.result (g.S.Sink.losses c.args.sink.now) (g.S.Sink.losses c.enqueue_in_flows.new.sink) (g.S.Sink.room c.args.sink.now) (g.S.Sink.room c.enqueue_in_flows.new.sink)
-    is (ap children_seen c.in-FqCodel.is) (omega (arith, places, e.grows)) refl refl refl refl refl refl e.place e.put
+    is (ap children_seen c.in-FqCodel.is) (omega (arith, places, e.grows)) refl refl refl refl refl refl e.place (λ there. e.stays (omega (arith, there, places)) ∙ sym places) e.put
 
 pub Discipline::enqueue-returns-in-FqCodel-clause-succeeds : goal.Discipline::enqueue-returns-in-FqCodel-clause-succeeds
 Discipline::enqueue-returns-in-FqCodel-clause-succeeds g t c = λ h. c.enqueue_in_flows.ensures.succeeds (flows-place c.args.packet.now c.args.filters.now c.args.self.now c.deref_mut.result.now.state c.deref_mut.result.now.places (ap discipline_seen c.in-FqCodel.is ∙ ap (λ (q : FqView). spec.FqCodel q.state) (sym c.deref_mut.ensures.value)) (ap places_seen c.in-FqCodel.is ∙ ap (λ (q : FqView). q.places) (sym c.deref_mut.ensures.value)) h)

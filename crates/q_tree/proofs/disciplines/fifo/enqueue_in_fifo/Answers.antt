@@ -19,4 +19,5 @@ returns-clause-after g c = λ filters.
     let fits = ap (λ (q : Descriptor). takes c.args.fifo.now.limit c.args.fifo.now.packets q.len) (sym c.packet.view_is) ∙ sym c.fits.ensures ∙ c.if-not-fits.false in
     queued-in-fifo c.args.now c.args.packet.now filters c.args.fifo.now c.put_from.new.self c.reserve.new.self.places _ (g.S.Sink.losses c.args.sink.now) (g.S.Sink.losses c.args.sink.now) (g.S.Sink.room c.args.sink.now) (g.S.Sink.room c.args.sink.now)
     fits c.reserve.ensures.grows (omega (arith, c.in_ok-reserve.ensures.ok, ap (λ (f : FifoState). length f.packets) c.reserve.ensures.same))
+    (λ there. ap (λ (f : FifoState). f.places) (c.reserve.ensures.room there))
     (fifo-form c.args.fifo.now c.reserve.new.self c.put_from.new.self c.reserve.new.self.places _ c.args.packet.now c.args.now c.reserve.ensures.same refl c.put_from.ensures) c.kept.ensures refl refl

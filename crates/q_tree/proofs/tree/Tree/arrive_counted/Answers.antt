@@ -5,10 +5,11 @@ use Rattle.q_model.specs.Tally.{totals}
 use Rattle.q_model.specs.TreeState.{put}
 use Rattle.q_tree.specs.Arrivals.{CanCount}
 use Rattle.q_tree.specs.ArriveSteps.{nothing_lost}
-use Rattle.q_tree.specs.Kept.{Kept}
+use Rattle.q_tree.specs.Kept.{Kept, kept}
 use Rattle.q_tree.specs.Places.{places_at}
-use Rattle.q_tree.specs.TreeSeen.{tree_numbers}
-use Rattle.q_tree.proofs.TreeArrivals.{at-root, can-come, tree-after, tree-indexed, tree-places}
+use Rattle.q_tree.specs.RouteSeen.{route_seen}
+use Rattle.q_tree.specs.TreeSeen.{CanArrive, tree_numbers}
+use Rattle.q_tree.proofs.TreeArrivals.{at-root, can-come, tree-after, tree-exact, tree-indexed, tree-places}
 use Rattle.q_tree.proofs.TreeLemmas.{top-row}
 use Rattle.q_tree.proofs.tree.Tree.arrive_counted.Goals as goal
 
@@ -43,6 +44,18 @@ returns-then-can_keep-clause-after g c =
     let short : c.args.packet.now.len ≤ c.self.inside.mtu = omega (arith, c.if-packet-self.true, ap (λ (q : Descriptor). q.len) c.packet.view_is) in
     let come = at-root c.args.now c.args.packet.now c.self.inside.mtu c.self.inside.root c.keep.new.self (Ok nothing_lost) short c.keep.ensures.after in
     tree-after c.self.inside c.self.invariant c.args.now c.args.packet.now later low byte room nothing_lost c.keep.new.self come c.book_kept.new.row c.book_kept.ensures ∙ ap (λ (d : DeviceState Kept). record { clock = c.args.now; tree = put totals c.args.now c.args.packet.now (tree_numbers d.tree) }) c.self.view_is
+
+pub returns-then-can_keep-clause-exact : goal.returns-then-can_keep-clause-exact
+returns-then-can_keep-clause-exact g c = λ can.
+    let later : c.self.inside.clock ≤ c.args.now = omega (arith, ap (λ (d : DeviceState Kept). d.clock) c.self.view_is, c.requires.order) in
+    let low : c.args.now ≤ 2 ^ 62 = omega (arith, c.ns.ensures.in_range, c.ns.ensures.value) in
+    let byte : 1 ≤ c.args.packet.now.len = omega (arith, c.packet.invariant.0, ap (λ (p : Descriptor). p.len) c.packet.view_is) in
+    let room : CanCount c.self.inside.top.arrived c.args.packet.now = subst (λ (d : DeviceState Kept). CanCount d.tree.top.counts.arrived c.args.packet.now) (sym c.self.view_is) c.requires.counted in
+    let short : c.args.packet.now.len ≤ c.self.inside.mtu = omega (arith, c.if-packet-self.true, ap (λ (q : Descriptor). q.len) c.packet.view_is) in
+    let come = at-root c.args.now c.args.packet.now c.self.inside.mtu c.self.inside.root c.keep.new.self (Ok nothing_lost) short c.keep.ensures.after in
+    tree-exact c.self.inside c.self.invariant c.args.now c.args.packet.now later low byte room nothing_lost c.keep.new.self come c.book_kept.new.row c.book_kept.ensures
+    (subst (λ (d : DeviceState Kept). CanArrive (route_seen c.args.packet.now d.tree.device.mtu d.tree.root) d) (sym c.self.view_is) can)
+    ∙ ap (λ (d : DeviceState Kept). record { clock = c.args.now; tree = put kept c.args.now c.args.packet.now d.tree }) c.self.view_is
 
 pub returns-then-can_keep-clause-places : goal.returns-then-can_keep-clause-places
 returns-then-can_keep-clause-places g c =

@@ -9,12 +9,12 @@ use Rattle.q_model.specs.Tally.{totals}
 use Rattle.q_model.specs.TreeState.{noted_by_put, own_loss, put}
 use Rattle.q_tree.specs.Arrivals.{CanCount}
 use Rattle.q_tree.specs.AskSteps.{IsToldOf}
-use Rattle.q_tree.specs.Kept.{Kept}
+use Rattle.q_tree.specs.Kept.{Kept, kept}
 use Rattle.q_tree.specs.Places.{places_at}
 use Rattle.q_tree.specs.RouteSeen.{route_seen}
 use Rattle.q_tree.specs.TreeSeen.{CanArrive, numbers, tree_numbers, tree_seen}
 use Rattle.q_tree.proofs.Arriving.{on-err}
-use Rattle.q_tree.proofs.TreeArrivals.{can-come, place-there, placed-indexed, placed-keeps, placed-numbers, told-tree, tree-after, tree-indexed, tree-loss, tree-lost, tree-places}
+use Rattle.q_tree.proofs.TreeArrivals.{can-come, place-there, placed-indexed, placed-keeps, placed-numbers, told-tree, tree-after, tree-exact, tree-indexed, tree-loss, tree-lost, tree-places}
 use Rattle.q_tree.proofs.TreeLemmas.{top-row}
 use Rattle.q_tree.proofs.TreePuts.{same-routes}
 use Rattle.q_tree.proofs.tree.Tree.arrive_down.Goals as goal
@@ -75,6 +75,16 @@ returns-clause-after g c =
     let byte : 1 ≤ c.args.packet.now.len = omega (arith, c.packet.invariant.0, ap (λ (p : Descriptor). p.len) c.packet.view_is) in
     let room : CanCount c.self.inside.top.arrived c.args.packet.now = subst (λ (d : DeviceState Kept). CanCount d.tree.top.counts.arrived c.args.packet.now) (sym c.self.view_is) c.requires.counted in
     tree-after c.self.inside c.self.invariant c.args.now c.args.packet.now later low byte room c.in_ok-outcome.outcome c.enqueue_below.new.root c.in_ok-outcome.ensures.after c.book_arrival.new.row c.book_arrival.ensures ∙ ap (λ (d : DeviceState Kept). record { clock = c.args.now; tree = put totals c.args.now c.args.packet.now (tree_numbers d.tree) }) c.self.view_is
+
+pub returns-clause-exact : goal.returns-clause-exact
+returns-clause-exact g c = λ can.
+    let later : c.self.inside.clock ≤ c.args.now = omega (arith, ap (λ (d : DeviceState Kept). d.clock) c.self.view_is, c.requires.order) in
+    let low : c.args.now ≤ 2 ^ 62 = omega (arith, c.ns.ensures.in_range, c.ns.ensures.value) in
+    let byte : 1 ≤ c.args.packet.now.len = omega (arith, c.packet.invariant.0, ap (λ (p : Descriptor). p.len) c.packet.view_is) in
+    let room : CanCount c.self.inside.top.arrived c.args.packet.now = subst (λ (d : DeviceState Kept). CanCount d.tree.top.counts.arrived c.args.packet.now) (sym c.self.view_is) c.requires.counted in
+    tree-exact c.self.inside c.self.invariant c.args.now c.args.packet.now later low byte room c.in_ok-outcome.outcome c.enqueue_below.new.root c.in_ok-outcome.ensures.after c.book_arrival.new.row c.book_arrival.ensures
+    (subst (λ (d : DeviceState Kept). CanArrive (route_seen c.args.packet.now d.tree.device.mtu d.tree.root) d) (sym c.self.view_is) can)
+    ∙ ap (λ (d : DeviceState Kept). record { clock = c.args.now; tree = put kept c.args.now c.args.packet.now d.tree }) c.self.view_is
 
 pub returns-clause-told : goal.returns-clause-told
 returns-clause-told g c =
