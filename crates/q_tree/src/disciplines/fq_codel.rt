@@ -115,12 +115,7 @@ fn enqueue_over<S: Sink>(
 
 // Puts a packet into its flow, and counts what the fattest flow loses.
 #[inline(always)]
-fn put_in_flow<S: Sink>(
-    queue: &mut FqCodel,
-    packet: &Packet,
-    now: Moment,
-    sink: &mut S,
-) -> Outcome
+fn put_in_flow<S: Sink>(queue: &mut FqCodel, packet: &Packet, now: Moment, sink: &mut S) -> Outcome
     requires place { packets_of queue.old.state.flows < queue.old.places }
     requires flow { CanFlow packet.now queue.old.state }
     requires sink { packets_of queue.old.state.flows + 1 ≤ S.room sink.old }
