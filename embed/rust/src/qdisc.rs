@@ -73,7 +73,7 @@ impl Qdisc {
                 limit,
             },
             sys::QTREE_DRR => Qdisc::Drr,
-            _ => Qdisc::FqCodel(FqCodel {
+            sys::QTREE_FQ_CODEL => Qdisc::FqCodel(FqCodel {
                 limit,
                 flows: view.flows,
                 quantum: view.quantum,
@@ -83,6 +83,7 @@ impl Qdisc {
                 drop_batch: view.drop_batch,
                 mtu: view.mtu,
             }),
+            kind => unreachable!("a qdisc of kind {kind}"),
         }
     }
 }
