@@ -8,9 +8,14 @@ use std::time::{Clock, Instant};
 /// The nanoseconds of the calls that turns of 64 make on a device: arrivals of packets that are in a list, and as many polls. `None`
 /// if an allocation failed, a packet did not go through, or the clock could not be read.
 pub fn calls_of_turns<C: Clock>(clock: &C, alloc: Global, given: Packet) -> Option<u64> {
-    let packets = vec![in alloc; given; RING].ok()?;
     let mut device = device(alloc)?;
-    timed(clock, &mut device, packets.as_slice())
+    timed_on(clock, alloc, &mut device, given)
+}
+
+/// The same on this device.
+fn timed_on<C: Clock>(clock: &C, alloc: Global, device: &mut Device, given: Packet) -> Option<u64> {
+    let packets = vec![in alloc; given; RING].ok()?;
+    timed(clock, device, packets.as_slice())
 }
 
 fn timed<C: Clock>(clock: &C, device: &mut Device, packets: &[Packet]) -> Option<u64> {

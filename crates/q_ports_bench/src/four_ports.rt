@@ -1,11 +1,12 @@
 ghost use Rattle.std.specs.Prelude.{◌≡◌};
 ghost use Rattle.q_model.specs.Tally.{no_totals};
+ghost use Rattle.q_ports.specs.Held.{held};
 
 use crate::device;
 use crate::one_port::{take_all, timed_offers};
 use q_device::Device;
 use q_packet::Packet;
-use q_ports::{Booked, Drain, Port, open_ports};
+use q_ports::{Booked, Drain, Port, Seat, open_ports};
 use std::alloc::Global;
 use std::marker::Brand;
 use std::sync::ledger::{Blank, Ledger};
@@ -69,13 +70,25 @@ fn booked<P: Ledger, B: Ledger, R: Threads + Wait + Sync + Clock>(
     requires bytes { (bytes.name ≡ B.name) × (bytes.parts ≡ B.parts) × (B.parts ≡ 65) }
 {
     let (booked, seat) = Booked::<P, B>::new(device, packets, bytes);
+    let lock = Mutex::new(booked);
+    opened(rt, alloc, &lock, seat, given)
+}
+
+fn opened<P: Ledger, B: Ledger, R: Threads + Wait + Sync + Clock>(
+    rt: &R,
+    alloc: Global,
+    lock: &Mutex<Booked<P, B>>,
+    seat: Seat<P, B>,
+    given: Packet,
+) -> Fills
+    requires { seat ≡ held 65 0 0 }
+{
     let Ok((drain, ports, _gauges)) = open_ports(rt, alloc, seat, 4, RING, 0) else {
         return NO_FILLS;
     };
     let mut drain = drain;
-    let lock = Mutex::new(booked);
     let fills = match pairs(ports) {
-        Some(ports) => stretches(rt, alloc, &lock, &mut drain, ports, given),
+        Some(ports) => stretches(rt, alloc, lock, &mut drain, ports, given),
         None => NO_FILLS,
     };
     drain.end(rt);
@@ -103,26 +116,43 @@ fn stretches<P: Ledger, B: Ledger, R: Threads + Wait + Sync + Clock>(
     let mut ports = ports;
     let mut fills = NO_FILLS;
     // The first stretch, in which each place is written for the first time, is not timed.
-    for stretch in 0..=STRETCHES {
-        let ((one, second), right) = ports;
-        let (one, alone) = fill(rt, one, given);
-        if take_all(rt, alloc, lock, drain, RING) != RING {
-            return NO_FILLS;
-        }
-        let (next, at_once) = fill_all(rt, ((one, second), right), given);
-        if take_all(rt, alloc, lock, drain, 4 * RING) != 4 * RING {
-            return NO_FILLS;
-        }
-        let (Some(alone), Some(at_once)) = (alone, at_once) else {
-            return NO_FILLS;
-        };
-        if stretch > 0 {
-            fills.alone = fills.alone.saturating_add(alone);
-            fills.at_once = fills.at_once.saturating_add(at_once);
-        }
+    for nth in 0..=STRETCHES {
+        let (next, found) = stretch(rt, alloc, lock, drain, ports, given);
         ports = next;
+        match found {
+            Some(found) if nth > 0 => {
+                fills.alone = fills.alone.saturating_add(found.alone);
+                fills.at_once = fills.at_once.saturating_add(found.at_once);
+            }
+            Some(_) => {}
+            None => return NO_FILLS,
+        }
     }
     fills
+}
+
+/// One sender and then four at once, and turns that take what they placed. `None` where not all was placed and sent, or the clock
+/// could not be read.
+fn stretch<P: Ledger, B: Ledger, R: Threads + Wait + Sync + Clock>(
+    rt: &R,
+    alloc: Global,
+    lock: &Mutex<Booked<P, B>>,
+    drain: &mut Drain<P, B>,
+    ports: (Pair, Pair),
+    given: Packet,
+) -> ((Pair, Pair), Option<Fills>) {
+    let ((one, second), right) = ports;
+    let (one, alone) = fill(rt, one, given);
+    let sent = take_all(rt, alloc, lock, drain, RING);
+    let (ports, at_once) = fill_all(rt, ((one, second), right), given);
+    let all_sent = take_all(rt, alloc, lock, drain, 4 * RING);
+    let found = match (alone, at_once) {
+        (Some(alone), Some(at_once)) if sent == RING && all_sent == 4 * RING => {
+            Some(Fills { alone, at_once })
+        }
+        _ => None,
+    };
+    (ports, found)
 }
 
 /// Fills four rings at once; the nanoseconds of the slowest.

@@ -27,6 +27,8 @@ use crate::senders::drive_all;
 use q_device::{Device, Settings};
 use q_packet::{Ecn, FlowKey, Packet};
 use std::alloc::Global;
+use std::sync::Wait;
+use std::thread::Threads;
 use std::time::{Clock, Instant};
 use std::{env, io};
 
@@ -44,24 +46,45 @@ fn main(rt: HostRuntime) -> io::Result<()> {
     let Some(given) = packet() else {
         return Ok(());
     };
-    let spans = offers_and_turns(&rt, alloc, given);
-    println!(rt; "{} {}", spans.offers, one_port::PACKETS)?;
-    println!(rt; "{} {}", spans.offers_of_many, one_port::PACKETS)?;
-    println!(rt; "{} {}", spans.turns, one_port::PACKETS)?;
-    let calls = calls_of_turns(&rt, alloc, given).unwrap_or(0);
-    println!(rt; "{calls} {}", one_port::PACKETS)?;
-    println!(rt; "{} {IDLE_TURNS}", spans.idle_turns)?;
-    let fills = offers_at_once(&rt, alloc, given);
-    println!(rt; "{} {}", fills.alone, four_ports::PACKETS_OF_ONE)?;
-    println!(rt; "{} {}", fills.at_once, four_ports::PACKETS)?;
-    let one = drive_all(&rt, alloc, given, 1, SENT).unwrap_or(0);
-    println!(rt; "{one} {SENT}")?;
-    let four = drive_all(&rt, alloc, given, 4, SENT / 4).unwrap_or(0);
-    println!(rt; "{four} {SENT}")?;
-    let sixteen = drive_all(&rt, alloc, given, 16, SENT / 16).unwrap_or(0);
-    println!(rt; "{sixteen} {SENT}")?;
-    let most = drive_all(&rt, alloc, given, 64, SENT / 64).unwrap_or(0);
-    println!(rt; "{most} {SENT}")
+    for (span, count) in spans(&rt, alloc, given) {
+        println!(rt; "{span} {count}")?;
+    }
+    Ok(())
+}
+
+/// The nanoseconds of each line, and of how many packets or turns they are.
+fn spans<R: Threads + Wait + Sync + Clock>(
+    rt: &R,
+    alloc: Global,
+    given: Packet,
+) -> [(u64, usize); 11] {
+    let spans = offers_and_turns(rt, alloc, given);
+    let calls = calls_of_turns(rt, alloc, given).unwrap_or(0);
+    let fills = offers_at_once(rt, alloc, given);
+    [
+        (spans.offers, one_port::PACKETS),
+        (spans.offers_of_many, one_port::PACKETS),
+        (spans.turns, one_port::PACKETS),
+        (calls, one_port::PACKETS),
+        (spans.idle_turns, IDLE_TURNS),
+        (fills.alone, four_ports::PACKETS_OF_ONE),
+        (fills.at_once, four_ports::PACKETS),
+        (drive_span(rt, alloc, given, 1, SENT), SENT),
+        (drive_span(rt, alloc, given, 4, SENT / 4), SENT),
+        (drive_span(rt, alloc, given, 16, SENT / 16), SENT),
+        (drive_span(rt, alloc, given, 64, SENT / 64), SENT),
+    ]
+}
+
+/// The nanoseconds of a drive of so many senders, or 0.
+fn drive_span<R: Threads + Wait + Sync + Clock>(
+    rt: &R,
+    alloc: Global,
+    given: Packet,
+    senders: usize,
+    each: usize,
+) -> u64 {
+    drive_all(rt, alloc, given, senders, each).unwrap_or(0)
 }
 
 /// A device with a root pfifo at which nothing has arrived, in which all packets fit.

@@ -1,10 +1,11 @@
 ghost use Rattle.std.specs.Prelude.{◌≡◌};
 ghost use Rattle.q_model.specs.Tally.{no_totals};
+ghost use Rattle.q_ports.specs.Held.{held};
 
 use crate::{device, span_since};
 use q_device::Device;
 use q_packet::{Moment, Packet};
-use q_ports::{Booked, Drain, Port, open_ports};
+use q_ports::{Booked, Drain, Port, Seat, open_ports};
 use std::alloc::Global;
 use std::marker::Brand;
 use std::sync::ledger::{Blank, Ledger};
@@ -69,13 +70,25 @@ fn booked<P: Ledger, B: Ledger, R: Wait + Clock>(
     requires bytes { (bytes.name ≡ B.name) × (bytes.parts ≡ B.parts) × (B.parts ≡ 65) }
 {
     let (booked, seat) = Booked::<P, B>::new(device, packets, bytes);
+    let lock = Mutex::new(booked);
+    opened(rt, alloc, &lock, seat, given)
+}
+
+fn opened<P: Ledger, B: Ledger, R: Wait + Clock>(
+    rt: &R,
+    alloc: Global,
+    lock: &Mutex<Booked<P, B>>,
+    seat: Seat<P, B>,
+    given: Packet,
+) -> Spans
+    requires { seat ≡ held 65 0 0 }
+{
     let Ok((drain, ports, _gauges)) = open_ports(rt, alloc, seat, 1, RING, 1) else {
         return NO_SPANS;
     };
     let (mut drain, mut ports) = (drain, ports);
-    let lock = Mutex::new(booked);
-    let spans = match ports.pop() {
-        Some(port) => stretches(rt, alloc, &lock, &mut drain, port, given),
+    let spans = match ports.first_mut() {
+        Some(port) => stretches(rt, alloc, lock, &mut drain, port, given),
         None => NO_SPANS,
     };
     drain.end(rt);
@@ -87,19 +100,18 @@ fn stretches<P: Ledger, B: Ledger, R: Wait + Clock>(
     alloc: Global,
     lock: &Mutex<Booked<P, B>>,
     drain: &mut Drain<P, B>,
-    port: Port,
+    port: &mut Port,
     given: Packet,
 ) -> Spans {
-    let mut port = port;
     let mut spans = NO_SPANS;
     for _ in 0..STRETCHES {
-        let Some(offers) = timed_offers(rt, &mut port, given, RING) else {
+        let Some(offers) = timed_offers(rt, port, given, RING) else {
             return NO_SPANS;
         };
         let Some(turns) = timed_turns(rt, alloc, lock, drain, RING, RING) else {
             return NO_SPANS;
         };
-        let Some(offers_of_many) = timed_offers_of_many(rt, &mut port, given, RING) else {
+        let Some(offers_of_many) = timed_offers_of_many(rt, port, given, RING) else {
             return NO_SPANS;
         };
         if take_all(rt, alloc, lock, drain, RING) != RING {

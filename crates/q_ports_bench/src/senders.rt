@@ -1,10 +1,11 @@
 ghost use Rattle.std.specs.Prelude.{◌≡◌};
 ghost use Rattle.q_model.specs.Tally.{no_totals};
+ghost use Rattle.q_ports.specs.Held.{held};
 
 use crate::{device, span_since};
 use q_device::Device;
 use q_packet::{Moment, Packet};
-use q_ports::{Booked, Gate, Unsettled, drive, open_ports};
+use q_ports::{Booked, Gate, Seat, Unsettled, drive, open_ports};
 use std::alloc::{AllocError, Global};
 use std::marker::Brand;
 use std::sync::ledger::{Blank, Ledger};
@@ -39,15 +40,25 @@ pub fn drive_all<R: Threads + Wait + Sync + Clock>(
     senders: usize,
     each: usize,
 ) -> Option<u64> {
-    let (packets, bytes) = (Blank::new(65), Blank::new(65));
     let loads = loads(alloc, given, senders, each).ok()?;
-    let device = device(alloc)?;
     let from = Instant::now(rt).ok()?;
-    let given_up = booked::<Brand, Brand, R>(rt, alloc, device, loads, packets, bytes)?;
-    if given_up > 0 {
-        return None;
+    match driven(rt, alloc, loads) {
+        Some(0) => span_since(rt, &from),
+        _ => None,
     }
-    span_since(rt, &from)
+}
+
+/// How many packets were given up of these loads on a new device; `None` as of [`booked`], or if an allocation for the device failed.
+fn driven<R: Threads + Wait + Sync + Clock>(
+    rt: &R,
+    alloc: Global,
+    loads: Vec<Vec<Packet>>,
+) -> Option<u64> {
+    let (packets, bytes) = (Blank::new(65), Blank::new(65));
+    match device(alloc) {
+        Some(device) => booked::<Brand, Brand, R>(rt, alloc, device, loads, packets, bytes),
+        None => None,
+    }
 }
 
 /// A load for each sender.
@@ -77,18 +88,31 @@ fn booked<P: Ledger + Send + Sync, B: Ledger + Send + Sync, R: Threads + Wait + 
     requires packets { (packets.name ≡ P.name) × (packets.parts ≡ P.parts) × (P.parts ≡ 65) }
     requires bytes { (bytes.name ≡ B.name) × (bytes.parts ≡ B.parts) × (B.parts ≡ 65) }
 {
+    let (booked, seat) = Booked::<P, B>::new(device, packets, bytes);
+    let lock = Mutex::new(booked);
+    opened(rt, alloc, &lock, seat, loads)
+}
+
+fn opened<P: Ledger + Send + Sync, B: Ledger + Send + Sync, R: Threads + Wait + Sync + Clock>(
+    rt: &R,
+    alloc: Global,
+    lock: &Mutex<Booked<P, B>>,
+    seat: Seat<P, B>,
+    loads: Vec<Vec<Packet>>,
+) -> Option<u64>
+    requires seat { seat ≡ held 65 0 0 }
+    requires parts { (P.parts ≡ 65) × (B.parts ≡ 65) }
+{
     let count = loads.len();
     if count < 1 || count > 64 {
         return None;
     }
-    let (booked, seat) = Booked::<P, B>::new(device, packets, bytes);
     let Ok((drain, ports, _gauges)) = open_ports(rt, alloc, seat, count, RING, 0) else {
         return None;
     };
-    let lock = Mutex::new(booked);
     let start = Moment::zero();
     match drive(
-        rt, alloc, &lock, drain, ports, loads, &FreeGate, start, STEP, TRIES,
+        rt, alloc, lock, drain, ports, loads, &FreeGate, start, STEP, TRIES,
     ) {
         Ok(driven) => Some(driven.given_up),
         Err(

@@ -1,4 +1,4 @@
-use Rattle.q_ports_bench.proofs.senders.drive_all.Given as goal
+use Rattle.q_ports_bench.proofs.senders.driven.Given as goal
 
 -- The two ledgers of the book that is made there.
 abbrev pub ghosts-booked-P-Ledger : goal.ghosts-booked-P-Ledger
