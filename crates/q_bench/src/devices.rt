@@ -56,10 +56,20 @@ pub extern "C" fn q_bench_pairs(
         drop_batch,
         ecn,
     };
-    let Some(mut ready) = queued_up(alloc, shape, tree, queued, made.as_slice()) else {
-        return 0;
-    };
-    pass_pairs(&mut ready, made.as_slice(), step, passes).unwrap_or(0)
+    pairs(alloc, shape, tree, queued, made.as_slice(), step, passes).unwrap_or(0)
+}
+
+fn pairs(
+    alloc: Global,
+    shape: u32,
+    tree: Tree,
+    queued: u32,
+    made: &[Packet],
+    step: u32,
+    passes: u32,
+) -> Option<u64> {
+    let mut ready = queued_up(alloc, shape, tree, queued, made)?;
+    pass_pairs(&mut ready, made, step, passes)
 }
 
 fn pass_pairs(ready: &mut Ready, made: &[Packet], step: u32, passes: u32) -> Option<u64> {
@@ -106,10 +116,19 @@ pub extern "C" fn q_bench_losses(
         drop_batch,
         ecn,
     };
-    let Some(mut ready) = queued_up(alloc, shape, tree, queued, made.as_slice()) else {
-        return 0;
-    };
-    pass_losses(&mut ready, made.as_slice(), waits).unwrap_or(0)
+    losses(alloc, shape, tree, queued, made.as_slice(), waits).unwrap_or(0)
+}
+
+fn losses(
+    alloc: Global,
+    shape: u32,
+    tree: Tree,
+    queued: u32,
+    made: &[Packet],
+    waits: &[u32],
+) -> Option<u64> {
+    let mut ready = queued_up(alloc, shape, tree, queued, made)?;
+    pass_losses(&mut ready, made, waits)
 }
 
 fn pass_losses(ready: &mut Ready, made: &[Packet], waits: &[u32]) -> Option<u64> {
@@ -166,20 +185,35 @@ fn pass_wire(made: &[Packet], step: u32, passes: u32) -> Option<u64> {
 
 /// A device with this tree, at which the first packets have arrived, round and round.
 fn queued_up(alloc: Global, shape: u32, tree: Tree, queued: u32, made: &[Packet]) -> Option<Ready> {
-    let settings = Settings::new(MTU, TXQUEUELEN, 0)?;
-    let Ok(mut device) = Device::open(alloc, settings) else {
-        return None;
-    };
-    set_up(&mut device, Shape::of(shape)?, tree)?;
+    let mut device = opened(alloc)?;
+    match queue_up(&mut device, shape, tree, queued, made) {
+        Some((now, sum)) => Some(Ready { device, now, sum }),
+        None => None,
+    }
+}
+
+fn opened(alloc: Global) -> Option<Device> {
+    Device::open(alloc, Settings::new(MTU, TXQUEUELEN, 0)?).ok()
+}
+
+/// Sets up the tree, and lets the first packets arrive; the clock and the checksum then.
+fn queue_up(
+    device: &mut Device,
+    shape: u32,
+    tree: Tree,
+    queued: u32,
+    made: &[Packet],
+) -> Option<(Moment, u64)> {
+    set_up(device, Shape::of(shape)?, tree)?;
     let mut now = Moment::zero();
     let mut sum = 1;
     let mut next = 0;
     for _ in 0..queued {
         now = Moment::new(now.ns() + u64::from(STEP))?;
-        sum = checksum::with(sum, arrive(&mut device, made.get(next)?, now)?);
+        sum = checksum::with(sum, arrive(device, made.get(next)?, now)?);
         next = if next + 1 < made.len() { next + 1 } else { 0 };
     }
-    Some(Ready { device, now, sum })
+    Some((now, sum))
 }
 
 /// The number of the cause where the packet is lost, else 0.

@@ -18,10 +18,15 @@ pub const QDISCS: &str = "qdisc drr 1: root\nqdisc bfifo 2: parent 1:1 limit 300
 
 /// A device after tc's lines.
 pub fn device(alloc: Global) -> Result<Device, Fail> {
-    let settings = Settings::new(1500, 1000, 0).ok_or("settings")?;
-    let mut device = Device::open(alloc, settings).map_err(|_| "memory")?;
-    set_up(&mut device)?;
-    Ok(device)
+    let mut device = opened(alloc).ok_or("memory")?;
+    match set_up(&mut device) {
+        Ok(()) => Ok(device),
+        Err(failed) => Err(failed),
+    }
+}
+
+fn opened(alloc: Global) -> Option<Device> {
+    Device::open(alloc, Settings::new(1500, 1000, 0)?).ok()
 }
 
 fn set_up(device: &mut Device) -> Result<(), Fail> {
