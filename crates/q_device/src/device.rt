@@ -1,4 +1,4 @@
-ghost use Rattle.std.specs.Prelude.{All, ℕ, ◌≡◌, ◌<◌, ◌≤◌, ◌+◌, ◌*◌, ◌^◌, true, None, IsSome, IfSome, IfNone, Ok, IsOk, IfOk, OnOk, OnErr, IfErr, max, min, if◌then◌else◌, length, option_map, slice_get, unwrap_or};
+ghost use Rattle.std.specs.Prelude.{All, ℕ, ◌≡◌, ◌<◌, ◌≤◌, ◌+◌, ◌*◌, ◌^◌, ◌-◌, true, None, IsSome, IfSome, IfNone, Ok, IsOk, IfOk, OnOk, OnErr, IfErr, max, min, if◌then◌else◌, length, option_map, slice_get, unwrap_or};
 ghost use Rattle.q_model.specs.Beneath.{beneath, is_empty, row_of};
 ghost use Rattle.q_model.specs.Node.{shape};
 ghost use Rattle.q_model.specs.Settings.{IsInRange};
@@ -9,6 +9,7 @@ ghost use Rattle.q_model.specs.declared.event.Event.TheVariants as event;
 ghost use Rattle.q_model.specs.declared.reply.Reply.TheVariants as reply;
 ghost use Rattle.q_packet.specs.Descriptor.{Descriptor};
 ghost use Rattle.q_tree.specs.Commanding.{MayTakeMemory};
+ghost use Rattle.q_tree.specs.MostPackets.{most_packets};
 ghost use Rattle.q_tree.specs.ReadyAt.{is_sure, ready_at};
 ghost use Rattle.q_tree.specs.TreeSeen.{tree_numbers};
 ghost use Rattle.q_tree.specs.Ways.{IsShare};
@@ -126,6 +127,7 @@ impl Device {
     ///
     /// `AllocError` where [`Device::arrive`] returns it. Nothing has changed then but for places, and there was no event: what there
     /// was room for there is room for still.
+    #[inline(always)]
     pub fn arrive_at(&mut self, packet: &Packet, now: Moment) -> Result<Fate, AllocError>
         ensures event { OnOk result (self.new ≡ record (with_event (event.Arrive packet.now now) self.old) { memory = self.new.memory }) }
         ensures moment { OnOk result (as_counted self.old.device (event.Arrive packet.now now) ≡ event.Arrive packet.now self.new.device.clock) }
@@ -207,6 +209,7 @@ impl Device {
 
     /// [`Device::poll`] into the caller's place: the packet whose turn it is is written to `out`, which stays as it is if there
     /// is none. It takes no memory.
+    #[inline(always)]
     pub fn poll_into(&mut self, now: Moment, out: &mut Packet) -> Given
         ensures event { self.new ≡ record (with_event (event.Poll now) self.old) { memory = self.new.memory } }
         ensures memory { self.new.memory ≡ polled_memory self.new.device.clock self.old.memory }
@@ -240,6 +243,23 @@ impl Device {
         ensures never { IfNone result ((t : ℕ) → self.now.device.clock ≤ t → t ≤ 2 ^ 62 → given t self.now.device.tree ≡ None) }
     {
         self.tree.ready_at(self.tree.clock())
+    }
+
+    /// How many packets can be queued at most, now and later, while no command is done; at most `u64::MAX`. It is the sum of the limits
+    /// of the queues, in packets, and of one packet for each tbf, drr and fq_codel, which may hold the one that it shows
+    /// ([`Tree::most_packets`]). It changes nothing and takes no memory, and visits each node of the tree once.
+    ///
+    /// A program that has a buffer for each packet needs so many, one for the packet that arrives, and those of losses that it has not
+    /// reaped and of packets that it has polled and not sent yet:
+    ///
+    /// ```
+    /// let buffers = device.most_packets() + 1 + unreaped + unsent;
+    /// ```
+    pub fn most_packets(&self) -> u64
+        ensures value { result ≡ min (most_packets self.now.device.tree.root) (2 ^ 64 - 1) }
+        ensures bound { length (beneath self.now.device.tree.root) ≤ result }
+    {
+        self.tree.most_packets()
     }
 
     /// What the class in this place is promised; `None` where it is no class of a drr, where something other than a drr is on the path
@@ -328,6 +348,13 @@ impl Device {
         ensures same_clock { result.now.clock ≡ self.now.device.clock }
     {
         &self.tree
+    }
+
+    /// The settings with which the device was opened.
+    pub fn settings(&self) -> Settings
+        ensures { result ≡ self.now.settings }
+    {
+        self.settings
     }
 
     /// The first events, as many as the settings say, each with the time at which it counted.

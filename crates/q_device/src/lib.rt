@@ -34,6 +34,7 @@
 //! these definitions from commands, arrivals and polls to replies, losses and rows.
 #![tactic(auto)]
 
+mod buffers;
 mod device;
 mod given;
 pub mod last_events;

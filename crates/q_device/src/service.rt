@@ -1,17 +1,18 @@
 ghost use Rattle.std.specs.Prelude.{◌≡◌, ◌≤◌, ◌+◌, ◌*◌, ◌/◌, ◌^◌, All, IfSome, length, option_map};
-ghost use Rattle.q_device.specs.Promise.{has_room, lack_at, lack_of_link, part_of, promise_on, promise_seen, rate_of, slack_on};
+ghost use Rattle.q_device.specs.Promise.{has_room, lack_at, lack_of_link, late_of, late_on, part_of, promise_on, promise_seen, rate_of, slack_on};
 ghost use Rattle.q_tree.specs.Ways.{IsShare};
 
 use arrayvec::ArrayVec;
 use q_model::Settings;
+use q_packet::Moment;
 use q_tree::{Link, Share, Way};
 
 /// What a class of a drr is promised while something is queued in it: its part of a rate, and the bytes that it may lack of that.
 ///
 /// In t nanoseconds it sends more than `rate * t / (8 * 10^9) - slack` bytes, whatever comes to other classes, between two times at which
-/// a poll gives nothing, where the device is polled until none comes and then at [`crate::Device::ready_at`] at the latest. Where no tbf is at the
-/// root, it sends at least its part of what the drr at the root sends, less the slack. ([`crate::laws::service_is_delivered`] and
-/// [`crate::laws::share_is_delivered`])
+/// a poll gives nothing, where the device is polled until none comes and then so again [`Service::late`] nanoseconds after the time that
+/// [`crate::Device::ready_at`] answers, at the latest. Where no tbf is at the root, it sends at least its part of what the drr at the root
+/// sends, less the slack. (`service_is_delivered` and `share_is_delivered` of `q_laws`)
 #[derive(Drop)]
 pub struct Service {
     /// The rate of the tbf at the root in bits a second; `None` where a drr is at the root.
@@ -20,6 +21,9 @@ pub struct Service {
     pub shares: ArrayVec<Share, 8>,
     /// The bytes that it may lack, rounded up at each drr on the path.
     pub slack: u64,
+    /// How many nanoseconds polls may be late: the tbf at the root loses nothing of its rate meanwhile. `None` where a drr is at the root,
+    /// which may be polled at any time.
+    pub late: Option<u64>,
 }
 
 impl Service {
@@ -74,6 +78,7 @@ pub(crate) fn promised(way: Way, settings: Settings) -> Option<Service>
         link: rate_of(way.link),
         shares: way.shares,
         slack,
+        late: late_of(way.link, mtu),
     })
 }
 
@@ -93,6 +98,23 @@ fn has_room(link: Option<Link>, mtu: u16) -> bool
     };
     u128::from(mtu) * 8_000_000_000 + u128::from(link.rate)
         <= u128::from(link.burst) * 8_000_000_000
+}
+
+// How many nanoseconds polls may be late at a link: while its rate brings what the burst has room for beside a longest packet.
+fn late_of(link: Option<Link>, mtu: u16) -> Option<u64>
+    ensures { result ≡ late_of mtu link }
+{
+    Some(late_on(link?, mtu))
+}
+
+// The same of one link.
+fn late_on(link: Link, mtu: u16) -> u64
+    ensures { result ≡ late_on mtu link }
+{
+    let rate = u128::from(link.rate);
+    let spare = u128::from(link.burst.saturating_sub(u32::from(mtu))) * 8_000_000_000;
+    let late = spare.saturating_sub(rate) / rate.max(1);
+    late.min(u128::from(Moment::MAX)) as u64
 }
 
 // What may lack of the rate of a link.

@@ -85,6 +85,27 @@ pub fn explain_remark(
     Ok(text)
 }
 
+/// The same of a line that is no command, with this sentence, and with the mark under its first word.
+///
+/// # Errors
+///
+/// `AllocError` if the allocation for the text fails.
+pub fn explain_other(
+    alloc: Global,
+    number: u64,
+    line: &[u8],
+    sentence: &str,
+) -> Result<String, AllocError> {
+    let line = trimmed(line);
+    let word = LineWords::new(line).next().unwrap_or(behind(line));
+    let mut text = String::new(alloc);
+    push_marked(&mut text, number, line, word.start, word.bytes.len())?;
+    text.push_str("  ")?;
+    text.push_str(sentence)?;
+    text.push_str("\n")?;
+    Ok(text)
+}
+
 /// Adds the sentences on a remark.
 fn push_remark(text: &mut String, remark: Remark) -> Result<(), AllocError> {
     match remark {

@@ -2,7 +2,7 @@
 //!
 //! - [`explain_fault`] is the line, a mark under the word that has the fault, and a sentence that says what may be there or what is
 //!   missing; [`explain_refusal`] the same of a command that was refused, with what to do; [`explain_remark`] the same of a line that
-//!   was done and of which there is a [`Remark`].
+//!   was done and of which there is a [`Remark`]; [`explain_other`] the same of a line that is no command, with the caller's sentence.
 //!
 //! ```
 //! if let Err(fault) = read_line(line) {
@@ -33,5 +33,5 @@ mod value;
 mod word;
 mod word_place;
 
-pub use explaining::{explain_fault, explain_refusal, explain_remark};
+pub use explaining::{explain_fault, explain_other, explain_refusal, explain_remark};
 pub use remark::Remark;

@@ -10,6 +10,8 @@ use crate::outlet::Outlet;
 use crate::port::Port;
 use crate::seat::Seat;
 use crate::settled::Settled;
+pub use crate::settling::settle_on;
+pub use crate::turn::turn_on;
 use q_device::Totals as Share;
 use q_device::laws::{
     device_has_its_memory, device_is_lawful, device_is_replayed, device_tells_its_losses,

@@ -31,6 +31,7 @@ mod session;
 mod settings;
 mod source;
 
+pub use lines::split_line;
 pub use outcome::Outcome;
 pub use output::Output;
 pub use reads::Reads;

@@ -23,8 +23,8 @@ use std::thread::Threads;
 /// How many packets wait in the ring.
 const PACKETS: u64 = 100;
 
-/// How often a packet is offered: for some seconds.
-const TRIES: u64 = 1_000_000;
+/// How often a packet is offered: for a minute and more, so that none is given up where other processes starve the drain for seconds.
+const TRIES: u64 = 100_000_000;
 
 /// How many ports are driven, how many places their rings have, and how many packets each load.
 #[derive(Clone, Copy)]

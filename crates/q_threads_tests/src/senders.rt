@@ -27,6 +27,24 @@ fn senders_meet_and_place_all(rt: HostRuntime) -> Result<(), Fail> {
     senders_place_all(&rt, rt.alloc(), (64, 15_625, 16_384), 0)
 }
 
+// The device has the settings that a device has by default, and one pfifo.
+#[test]
+fn four_senders_settle_on_a_device_with_defaults(rt: HostRuntime) -> Result<(), Fail> {
+    let alloc = rt.alloc();
+    let given = packet(5).expect(&rt, "a packet");
+    let loads = loads(alloc, 4, 1000, given)?;
+    let device = device(alloc, 4096).expect(&rt, "memory");
+    tried::<Brand, Brand, _>(
+        &rt,
+        alloc,
+        Unbooked::new(device),
+        loads,
+        (4, 16),
+        (TRIES, 4000),
+    );
+    Ok(())
+}
+
 // No packet is placed where none may be tried, and each at the first try where its ring has room for the whole load.
 #[test]
 fn a_packet_is_tried_as_often_as_asked_for(rt: HostRuntime) -> Result<(), Fail> {
@@ -69,7 +87,7 @@ fn every_other(alloc: Global, given: Packet) -> Result<Vec<Vec<Packet>>, AllocEr
 }
 
 // Drives the device with a load for each of so many ports, over rings of so many places. Each packet is tried so often, and so
-// many are placed; the others are given up.
+// many are placed and arrive; the others are given up.
 fn tried<P: Ledger + Send + Sync, B: Ledger + Send + Sync, R: Threads + Wait + Sync + Abort>(
     rt: &R,
     alloc: Global,
@@ -90,6 +108,7 @@ fn tried<P: Ledger + Send + Sync, B: Ledger + Send + Sync, R: Threads + Wait + S
     );
     assert_totals(rt, settled, hundreds(placed));
     assert_count(rt, given_up, all.saturating_sub(placed));
+    assert_arrived(rt, &booked, settled);
 }
 
 // How many packets all loads have.
@@ -191,19 +210,29 @@ fn driven<P: Ledger + Send + Sync, B: Ledger + Send + Sync, R: Threads + Wait + 
     assert_ended(rt, &booked, all, is_shaped);
 }
 
-// So much has arrived in steps, and the device's row is balanced.
+// So much has arrived, in steps.
 fn assert_ended<P: Ledger, B: Ledger, R: Wait + Abort>(
     rt: &R,
     booked: &Mutex<Booked<P, B>>,
     all: Totals,
     is_shaped: bool,
 ) {
-    let row = row(rt, booked);
-    assert_totals(rt, row.arrived, all);
-    assert!(rt; is_balanced(&row));
+    let row = assert_arrived(rt, booked, all);
     assert!(rt; !is_shaped || is_counted(&row));
     let in_steps = are_in_steps(booked.lock(rt).recorded());
     assert!(rt; in_steps);
+}
+
+// So much has arrived, and the device's row is balanced.
+fn assert_arrived<P: Ledger, B: Ledger, R: Wait + Abort>(
+    rt: &R,
+    booked: &Mutex<Booked<P, B>>,
+    all: Totals,
+) -> Row {
+    let row = row(rt, booked);
+    assert_totals(rt, row.arrived, all);
+    assert!(rt; is_balanced(&row));
+    row
 }
 
 /// The nanoseconds between two turns.

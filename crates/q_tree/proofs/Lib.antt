@@ -30,6 +30,11 @@ pub mod IndexLemmas
 pub mod IndexOfFilterLemmas
 pub mod MakingLemmas
 pub mod MatchingLemmas
+pub mod MostPacketsAsks
+pub mod MostPacketsLemmas
+pub mod MostPacketsPuts
+pub mod MostPacketsQueues
+pub mod MostPacketsTrees
 pub mod NodesLemmas
 pub mod OtherSubtrees
 pub mod OutlookLemmas

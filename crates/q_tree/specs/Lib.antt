@@ -21,6 +21,7 @@ pub mod Kept
 pub mod Laws
 pub mod Making
 pub mod Matching
+pub mod MostPackets
 pub mod NodeCode
 pub mod NodeFalls
 pub mod Nodes

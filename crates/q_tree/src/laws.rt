@@ -2,9 +2,11 @@
 ghost use Rattle.std.specs.Prelude.{◌≡◌, ◌≤◌, [], List, ℕ};
 ghost use Rattle.q_model.specs.Lawful.{IsLawfulTree};
 ghost use Rattle.q_model.specs.Tally.{totals};
-ghost use Rattle.q_model.specs.TreeState.{given, noted_by_take, peek_packet, take_packet};
+ghost use Rattle.q_model.specs.TreeState.{given, noted_by_take, peek_packet, put, take_packet};
+ghost use Rattle.q_packet.specs.Descriptor.{Descriptor};
 ghost use Rattle.q_tree.specs.Kept.{kept};
 ghost use Rattle.q_tree.specs.Laws.{EditLeavesOtherSubtrees, PeekCountsItsLosses, PutCountsItsLosses, PutKeepsPlaces, PutLeavesOtherSubtrees, TakeCountsItsLosses};
+ghost use Rattle.q_tree.specs.MostPackets.{most_packets};
 ghost use Rattle.q_tree.specs.Places.{places_at};
 ghost use Rattle.q_tree.specs.TreeSeen.{tree_numbers};
 
@@ -65,6 +67,21 @@ pub fn take_keeps_places(tree: &Tree, now: Moment)
     requires { tree.now.clock ≤ now }
     ensures peek { (way : List ℕ) → places_at way (peek_packet kept now tree.now.tree).root ≡ places_at way tree.now.tree.root }
     ensures take { (way : List ℕ) → places_at way (take_packet kept now tree.now.tree).root ≡ places_at way tree.now.tree.root }
+{
+    // The tree is lawful, and a time is at most 2^62 nanoseconds.
+    let _ = &tree.mtu;
+    let _ = now.ns();
+}
+
+/// A put, a peek and a take leave a tree that can hold no more packets than before ([`Tree::most_packets`]), so that no more are ever
+/// queued until a command changes it.
+///
+/// `now` is at or after the latest time that the tree was given.
+pub fn no_more_is_held(tree: &Tree, now: Moment)
+    requires { tree.now.clock ≤ now }
+    ensures put { (p : Descriptor) → 1 ≤ p.len → most_packets (put kept now p tree.now.tree).root ≤ most_packets tree.now.tree.root }
+    ensures peek { most_packets (peek_packet kept now tree.now.tree).root ≤ most_packets tree.now.tree.root }
+    ensures take { most_packets (take_packet kept now tree.now.tree).root ≤ most_packets tree.now.tree.root }
 {
     // The tree is lawful, and a time is at most 2^62 nanoseconds.
     let _ = &tree.mtu;

@@ -53,6 +53,8 @@ pub enum Call {
     Flows(usize, Option<(u32, u32)>),
     // How many losses were reported.
     Losses(u64),
+    // How many packets the tree can hold.
+    Most(u64),
 }
 
 impl Call {
@@ -385,6 +387,7 @@ impl Bench {
             Call::Nodes(count) => Ok(self.has_nodes(count)),
             Call::Flows(i, flows) => Ok(self.has_flows(i, flows)),
             Call::Losses(count) => Ok(self.losses.count() == count),
+            Call::Most(count) => Ok(self.tree.most_packets() == count),
             _ => self.is_done(alloc, call),
         }
     }

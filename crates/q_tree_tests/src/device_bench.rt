@@ -97,6 +97,8 @@ pub enum Call {
     Events(usize, u64),
     // The packets that arrived, were sent, refused and dropped, and that are queued.
     Counts(Spot, [u64; 5]),
+    // How many packets the device can hold.
+    Most(u64),
 }
 
 impl Call {
@@ -348,6 +350,7 @@ impl Bench {
             }
             Call::Events(recorded, events) => Ok(self.has_events(recorded, events)),
             Call::Counts(spot, counts) => self.has_counts(spot, counts),
+            Call::Most(count) => Ok(self.device.most_packets() == count),
             _ => Ok(false),
         }
     }

@@ -27,7 +27,11 @@ mod lines;
 #[cfg(test)]
 mod many_packets;
 #[cfg(test)]
+mod most_packets;
+#[cfg(test)]
 mod played;
+#[cfg(test)]
+mod readme;
 #[cfg(test)]
 mod rounds;
 #[cfg(test)]

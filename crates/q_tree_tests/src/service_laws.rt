@@ -1,4 +1,4 @@
-//! The laws of service as `q_device::laws` states them, over plain numbers: what may be given from one state of the rounds to a later one.
+//! The laws of service as `q_laws::laws` states them, over plain numbers: what may be given from one state of the rounds to a later one.
 use crate::rounds::{List, MOST, Member, Rounds};
 
 /// A class or a flow at two times.

@@ -175,3 +175,25 @@ fn a_tbf_spends_its_burst_and_what_the_rate_brings(rt: HostRuntime) -> Result<()
         3964 + 2264 + 1400 + 300,
     )
 }
+
+// A bucket of 1000 bytes gets one each nanosecond at 8 gbit a second: the burst and what the rate brings in 1000 ns are the two packets, and
+// the second one goes at no poll before, also not at one of an earlier time than the last.
+#[test]
+fn a_tbf_spends_to_the_nanosecond(rt: HostRuntime) -> Result<(), Fail> {
+    let alloc = rt.alloc();
+    let mut script = Script::new(alloc)?;
+    script.tc(&[Ask::Graft(Spot::Root, 1, New::Shaper(8_000_000_000, 1_000))])?;
+    script.packets(2, 1000, 1)?;
+    let before = script.events.len();
+    for ns in &[0u64, 999, 5, 1000] {
+        add_event(&mut script.events, poll_at(*ns))?;
+    }
+    let replies = script.replies(alloc)?;
+    let bytes = lengths(alloc, replies.get(before..).ok_or("replies")?)?;
+    let (early, all) = (bytes.as_slice().get(..3), sum(bytes.as_slice()));
+    if early == Some(&[1000u64, 0, 0][..]) && all == 1000 + 1000 {
+        Ok(())
+    } else {
+        Err(Fail::new(format_args!("{all}")))
+    }
+}

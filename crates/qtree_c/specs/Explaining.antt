@@ -1,6 +1,8 @@
 -- Of which answers on a line there is a sentence.
 -- Refusals and faults are those of the script language; the sentences are for people, and no rule has them.
-use Rattle.std.specs.Prelude.{◌≡◌, ℕ, ◌==◌, ◌⊎◌, List, if◌then◌else◌, Option, Some, None, IsSome}
+use Rattle.std.specs.Prelude.{◌≡◌, ℕ, ◌==◌, ◌⊎◌, List, if◌then◌else◌, Option, Some, None, IsSome, Result, Ok, Err, ⊤}
+use Rattle.q_line.specs.declared.line.Line.{Line}
+use Rattle.q_line.specs.declared.line.Line.TheVariants as line
 use Rattle.q_model.specs.declared.refusal.Refusal.{Refusal}
 use Rattle.q_model.specs.declared.refusal.Refusal.TheVariants.{NoParent, Exists, NoQdisc, HandleTaken, NotClassful, NoClass, Busy, CannotChange, TooDeep, TooMany, SmallBurst, NoFilter, Memory}
 use Rattle.q_words.specs.declared.line_fault.LineFault.{LineFault}
@@ -24,9 +26,22 @@ fault_at f =
     if f.number == 3 then Some (fault.BadNumber f.word) else if f.number == 4 then Some (fault.OutOfRange f.word) else
     if f.number == 5 then Some (fault.Twice f.word) else if f.number == 6 then Some (fault.BadUtf8 f.word) else None
 
--- the answer is a refusal, or that the line has this fault
-abbrev pub IsExplained : ℕ → CFault → Type 0
-IsExplained code f = ((code ≡ 40) × IsSome (fault_at f)) ⊎ IsSome (refusal_at code)
+-- a line of the language that is no command
+abbrev pub IsOther : Result Line LineFault → Type 0
+IsOther (Err f) = ⊥
+IsOther (Ok (line.Tc c)) = ⊥
+IsOther (Ok line.Blank) = ⊤
+IsOther (Ok (line.Show show)) = ⊤
+IsOther (Ok (line.At moment)) = ⊤
+IsOther (Ok (line.Pkt arrival)) = ⊤
+IsOther (Ok (line.Frame len head)) = ⊤
+IsOther (Ok (line.Poll polls)) = ⊤
+IsOther (Ok line.Reap) = ⊤
+IsOther (Ok line.Totals) = ⊤
+
+-- the answer is a refusal; or that the line has a fault, and this is one; or that it is no command, and it is none
+abbrev pub IsExplained : ℕ → CFault → Result Line LineFault → Type 0
+IsExplained code f read = ((code ≡ 40) × IsSome (fault_at f)) ⊎ ((code ≡ 41) × IsOther read) ⊎ IsSome (refusal_at code)
 
 -- some text is written into the first of the lent bytes, or there are too few of them
 abbrev pub IsSomeText : ℕ → ℕ → List ℕ → List ℕ → Type 0

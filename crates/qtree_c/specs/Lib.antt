@@ -1,3 +1,4 @@
+pub mod Buffers
 pub mod Calls
 pub mod Codes
 pub mod Ends

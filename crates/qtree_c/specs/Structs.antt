@@ -139,9 +139,9 @@ with_fields hash h c = record c {
 abbrev pub with_head : ℕ → Head → CPacket → CPacket
 with_head seed h c = with_fields (one_at_a_time seed (key_bytes h.key)) h c
 
--- a packet of this length in this buffer, of which the head was read, with this hash; its number and port are 0
-abbrev pub framed : ℕ → ℕ → ℕ → Head → CPacket
-framed len buf hash h = with_fields hash h (record zero_packet { len = len; buf = buf })
+-- a packet of this length in this buffer, of which the head was read, with this number and this hash; its port is 0
+abbrev pub framed : ℕ → ℕ → ℕ → ℕ → Head → CPacket
+framed len buf number hash h = with_fields hash h (record zero_packet { len = len; buf = buf; number = number })
 
 -- what a program needs to send a packet on
 abbrev pub sent_of : Descriptor → CSent

@@ -85,7 +85,7 @@ fn arrive(opened: &mut Opened, packet: &CPacket, now: Moment) -> u32
         return OUT_OF_RANGE;
     };
     match steps::arrive(opened, &packet, now) {
-        Ok(fate) => number(fate),
+        Ok(fate) => fate_number(fate),
         Err(_) => MEMORY,
     }
 }
@@ -114,7 +114,7 @@ fn arrive_many(
 }
 
 /// The number of a fate: 0, or the cause's.
-pub fn number(fate: Fate) -> u32
+pub fn fate_number(fate: Fate) -> u32
     ensures value { result ≡ fate_number fate }
     ensures few { result ≤ 6 }
 {

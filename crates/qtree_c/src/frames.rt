@@ -8,7 +8,7 @@ ghost use Rattle.qtree_c.specs.Folds.{arrival};
 ghost use Rattle.qtree_c.specs.Noting.{noting, one_event, Notes};
 ghost use Rattle.qtree_c.specs.Structs.{framed};
 
-use crate::arrivals::number;
+use crate::arrivals::fate_number;
 use crate::c_device::CDevice;
 use crate::codes::{IS_CLOSED, MEMORY, OUT_OF_RANGE};
 use crate::opened::Opened;
@@ -25,19 +25,33 @@ pub extern "C" fn qtree_arrive_frame(
     hash: u32,
     now: u64,
 ) -> u32
-    ensures arrival { now ≤ 2 ^ 62 → Calls (IsArrival (framed len buf hash (head bytes.now)) now result) result device.old.held.device device.new.held.device }
+    ensures arrival { now ≤ 2 ^ 62 → Calls (IsArrival (framed len buf 0 hash (head bytes.now)) now result) result device.old.held.device device.new.held.device }
     ensures moment { 2 ^ 62 < now → (result ≡ 42) × (device.new.held.device ≡ device.old.held.device) }
     ensures len { now ≤ 2 ^ 62 → result ≡ 42 → len ≡ 0 }
-    ensures noted { result ≤ 6 → Notes (one_event (arrival now (framed len buf hash (head bytes.now)))) device.old.held.device device.old.held.last device.new.held.last }
+    ensures noted { result ≤ 6 → Notes (one_event (arrival now (framed len buf 0 hash (head bytes.now)))) device.old.held.device device.old.held.last device.new.held.last }
     ensures unnoted { 6 < result → device.new.held.last ≡ device.old.held.last }
 {
-    let Some(now) = Moment::new(now) else {
-        return OUT_OF_RANGE;
-    };
-    if !device.is_open() {
-        return IS_CLOSED;
-    }
-    arrive(device.held.lend(), &read_head(bytes), len, buf, hash, now)
+    arrive_frame(device, bytes, len, buf, 0, hash, now)
+}
+
+/// The same, of a packet that has this number.
+#[unsafe(no_mangle)]
+pub extern "C" fn qtree_arrive_frame_numbered(
+    device: &mut CDevice,
+    bytes: &[u8],
+    len: u16,
+    buf: u32,
+    number: u64,
+    hash: u32,
+    now: u64,
+) -> u32
+    ensures arrival { now ≤ 2 ^ 62 → Calls (IsArrival (framed len buf number hash (head bytes.now)) now result) result device.old.held.device device.new.held.device }
+    ensures moment { 2 ^ 62 < now → (result ≡ 42) × (device.new.held.device ≡ device.old.held.device) }
+    ensures len { now ≤ 2 ^ 62 → result ≡ 42 → len ≡ 0 }
+    ensures noted { result ≤ 6 → Notes (one_event (arrival now (framed len buf number hash (head bytes.now)))) device.old.held.device device.old.held.last device.new.held.last }
+    ensures unnoted { 6 < result → device.new.held.last ≡ device.old.held.last }
+{
+    arrive_frame(device, bytes, len, buf, number, hash, now)
 }
 
 /// A packet arrives that has these first bytes, whose flow is hashed with this seed.
@@ -50,10 +64,10 @@ pub extern "C" fn qtree_arrive_frame_seeded(
     seed: u32,
     now: u64,
 ) -> u32
-    ensures arrival { now ≤ 2 ^ 62 → Calls (IsArrival (framed len buf (one_at_a_time seed (key_bytes (head bytes.now).key)) (head bytes.now)) now result) result device.old.held.device device.new.held.device }
+    ensures arrival { now ≤ 2 ^ 62 → Calls (IsArrival (framed len buf 0 (one_at_a_time seed (key_bytes (head bytes.now).key)) (head bytes.now)) now result) result device.old.held.device device.new.held.device }
     ensures moment { 2 ^ 62 < now → (result ≡ 42) × (device.new.held.device ≡ device.old.held.device) }
     ensures len { now ≤ 2 ^ 62 → result ≡ 42 → len ≡ 0 }
-    ensures noted { result ≤ 6 → Notes (one_event (arrival now (framed len buf (one_at_a_time seed (key_bytes (head bytes.now).key)) (head bytes.now)))) device.old.held.device device.old.held.last device.new.held.last }
+    ensures noted { result ≤ 6 → Notes (one_event (arrival now (framed len buf 0 (one_at_a_time seed (key_bytes (head bytes.now).key)) (head bytes.now)))) device.old.held.device device.old.held.last device.new.held.last }
     ensures unnoted { 6 < result → device.new.held.last ≡ device.old.held.last }
 {
     let Some(now) = Moment::new(now) else {
@@ -64,23 +78,65 @@ pub extern "C" fn qtree_arrive_frame_seeded(
     }
     let head = read_head(bytes);
     let hash = OneAtATime { seed }.hash(&head.key);
-    arrive(device.held.lend(), &head, len, buf, hash, now)
+    arrive(device.held.lend(), &head, len, buf, 0, hash, now)
+}
+
+/// A packet arrives that has these first bytes, this number, and this hash of its flow.
+#[inline(always)]
+fn arrive_frame(
+    device: &mut CDevice,
+    bytes: &[u8],
+    len: u16,
+    buf: u32,
+    number: u64,
+    hash: u32,
+    now: u64,
+) -> u32
+    ensures arrival { now ≤ 2 ^ 62 → Calls (IsArrival (framed len buf number hash (head bytes.now)) now result) result device.old.held.device device.new.held.device }
+    ensures moment { 2 ^ 62 < now → (result ≡ 42) × (device.new.held.device ≡ device.old.held.device) }
+    ensures len { now ≤ 2 ^ 62 → result ≡ 42 → len ≡ 0 }
+    ensures noted { result ≤ 6 → Notes (one_event (arrival now (framed len buf number hash (head bytes.now)))) device.old.held.device device.old.held.last device.new.held.last }
+    ensures unnoted { 6 < result → device.new.held.last ≡ device.old.held.last }
+{
+    let Some(now) = Moment::new(now) else {
+        return OUT_OF_RANGE;
+    };
+    if !device.is_open() {
+        return IS_CLOSED;
+    }
+    arrive(
+        device.held.lend(),
+        &read_head(bytes),
+        len,
+        buf,
+        number,
+        hash,
+        now,
+    )
 }
 
 /// A packet with this head arrives at an open device.
 #[inline(always)]
-fn arrive(opened: &mut Opened, head: &Head, len: u16, buf: u32, hash: u32, now: Moment) -> u32
+fn arrive(
+    opened: &mut Opened,
+    head: &Head,
+    len: u16,
+    buf: u32,
+    number: u64,
+    hash: u32,
+    now: Moment,
+) -> u32
     requires { head.now.prio ≤ 15 }
-    ensures arrival { IsArrival (framed len buf hash head.now) now result opened.old.device opened.new.device }
+    ensures arrival { IsArrival (framed len buf number hash head.now) now result opened.old.device opened.new.device }
     ensures len { result ≡ 42 → len ≡ 0 }
-    ensures noted { result ≤ 6 → opened.new.last ≡ noting (one_event (arrival now (framed len buf hash head.now)) opened.old.device) opened.old.last }
+    ensures noted { result ≤ 6 → opened.new.last ≡ noting (one_event (arrival now (framed len buf number hash head.now)) opened.old.device) opened.old.last }
     ensures unnoted { 6 < result → opened.new.last ≡ opened.old.last }
 {
-    let Some(packet) = Packet::new(0, 0, buf, len, head.key, hash, head.prio, head.ecn) else {
+    let Some(packet) = Packet::new(0, number, buf, len, head.key, hash, head.prio, head.ecn) else {
         return OUT_OF_RANGE;
     };
     match steps::arrive(opened, &packet, now) {
-        Ok(fate) => number(fate),
+        Ok(fate) => fate_number(fate),
         Err(_) => MEMORY,
     }
 }

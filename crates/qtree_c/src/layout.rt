@@ -19,12 +19,12 @@ use crate::c_sent::CSent;
 use crate::c_settings::CSettings;
 
 /// The version of these functions: the major number in the high 16 bits, the minor one in the low 16.
-pub const VERSION: u32 = 0x0001_0002;
+pub const VERSION: u32 = 0x0001_0003;
 
 /// The version.
 #[unsafe(no_mangle)]
 pub extern "C" fn qtree_version() -> u32
-    ensures { result ≡ 0x10002 }
+    ensures { result ≡ 0x10003 }
 {
     VERSION
 }

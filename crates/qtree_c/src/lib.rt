@@ -2,6 +2,7 @@
 #![tactic(auto)]
 
 mod arrivals;
+mod buffers;
 mod c_class_view;
 mod c_count;
 mod c_device;

@@ -1,8 +1,7 @@
 use Rattle.std.proofs.Common.{◌≡◌, ◌+◌, ◌*◌, ◌<◌, ◌≤◌, ℕ, rules, subst, sym, arith}
 use Rattle.std.proofs.lemmas.Grind.{div_ceil_times}
-use Rattle.q_device.specs.InTime.{lacks_of_bytes}
-use Rattle.q_device.specs.Promise.{lack_at}
-use Rattle.q_device.proofs.PromiseNumbers.{lack-bound}
+use Rattle.q_device.specs.Promise.{lacks_of_bytes, lack_at}
+use Rattle.q_device.proofs.LackNumbers.{lack-bound}
 use Rattle.q_device.proofs.service.lack_at.Goals as goal
 
 pub returns-clause-bound : goal.returns-clause-bound

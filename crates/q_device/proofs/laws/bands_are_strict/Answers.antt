@@ -1,5 +1,0 @@
-use Rattle.q_device.proofs.WorkTrees.{bands-are-strict}
-use Rattle.q_device.proofs.laws.bands_are_strict.Goals as goal
-
-pub returns : goal.returns
-returns c = bands-are-strict c.args.settings c.ranges-2.ensures

@@ -1,5 +1,0 @@
-use Rattle.q_device.proofs.FlowService.{flow-against-any}
-use Rattle.q_device.proofs.laws.flow_against_any.Goals as goal
-
-pub returns : goal.returns
-returns c = flow-against-any c.args.settings c.ranges-2.ensures

@@ -1,5 +1,0 @@
-use Rattle.q_device.proofs.OrderSteps.{flows-keep-order}
-use Rattle.q_device.proofs.laws.flows_keep_order.Goals as goal
-
-pub returns : goal.returns
-returns c = flows-keep-order c.args.settings c.ranges-2.ensures

@@ -1,5 +1,0 @@
-use Rattle.q_device.proofs.RestMoves.{joining-flows-are-spared}
-use Rattle.q_device.proofs.laws.joining_flow_is_spared.Goals as goal
-
-pub returns : goal.returns
-returns c = joining-flows-are-spared c.args.settings c.ranges-2.ensures

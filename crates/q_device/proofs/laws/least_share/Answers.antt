@@ -1,5 +1,0 @@
-use Rattle.q_device.proofs.LeastShare.{classes-get-their-parts}
-use Rattle.q_device.proofs.laws.least_share.Goals as goal
-
-pub returns : goal.returns
-returns c = classes-get-their-parts c.args.settings c.ranges-2.ensures

@@ -1,5 +1,0 @@
-use Rattle.q_device.proofs.NewFlowService.{new-flow-first}
-use Rattle.q_device.proofs.laws.new_flow_first.Goals as goal
-
-pub returns : goal.returns
-returns c = new-flow-first c.args.settings c.ranges-2.ensures

@@ -1,5 +1,0 @@
-use Rattle.q_device.proofs.FlowService.{no-flow-starves}
-use Rattle.q_device.proofs.laws.no_flow_starves.Goals as goal
-
-pub returns : goal.returns
-returns c = no-flow-starves c.args.settings c.ranges-2.ensures

@@ -1,6 +1,0 @@
-use Rattle.q_device.proofs.LinkStretches.{rate-is-delivered}
-use Rattle.q_device.proofs.RateStretches.{rate-is-spent}
-use Rattle.q_device.proofs.laws.rate_is_delivered.Goals as goal
-
-pub returns : goal.returns
-returns c = record { exact = rate-is-spent c.args.settings c.ranges-2.ensures; in_time = rate-is-delivered c.args.settings c.ranges-2.ensures }

@@ -1,5 +1,0 @@
-use Rattle.q_device.proofs.PromiseKept.{service-is-delivered, slack-is-the-laws}
-use Rattle.q_device.proofs.laws.service_is_delivered.Goals as goal
-
-pub returns : goal.returns
-returns c = record { delivered = service-is-delivered c.args.settings c.ranges-2.ensures; slack = slack-is-the-laws c.args.settings }

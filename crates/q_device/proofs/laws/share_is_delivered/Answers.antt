@@ -1,5 +1,0 @@
-use Rattle.q_device.proofs.PromiseKept.{share-is-delivered}
-use Rattle.q_device.proofs.laws.share_is_delivered.Goals as goal
-
-pub returns : goal.returns
-returns c = share-is-delivered c.args.settings c.ranges-2.ensures

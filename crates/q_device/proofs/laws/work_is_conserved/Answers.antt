@@ -1,5 +1,0 @@
-use Rattle.q_device.proofs.WorkTrees.{work-is-conserved}
-use Rattle.q_device.proofs.laws.work_is_conserved.Goals as goal
-
-pub returns : goal.returns
-returns c = work-is-conserved c.args.settings c.ranges-2.ensures

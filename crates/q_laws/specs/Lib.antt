@@ -1,0 +1,7 @@
+pub mod Delivered
+pub mod InTime
+pub mod Order
+pub mod Rate
+pub mod Rest
+pub mod Service
+pub mod Work

@@ -1,0 +1,174 @@
+//! What is true of service, of work and of order over every replay of a device. Each law is the contract of a function that does nothing.
+ghost use Rattle.q_laws.specs.Delivered.{LatenessIsTheGreatest, ServiceIsDelivered, ShareIsDelivered, SlackIsTheLaws};
+ghost use Rattle.q_laws.specs.InTime.{ClassesShareInTime, SharesMultiply};
+ghost use Rattle.q_laws.specs.Order.{FlowsKeepOrder};
+ghost use Rattle.q_laws.specs.Rate.{NeverLateIsDrained, RateIsDelivered, RateIsSpent};
+ghost use Rattle.q_laws.specs.Rest.{JoiningFlowsAreSpared};
+ghost use Rattle.q_laws.specs.Service.{ClassAgainstAny, ClassesGetTheirParts, FlowAgainstAny, NoFlowStarves, NewFlowFirst};
+ghost use Rattle.q_laws.specs.Work.{BandsAreStrict, WorkIsConserved};
+
+use q_model::Settings;
+
+/// Whatever comes to the other classes of its drr, a class that stays backlogged with one quantum over an interval of events is held up by
+/// each of them no longer than by one that stays backlogged too. Another class that is there with one quantum sends at most its first
+/// deficit and a quantum for each grant to the first: it may get packets, empty, become active again, and have its child removed or
+/// replaced. Where it was not before the first class in the active list, it sends nothing until that one is granted, but for what
+/// its deficit is above a quantum. In the quanta of both, what it sends times the quantum of the first is at most what
+/// the first sends times its own, and two products of the quanta and a longest packet less a byte times their sum.
+///
+/// For all settings and every list of events whose fields are in their ranges: polls, arrivals and commands anywhere in the
+/// tree. Bytes are those that a class's child hands to the drr, which may hold one packet.
+pub fn class_against_any(settings: Settings)
+    ensures { ClassAgainstAny settings }
+{
+    settings.ranges();
+}
+
+/// Of all bytes that the classes of a drr send over an interval in which the drr keeps its classes and their quanta, a class that stays
+/// backlogged sends its quantum's part of the sum of the quanta, whatever comes to the others, but for a number of bytes
+/// that does not grow with the interval: twice its quantum times those of the others, and a longest packet less a byte times the others'
+/// quanta and, for each of the others, its own.
+pub fn least_share(settings: Settings)
+    ensures { ClassesGetTheirParts settings }
+{
+    settings.ranges();
+}
+
+/// Whatever comes to the other flows of its fq_codel, while a flow stays backlogged each of them gives at most two quanta less a byte for each
+/// grant to it, a quantum, and what the other's credits at first let it give, which is those and a longest packet less a byte.
+/// A flow that joins anew each time comes near to that, at twice what a backlogged one gets: sparse flows go first (RFC 8290, section
+/// 4.2). A flow in neither list at first counts with no credits, and one in the new list gives a quantum less. The quantum stays meanwhile.
+///
+/// For all settings and every list of events whose fields are in their ranges: polls, arrivals and commands anywhere in the tree. Packets
+/// that CoDel or the fat flow loses are not among the bytes.
+pub fn flow_against_any(settings: Settings)
+    ensures { FlowAgainstAny settings }
+{
+    settings.ranges();
+}
+
+/// Between two grants of a flow of an fq_codel that stays backlogged, each other flow gives at most two quanta and the mtu less two bytes,
+/// whatever comes to it, where its credits were at most a quantum at the first of the two; so no flow waits for ever while packets
+/// are taken. Credits can be above a quantum only where a command has lowered it, and count then in place of one quantum. From the first
+/// of the two grants to the second the quantum stays.
+pub fn no_flow_starves(settings: Settings)
+    ensures { NoFlowStarves settings }
+{
+    settings.ranges();
+}
+
+/// A flow that joins an fq_codel from neither list goes before all old flows: until it gives a packet, or has none left, only the flows
+/// that were in the new list give any, each at most its credits and a longest packet less a byte, whatever comes meanwhile, a command
+/// that changes the quantum too.
+/// So a sparse flow, as a name lookup, passes the flows of a download (RFC 8290, section 4.2).
+pub fn new_flow_first(settings: Settings)
+    ensures { NewFlowFirst settings }
+{
+    settings.ranges();
+}
+
+/// CoDel drops nothing of a flow that joins an fq_codel from neither list until it has given a packet, and does not mark that one: so the
+/// packet that joined is given, unless it is lost to the fat flow's batch. It is said of what CoDel remembers of the flow, for whatever
+/// queues there and whenever its turn comes, at any time of any device: a flow that leaves the lists is forgotten by CoDel, as is one of
+/// a new fq_codel.
+///
+/// For all settings and every list of events whose fields are in their ranges: polls, arrivals and commands anywhere in the tree.
+pub fn joining_flow_is_spared(settings: Settings)
+    ensures { JoiningFlowsAreSpared settings }
+{
+    settings.ranges();
+}
+
+/// A tbf delivers its rate. Where it keeps its rate and its burst over an interval of events and its level is cut by its burst at none of
+/// them, what its bucket pays is what its rate brings in the time between, but for what its level was at first and is at last (`exact`).
+///
+/// That is so of a tbf at the root with no other below, while something is queued, if no event comes more than `late` nanoseconds late, and
+/// its burst has room for a longest packet and for what its rate brings in so much time and a nanosecond more. What comes is late by the
+/// time since that which `Device::ready_at` of `q_device` answered when it was last ahead of the clock: so packets that can be given are
+/// all taken within that time. What the tbf pays is then within a longest packet of what its rate brings, both ways, between times at
+/// which a poll gives nothing (`in_time`). Where no event comes after the time that is answered right before it, none is late
+/// (`never_late`).
+///
+/// For all settings and every list of events whose fields are in their ranges. Bytes are counted in units of 1/(8*10^9), so that
+/// nothing is rounded. What the tbf pays for it may still hold, as it may at the first of the two times: one packet.
+pub fn rate_is_delivered(settings: Settings)
+    ensures exact { RateIsSpent settings }
+    ensures in_time { RateIsDelivered settings }
+    ensures never_late { NeverLateIsDrained }
+{
+    settings.ranges();
+}
+
+/// A class of a drr gets its part of a rate, in time. A tbf at the root is over the drr alone, with no other tbf below, and is
+/// polled as [`rate_is_delivered`] says; the drr keeps its classes and their quanta. A class that stays backlogged then sends its quantum's
+/// part of what the rate brings in the time between, less a number of bytes that does not grow: its part of two longest packets, and what
+/// [`least_share`] says that it may lack (`below`).
+///
+/// Where the child of a class is a drr again, and so on, the parts multiply: a class at the end of such a path down, all of whose classes
+/// stay backlogged, sends the product of their parts of the rate, less what may lack at each level and a longest packet for each drr that
+/// may hold one (`nested`).
+///
+/// For all settings and every list of events whose fields are in their ranges, whatever comes to the other classes. Bytes are counted in
+/// units of 1/(8*10^9), times the sums of the quanta, so that nothing is rounded; they are those that the class's child hands to its drr.
+pub fn share_in_time(settings: Settings)
+    ensures below { ClassesShareInTime settings }
+    ensures nested { SharesMultiply settings }
+{
+    settings.ranges();
+}
+
+/// What `Device::service` of `q_device` answers is what the class gets. As long as the path to it stays as it is, which is the qdiscs on it
+/// with the classes and quanta of its drrs, and something is queued in the class, it sends its part of what the rate brings, less the
+/// slack (`delivered`): exactly, and of the rate in whole bits a second that `Service::rate` gives. No tbf is added below the one at the
+/// root, and the device is polled as [`rate_is_delivered`] says, no later than `Service::late`, which is the greatest lateness that the
+/// burst has room for (`late`). The slack is that of [`share_in_time`], rounded up by less than a byte for each drr on the path (`slack`).
+///
+/// For all settings and every list of events whose fields are in their ranges, whatever comes to other classes.
+pub fn service_is_delivered(settings: Settings)
+    ensures delivered { ServiceIsDelivered settings }
+    ensures slack { SlackIsTheLaws settings }
+    ensures late { LatenessIsTheGreatest settings }
+{
+    settings.ranges();
+}
+
+/// The same where a drr is at the root, of all bytes that the children of its classes hand to it, at whatever times the device is polled.
+pub fn share_is_delivered(settings: Settings)
+    ensures { ShareIsDelivered settings }
+{
+    settings.ranges();
+}
+
+/// A tree without a tbf leaves no link idle that has something to send: a poll gives a packet wherever one is queued, at any node, and is
+/// answered `Idle` where nothing is; it is never answered `Later` (tc-prio(8) calls this work-conserving).
+///
+/// For all settings and every list of events whose fields are in their ranges.
+pub fn work_is_conserved(settings: Settings)
+    ensures { WorkIsConserved settings }
+{
+    settings.ranges();
+}
+
+/// Where a poll has a prio send a packet of a band, each band before that one gave nothing when it was asked at that time; and if no
+/// tbf is there or below, nothing was queued there (tc-prio(8)).
+///
+/// For all settings and every list of events whose fields are in their ranges. A tbf in an earlier band may hold a packet back, and
+/// lets the bands behind it send meanwhile.
+pub fn bands_are_strict(settings: Settings)
+    ensures { BandsAreStrict settings }
+{
+    settings.ranges();
+}
+
+/// No flow is reordered. Of packets with equal flow key, hash and priority, those that polls give over an interval are a part of those
+/// that arrive in it, in the order in which they arrived, but for the ECN codepoint of a mark. No such packet is queued at the start of the
+/// interval, at any node, and no command is accepted in it; a refused command changes nothing.
+///
+/// For all settings and every list of events whose fields are in their ranges, whatever the qdiscs and the other packets are. Those of the
+/// flow that are not given were refused, dropped, or wait. A filter, a class or a qdisc that a command puts in may send later packets
+/// of a flow along another path, which can be shorter.
+pub fn flows_keep_order(settings: Settings)
+    ensures { FlowsKeepOrder settings }
+{
+    settings.ranges();
+}
