@@ -1,0 +1,158 @@
+"""Packs the text of the library for C with what builds and tests it, for systems without Rattle."""
+import glob
+import lzma
+import os
+import re
+import shutil
+import subprocess
+import tarfile
+import tempfile
+
+from kept import TOP, Kept
+from llvm_text import Unreadable, read, write
+from rewrite import portable
+import tie
+
+PAGES = ("LANGUAGE.md", "DISCIPLINES.md", "TC.md", "SERVICE.md", "GUARANTEES.md", "EMBEDDING.md", "ROUTER.md")
+# Programs of embed/c that are no tests, or need more than a C compiler.
+LEFT = ("fuzz.c", "bench.c", "until_idle.c", "long_session.c", "standards.c")
+HERE = f"{TOP}/embed/portable"
+PATH = "PATH=/usr/bin:/bin"
+# What PROVED.md says of a module that was proved, and of one that was not.
+PROVED = {
+    "VERDICT": """The functions of `libqtree.ll` were proved by {kit}, for the target x86_64-unknown-linux-gnu. The kit's verdict is
+
+    {verdict}""",
+    "TARGETS": """For x86-64 the target is that of the proof. For another processor nothing
+  was proved: the text is the same, and the rest is trusted, as said below.""",
+}
+NOT_PROVED = {
+    "VERDICT": """**Nothing.** The kit {kit} compiled the module without proofs. What is said below of a proof holds for a package
+that was made of a proved module, and not for this one.""",
+    "TARGETS": "Nothing of it is proved, for any processor.",
+}
+
+
+def run(*words, cwd=TOP):
+    return tie.run(*words, cwd=cwd).decode(errors="replace")
+
+
+class Release:
+    """What the package says of itself."""
+
+    def __init__(self, kept):
+        options = read(f"{TOP}/crates/q_options/src/command_line.rt")
+        version, self.kit = re.search(r'VERSION: &str = "([\d.]+), proved with ([\w-]+)"', options).groups()
+        self.version = version if kept.verdict else f"{version}+unproved"
+        self.commit = "commit " + run("git", "rev-parse", "HEAD").strip()
+        if run("git", "status", "--porcelain").strip():
+            self.commit += ", with changes that are in no commit"
+        self.moment = int(run("git", "log", "-1", "--format=%ct"))
+        header = read(f"{TOP}/embed/include/qtree.h")
+        self.of_library = ".".join(re.findall(r"#define QTREE_VERSION_M[AI][JN]OR (\d+)", header))
+        self.verdict = kept.verdict
+
+    def proved(self, counts, functions, lines):
+        """PROVED.md."""
+        said = PROVED if self.verdict else NOT_PROVED
+        said = {name: it.format(kit=self.kit, verdict=self.verdict) for name, it in said.items()}
+        said |= {"VERSION": self.version, "LIBRARY": self.of_library, "COMMIT": self.commit}
+        said |= {"FUNCTIONS": f"{functions:,}", "LINES": f"{lines:,}"}
+        said["COUNTS"] = "\n".join(f"      {count:6} {kind}" for kind, count in counts.most_common())
+        return re.sub(r"@(\w+)@", lambda it: said[it[1]], read(f"{HERE}/PROVED.md.in"))
+
+
+def copy(names, folder):
+    os.makedirs(folder, exist_ok=True)
+    for it in names:
+        shutil.copy(f"{TOP}/{it}", folder)
+
+
+def below(pattern, left=()):
+    return [os.path.relpath(it, TOP) for it in sorted(glob.glob(f"{TOP}/{pattern}")) if os.path.basename(it) not in left]
+
+
+def laid_out(kept, root):
+    """Puts all files below a root, and answers the release."""
+    module = read(kept.module)
+    text, _ = portable(module)
+    counts, unknown, functions, lines = tie.compare(module, text)
+    if unknown:
+        raise Unreadable(f"the text differs from the module otherwise than it may: {unknown[0]}")
+    release = Release(kept)
+    own = ("README.md", "heap.c", "measure.c", "typed.py", "llvm_text.py")
+    copy([*(f"embed/portable/{it}" for it in own), "embed/c/qtree.pc.in"], root)
+    proved_for = "proved for x86_64-unknown-linux-gnu" if release.verdict else "NOT proved"
+    write(f"{root}/Makefile", read(f"{HERE}/Makefile").replace("PROVED_FOR", proved_for))
+    write(f"{root}/libqtree.ll", text)
+    write(f"{root}/PROVED.md", release.proved(counts, functions, lines))
+    copy(["embed/include/qtree.h"], f"{root}/include")
+    copy(below("embed/c/*.[ch]", LEFT) + below("crates/q_corpus/data/*.txt"), f"{root}/tests")
+    copy([it for it in below("examples/*.*") if not it.endswith(".md")], f"{root}/examples")
+    copy([f"docs/{it}" for it in PAGES] + ["embed/c/qtree.3"], f"{root}/doc")
+    return release
+
+
+def tar(root, release, name, to):
+    """A tar file whose bytes depend on the files alone."""
+
+    def plain(it):
+        it.uid = it.gid = 0
+        it.uname = it.gname = "root"
+        it.mtime, it.mode = release.moment, 0o755 if it.isdir() else 0o644
+        return it
+
+    with lzma.open(to, "wb", preset=9 | lzma.PRESET_EXTREME) as packed, tarfile.open(fileobj=packed, mode="w") as file:
+        for at, folders, files in os.walk(root):
+            folders.sort()
+            for it in sorted(files):
+                path = os.path.relpath(f"{at}/{it}", root)
+                file.add(f"{root}/{path}", f"{name}/{path}", filter=plain)
+
+
+def pack(unproved, to):
+    """Makes the package, and answers its path."""
+    kept = Kept(unproved)
+    kept.check_sources()
+    os.makedirs(to, exist_ok=True)
+    with tempfile.TemporaryDirectory(prefix=".package-", dir=to) as room:
+        release = laid_out(kept, f"{room}/root")
+        name = f"qtree-{release.version}-portable"
+        tar(f"{room}/root", release, name, f"{room}/{name}.tar.xz")
+        os.replace(f"{room}/{name}.tar.xz", f"{to}/{name}.tar.xz")
+    return f"{to}/{name}.tar.xz"
+
+
+def unpacked(package, room):
+    run("tar", "-xJf", package, "-C", room)
+    return glob.glob(f"{room}/qtree-*-portable")[0]
+
+
+def make(folder, *words):
+    """Runs make there, with no Rattle on the path."""
+    return run("env", "-i", PATH, "make", "-s", *words, cwd=folder)
+
+
+def tried(package, *words):
+    """Unpacks the package in a fresh folder, builds it, plays the example and runs the tests, with no Rattle on the path."""
+    with tempfile.TemporaryDirectory(prefix="qtree-portable-") as room:
+        folder = unpacked(package, room)
+        make(folder, *words)
+        report = run("env", "-i", PATH, "./qtree", "play", "examples/two_packets.qtree", cwd=folder)
+        if report != read(f"{folder}/examples/two_of_three_packets.out"):
+            raise Unreadable("the player plays two_packets.qtree to another report")
+        make(folder, *words, "test")
+        said = run("./qtree", "--version", cwd=folder).strip().replace("\n", ", ")
+        if shutil.which("musl-gcc"):
+            make(folder, *words, "CC=musl-gcc", "LDFLAGS=-static", "test")
+            said += "; over musl too"
+        refuse_others(folder)
+        return said
+
+
+def refuse_others(folder):
+    """Make refuses a processor with other pointers or another order of bytes, by its name."""
+    for it in ("arm-linux-gnueabihf", "s390x-linux-gnu"):
+        ran = subprocess.run(["make", f"TARGET={it}"], cwd=folder, capture_output=True, text=True, check=False)
+        if ran.returncode == 0 or f"and not for {it.partition('-')[0]}" not in ran.stderr:
+            raise Unreadable(f"make does not refuse {it}: {ran.stderr.strip()}")
