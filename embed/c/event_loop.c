@@ -85,6 +85,12 @@ static void *send_all(void *its) {
     return NULL;
 }
 
+/* Whether a packet may go. A poll before that would be an event that gives nothing. */
+static bool is_due(const qtree_device *device, uint64_t now) {
+    uint64_t due;
+    return qtree_ready_at(device, &due) == QTREE_DONE && due <= now;
+}
+
 /* Takes packets in, polls and reaps, and returns whether there was something to do. If qtree_take_in takes nothing, the ring was empty. */
 static bool turn(qtree_device *device) {
     uint64_t now = clock_ns(CLOCK_MONOTONIC);
@@ -98,7 +104,7 @@ static bool turn(qtree_device *device) {
         }
     }
     qtree_packet packet;
-    while (qtree_poll(device, now, &packet) == QTREE_DONE) {
+    while (is_due(device, now) && qtree_poll(device, now, &packet) == QTREE_DONE) {
         is_busy = true; /* transmits packet.buf of the sender packet.port */
     }
     qtree_loss loss;

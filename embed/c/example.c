@@ -1,13 +1,11 @@
 #include "qtree.h"
 #include <stdio.h>
-#include <string.h>
 
 int main(void) {
-    static const char line[] = "tc qdisc add dev wan root handle 1: tbf rate 8mbit burst 2000 latency 50ms";
+    const char *line = "tc qdisc add dev wan root handle 1: tbf rate 8mbit burst 2000 latency 50ms";
+    const qtree_settings settings = QTREE_DEFAULTS;
     qtree_device device = QTREE_CLOSED;
-    qtree_fault fault;
-    if (qtree_open(&device, &(qtree_settings){ .txqueuelen = 1000, .mtu = 1514 }) != QTREE_DONE ||
-        qtree_command(&device, (const uint8_t *)line, strlen(line), 0, &fault) != QTREE_DONE) {
+    if (qtree_open(&device, &settings) != QTREE_DONE || qtree_run(&device, line, 0, NULL) != QTREE_DONE) {
         return 1;
     }
     for (uint32_t buf = 0; buf < 3; buf++) {
@@ -23,7 +21,7 @@ int main(void) {
     }
     qtree_loss loss;
     while (qtree_reap(&device, &loss) == QTREE_DONE) {
-        printf("%u lost, cause %u\n", loss.packet.buf, loss.cause);
+        printf("%u lost: %s\n", loss.packet.buf, qtree_code_sentence(loss.cause));
     }
     qtree_close(&device);
     return 0;

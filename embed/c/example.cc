@@ -1,8 +1,7 @@
-// The example of docs/EMBEDDING.md in C++, with a device that closes itself.
+// The example of docs/EMBEDDING.md in C++11, with a device that closes itself.
 #include "qtree.h"
 #include <cinttypes>
 #include <cstdio>
-#include <cstring>
 
 namespace {
 
@@ -15,13 +14,9 @@ struct Device {
 };
 
 bool set_up(Device &device) {
-    static const char line[] = "tc qdisc add dev wan root handle 1: tbf rate 8mbit burst 2000 latency 50ms";
-    qtree_settings settings{};
-    settings.txqueuelen = 1000;
-    settings.mtu = 1514;
-    qtree_fault fault;
-    return qtree_open(&device.raw, &settings) == QTREE_DONE &&
-           qtree_command(&device.raw, reinterpret_cast<const uint8_t *>(line), std::strlen(line), 0, &fault) == QTREE_DONE;
+    const qtree_settings settings = QTREE_DEFAULTS;
+    const char *line = "tc qdisc add dev wan root handle 1: tbf rate 8mbit burst 2000 latency 50ms";
+    return qtree_open(&device.raw, &settings) == QTREE_DONE && qtree_run(&device.raw, line, 0, nullptr) == QTREE_DONE;
 }
 
 } // namespace

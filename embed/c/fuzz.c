@@ -107,6 +107,9 @@ static void command(qtree_device *device, struct input *input) {
     CHECK(code == QTREE_DONE || (code >= QTREE_REFUSED_NO_PARENT && code <= QTREE_REFUSED_NO_FILTER) || code == QTREE_FAULTY ||
           code == QTREE_NO_COMMAND || code == QTREE_OUT_OF_RANGE || code == QTREE_IS_CLOSED || code == QTREE_MEMORY);
     CHECK(code == QTREE_FAULTY ? fault.number >= 1 && fault.number <= 6 && fault.word >= 1 : fault.number == 7 && fault.word == 7);
+    size_t needed;
+    bool is_other = qtree_explain((const uint8_t *)line, len, 1, QTREE_NO_COMMAND, &fault, NULL, 0, &needed) == QTREE_ROOM;
+    CHECK(code == QTREE_OUT_OF_RANGE || code == QTREE_IS_CLOSED || is_other == (code == QTREE_NO_COMMAND));
 }
 
 static void show(qtree_device *device, struct input *input) {
@@ -132,9 +135,11 @@ static void arrive_frame(qtree_device *device, struct input *input) {
         bytes[i] = (uint8_t)take(input, 1);
     }
     uint16_t len = (uint16_t)take(input, 2);
-    uint64_t at = a_time(input);
-    qtree_code code = take(input, 1) % 2 == 0 ? qtree_arrive_frame(device, bytes, count, len, 7, (uint32_t)take(input, 4), at)
-                                               : qtree_arrive_frame_seeded(device, bytes, count, len, 7, (uint32_t)take(input, 4), at);
+    uint64_t at = a_time(input), how = take(input, 1) % 3;
+    uint32_t hash = (uint32_t)take(input, 4);
+    qtree_code code = how == 0   ? qtree_arrive_frame(device, bytes, count, len, 7, hash, at)
+                      : how == 1 ? qtree_arrive_frame_seeded(device, bytes, count, len, 7, hash, at)
+                                 : qtree_arrive_frame_numbered(device, bytes, count, len, 7, at, hash, at);
     CHECK(code <= QTREE_LOST_OVER_LIMIT || code == QTREE_OUT_OF_RANGE || code == QTREE_IS_CLOSED || code == QTREE_MEMORY);
     CHECK(code == QTREE_IS_CLOSED || (code == QTREE_OUT_OF_RANGE) == (len == 0 || at > QTREE_MOMENT_MAX));
 }
@@ -151,7 +156,7 @@ static void arrive_many(qtree_device *device, struct input *input) {
     CHECK(code == QTREE_DONE || code == QTREE_OUT_OF_RANGE || code == QTREE_ROOM || code == QTREE_IS_CLOSED || code == QTREE_MEMORY);
     CHECK(done <= count && (code != QTREE_DONE || done == count) && (code != QTREE_ROOM || room < count));
     for (size_t i = 0; i < sizeof codes; i++) {
-        CHECK(i < done ? codes[i] <= QTREE_LOST_PURGED : codes[i] == GUARD);
+        CHECK(i < done ? codes[i] == QTREE_DONE || qtree_is_loss(codes[i]) : codes[i] == GUARD);
     }
 }
 
@@ -191,7 +196,7 @@ static void reap(qtree_device *device, struct input *input) {
     CHECK(code == QTREE_DONE || code == QTREE_NOTHING || code == QTREE_IS_CLOSED);
     CHECK(count <= room && (code != QTREE_DONE || count == room));
     for (size_t i = 0; i < count; i++) {
-        CHECK(losses[i].cause >= QTREE_LOST_TOO_LONG && losses[i].cause <= QTREE_LOST_PURGED);
+        CHECK(qtree_is_loss(losses[i].cause));
     }
     code = qtree_reap(device, losses);
     CHECK(code == QTREE_DONE || code == QTREE_NOTHING || code == QTREE_IS_CLOSED);
@@ -201,11 +206,17 @@ static void reap(qtree_device *device, struct input *input) {
 static void single(qtree_device *device, struct input *input) {
     qtree_packet one = packet(input);
     uint64_t at = 7;
-    qtree_code code = qtree_arrive(device, &one, a_time(input));
+    uint64_t now = a_time(input);
+    qtree_code code = qtree_arrive(device, &one, now);
     CHECK(code <= QTREE_LOST_OVER_LIMIT || code == QTREE_OUT_OF_RANGE || code == QTREE_IS_CLOSED || code == QTREE_MEMORY);
+    CHECK(code == QTREE_IS_CLOSED || (code == QTREE_OUT_OF_RANGE) == (qtree_out_of_range(&one, now) != NULL));
     code = qtree_ready_at(device, &at);
     CHECK(code == QTREE_DONE || code == QTREE_NOTHING || code == QTREE_IS_CLOSED);
     CHECK(code == QTREE_DONE ? at <= QTREE_MOMENT_MAX : at == 7);
+    qtree_row row;
+    uint64_t most = 7;
+    code = qtree_most_packets(device, &most);
+    CHECK(code == QTREE_DONE ? qtree_totals(device, &row) == QTREE_DONE && row.queued.packets <= most : code == QTREE_IS_CLOSED && most == 7);
     code = qtree_poll(device, a_time(input), &one);
     CHECK(code == QTREE_DONE || code == QTREE_IDLE || code == QTREE_LATER || code == QTREE_OUT_OF_RANGE || code == QTREE_IS_CLOSED);
 }
@@ -338,7 +349,7 @@ static void read_words(const uint8_t *line, size_t len, struct input *input) {
     is_lent(code == QTREE_OUT_OF_RANGE ? QTREE_NOTHING : code, text, sizeof text, room, needed);
     bool is_fault = number == QTREE_FAULTY && fault.number >= 1 && fault.number <= 6;
     bool is_refusal = (number >= QTREE_REFUSED_NO_PARENT && number <= QTREE_REFUSED_NO_FILTER) || number == QTREE_MEMORY;
-    CHECK((code == QTREE_OUT_OF_RANGE) == !(is_fault || is_refusal));
+    CHECK(number == QTREE_NO_COMMAND || (code == QTREE_OUT_OF_RANGE) == !(is_fault || is_refusal));
 }
 
 static void look(qtree_device *device, struct input *input) {

@@ -56,10 +56,11 @@ static void arrive(qtree_device *device, uint64_t now) {
     for (int i = 0; i < MANY; i++) {
         packets[i] = a_packet();
     }
-    switch (below(4)) {
+    switch (below(5)) {
     case 0: qtree_arrive(device, &packets[0], now); break;
     case 1: qtree_arrive_frame(device, NULL, 0, (uint16_t)below(1600), 7, below(4), now); break;
     case 2: qtree_arrive_frame_seeded(device, NULL, 0, (uint16_t)below(1600), 7, below(4), now); break;
+    case 3: qtree_arrive_frame_numbered(device, NULL, 0, (uint16_t)below(1600), 7, now, below(4), now); break;
     default: qtree_arrive_many(device, packets, below(MANY + 1), codes, MANY - 1, &done, now); break;
     }
 }

@@ -36,10 +36,12 @@ static void losses(void) {
     qtree_packet packet = { .len = 1000 };
     qtree_loss loss;
     qtree_fault fault;
+    uint64_t lost[QTREE_LOST_MOST + 1] = { 0 };
     open_with(&device, "tc qdisc add dev a root handle 1: fq_codel noecn");
     packet.len = 1515;
-    CHECK(qtree_arrive(&device, &packet, 0) == QTREE_LOST_TOO_LONG);
-    CHECK(qtree_reap(&device, &loss) == QTREE_DONE && loss.cause == QTREE_LOST_TOO_LONG);
+    CHECK(qtree_is_loss(qtree_arrive(&device, &packet, 0)) && qtree_reap(&device, &loss) == QTREE_DONE);
+    lost[loss.cause]++;
+    CHECK(lost[QTREE_LOST_TOO_LONG] == 1);
     packet.len = 1000;
     for (int i = 0; i < MANY; i++) {
         CHECK(qtree_arrive(&device, &packet, 0) == QTREE_DONE && qtree_reap(&device, &loss) == QTREE_NOTHING);
@@ -57,6 +59,31 @@ static void losses(void) {
     CHECK(qtree_reap(&device, &loss) == QTREE_NOTHING);
     qtree_close(&device);
 }
+
+/* How many packets of a flow find no buffer beside a flood, where an fq_codel may hold 100 packets, and the program has so many buffers. */
+static size_t without_buffer(size_t buffers) {
+    qtree_device device = QTREE_CLOSED;
+    size_t used = 0, missed = 0;
+    open_with(&device, "tc qdisc add dev a root handle 1: fq_codel limit 100");
+    for (uint32_t i = 0; i < MANY; i++) {
+        qtree_packet packet = { .len = 1000, .hash = i % 100 == 99 };
+        if (used == buffers) {
+            missed += packet.hash;
+            continue;
+        }
+        const qtree_code code = qtree_arrive(&device, &packet, 0);
+        CHECK(code == QTREE_DONE || code == QTREE_LOST_FAT_FLOW);
+        used++;
+        for (qtree_loss loss; qtree_reap(&device, &loss) == QTREE_DONE; used--) {
+            CHECK(loss.packet.hash == 0);
+        }
+    }
+    qtree_close(&device);
+    return missed;
+}
+
+/* With a buffer for each packet of the limit, and one for the packet that arrives, the fq_codel keeps the packets of the other flow. */
+static void buffers(void) { CHECK(without_buffer(101) == 0 && without_buffer(90) == MANY / 100); }
 
 /* Closing a device hands nothing back. Before that each packet comes back by a loss, once the root is deleted, or by a poll of the pfifo
  * that a device without commands has. */
@@ -122,6 +149,7 @@ static void shared_link(void) {
 int main(void) {
     pointers();
     losses();
+    buffers();
     before_closing();
     fragments();
     shared_link();

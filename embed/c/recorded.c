@@ -40,12 +40,17 @@ static void tc_line(struct text *line) {
     text_format(line, forms[form], 1 + below(4));
 }
 
+/* Each draw has a statement of its own: compilers evaluate arguments in different orders, and a seed is to give one session everywhere. */
 static void pkt_line(struct text *line) {
-    text_format(line, "pkt %u hash %u prio %u ecn %u", 1 + below(1600), below(UINT32_MAX), below(16), below(4));
-    switch (below(3)) {
-    case 0: text_format(line, " ip_proto udp src_ip 10.%u.0.1 dst_ip 192.0.2.%u src_port 7 dst_port 53", below(256), below(256)); break;
-    case 1: text_format(line, " ip_proto %x src_ip 2001:db8::%x dst_ip 2001:db8::1", below(256), below(65536)); break;
-    default: break;
+    uint32_t len = 1 + below(1600), hash = below(UINT32_MAX), prio = below(16), ecn = below(4);
+    text_format(line, "pkt %u hash %u prio %u ecn %u", len, hash, prio, ecn);
+    uint32_t form = below(3), first = below(256);
+    if (form == 0) {
+        uint32_t last = below(256);
+        text_format(line, " ip_proto udp src_ip 10.%u.0.1 dst_ip 192.0.2.%u src_port 7 dst_port 53", first, last);
+    } else if (form == 1) {
+        uint32_t last = below(65536);
+        text_format(line, " ip_proto %x src_ip 2001:db8::%x dst_ip 2001:db8::1", first, last);
     }
 }
 

@@ -117,7 +117,7 @@ static qtree_code keeps_last(const void *given) { return qtree_keep_last(&device
 
 static qtree_code arrives(const void *given) { return qtree_arrive(&device, given, 1000); }
 
-static qtree_code frame_arrives(const void *given) { return qtree_arrive_frame(&device, given, 24, 900, 0, 0, 1000); }
+static qtree_code frame_arrives(const void *given) { return qtree_arrive_frame_numbered(&device, given, 24, 900, 0, 5, 0, 1000); }
 
 static qtree_code opens_ring(const void *given) {
     qtree_code code = qtree_ring_open(&port, &outlet, 3, *(const size_t *)given);
@@ -132,14 +132,18 @@ static qtree_code takes_in_one(const void *given) {
     return code;
 }
 
-static qtree_code explains(const void *given) {
+static qtree_code explain(const char *line, qtree_code answer) {
     uint8_t text[TEXT];
     size_t needed = 7;
     const qtree_fault fault = { 3, QTREE_FAULT_UNKNOWN_WORD };
-    qtree_code code = qtree_explain(given, strlen(given), 1, QTREE_FAULTY, &fault, text, sizeof text, &needed);
+    qtree_code code = qtree_explain((const uint8_t *)line, strlen(line), 1, answer, &fault, text, sizeof text, &needed);
     CHECK(code == QTREE_DONE || needed == 0);
     return code;
 }
+
+static qtree_code explains(const void *given) { return explain(given, QTREE_FAULTY); }
+
+static qtree_code explains_other(const void *given) { return explain(given, QTREE_NO_COMMAND); }
 
 static qtree_code shows(const void *given) {
     uint8_t text[TEXT];
@@ -283,6 +287,7 @@ int main(void) {
         CHECK(insist(shows, &what) == QTREE_DONE);
     }
     CHECK(insist(explains, "tc qdisc ad dev a root") == QTREE_DONE);
+    CHECK(insist(explains_other, "tc qdisc show") == QTREE_DONE);
     play_without_memory();
     play_in_room();
     CHECK(insist(commands, "tc qdisc del dev a root") == QTREE_DONE);

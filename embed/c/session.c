@@ -20,9 +20,9 @@ static void tell_refusal(struct session *session, uint64_t number, qtree_code co
 static void arrive(struct session *session, uint64_t number, qtree_packet *packet, struct text *report) {
     session->packets++;
     packet->number = session->packets;
-    packet->buf = session->packets;
+    packet->buf = (uint32_t)session->packets;
     qtree_code code = qtree_arrive(&session->device, packet, session->now);
-    if (code > QTREE_LOST_PURGED) {
+    if (code != QTREE_DONE && !qtree_is_loss(code)) {
         tell_refusal(session, number, code, report);
     }
 }

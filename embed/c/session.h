@@ -8,7 +8,7 @@
 struct session {
     qtree_device device;
     uint64_t now; /* the time of the lines that follow */
-    uint32_t packets;
+    uint64_t packets;
     uint32_t seed;
     bool is_refused; /* a line was faulty or refused */
 };

@@ -45,6 +45,27 @@ static void sizes(void) {
     CHECK(fault.word == 1 && fault.number == 2);
 }
 
+/* A queue's limit, or what it holds where that is more, and one packet for each qdisc that may hold one. */
+static void buffers(void) {
+    qtree_device device = QTREE_CLOSED;
+    qtree_packet packet = { .len = 100 };
+    uint64_t most = 7;
+    CHECK(qtree_open(&device, &(qtree_settings){ 3, 0, 1514 }) == QTREE_DONE);
+    CHECK(qtree_most_packets(&device, &most) == QTREE_DONE && most == 3);
+    CHECK(tc(&device, "tc qdisc add dev a root handle 1: tbf rate 1gbit burst 10kb limit 5000") == QTREE_DONE);
+    CHECK(qtree_most_packets(&device, &most) == QTREE_DONE && most == 1 + 5000);
+    CHECK(tc(&device, "tc qdisc add dev a parent 1:1 handle 2: fq_codel limit 4") == QTREE_DONE);
+    CHECK(qtree_most_packets(&device, &most) == QTREE_DONE && most == 1 + 4 + 1);
+    for (int i = 0; i < 4; i++) {
+        CHECK(qtree_arrive(&device, &packet, 0) == QTREE_DONE);
+    }
+    CHECK(tc(&device, "tc qdisc change dev a parent 1:1 fq_codel limit 1") == QTREE_DONE);
+    CHECK(qtree_most_packets(&device, &most) == QTREE_DONE);
+    qtree_row row;
+    CHECK(qtree_totals(&device, &row) == QTREE_DONE && most == 1 + (row.queued.packets > 1 ? row.queued.packets : 1) + 1);
+    qtree_close(&device);
+}
+
 static void opening(void) {
     qtree_device device = QTREE_CLOSED;
     qtree_packet packet = { .len = 100 };
@@ -54,6 +75,7 @@ static void opening(void) {
     CHECK(tc(&device, "tc qdisc add dev a root handle 1: drr") == QTREE_IS_CLOSED);
     CHECK(qtree_show(&device, QTREE_SHOW_QDISCS, NULL, 0, &needed) == QTREE_IS_CLOSED && needed == 0);
     CHECK(qtree_ready_at(&device, &at) == QTREE_IS_CLOSED && at == 7);
+    CHECK(qtree_most_packets(&device, &at) == QTREE_IS_CLOSED && at == 7);
     CHECK(qtree_open(&device, &(qtree_settings){ 1000, 0, 0 }) == QTREE_OUT_OF_RANGE);
     CHECK(qtree_open(&device, &(qtree_settings){ 1000, 1000001, 1514 }) == QTREE_OUT_OF_RANGE);
     CHECK(qtree_open(&device, &(qtree_settings){ 1000, 8, 1514 }) == QTREE_DONE && device.at != NULL && device.state == 1);
@@ -477,6 +499,7 @@ int main(void) {
     marks();
     frames();
     opening();
+    buffers();
     ring_opening();
     rings();
     services();

@@ -14,8 +14,12 @@
  *   - No function is called from a signal handler, or in the child of a fork of a program with threads. A thread that calls
  *     has 64 KB of stack left at least.
  *   - malloc, realloc and free are the C library's or behave as they have to.
- *   - The processor is x86-64-v2 or later (SSE4.2 and POPCNT), and the system Linux, whichever its C library (glibc, musl). The
- *     compiler refuses others here; that an x86-64 processor is older, it cannot see.
+ *   - The system is Linux, whichever its C library (glibc, musl), and the processor has pointers of 64 bits and
+ *     little-endian byte order. The compiler refuses others here. The library that the kit builds is proved and compiled
+ *     for x86-64-v2 or later (SSE4.2 and POPCNT); that an x86-64 processor is older, nothing here can see. The same
+ *     library as a text that clang compiles was tried on x86-64 and, under qemu, on aarch64 and riscv64 by ./check, and
+ *     once on ppc64le and mips64el. Structs have the same sizes and offsets on each: pointers and size_t have 8 bytes,
+ *     and each number is aligned to its size.
  *
  * No function waits, prints, aborts or calls back. An offer, a poll and a reap allocate nothing, and neither do those that read
  * or mark headers, or read counters, shares and times.
@@ -26,13 +30,20 @@
 #ifndef QTREE_H
 #define QTREE_H
 
-#if !defined(__x86_64__) || defined(__ILP32__) || !defined(__linux__)
-#error "qtree is compiled for Linux on x86-64-v2 with pointers of 64 bits, and for nothing else"
+#if !defined(__linux__) || !defined(__LP64__) || defined(__ILP32__) || __BYTE_ORDER__ != __ORDER_LITTLE_ENDIAN__
+#error "qtree is compiled for Linux with pointers of 64 bits and little-endian byte order, and for nothing else"
 #endif
 
 #include <stdbool.h>
 #include <stddef.h>
 #include <stdint.h>
+#include <string.h>
+
+#if defined(__cplusplus) && __cplusplus >= 201103L
+#define QTREE_NULL nullptr
+#else
+#define QTREE_NULL NULL
+#endif
 
 #ifdef __cplusplus
 extern "C" {
@@ -40,7 +51,7 @@ extern "C" {
 
 /* The version that this header is of. Within one major number functions and numbers are only added, and no struct changes. */
 #define QTREE_VERSION_MAJOR 1
-#define QTREE_VERSION_MINOR 2
+#define QTREE_VERSION_MINOR 3
 
 /* That of the library: the major number in the high 16 bits, the minor one in the low 16. */
 uint32_t qtree_version(void);
@@ -50,7 +61,8 @@ uint32_t qtree_version(void);
 /* What a function returns. QTREE_DONE and the causes of a loss: it did what it was called for. QTREE_IDLE, QTREE_LATER and
  * QTREE_NOTHING: it did, and has nothing to hand out. Otherwise nothing has changed, and nothing is written but a count of 0; a
  * function that does its work packet by packet says how far it came.
- * Causes have the numbers that qtree's reports write. */
+ * Causes have the numbers that qtree's reports write. Within one major number causes, and nothing else, are 1 to
+ * QTREE_LOST_MOST. */
 typedef uint32_t qtree_code;
 enum {
     QTREE_DONE = 0,
@@ -94,15 +106,18 @@ enum {
     QTREE_MEMORY = 90
 };
 
+/* A later minor version may add causes up to this number. So an array by cause has QTREE_LOST_MOST + 1 places. */
+#define QTREE_LOST_MOST 9
+
+/* Whether the code is a cause, one of a later version too: the packet is lost then, and its buffer is freed when it is
+ * reaped. Where an arrival answers neither a cause nor QTREE_DONE, the packet stays with the program. */
+static inline bool qtree_is_loss(qtree_code code) { return code >= QTREE_LOST_TOO_LONG && code <= QTREE_LOST_MOST; }
+
 typedef struct qtree_device {
     void *at;
     uint64_t state;
 } qtree_device;
-#ifdef __cplusplus
-#define QTREE_CLOSED { nullptr, 0 }
-#else
-#define QTREE_CLOSED { 0, 0 }
-#endif
+#define QTREE_CLOSED { QTREE_NULL, 0 }
 
 /* The two ends of a ring, by which a sender on a thread of its own passes packets to a device without a lock. Both begin with
  * QTREE_CLOSED. The sender's end, and the device's: */
@@ -120,6 +135,9 @@ typedef struct qtree_settings {
     uint32_t recorder;   /* the first events that are kept, 0 to 1000000 */
     uint16_t mtu;        /* the longest packet that is taken, 1 to 65535 bytes */
 } qtree_settings;
+
+/* Settings that suit most programs: Linux's txqueuelen, no recorder, and an mtu of 1500 with the header of Ethernet. */
+#define QTREE_DEFAULTS { 1000, 0, 1514 }
 
 /* A packet's descriptor; its bytes stay with the program. What a packet lacks is 0. */
 typedef struct qtree_packet {
@@ -187,6 +205,18 @@ void qtree_close(qtree_device *device);
  * QTREE_DONE, QTREE_REFUSED_.., QTREE_FAULTY, QTREE_NO_COMMAND, QTREE_OUT_OF_RANGE, QTREE_IS_CLOSED, QTREE_MEMORY. */
 qtree_code qtree_command(qtree_device *device, const uint8_t *line, size_t line_len, uint64_t now, qtree_fault *fault);
 
+/* The same, of a line that ends with a zero byte. fault may be null. */
+static inline qtree_code qtree_run(qtree_device *device, const char *line, uint64_t now, qtree_fault *fault) {
+    const void *bytes = line;
+    qtree_fault unread;
+#ifdef __cplusplus
+    const uint8_t *text = static_cast<const uint8_t *>(bytes);
+#else
+    const uint8_t *text = bytes;
+#endif
+    return qtree_command(device, text, strlen(line), now, fault ? fault : &unread);
+}
+
 /* Fills in family, proto, addresses, ports, prio and ecn from the first bytes of a packet that begins with its IP header, and
  * hash, which has this seed. number, port, buf and len stay. */
 void qtree_read_head(const uint8_t *bytes, size_t count, uint32_t seed, qtree_packet *packet);
@@ -222,6 +252,26 @@ qtree_code qtree_arrive_frame(qtree_device *device, const uint8_t *bytes, size_t
 qtree_code qtree_arrive_frame_seeded(qtree_device *device, const uint8_t *bytes, size_t count, uint16_t len, uint32_t buf,
                                      uint32_t seed, uint64_t now);
 
+/* As qtree_arrive_frame, with a number that comes back with the packet. It has room for a pointer, and buf has not. */
+qtree_code qtree_arrive_frame_numbered(qtree_device *device, const uint8_t *bytes, size_t count, uint16_t len,
+                                       uint32_t buf, uint64_t number, uint32_t hash, uint64_t now);
+
+/* The name of a field that is out of its range, as "len" or "prio"; "now" where the time is. Null where none is: then,
+ * and only then, an open device does not answer an arrival of this packet at this time by QTREE_OUT_OF_RANGE. */
+static inline const char *qtree_out_of_range(const qtree_packet *packet, uint64_t now) {
+    if (now > QTREE_MOMENT_MAX) return "now";
+    if (packet->len == 0) return "len";
+    if (packet->prio > 15) return "prio";
+    if (packet->ecn > 3) return "ecn";
+    if (packet->family != 0 && packet->family != 4 && packet->family != 6) return "family";
+    if (packet->family != 4) return QTREE_NULL;
+    if (packet->src_high != 0) return "src_high";
+    if (packet->src_low > UINT32_MAX) return "src_low";
+    if (packet->dst_high != 0) return "dst_high";
+    if (packet->dst_low > UINT32_MAX) return "dst_low";
+    return QTREE_NULL;
+}
+
 /* Packets arrive in order, up to the first that is out of range or for which an allocation fails, as the result says. done is
  * how many arrived, and codes[i] the result for the ith of them: codes_len is count at least, else QTREE_ROOM.
  * QTREE_DONE, QTREE_OUT_OF_RANGE, QTREE_ROOM, QTREE_IS_CLOSED, QTREE_MEMORY. */
@@ -254,6 +304,14 @@ qtree_code qtree_poll_bufs(qtree_device *device, uint64_t now, qtree_sent *sent,
  * nothing is queued, or no token bucket will ever hold enough.
  * QTREE_DONE, QTREE_NOTHING, QTREE_IS_CLOSED. */
 qtree_code qtree_ready_at(const qtree_device *device, uint64_t *moment);
+
+/* The most packets that can be queued in the device, now and as long as no command changes it: the sum of the limits of
+ * its queues, or what one has queued where its limit was set below that, and one packet for each tbf, drr and fq_codel,
+ * which may hold the one that goes next. A limit in bytes counts as so many packets, since a packet has one byte at
+ * least. A program needs a buffer for each of them, for the packet that arrives, and for each that it has polled and not
+ * sent, or lost and not reaped. UINT64_MAX stands for more.
+ * QTREE_DONE, QTREE_IS_CLOSED. */
+qtree_code qtree_most_packets(const qtree_device *device, uint64_t *packets);
 
 /* Returns the oldest loss that was not returned yet. A program that needs no losses reaps too: those that wait keep memory.
  * QTREE_DONE, QTREE_NOTHING, QTREE_IS_CLOSED. */
@@ -394,8 +452,9 @@ qtree_code qtree_recorded(const qtree_device *device, size_t index, qtree_event 
  * QTREE_DONE, QTREE_NOTHING, QTREE_ROOM, QTREE_IS_CLOSED. */
 qtree_code qtree_recorded_line(const qtree_device *device, size_t index, uint8_t *text, size_t room, size_t *needed);
 
-/* The script of all recorded events: these lines in order, and lines that set the time, each with a newline behind it. `qtree play`
- * with the device's mtu and txqueuelen does with it what the device did. Its packets are numbered from 1 in the order of their
+/* The script of all recorded events: these lines in order, and lines that set the time, each with a newline behind it. `qtree-play`
+ * with the device's mtu and txqueuelen does with it what the device did, and so does `qtree play` with a script of at most 16,777,216
+ * bytes, which is some 240,000 packets. Its packets are numbered from 1 in the order of their
  * arrivals, with port 0 and their number as buf. It allocates room for the text, which grows by doubling, and frees it.
  * QTREE_DONE, QTREE_ROOM, QTREE_IS_CLOSED, QTREE_MEMORY. */
 qtree_code qtree_recorded_script(const qtree_device *device, uint8_t *text, size_t room, size_t *needed);
@@ -455,6 +514,45 @@ static inline const char *qtree_kind_name(uint32_t kind) {
     }
 }
 
+/* A sentence on an answer: what happened, and what the program or the writer of the line can do. It is static. */
+static inline const char *qtree_code_sentence(qtree_code code) {
+    switch (code) {
+    case QTREE_DONE: return "The call did what it was called for.";
+    case QTREE_LOST_TOO_LONG: return "The packet is longer than the mtu or a tbf's burst: shorten it, or raise that.";
+    case QTREE_LOST_NO_CLASS: return "No filter of a drr takes the packet: add a filter that matches it.";
+    case QTREE_LOST_OVER_LIMIT: return "The packet's queue is at its limit: send less, or raise the limit.";
+    case QTREE_LOST_CODEL: return "Packets waited too long, so CoDel dropped one: its sender slows down by itself.";
+    case QTREE_LOST_FAT_FLOW: return "An fq_codel was over its limit, and the flow had the most bytes: raise it.";
+    case QTREE_LOST_PURGED: return "A command removed the packet's qdisc: free its buffer, or let it arrive again.";
+    case QTREE_REFUSED_NO_PARENT: return "No qdisc has the parent's major number: add that qdisc first.";
+    case QTREE_REFUSED_EXISTS: return "A qdisc, or the class, is there already: change it, or remove it first.";
+    case QTREE_REFUSED_NO_QDISC: return "No qdisc that was added has this place and handle: add it first.";
+    case QTREE_REFUSED_HANDLE_TAKEN: return "Another qdisc has this handle: choose another one.";
+    case QTREE_REFUSED_NOT_CLASSFUL: return "The parent has no classes, or takes no filters: choose another parent.";
+    case QTREE_REFUSED_NO_CLASS: return "There is no such class: add it first, or name another one.";
+    case QTREE_REFUSED_BUSY: return "A filter leads to this class: remove the filter first.";
+    case QTREE_REFUSED_CANNOT_CHANGE: return "This cannot be changed: remove the qdisc, and add it again.";
+    case QTREE_REFUSED_TOO_DEEP: return "A qdisc would be deeper than 8: choose a parent further up.";
+    case QTREE_REFUSED_TOO_MANY: return "More than 256 qdiscs, or filters of one qdisc, are too many: remove some.";
+    case QTREE_REFUSED_SMALL_BURST: return "The burst is below the mtu and the tbf's present burst: raise it.";
+    case QTREE_REFUSED_NO_FILTER: return "The qdisc has no filter of this prio: list its filters.";
+    case QTREE_IDLE: return "No packet is queued: poll again when one has arrived.";
+    case QTREE_LATER: return "No packet may be sent yet: poll again at the time of qtree_ready_at.";
+    case QTREE_NOTHING: return "What was asked for is not there, or is no more: go on without it.";
+    case QTREE_FULL: return "The ring is full: offer the packet again when some have been taken in.";
+    case QTREE_FAULTY: return "The line cannot be read: qtree_explain says which word is wrong, and why.";
+    case QTREE_NO_COMMAND: return "The line changes no tree: qtree_explain says which call does what it asks for.";
+    case QTREE_OUT_OF_RANGE: return "An argument is out of its range: qtree_out_of_range checks a packet and the time.";
+    case QTREE_ROOM: return "The memory that was lent is too small: call again with as much as is needed.";
+    case QTREE_IS_CLOSED: return "The device, the port or the outlet is closed: open it first.";
+    case QTREE_IS_OPEN: return "The device, the port or the outlet is open already: close it first.";
+    case QTREE_MEMORY: return "An allocation failed: free memory, and call again for what was not done.";
+    default: break;
+    }
+    return qtree_is_loss(code) ? "The packet is lost, for a cause that is newer than this header."
+                               : "This header does not know the answer: the library is newer, or the number is none.";
+}
+
 /* The same names for a program in another language, as texts of the library: needed is the length in bytes, and no zero byte ends it.
  * QTREE_DONE, QTREE_ROOM, QTREE_OUT_OF_RANGE (what). */
 enum { QTREE_NAME_CODE = 0, QTREE_NAME_FAULT = 1, QTREE_NAME_KIND = 2 };
@@ -462,8 +560,9 @@ qtree_code qtree_name_of(uint32_t what, uint32_t number, uint8_t *text, size_t r
 
 /* What `qtree play --explain` writes of a line that qtree_command answered by QTREE_REFUSED_.., QTREE_MEMORY or QTREE_FAULTY with this
  * fault: the line with its number, a mark under the word at which it failed, and a sentence on what to do. Each ends with a newline. The
- * fault is read for QTREE_FAULTY alone. needed is the length in bytes, and no zero byte ends the text.
- * QTREE_DONE, QTREE_ROOM, QTREE_OUT_OF_RANGE (another code, or no such fault), QTREE_MEMORY. */
+ * fault is read for QTREE_FAULTY alone. Where qtree_command answered QTREE_NO_COMMAND, the sentence says what the line
+ * is, and which call does what it asks for. needed is the length in bytes, and no zero byte ends the text.
+ * QTREE_DONE, QTREE_ROOM, QTREE_OUT_OF_RANGE (another code or line, or no such fault), QTREE_MEMORY. */
 qtree_code qtree_explain(const uint8_t *line, size_t line_len, uint64_t number, qtree_code code, const qtree_fault *fault, uint8_t *text,
                          size_t room, size_t *needed);
 

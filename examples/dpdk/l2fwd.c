@@ -1,7 +1,8 @@
 /* Sends frames of port 0 through a device of qtree and out by port 1; or sends frames that it makes through several schedulers in turns.
  *
- *     l2fwd EAL.. -- FILE [COUNT [MADE]]     until COUNT frames came and none waits, or a signal; MADE are sent to port 0 before
- *     l2fwd EAL.. -- --bench ROUNDS FILE..   cycles a packet of a ring, of rte_sched and of devices, of which a file sets up each */
+ *     l2fwd EAL.. -- FILE [COUNT [MADE [MOST]]]     until COUNT frames came and none waits, or a signal; MADE are sent to port 0 before;
+ *                                                   port 1 takes MOST of a burst and then none of the next, as a ring that is full at times
+ *     l2fwd EAL.. -- --bench ROUNDS FILE..          cycles a packet of a ring, of rte_sched and of devices, of which a file sets up each */
 #include "qtree.h"
 
 #include <rte_cycles.h>
@@ -16,7 +17,8 @@
 #include <signal.h>
 #include <string.h>
 
-enum { CE = 3, BURST = 32, MTU = 1518, QUEUED = 16384, LINE_SIZE = 512, POOL = 16383, FRAME = 1000, FLOWS = 1024, FRAMES = 4096, WAITING = 1024 };
+enum { CE = 3, BURST = 32, MTU = 1518, QUEUED = 16384, LINE_SIZE = 512, CACHE = 256, DESCRIPTORS = 512 };
+enum { FRAME = 1000, FLOWS = 1024, FRAMES = 4096, WAITING = 1024 };
 
 /* What holds mbufs until it is their turn: a bare ring, DPDK's own rte_sched, or a device of qtree. */
 struct scheduler {
@@ -133,6 +135,10 @@ static void qtree_enqueue(struct scheduler *it, struct rte_mbuf **mbufs, unsigne
 static unsigned qtree_dequeue(struct scheduler *it, struct rte_mbuf **mbufs, uint64_t now) {
     qtree_packet packets[BURST];
     size_t count, bytes;
+    uint64_t due;
+    if (qtree_ready_at(it->state, &due) != QTREE_DONE || due > now) {
+        return 0; /* a poll that gives nothing is an event too */
+    }
     qtree_poll_many(it->state, now, packets, BURST, &count);
     for (size_t i = 0; i < count; i++) {
         mbufs[i] = (struct rte_mbuf *)(uintptr_t)packets[i].number;
@@ -167,6 +173,22 @@ static struct scheduler qtree_scheduler(const char *name) {
 }
 
 static struct rte_mempool *pool;
+
+static void open_pool(uint64_t mbufs) {
+    unsigned count = mbufs < UINT32_MAX ? (unsigned)mbufs : UINT32_MAX; /* which no pool can have */
+    uint16_t private = RTE_ALIGN(sizeof(qtree_packet), RTE_MBUF_PRIV_ALIGN);
+    pool = rte_pktmbuf_pool_create("mbufs", count, CACHE, private, RTE_MBUF_DEFAULT_BUF_SIZE, SOCKET_ID_ANY);
+    wanted(pool, "a pool for all packets that the limits allow");
+}
+
+/* A pool for all that the tree can hold, what the queues of both ports and the cache of the pool may have, a burst that comes and one
+ * that goes. */
+static void open_pool_for(const struct scheduler *it) {
+    uint64_t most;
+    qtree_most_packets(it->state, &most);
+    open_pool(most + 4 * DESCRIPTORS + 2 * CACHE + 2 * BURST);
+}
+
 static volatile sig_atomic_t is_stopped;
 static void stop(int signal) { is_stopped = signal; }
 
@@ -199,40 +221,63 @@ static void classify(struct scheduler *it, struct rte_mbuf **mbufs, unsigned cou
 
 static void open_port(uint16_t port) {
     const struct rte_eth_conf conf = { 0 };
-    bool is_right = rte_eth_dev_configure(port, 1, 1, &conf) == 0 && rte_eth_rx_queue_setup(port, 0, 512, 0, NULL, pool) == 0 &&
-                    rte_eth_tx_queue_setup(port, 0, 512, 0, NULL) == 0 && rte_eth_dev_start(port) == 0;
+    bool is_right = rte_eth_dev_configure(port, 1, 1, &conf) == 0 && rte_eth_rx_queue_setup(port, 0, DESCRIPTORS, 0, NULL, pool) == 0 &&
+                    rte_eth_tx_queue_setup(port, 0, DESCRIPTORS, 0, NULL) == 0 && rte_eth_dev_start(port) == 0;
     wanted(is_right ? pool : NULL, "a port");
 }
 
-/* Each frame that came has gone, was not taken by port 1, or was lost; what waits at the end is lost too. */
+/* The most frames that port 1 takes of every other burst; all if it is 0. */
+static unsigned narrow;
+static uint16_t narrow_burst(uint16_t port, uint16_t queue, struct rte_mbuf **mbufs, uint16_t count, void *unused) {
+    static unsigned bursts;
+    return bursts++ % 2 == 0 ? (uint16_t)RTE_MIN(count, narrow) : 0;
+}
+
+/* Frames that were polled and that port 1 has not taken yet. No poll can be taken back, so these go before any other. */
+struct kept {
+    struct rte_mbuf *mbufs[BURST];
+    unsigned count;
+};
+
+/* Returns how many frames port 1 took. While it has not taken all of a burst no other one is polled. */
+static unsigned transmit(struct kept *kept, struct scheduler *it, uint64_t now) {
+    kept->count = kept->count > 0 ? kept->count : it->dequeue(it, kept->mbufs, now);
+    unsigned taken = rte_eth_tx_burst(1, 0, kept->mbufs, (uint16_t)kept->count);
+    kept->count -= taken;
+    memmove(kept->mbufs, kept->mbufs + taken, kept->count * sizeof *kept->mbufs);
+    return taken;
+}
+
+/* Each frame that came has gone, or was lost; what is kept or queued at the end is lost too. */
 static int forward(struct scheduler *it, uint64_t most, unsigned made) {
     struct rte_mbuf *mbufs[BURST];
-    uint64_t came = 0, gone = 0, untaken = 0;
+    struct kept kept = { .count = 0 };
+    uint64_t came = 0, gone = 0;
     qtree_row row;
     open_port(0);
     open_port(1);
+    wanted(narrow == 0 || rte_eth_add_tx_callback(1, 0, narrow_burst, NULL) != NULL ? pool : NULL, "a callback of port 1");
     for (unsigned i = 0; i < made; i++) {
         mbufs[0] = make(i);
         rte_pktmbuf_free_bulk(mbufs, 1u - rte_eth_tx_burst(0, 0, mbufs, 1));
     }
-    while (!is_stopped && (came < most || came > gone + untaken + it->lost)) {
+    while (!is_stopped && (came < most || came > gone + it->lost)) {
         uint64_t now = now_ns();
         unsigned count = came < most ? rte_eth_rx_burst(0, 0, mbufs, (uint16_t)RTE_MIN(most - came, (uint64_t)BURST)) : 0;
         classify(it, mbufs, count);
         it->enqueue(it, mbufs, count, now);
         came += count;
-        unsigned due = it->dequeue(it, mbufs, now), taken = rte_eth_tx_burst(1, 0, mbufs, (uint16_t)due);
-        rte_pktmbuf_free_bulk(mbufs + taken, due - taken);
-        gone += taken;
-        untaken += due - taken;
+        gone += transmit(&kept, it, now);
     }
     uint64_t lost = it->lost;
+    rte_pktmbuf_free_bulk(kept.mbufs, kept.count);
     play(it, "tc qdisc del dev x root");
     qtree_free_losses(it);
     qtree_totals(it->state, &row);
-    printf("came %" PRIu64 " gone %" PRIu64 " untaken %" PRIu64 " lost %" PRIu64 " queued %" PRIu64 " marked %" PRIu64 " unaccounted %" PRId64 "\n",
-           came, gone, untaken, lost, it->lost - lost, it->marked, (int64_t)(came - gone - untaken - it->lost));
-    return came != gone + untaken + it->lost || row.arrived.packets != came || row.sent.packets != gone + untaken;
+    int64_t unaccounted = (int64_t)(came - gone - kept.count - it->lost);
+    printf("came %" PRIu64 " gone %" PRIu64 " kept %u lost %" PRIu64 " queued %" PRIu64 " marked %" PRIu64 " unaccounted %" PRId64 "\n",
+           came, gone, kept.count, lost, it->lost - lost, it->marked, unaccounted);
+    return unaccounted != 0 || row.arrived.packets != came || row.sent.packets != gone + kept.count;
 }
 
 /* The frames go round: what a scheduler gives is what it gets later. */
@@ -284,13 +329,15 @@ int main(int argc, char **argv) {
     int used = rte_eal_init(argc, argv);
     wanted(used < 0 || argc - used < 2 ? NULL : argv, "DPDK, or a file that is not named,");
     argc -= used, argv += used;
-    pool = rte_pktmbuf_pool_create("mbufs", POOL, 256, RTE_ALIGN(sizeof(qtree_packet), RTE_MBUF_PRIV_ALIGN), RTE_MBUF_DEFAULT_BUF_SIZE, SOCKET_ID_ANY);
     signal(SIGINT, stop);
     signal(SIGTERM, stop);
     if (strcmp(argv[1], "--bench") != 0) {
         struct scheduler it = qtree_scheduler(argv[1]);
+        narrow = argc > 4 ? (unsigned)strtoul(argv[4], NULL, 10) : 0;
+        open_pool_for(&it);
         return forward(&it, argc > 2 ? strtoull(argv[2], NULL, 10) : UINT64_MAX, argc > 3 ? (unsigned)strtoul(argv[3], NULL, 10) : 0);
     }
+    open_pool(4 * FRAMES); /* all frames are made here, and go round */
     refill();
     for (int i = 0; i < argc; i++) {
         struct scheduler it = i == 0 ? ring_scheduler() : i == 1 ? rte_scheduler(1) : i == 2 ? rte_scheduler(16) : qtree_scheduler(argv[i]);

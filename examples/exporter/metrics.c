@@ -1,6 +1,7 @@
 #include "metrics.h"
 
 #include <inttypes.h>
+#include <string.h>
 
 /* The counts of a row, by their position in it. */
 static const struct {
@@ -67,16 +68,23 @@ static void write_counts(FILE *file, const char *device, const struct tree *tree
     }
 }
 
-static void write_losses(FILE *file, const char *device, const struct losses *losses) {
-    write_head(file, "qtree_lost_packets_total", "counter", "Packets that were reaped, by cause", "");
-    for (uint32_t cause = QTREE_LOST_TOO_LONG; cause <= QTREE_LOST_PURGED; cause++) {
-        write_begin(file, "qtree_lost_packets_total", device);
-        fprintf(file, ",cause=\"%s\"} %" PRIu64 "\n", qtree_code_name(cause), losses->by_cause[cause].packets);
-    }
-    write_head(file, "qtree_lost_bytes_total", "counter", "Bytes of packets that were reaped, by cause", "");
-    for (uint32_t cause = QTREE_LOST_TOO_LONG; cause <= QTREE_LOST_PURGED; cause++) {
-        write_begin(file, "qtree_lost_bytes_total", device);
-        fprintf(file, ",cause=\"%s\"} %" PRIu64 "\n", qtree_code_name(cause), losses->by_cause[cause].bytes);
+/* One family: the losses by cause, in packets or in bytes. A cause that the header does not know yet is written once it occurs. */
+static void write_losses(FILE *file, const char *device, const struct losses *losses, bool in_bytes) {
+    const char *name = in_bytes ? "qtree_lost_bytes_total" : "qtree_lost_packets_total";
+    write_head(file, name, "counter", in_bytes ? "Bytes of packets " : "Packets ", "that were reaped, by cause");
+    for (qtree_code cause = QTREE_LOST_TOO_LONG; cause <= QTREE_LOST_MOST; cause++) {
+        const qtree_count *lost = &losses->by_cause[cause];
+        bool is_known = strcmp(qtree_code_name(cause), "Unknown") != 0;
+        if (!is_known && lost->packets == 0) {
+            continue;
+        }
+        write_begin(file, name, device);
+        if (is_known) {
+            fprintf(file, ",cause=\"%s\"} ", qtree_code_name(cause));
+        } else {
+            fprintf(file, ",cause=\"%" PRIu32 "\"} ", cause);
+        }
+        fprintf(file, "%" PRIu64 "\n", in_bytes ? lost->bytes : lost->packets);
     }
 }
 
@@ -113,7 +121,8 @@ void metrics_write(FILE *file, const char *device, const struct tree *tree, cons
         write_counts(file, device, tree, which, false);
         write_counts(file, device, tree, which, true);
     }
-    write_losses(file, device, losses);
+    write_losses(file, device, losses, false);
+    write_losses(file, device, losses, true);
     for (int which = 0; which < 3; which++) {
         write_classes(file, device, tree, which);
     }

@@ -8,7 +8,7 @@
 
 /* The losses that the program reaped, by cause: only the losses themselves have their causes, and no counter of the device does. */
 struct losses {
-    qtree_count by_cause[QTREE_LOST_PURGED + 1];
+    qtree_count by_cause[QTREE_LOST_MOST + 1];
 };
 
 void metrics_write(FILE *file, const char *device, const struct tree *tree, const struct losses *losses);

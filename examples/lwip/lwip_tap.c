@@ -19,16 +19,16 @@
 #include <time.h>
 #include <unistd.h>
 
-enum { CE = 3, HELD = 1024, FRAME = 1514, FLOWS = 2, LINE_SIZE = 512 };
+enum { CE = 3, HELD_MOST = 1 << 20, FRAME = 1514, FLOWS = 2, LINE_SIZE = 512 };
 
 static int tap, timer;
 static struct netif netif;
 
 /* All of these are used under the stack's core lock. */
 static qtree_device device = QTREE_CLOSED;
-static struct pbuf *held[HELD]; /* a packet's buf is the index of its pbuf */
-static uint32_t free_bufs[HELD];
-static size_t free_count;
+static struct pbuf **held; /* a packet's buf is the index of its pbuf */
+static uint32_t *free_bufs;
+static size_t held_count, free_count;
 static uint64_t offered, full, sent, failed, lost;
 
 static uint64_t now_ns(void) {
@@ -48,10 +48,15 @@ static bool transmit(const struct pbuf *frame) {
     return write(tap, bytes, len) == frame->tot_len;
 }
 
-/* Sends the packets that may go, reaps, and sets the timer to the time of the next one; to 0, which disarms it, if none waits. */
+/* Sends the packets that may go, reaps, and sets the timer to the time of the next one; to 0, which disarms it, if none waits. Each poll
+ * is an event, so none comes before the time at which a packet is due. */
 static void drain(void) {
     qtree_packet packet;
-    while (qtree_poll(&device, now_ns(), &packet) == QTREE_DONE) {
+    uint64_t due, next = 0;
+    while (qtree_ready_at(&device, &due) == QTREE_DONE && due <= now_ns()) {
+        if (qtree_poll(&device, now_ns(), &packet) != QTREE_DONE) {
+            continue;
+        }
         if (packet.ecn == CE) {
             qtree_mark_head((uint8_t *)held[packet.buf]->payload + SIZEOF_ETH_HDR, held[packet.buf]->len - SIZEOF_ETH_HDR);
         }
@@ -61,7 +66,6 @@ static void drain(void) {
     for (qtree_loss loss; qtree_reap(&device, &loss) == QTREE_DONE; lost++) {
         release(loss.packet.buf);
     }
-    uint64_t next = 0;
     qtree_ready_at(&device, &next);
     struct itimerspec at = { .it_value = { (time_t)(next / 1000000000), (long)(next % 1000000000) } };
     timerfd_settime(timer, TFD_TIMER_ABSTIME, &at, NULL);
@@ -81,7 +85,8 @@ static err_t output(struct netif *unused, struct pbuf *frame) {
     qtree_read_head((const uint8_t *)(head + 1), is_ip ? frame->len - SIZEOF_ETH_HDR : 0, 0, &packet);
     held[packet.buf] = frame;
     pbuf_ref(frame);
-    if (qtree_arrive(&device, &packet, now_ns()) > QTREE_LOST_PURGED) {
+    qtree_code code = qtree_arrive(&device, &packet, now_ns());
+    if (code != QTREE_DONE && !qtree_is_loss(code)) {
         full++;
         release(packet.buf);
         return ERR_MEM;
@@ -131,6 +136,21 @@ static err_t set_up(struct netif *it) {
     return ERR_OK;
 }
 
+/* Makes room for as many frames as the tree can hold, and one that arrives. */
+static bool make_room(void) {
+    uint64_t most;
+    if (qtree_most_packets(&device, &most) != QTREE_DONE || most >= HELD_MOST) {
+        return false;
+    }
+    held_count = (size_t)most + 1;
+    held = calloc(held_count, sizeof(struct pbuf *));
+    free_bufs = calloc(held_count, sizeof *free_bufs);
+    for (; free_bufs != NULL && free_count < held_count; free_count++) {
+        free_bufs[free_count] = (uint32_t)free_count;
+    }
+    return held != NULL && free_bufs != NULL;
+}
+
 /* Opens the TAP device, and the qtree device with the tree that the lines set up. */
 static bool open_all(const char *name) {
     char line[LINE_SIZE];
@@ -139,16 +159,12 @@ static bool open_all(const char *name) {
     tap = open("/dev/net/tun", O_RDWR | O_CLOEXEC);
     timer = timerfd_create(CLOCK_MONOTONIC, TFD_CLOEXEC);
     bool is_right = tap >= 0 && timer >= 0 && ioctl(tap, TUNSETIFF, &wanted) == 0 &&
-                    qtree_open(&device, &(qtree_settings){ .txqueuelen = HELD, .mtu = FRAME }) == QTREE_DONE;
+                    qtree_open(&device, &(qtree_settings){ .txqueuelen = 1000, .mtu = FRAME }) == QTREE_DONE;
     while (is_right && fgets(line, sizeof line, stdin) != NULL) {
         qtree_fault fault;
         is_right = qtree_command(&device, (const uint8_t *)line, strcspn(line, "\n"), now_ns(), &fault) == QTREE_DONE;
     }
-    while (free_count < HELD) {
-        free_bufs[free_count] = (uint32_t)free_count;
-        free_count++;
-    }
-    return is_right;
+    return is_right && make_room();
 }
 
 /* Each frame that the stack sent has gone, was lost, found no room or waits. */
@@ -158,13 +174,13 @@ static bool totals(void) {
     uint64_t unaccounted = offered - full - sent - failed - lost - row.queued.packets;
     printf("offered %" PRIu64 " sent %" PRIu64 " failed %" PRIu64 " full %" PRIu64 " lost %" PRIu64 " queued %" PRIu64 " unaccounted %" PRIu64 "\n",
            offered, sent, failed, full, lost, row.queued.packets, unaccounted);
-    return unaccounted == 0 && row.queued.packets + free_count == HELD && row.sent.packets == sent + failed &&
+    return unaccounted == 0 && row.queued.packets + free_count == held_count && row.sent.packets == sent + failed &&
            row.arrived.packets == offered - full;
 }
 
 int main(int argc, char **argv) {
     if (argc != 3 || !open_all(argv[1])) {
-        fprintf(stderr, "lwip_tap: the TAP device cannot be opened, or a line is faulty or refused\n");
+        fprintf(stderr, "lwip_tap: the TAP device cannot be opened, a line is faulty or refused, or the limits are too large\n");
         return 2;
     }
     ip4_addr_t here = { PP_HTONL(0x0a4e0002) }, mask = { PP_HTONL(0xffffff00) }, peer = { PP_HTONL(0x0a4e0001) };

@@ -4,9 +4,11 @@
 #include <string.h>
 #include <time.h>
 
-/* A line for one device, and its answer. */
+/* A line for one device, and its answer. With it the device's worker, which first gets buffers for so many packets; the trial has none. */
 struct command {
     const char *line;
+    struct worker *worker;
+    uint64_t packets;
     qtree_code code;
     qtree_fault fault;
 };
@@ -76,6 +78,10 @@ static void ask(struct fleet *fleet, struct worker *worker, question_fn *questio
 static void play(qtree_device *device, void *about) {
     struct command *command = about;
     const uint8_t *line = (const uint8_t *)command->line;
+    if (command->worker != NULL && !worker_reserve(command->worker, command->packets)) {
+        command->code = QTREE_MEMORY;
+        return;
+    }
     command->code = qtree_command(device, line, strlen(command->line), now_ns(), &command->fault);
 }
 
@@ -84,7 +90,9 @@ qtree_code fleet_command(struct fleet *fleet, const char *line, qtree_fault *fau
     play(&fleet->trial, &command);
     *fault = command.fault;
     qtree_code answer = command.code;
+    qtree_most_packets(&fleet->trial, &command.packets);
     for (size_t i = 0; answer == QTREE_DONE && i < fleet->count; i++) {
+        command.worker = &fleet->workers[i];
         ask(fleet, &fleet->workers[i], play, &command);
         while (command.code == QTREE_MEMORY) {
             nanosleep(&(struct timespec){ .tv_nsec = 1000000 }, NULL);

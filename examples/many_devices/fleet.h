@@ -23,7 +23,8 @@ void fleet_stop(struct fleet *fleet);
 void fleet_close(struct fleet *fleet);
 
 /* Plays a line on all devices or on none, and returns what qtree_command does. Whether a line is done depends on the tree alone, so the
- * result of the trial is that of all devices, but for failed allocations: after one the device is asked again until it succeeds. */
+ * result of the trial is that of all devices, but for failed allocations: after one the device is asked again until it succeeds. Each
+ * worker first gets as many buffers as the tree of the trial can hold packets after the line. */
 qtree_code fleet_command(struct fleet *fleet, const char *line, qtree_fault *fault);
 
 /* The sum of what all devices counted at a place, each of them between two bursts of its own. Answers as qtree_stats does. */

@@ -73,16 +73,17 @@ static void play_all(struct fleet *fleet, FILE *file) {
 
 /* Once the workers have ended. Each packet was sent, lost or is queued, and the devices counted as the workers did. */
 static struct total totals(struct fleet *fleet) {
-    struct total total = { .buffers = fleet->count * BUFFERS };
+    struct total total = { 0 };
     for (size_t i = 0; i < fleet->count; i++) {
         const struct worker *worker = &fleet->workers[i];
         total.account.made += worker->account.made;
         total.account.sent += worker->account.sent;
         total.account.processor_ns += worker->account.processor_ns;
-        for (uint32_t cause = QTREE_LOST_TOO_LONG; cause <= QTREE_LOST_PURGED; cause++) {
+        for (uint32_t cause = QTREE_LOST_TOO_LONG; cause <= QTREE_LOST_MOST; cause++) {
             total.account.lost[cause] += worker->account.lost[cause];
         }
         total.free += worker->free_count;
+        total.buffers += worker->buffers;
     }
     fleet_stats(fleet, QTREE_TOP, 0, 0, &total.row);
     return total;
@@ -91,9 +92,11 @@ static struct total totals(struct fleet *fleet) {
 static bool print_totals(const struct total *total) {
     uint64_t unaccounted = total->account.made - total->account.sent - total->row.queued.packets, lost = 0;
     printf("made %" PRIu64 " sent %" PRIu64, total->account.made, total->account.sent);
-    for (uint32_t cause = QTREE_LOST_TOO_LONG; cause <= QTREE_LOST_PURGED; cause++) {
+    for (uint32_t cause = QTREE_LOST_TOO_LONG; cause <= QTREE_LOST_MOST; cause++) {
         lost += total->account.lost[cause];
-        printf(" %s %" PRIu64, qtree_code_name(cause), total->account.lost[cause]);
+        if (cause <= QTREE_LOST_PURGED || total->account.lost[cause] > 0) { /* a later version may have more causes */
+            printf(" %s %" PRIu64, qtree_code_name(cause), total->account.lost[cause]);
+        }
     }
     unaccounted -= lost;
     printf(" queued %" PRIu64 " unaccounted %" PRIu64 "\n", total->row.queued.packets, unaccounted);

@@ -1,5 +1,6 @@
 #include "worker.h"
 
+#include <stdlib.h>
 #include <time.h>
 
 enum { FLOWS = 1024, CLASSES = 4, FIRST_PORT = 5000, LEN = 1000 };
@@ -16,16 +17,35 @@ uint64_t now_ns(void) { return clock_ns(CLOCK_MONOTONIC); }
 
 qtree_code worker_open(struct worker *worker, uint32_t index) {
     *worker = (struct worker){ .device = QTREE_CLOSED, .next_flow = index * FLOWS };
-    for (uint32_t buf = 0; buf < BUFFERS; buf++) {
-        worker->free[worker->free_count++] = buf;
-    }
     mailbox_open(&worker->mailbox);
-    return qtree_open(&worker->device, &(qtree_settings){ .txqueuelen = 1000, .mtu = 1514 });
+    qtree_code code = qtree_open(&worker->device, &(qtree_settings){ .txqueuelen = 1000, .mtu = 1514 });
+    uint64_t packets;
+    if (code == QTREE_DONE && qtree_most_packets(&worker->device, &packets) == QTREE_DONE && !worker_reserve(worker, packets)) {
+        return QTREE_MEMORY;
+    }
+    return code;
+}
+
+bool worker_reserve(struct worker *worker, uint64_t packets) {
+    size_t wanted = packets < BUFFERS_MOST - BURST ? (size_t)packets + BURST : BUFFERS_MOST;
+    if (wanted <= worker->buffers) {
+        return true;
+    }
+    uint32_t *grown = realloc(worker->free, wanted * sizeof *grown);
+    if (grown == NULL) {
+        return false;
+    }
+    worker->free = grown;
+    while (worker->buffers < wanted) {
+        worker->free[worker->free_count++] = (uint32_t)worker->buffers++;
+    }
+    return true;
 }
 
 void worker_close(struct worker *worker) {
     qtree_close(&worker->device);
     mailbox_close(&worker->mailbox);
+    free(worker->free);
 }
 
 /* As many packets as there are buffers, up to a burst. A program reads frames here, and their headers by qtree_read_head. */
@@ -53,10 +73,14 @@ static void arrive(struct worker *worker, const qtree_packet *packets, size_t co
     }
 }
 
-/* A program transmits the packets here. */
+/* A program transmits the packets here. It polls only where one is due, since each poll is an event. */
 static void send(struct worker *worker, uint64_t now) {
     qtree_packet packets[BURST];
     size_t count;
+    uint64_t due;
+    if (qtree_ready_at(&worker->device, &due) != QTREE_DONE || due > now) {
+        return;
+    }
     qtree_poll_many(&worker->device, now, packets, BURST, &count);
     for (size_t i = 0; i < count; i++) {
         worker->free[worker->free_count++] = packets[i].buf;

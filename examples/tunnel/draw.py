@@ -10,7 +10,7 @@ import sys
 
 WIDTH, HEIGHT, LEFT, RIGHT, TOP, BOTTOM = 800, 400, 64, 784, 110, 350
 CAUSES = ("TooLong", "NoClass", "OverLimit", "CoDel", "FatFlow", "Purged")
-COLOURS = ("#d55e00", "#0072b2", "#009e73")
+COLOURS = ("#d55e00", "#0072b2", "#009e73", "#cc79a7")
 STYLE = """
 text{font:11px sans-serif;fill:#222}.title{font-size:15px;font-weight:bold}.axis{font-size:12px}
 polyline{fill:none;stroke-width:1.3}line{stroke:#e4e4e4}.key{stroke-width:4}.wanted{stroke:#888;stroke-dasharray:4 3}"""
@@ -69,8 +69,9 @@ def written(path, title, axis, made):
     path.write_text("\n".join([head, f"<style>{STYLE}</style>", *around, *made, "</svg>"]) + "\n")
 
 
-def delays(found, path):
-    """On a scale of powers of ten, as one curve is a thousand times as high as the others; a cross at the top is a ping without an answer."""
+def delays(found, path, title, says):
+    """On a scale of powers of ten, as one curve is a thousand times as high as the others; a cross at the top is a ping without an answer.
+    says is what the legend says of each besides."""
     last = max(at for it in found for at, _ in it["pings"])
     least = math.log10(0.9 * min(ms for it in found for _, ms in it["pings"]))
     most = math.ceil(math.log10(max(ms for it in found for _, ms in it["pings"])))
@@ -88,8 +89,7 @@ def delays(found, path):
         times = sorted(ms for _, ms in one["pings"])
         median = times[len(times) // 2]
         unanswered = f", {len(one['unanswered_at'])} pings unanswered (crosses)" if one["unanswered_at"] else ""
-        entries.append((colour, f"{one['name']}: median {median:.{0 if median >= 10 else 1}f} ms{unanswered}; {losses_of(one)}"))
-    title = "Pings beside four TCP downloads through a tunnel of 20 Mbit/s"
+        entries.append((colour, f"{one['name']}: median {median:.{0 if median >= 10 else 1}f} ms{unanswered}; {says(one)}"))
     written(path, title, "round-trip time, ms, on a logarithmic scale", made + legend(entries))
 
 
@@ -118,7 +118,7 @@ def shares(found, path):
 
 
 def draw(found, folder):
-    delays(found, folder / "tunnel_delays.svg")
+    delays(found, folder / "tunnel_delays.svg", "Pings beside four TCP downloads through a tunnel of 20 Mbit/s", losses_of)
     shares(found, folder / "tunnel_shares.svg")
 
 

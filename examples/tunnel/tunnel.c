@@ -24,7 +24,7 @@
 #include <time.h>
 #include <unistd.h>
 
-enum { CE = 3, MTU = 1500, BUFFERS = 4096, SPARE = BUFFERS, BATCH = 64, LINES = 256, LINE_SIZE = 512 };
+enum { CE = 3, MTU = 1500, BUFFERS_MOST = 1 << 20, BATCH = 64, LINES = 256, LINE_SIZE = 512 };
 
 /* The bytes of a frame; one that fills them is longer than the MTU, and lost. */
 struct frame {
@@ -37,10 +37,11 @@ struct way {
     const char *from_name, *to_name;
     int from, to;
     qtree_device device;
-    struct frame frames[BUFFERS + 1]; /* a packet's buf is its index; a frame that finds no buffer is read into SPARE */
-    uint32_t free[BUFFERS];
-    size_t free_count;
-    uint64_t arrived, written, unwritten, refused, lost[QTREE_LOST_PURGED + 1];
+    struct frame *frames; /* a packet's buf is its index */
+    struct frame spare;   /* what a frame is read into that finds no buffer */
+    uint32_t *free;
+    size_t buffers, free_count;
+    uint64_t arrived, written, unwritten, refused, lost[QTREE_LOST_MOST + 1];
 };
 
 struct tunnel {
@@ -59,10 +60,39 @@ static uint64_t now_ns(void) {
 static bool way_open(struct way *way, const char *from_name, const char *to_name) {
     way->from_name = from_name;
     way->to_name = to_name;
-    for (uint32_t buf = 0; buf < BUFFERS; buf++) {
-        way->free[way->free_count++] = buf;
-    }
     return qtree_open(&way->device, &(qtree_settings){ .txqueuelen = 1000, .mtu = MTU }) == QTREE_DONE;
+}
+
+static void way_close(struct way *way) {
+    qtree_close(&way->device);
+    free(way->frames);
+    free(way->free);
+}
+
+/* Gets a buffer for each packet that the tree can hold, and one for the frame that is read; false if there cannot be as many. Each loss
+ * is reaped before the next frame is read. Where a limit was lowered the buffers stay, since as many packets may still be queued. */
+static bool way_grow(struct way *way) {
+    uint64_t most;
+    qtree_most_packets(&way->device, &most);
+    if (most < way->buffers) {
+        return true;
+    }
+    if (most >= BUFFERS_MOST) {
+        fprintf(stderr, "tunnel: the tree can hold %" PRIu64 " packets, and there can be %d buffers\n", most, BUFFERS_MOST);
+        return false;
+    }
+    struct frame *frames = realloc(way->frames, (most + 1) * sizeof *frames);
+    way->frames = frames == NULL ? way->frames : frames;
+    uint32_t *free_bufs = realloc(way->free, (most + 1) * sizeof *free_bufs);
+    way->free = free_bufs == NULL ? way->free : free_bufs;
+    if (frames == NULL || free_bufs == NULL) {
+        fprintf(stderr, "tunnel: the allocation of %" PRIu64 " buffers failed\n", most + 1);
+        return false;
+    }
+    while (way->buffers <= most) {
+        way->free[way->free_count++] = (uint32_t)way->buffers++;
+    }
+    return true;
 }
 
 /* Each loss gives its buffer back, and is counted by its cause. */
@@ -85,8 +115,9 @@ static bool is_gone(const char *name) {
 /* Reads some frames; false where the device is gone. */
 static bool way_read(struct way *way) {
     for (int i = 0; i < BATCH; i++) {
-        uint32_t buf = way->free_count > 0 ? way->free[way->free_count - 1] : SPARE;
-        struct frame *frame = &way->frames[buf];
+        bool has_buffer = way->free_count > 0;
+        uint32_t buf = has_buffer ? way->free[way->free_count - 1] : 0;
+        struct frame *frame = has_buffer ? &way->frames[buf] : &way->spare;
         ssize_t len = read(way->from, frame->bytes, sizeof frame->bytes);
         if (len <= 0) {
             return len == 0 || !is_gone(way->from_name);
@@ -94,37 +125,48 @@ static bool way_read(struct way *way) {
         frame->len = (uint16_t)len;
         qtree_packet packet = { .number = ++way->arrived, .buf = buf, .len = frame->len };
         qtree_read_head(frame->bytes, frame->len, 0, &packet);
-        if (buf == SPARE || qtree_arrive(&way->device, &packet, now_ns()) > QTREE_LOST_PURGED) {
-            way->refused++;
-        } else {
+        qtree_code code = has_buffer ? qtree_arrive(&way->device, &packet, now_ns()) : QTREE_MEMORY;
+        if (code == QTREE_DONE || qtree_is_loss(code)) {
             way->free_count--;
             take_losses(way);
+        } else {
+            way->refused++;
         }
     }
     return true;
 }
 
-/* Writes the frames that may go, and lowers next to the time of the one after them; false if the TUN device is gone. */
+/* When a packet may go; UINT64_MAX if none waits. */
+static uint64_t way_due(const struct way *way) {
+    uint64_t due;
+    return qtree_ready_at(&way->device, &due) == QTREE_DONE ? due : UINT64_MAX;
+}
+
+/* Writes the frame of a packet, and gives its buffer back; false if the TUN device is gone. */
+static bool way_send(struct way *way, const qtree_packet *packet) {
+    struct frame *frame = &way->frames[packet->buf];
+    if (packet->ecn == CE) {
+        qtree_mark_head(frame->bytes, frame->len);
+    }
+    bool is_written = write(way->to, frame->bytes, frame->len) == frame->len;
+    way->written += is_written;
+    way->unwritten += !is_written;
+    way->free[way->free_count++] = packet->buf;
+    return is_written || !is_gone(way->to_name);
+}
+
+/* Writes the frames that may go, and lowers next to the time of the one after them; false if the TUN device is gone. It polls only when
+ * a packet is due: each poll is an event, and one that comes too early gives nothing. */
 static bool way_write(struct way *way, uint64_t *next) {
-    qtree_packet packet;
-    while (qtree_poll(&way->device, now_ns(), &packet) == QTREE_DONE) {
-        struct frame *frame = &way->frames[packet.buf];
-        if (packet.ecn == CE) {
-            qtree_mark_head(frame->bytes, frame->len);
-        }
-        bool is_written = write(way->to, frame->bytes, frame->len) == frame->len;
-        way->written += is_written;
-        way->unwritten += !is_written;
-        way->free[way->free_count++] = packet.buf;
-        if (!is_written && is_gone(way->to_name)) {
+    uint64_t due;
+    while ((due = way_due(way)) <= now_ns()) {
+        qtree_packet packet;
+        if (qtree_poll(&way->device, now_ns(), &packet) == QTREE_DONE && !way_send(way, &packet)) {
             return false;
         }
     }
     take_losses(way);
-    uint64_t due;
-    if (qtree_ready_at(&way->device, &due) == QTREE_DONE && due < *next) {
-        *next = due;
-    }
+    *next = due < *next ? due : *next;
     return true;
 }
 
@@ -144,14 +186,16 @@ static bool way_totals(struct way *way) {
     qtree_totals(&way->device, &row);
     uint64_t unaccounted = way->arrived - way->refused - way->written - way->unwritten - row.queued.packets;
     printf("%s to %s: arrived %" PRIu64 " sent %" PRIu64, way->from_name, way->to_name, way->arrived, way->written);
-    for (uint32_t cause = QTREE_LOST_TOO_LONG; cause <= QTREE_LOST_PURGED; cause++) {
+    for (uint32_t cause = QTREE_LOST_TOO_LONG; cause <= QTREE_LOST_MOST; cause++) {
         unaccounted -= way->lost[cause];
-        printf(" %s %" PRIu64, qtree_code_name(cause), way->lost[cause]);
+        if (cause <= QTREE_LOST_PURGED || way->lost[cause] > 0) { /* a later version may have more causes */
+            printf(" %s %" PRIu64, qtree_code_name(cause), way->lost[cause]);
+        }
     }
     printf(" refused %" PRIu64 " unwritten %" PRIu64 " queued %" PRIu64 " marked %" PRIu64 " unaccounted %" PRIu64 "\n",
            way->refused, way->unwritten, row.queued.packets, row.marked.packets, unaccounted);
     return unaccounted == 0 && row.arrived.packets + way->refused == way->arrived &&
-           row.sent.packets == way->written + way->unwritten && row.queued.packets + way->free_count == BUFFERS;
+           row.sent.packets == way->written + way->unwritten && row.queued.packets + way->free_count == way->buffers;
 }
 
 /* Plays a line in both directions; if it is faulty or refused, prints why and returns false. */
@@ -173,7 +217,7 @@ static bool play_line(struct tunnel *tunnel, const char *line, size_t number) {
 }
 
 /* Plays each line of the file that is new or has changed; false if one of them cannot be played. */
-static bool play_file(struct tunnel *tunnel) {
+static bool play_lines(struct tunnel *tunnel) {
     FILE *file = fopen(tunnel->file, "r");
     if (file == NULL) {
         fprintf(stderr, "tunnel: %s: %s\n", tunnel->file, strerror(errno));
@@ -193,6 +237,16 @@ static bool play_file(struct tunnel *tunnel) {
         }
     }
     fclose(file);
+    return is_right;
+}
+
+/* Plays the file, takes what its lines lost, and gets the buffers that its tree needs; false if not all of this can be done. */
+static bool play_file(struct tunnel *tunnel) {
+    bool is_right = play_lines(tunnel);
+    for (int i = 0; i < 2; i++) {
+        take_losses(&tunnel->ways[i]);
+        is_right = way_grow(&tunnel->ways[i]) && is_right;
+    }
     return is_right;
 }
 
@@ -265,7 +319,7 @@ static bool run(struct tunnel *tunnel) {
 }
 
 int main(int argc, char **argv) {
-    static struct tunnel tunnel; /* too large for a stack; with all bytes 0, both devices are closed */
+    static struct tunnel tunnel; /* with all bytes 0, both devices are closed, and no buffer is there */
     if (argc != 4 || strlen(argv[1]) >= IFNAMSIZ || strlen(argv[2]) >= IFNAMSIZ) {
         fprintf(stderr, "usage: tunnel DEVICE DEVICE FILE, where a device has a name of %d bytes at most\n", IFNAMSIZ - 1);
         return 2;
@@ -279,7 +333,7 @@ int main(int argc, char **argv) {
         is_right = way_totals(&tunnel.ways[0]) && is_right;
         is_right = way_totals(&tunnel.ways[1]) && is_right;
     }
-    qtree_close(&tunnel.ways[0].device);
-    qtree_close(&tunnel.ways[1].device);
+    way_close(&tunnel.ways[0]);
+    way_close(&tunnel.ways[1]);
     return is_right ? 0 : 1;
 }

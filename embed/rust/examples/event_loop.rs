@@ -1,5 +1,5 @@
 //! A drain that sleeps until a packet may go or a sender has brought one, and senders that sleep while their ring is full.
-use qtree::{Drain, OfferError, Packet, Port, Settings};
+use qtree::{Drain, OfferError, Packet, PacketError, Port, Settings};
 use std::thread::{self, Thread};
 use std::time::{Duration, Instant};
 
@@ -7,10 +7,10 @@ const BURSTS: usize = 25;
 
 /// If `unpark` is called before `park`, that `park` returns at once, so that no packet is missed. It makes a system call only while the other
 /// thread sleeps.
-fn bring(mut port: Port, drain: &Thread) {
+fn bring(mut port: Port, drain: &Thread) -> Result<(), PacketError> {
     for _ in 0..BURSTS {
         for buf in 0..20 {
-            let packet = Packet::builder(1000).buf(buf).build();
+            let packet = Packet::builder(1000).buf(buf).build()?;
             while port.offer(&packet) == Err(OfferError::Full) {
                 drain.unpark();
                 thread::park();
@@ -21,6 +21,7 @@ fn bring(mut port: Port, drain: &Thread) {
     }
     drop(port);
     drain.unpark();
+    Ok(())
 }
 
 fn main() -> Result<(), qtree::Error> {

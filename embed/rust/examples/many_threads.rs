@@ -1,4 +1,4 @@
-use qtree::{Drain, OfferError, Packet, Settings};
+use qtree::{Drain, OfferError, Packet, PacketError, Settings};
 use std::thread;
 
 fn main() -> Result<(), qtree::Error> {
@@ -7,11 +7,12 @@ fn main() -> Result<(), qtree::Error> {
     for mut port in ports {
         thread::spawn(move || {
             for buf in 0..1000 {
-                let packet = Packet::builder(1000).buf(buf).build();
+                let packet = Packet::builder(1000).buf(buf).build()?;
                 while port.offer(&packet) == Err(OfferError::Full) {
                     thread::yield_now();
                 }
             }
+            Ok::<(), PacketError>(())
         });
     }
     let mut sent = Vec::new();

@@ -1,4 +1,5 @@
 use crate::packet::Packet;
+use crate::packet_error::PacketError;
 use crate::raw::{hash, sys};
 use core::net::IpAddr;
 
@@ -11,10 +12,12 @@ use core::net::IpAddr;
 ///     .proto(17)
 ///     .ports(4096, 5001)
 ///     .prio(3)
-///     .build();
+///     .build()?;
 /// assert_eq!(packet.len(), 1500);
+/// # Ok::<(), qtree::PacketError>(())
 /// ```
 #[derive(Clone, Copy)]
+#[must_use = "`build` makes the packet"]
 pub struct PacketBuilder {
     packet: sys::Packet,
     seed: u32,
@@ -98,12 +101,32 @@ impl PacketBuilder {
     }
 
     /// The packet. If no hash was set, it is computed from addresses, ports and protocol.
-    pub fn build(mut self) -> Packet {
+    ///
+    /// ```
+    /// # use qtree::{Packet, PacketError};
+    /// assert_eq!(Packet::builder(0).build(), Err(PacketError::Len));
+    /// assert_eq!(Packet::builder(1500).prio(16).build(), Err(PacketError::Prio));
+    /// assert_eq!(Packet::builder(1500).ecn(4).build(), Err(PacketError::Ecn));
+    /// ```
+    ///
+    /// # Errors
+    ///
+    /// `Len` for a length of 0, `Prio` for a priority above 15, `Ecn` for an ECN codepoint above 3.
+    pub fn build(mut self) -> Result<Packet, PacketError> {
+        if self.packet.len == 0 {
+            return Err(PacketError::Len);
+        }
+        if self.packet.prio > 15 {
+            return Err(PacketError::Prio);
+        }
+        if self.packet.ecn > 3 {
+            return Err(PacketError::Ecn);
+        }
         match self.hash {
             Some(hash) => self.packet.hash = hash,
             None => hash(self.seed, &mut self.packet),
         }
-        Packet(self.packet)
+        Ok(Packet(self.packet))
     }
 }
 

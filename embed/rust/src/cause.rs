@@ -16,9 +16,27 @@ pub enum Cause {
     FatFlow = 5,
     /// A command removed its queue.
     Purged = 6,
+    /// The library is newer than this crate, and has a cause more.
+    Unknown = 0,
 }
 
 impl Cause {
+    /// The greatest number that a cause can have in any version with the same major number: an array by cause has one place more.
+    ///
+    /// ```
+    /// # use qtree::{Cause, Device, Error, Packet, Settings};
+    /// # let mut device = Device::open(Settings::default())?;
+    /// # device.arrive(&Packet::builder(1515).build()?, 0)?;
+    /// let mut lost = [0; Cause::MOST + 1];
+    /// for loss in device.losses() {
+    ///     lost[loss.cause as usize] += 1;
+    /// }
+    /// assert_eq!(lost[Cause::TooLong as usize], 1);
+    /// # Ok::<(), Error>(())
+    /// ```
+    pub const MOST: usize = 9;
+
+    /// That of a code; `None` where it is no cause.
     pub(crate) fn of(code: u32) -> Option<Cause> {
         Some(match code {
             1 => Cause::TooLong,
@@ -27,13 +45,32 @@ impl Cause {
             4 => Cause::CoDel,
             5 => Cause::FatFlow,
             6 => Cause::Purged,
+            later if (1..=Cause::MOST as u32).contains(&later) => Cause::Unknown,
             _ => return None,
         })
     }
 }
 
+/// Its name, as reports write it.
 impl fmt::Display for Cause {
     fn fmt(&self, f: &mut fmt::Formatter<'_>) -> fmt::Result {
         fmt::Debug::fmt(self, f)
+    }
+}
+
+#[cfg(test)]
+mod tests {
+    use super::*;
+
+    #[test]
+    fn a_later_cause_is_one() {
+        for code in 1..=9 {
+            let cause = Cause::of(code).expect("a cause");
+            assert!(cause as u32 == if code <= 6 { code } else { 0 });
+        }
+        assert_eq!(
+            (Cause::of(0), Cause::of(10), Cause::of(u32::MAX)),
+            (None, None, None)
+        );
     }
 }

@@ -1,7 +1,9 @@
 use crate::raw::sys;
+use core::fmt;
 
 /// A class of a prio, a tbf or a drr.
-#[derive(Clone, Copy, Debug, PartialEq, Eq)]
+#[derive(Clone, Copy, PartialEq, Eq)]
+#[non_exhaustive]
 pub struct Class {
     /// The handle of its qdisc.
     pub major: u16,
@@ -13,11 +15,28 @@ pub struct Class {
 
 /// What a drr keeps of a class. All is in bytes.
 #[derive(Clone, Copy, Debug, PartialEq, Eq)]
+#[non_exhaustive]
 pub struct DrrTurn {
     /// What each of its turns grants.
     pub quantum: u32,
     /// What it may send before the next quantum; `None` where it is not active, so that no packet waits there.
     pub deficit: Option<u64>,
+}
+
+/// Its name as tc writes it, in hexadecimal, as `1:1f`.
+impl fmt::Display for Class {
+    fn fmt(&self, f: &mut fmt::Formatter<'_>) -> fmt::Result {
+        write!(f, "{:x}:{:x}", self.major, self.minor)
+    }
+}
+
+impl fmt::Debug for Class {
+    fn fmt(&self, f: &mut fmt::Formatter<'_>) -> fmt::Result {
+        f.debug_struct("Class")
+            .field("name", &format_args!("{self}"))
+            .field("turn", &self.turn)
+            .finish()
+    }
 }
 
 impl Class {

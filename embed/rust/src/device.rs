@@ -74,7 +74,7 @@ impl Device {
     /// # use qtree::{Cause, Device, Error, Fate, Packet, Settings};
     /// let mut device = Device::open(Settings::default())?;
     /// device.command("tc qdisc add dev wan root handle 1: pfifo limit 1", 0)?;
-    /// let packet = Packet::builder(1000).buf(7).build();
+    /// let packet = Packet::builder(1000).buf(7).build()?;
     /// assert_eq!(device.arrive(&packet, 0)?, Fate::Kept);
     /// assert_eq!(device.arrive(&packet, 0)?, Fate::Lost(Cause::OverLimit));
     /// # Ok::<(), Error>(())
@@ -129,14 +129,82 @@ impl Device {
         fate(self.0.arrive_frame_seeded(bytes, len, buf, seed, now))
     }
 
+    /// The same as [`arrive_frame`](Device::arrive_frame), of a packet that has this number, which comes back with it.
+    ///
+    /// ```
+    /// # use qtree::{Device, Error, Polled, Settings};
+    /// let mut device = Device::open(Settings::default())?;
+    /// device.arrive_frame_numbered(&[0x45, 0], 28, 7, u64::MAX, 0, 0)?;
+    /// assert!(matches!(device.poll_buf(0)?, Polled::Packet(it) if (it.buf(), it.number()) == (7, u64::MAX)));
+    /// # Ok::<(), Error>(())
+    /// ```
+    ///
+    /// # Errors
+    ///
+    /// `OutOfRange` for a length of 0 or the time; `Memory`.
+    pub fn arrive_frame_numbered(
+        &mut self,
+        bytes: &[u8],
+        len: u16,
+        buf: u32,
+        number: u64,
+        hash: u32,
+        now: u64,
+    ) -> Result<Fate, Error> {
+        fate(
+            self.0
+                .arrive_frame_numbered(bytes, len, buf, number, hash, now),
+        )
+    }
+
+    /// Packets arrive in order, all at the same time, and what happened to each of them is appended to `fates`. If `fates` has room for all,
+    /// only arrivals allocate.
+    ///
+    /// ```
+    /// # use qtree::{Cause, Device, Error, Fate, Packet, PacketError, Settings};
+    /// let mut device = Device::open(Settings::default())?;
+    /// device.command("tc qdisc add dev wan root handle 1: pfifo limit 2", 0)?;
+    /// let burst = (0..3).map(|buf| Packet::builder(1000).buf(buf).build()).collect::<Result<Vec<_>, PacketError>>()?;
+    /// let mut fates = Vec::new();
+    /// device.arrive_many(&burst, 0, &mut fates)?;
+    /// assert_eq!(fates, [Fate::Kept, Fate::Kept, Fate::Lost(Cause::OverLimit)]);
+    /// # Ok::<(), Error>(())
+    /// ```
+    ///
+    /// # Errors
+    ///
+    /// `OutOfRange` and `Memory` as of [`arrive`](Device::arrive), for the first packet that does not arrive: those before it have, and
+    /// their fates are appended. `Memory` too if the room for `fates` cannot be allocated: no packet has arrived then.
+    pub fn arrive_many(
+        &mut self,
+        packets: &[Packet],
+        now: u64,
+        fates: &mut Vec<Fate>,
+    ) -> Result<(), Error> {
+        fates
+            .try_reserve(packets.len())
+            .map_err(|_| Error::Memory)?;
+        let mut codes = [0; 64];
+        for burst in packets.chunks(codes.len()) {
+            let (code, done) = self.0.arrive_many(burst, &mut codes, now);
+            for code in &codes[..done] {
+                fates.push(fate(u32::from(*code))?);
+            }
+            if code != sys::QTREE_DONE {
+                return Err(Error::of(code));
+            }
+        }
+        Ok(())
+    }
+
     /// Takes the packet whose turn it is. It allocates nothing.
     ///
     /// ```
     /// # use qtree::{Device, Error, Packet, Polled, Settings};
     /// let mut device = Device::open(Settings::default())?;
     /// device.command("tc qdisc add dev wan root handle 1: tbf rate 8mbit burst 1000 latency 50ms", 0)?;
-    /// device.arrive(&Packet::builder(1000).buf(1).build(), 0)?;
-    /// device.arrive(&Packet::builder(1000).buf(2).build(), 0)?;
+    /// device.arrive(&Packet::builder(1000).buf(1).build()?, 0)?;
+    /// device.arrive(&Packet::builder(1000).buf(2).build()?, 0)?;
     /// assert!(matches!(device.poll(0)?, Polled::Packet(packet) if packet.buf() == 1));
     /// assert!(matches!(device.poll(0)?, Polled::Later)); // 1000 bytes at 8 Mbit/s take a millisecond
     /// assert_eq!(device.ready_at(), Some(1_000_000));
@@ -160,7 +228,7 @@ impl Device {
     /// ```
     /// # use qtree::{Device, Error, Packet, Polled, Settings};
     /// let mut device = Device::open(Settings::default())?;
-    /// device.arrive(&Packet::builder(1500).buf(7).build(), 0)?;
+    /// device.arrive(&Packet::builder(1500).buf(7).build()?, 0)?;
     /// assert!(matches!(device.poll_buf(0)?, Polled::Packet(sent) if (sent.buf(), sent.len()) == (7, 1500)));
     /// assert_eq!(device.poll_buf(0)?, Polled::Idle);
     /// # Ok::<(), Error>(())
@@ -184,7 +252,7 @@ impl Device {
     /// # use qtree::{Device, Error, Packet, Sent, Settings};
     /// let mut device = Device::open(Settings::default())?;
     /// for buf in 0..3 {
-    ///     device.arrive(&Packet::builder(1500).buf(buf).build(), 0)?;
+    ///     device.arrive(&Packet::builder(1500).buf(buf).build()?, 0)?;
     /// }
     /// let mut sent = [Sent::default(); 32];
     /// let count = device.poll_bufs(0, &mut sent)?;
@@ -219,9 +287,28 @@ impl Device {
     ///
     /// A poll at that time may still answer [`Polled::Later`]: what an fq_codel gives, or which class of a drr, is not known before it is
     /// asked. The time that follows is then a later one.
+    #[must_use]
     pub fn ready_at(&self) -> Option<u64> {
         let (code, moment) = self.0.ready_at();
         (code == sys::QTREE_DONE).then_some(moment)
+    }
+
+    /// The most packets that can be queued, now and as long as no command changes the device; `u64::MAX` stands for more.
+    ///
+    /// It is the sum of the limits of all queues, or what one has queued where its limit was set below that, and one packet for each tbf,
+    /// drr and fq_codel, which may hold the one that goes next. A limit in bytes counts as so many packets. A program needs a buffer for
+    /// each of them, for the packet that arrives, and for each that it has polled and not sent, or lost and not reaped.
+    ///
+    /// ```
+    /// # use qtree::{Device, Settings};
+    /// let mut device = Device::open(Settings::default())?;
+    /// device.command("tc qdisc add dev wan root fq_codel limit 3000", 0)?;
+    /// assert_eq!(device.most_packets(), 3000 + 1);
+    /// # Ok::<(), qtree::Error>(())
+    /// ```
+    #[must_use]
+    pub fn most_packets(&self) -> u64 {
+        self.0.most_packets()
     }
 
     /// The losses that were not returned yet, oldest first. Those that wait keep memory: a program that needs no losses reads them too.
@@ -229,7 +316,7 @@ impl Device {
     /// ```
     /// # use qtree::{Cause, Device, Error, Fate, Packet, Settings};
     /// let mut device = Device::open(Settings { mtu: 1000, ..Settings::default() })?;
-    /// let fate = device.arrive(&Packet::builder(1500).buf(3).build(), 0)?;
+    /// let fate = device.arrive(&Packet::builder(1500).buf(3).build()?, 0)?;
     /// assert_eq!(fate, Fate::Lost(Cause::TooLong));
     /// assert_eq!(device.losses().map(|loss| loss.packet.buf()).collect::<Vec<_>>(), [3]);
     /// # Ok::<(), Error>(())
@@ -249,6 +336,7 @@ impl Device {
     }
 
     /// What was counted in a place; `None` where nothing stands there.
+    #[must_use]
     pub fn stats(&self, place: Place) -> Option<Row> {
         let (code, row) = self.0.stats(place.to_c());
         (code == sys::QTREE_DONE).then(|| Row::of(row))
@@ -273,12 +361,14 @@ impl Device {
     /// assert_eq!((service.rate, service.slack), (Some(13_333_333), 5532));
     /// # Ok::<(), Error>(())
     /// ```
+    #[must_use]
     pub fn service(&self, place: Place) -> Option<Service> {
         let (code, promise) = self.0.service(place.to_c());
         (code == sys::QTREE_DONE).then(|| Service::of(promise))
     }
 
     /// What was counted by the device itself.
+    #[must_use]
     pub fn totals(&self) -> Row {
         Row::of(self.0.stats(Place::Top.to_c()).1)
     }
@@ -295,8 +385,10 @@ impl Device {
     /// assert_eq!((nodes[0].handle, nodes[0].qdisc), (Some(1), Qdisc::Drr));
     /// assert_eq!(nodes[0].classes[0].turn.map(|it| (it.quantum, it.deficit)), Some((3000, None)));
     /// assert_eq!((nodes[1].place, nodes[1].qdisc), (Place::Class(1, 0x10), Qdisc::Pfifo { limit: 50 }));
+    /// assert_eq!((nodes[0].to_string(), nodes[1].to_string()), ("drr 1: root".into(), "pfifo 2: parent 1:10".into()));
     /// # Ok::<(), Error>(())
     /// ```
+    #[must_use]
     pub fn nodes(&self) -> Vec<Node> {
         let mut nodes = Vec::new();
         while let (sys::QTREE_DONE, view) = self.0.node(nodes.len()) {
@@ -331,6 +423,7 @@ impl Device {
     }
 
     /// How many arrivals, polls and accepted commands there were, and how many of them, the first ones, the recorder has.
+    #[must_use]
     pub fn events(&self) -> (u64, usize) {
         self.0.events()
     }
@@ -346,8 +439,8 @@ impl Device {
         })
     }
 
-    /// The script that plays all recorded events again: with the device's mtu and txqueuelen, `qtree play` does what the device
-    /// did. A script does not say a packet's port, number and buf, nor the addresses of one that is not IP: packets are numbered from 1 in the
+    /// The script that plays all recorded events again: with the device's mtu and txqueuelen, `qtree-play` does what the device
+    /// did, and so does `qtree play` with a script of at most 16,777,216 bytes, which is some 240,000 packets. A script does not say a packet's port, number and buf, nor the addresses of one that is not IP: packets are numbered from 1 in the
     /// order of their arrivals.
     ///
     /// ```
@@ -377,7 +470,7 @@ impl Device {
     /// let mut device = Device::open(Settings::default())?;
     /// device.keep_last(2)?;
     /// device.command("tc qdisc add dev wan root handle 1: pfifo limit 100", 0)?;
-    /// device.arrive(&Packet::builder(1000).buf(7).build(), 5)?;
+    /// device.arrive(&Packet::builder(1000).buf(7).build()?, 5)?;
     /// device.poll(9)?;
     /// assert_eq!(device.last_noted(), (3, 2));
     /// let last = device.last_events()?;
@@ -397,6 +490,7 @@ impl Device {
     }
 
     /// How many events were noted since [`keep_last`](Device::keep_last), and how many of them, the last ones, are kept.
+    #[must_use]
     pub fn last_noted(&self) -> (u64, usize) {
         self.0.last_noted()
     }

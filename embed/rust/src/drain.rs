@@ -27,7 +27,8 @@ use alloc::vec::Vec;
 /// let (mut drain, ports) = Drain::open(Settings::default(), 2, 64)?;
 /// drain.device_mut().command("tc qdisc add dev wan root handle 1: fq_codel", 0)?;
 /// for mut port in ports {
-///     std::thread::spawn(move || port.offer(&Packet::builder(1000).buf(port.index()).build()));
+///     let packet = Packet::builder(1000).buf(port.index()).build()?;
+///     std::thread::spawn(move || port.offer(&packet));
 /// }
 /// let mut sent = Vec::new();
 /// while drain.open_ports() > 0 {
@@ -103,6 +104,7 @@ impl Drain {
     }
 
     /// How many ports are not closed yet.
+    #[must_use]
     pub fn open_ports(&self) -> usize {
         let open = |it: &&Outlet| it.placed().is_none();
         self.outlets.iter().filter(open).count()
@@ -145,6 +147,7 @@ impl Drain {
     }
 
     /// Its device, to read of it: counters, qdiscs, shows, the recorder, and the time of the next turn.
+    #[must_use]
     pub fn device(&self) -> &Device {
         &self.device
     }
@@ -155,6 +158,7 @@ impl Drain {
     }
 
     /// A reader of what the device counts, for any thread.
+    #[must_use]
     pub fn gauge(&self) -> Gauge {
         Gauge::new(self.board.clone())
     }

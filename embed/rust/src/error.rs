@@ -1,4 +1,5 @@
 use crate::fault::Fault;
+use crate::packet_error::PacketError;
 use crate::raw::{explain, sys};
 use crate::refusal::Refusal;
 use crate::text::text_of;
@@ -26,6 +27,14 @@ pub enum Error {
     NoCommand,
     /// A port of the drain is not closed yet.
     OpenPorts,
+    /// A packet that is built has a field out of its range.
+    Packet(PacketError),
+}
+
+impl From<PacketError> for Error {
+    fn from(error: PacketError) -> Error {
+        Error::Packet(error)
+    }
 }
 
 impl Error {
@@ -41,8 +50,8 @@ impl Error {
 
 impl Error {
     /// What `qtree play --explain` writes of the line that [`Device::command`](crate::Device::command) answered by this: the line with
-    /// its number, a mark under the word at which it failed, and a sentence on what to do. `None` where the line is neither refused nor
-    /// faulty.
+    /// its number, a mark under the word at which it failed, and a sentence on what to do. Of a line that is no command the sentence says
+    /// what it is, and which call does what it asks for. `None` where the line is neither refused nor faulty nor such a line.
     ///
     /// ```
     /// # use qtree::{Device, Error, Settings};
@@ -50,8 +59,11 @@ impl Error {
     /// let line = "tc qdisc add dev wan root handle 1: pfifo limt 100";
     /// let why = device.command(line, 0).unwrap_err();
     /// assert!(why.explain(line, 7).is_some_and(|text| text.starts_with("line 7: tc qdisc add")));
+    /// let why = device.command("tc qdisc show", 0).unwrap_err();
+    /// assert!(why.explain("tc qdisc show", 8).is_some_and(|text| text.contains("in Rust Device::show")));
     /// # Ok::<(), Error>(())
     /// ```
+    #[must_use]
     pub fn explain(&self, line: &str, number: u64) -> Option<String> {
         let mut found = sys::Fault::default();
         let code = match *self {
@@ -64,7 +76,8 @@ impl Error {
                 sys::QTREE_FAULTY
             }
             Error::Memory => sys::QTREE_MEMORY,
-            Error::OutOfRange | Error::NoCommand | Error::OpenPorts => return None,
+            Error::NoCommand => sys::QTREE_NO_COMMAND,
+            Error::OutOfRange | Error::OpenPorts | Error::Packet(_) => return None,
         };
         text_of(|text| explain(line.as_bytes(), number, code, &found, text)).ok()
     }
@@ -77,10 +90,11 @@ impl fmt::Display for Error {
             Error::OutOfRange => f.write_str("an argument is out of its range"),
             Error::Refused(refusal) => write!(f, "the command is refused: {refusal}"),
             Error::Faulty { fault, word } => {
-                write!(f, "the line is faulty at word {word}: {fault}")
+                write!(f, "the line cannot be read: word {word} {fault}")
             }
-            Error::NoCommand => f.write_str("the line changes no tree"),
+            Error::NoCommand => f.write_str("the line is no command, and changes no tree"),
             Error::OpenPorts => f.write_str("a port is not closed yet"),
+            Error::Packet(error) => error.fmt(f),
         }
     }
 }

@@ -3,6 +3,7 @@ use alloc::string::String;
 
 /// What a device recorded of an event.
 #[derive(Clone, Debug, PartialEq, Eq)]
+#[non_exhaustive]
 pub struct Event {
     /// The time at which it counted.
     pub moment: u64,

@@ -31,8 +31,16 @@ impl Fault {
     }
 }
 
+/// What is to be said of the word.
 impl fmt::Display for Fault {
     fn fmt(&self, f: &mut fmt::Formatter<'_>) -> fmt::Result {
-        fmt::Debug::fmt(self, f)
+        f.write_str(match self {
+            Fault::UnknownWord => "has no meaning in its place",
+            Fault::Missing => "is missing",
+            Fault::BadNumber => "is not written as such a value has to be",
+            Fault::OutOfRange => "is out of its range",
+            Fault::Twice => "was given before",
+            Fault::BadUtf8 => "is not UTF-8",
+        })
     }
 }

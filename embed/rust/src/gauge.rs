@@ -9,7 +9,7 @@ use alloc::sync::Arc;
 ///
 /// let (mut drain, mut ports) = Drain::open(Settings::default(), 1, 16)?;
 /// let gauge = drain.gauge();
-/// ports[0].offer(&Packet::builder(100).build())?;
+/// ports[0].offer(&Packet::builder(100).build()?)?;
 /// drain.turn(0, 8, &mut Vec::new())?;
 /// let row = std::thread::spawn(move || gauge.read()).join().expect("a reader does not panic");
 /// assert_eq!((row.arrived.packets, row.sent.bytes), (1, 100));
@@ -27,6 +27,7 @@ impl Gauge {
 
     /// The row of the device as it was after the last turn: what arrived was sent, refused or dropped, or is queued. No count but that of
     /// the queued packets is below one that was read before. The drain does not wait for this call, which reads again if a turn ends meanwhile.
+    #[must_use]
     pub fn read(&self) -> Row {
         self.board.read()
     }

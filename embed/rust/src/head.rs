@@ -24,6 +24,7 @@ pub fn mark_head(packet: &mut [u8]) -> bool {
 /// assert_eq!(qtree::ip_at(&frame), Some(18));
 /// assert_eq!(qtree::ip_at(&frame[..17]), None);
 /// ```
+#[must_use]
 pub fn ip_at(frame: &[u8]) -> Option<usize> {
     match raw::ip_at(frame) {
         0 => None,

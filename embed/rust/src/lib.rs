@@ -9,7 +9,7 @@
 //!
 //! let mut device = Device::open(Settings::default())?;
 //! device.command("tc qdisc add dev wan root handle 1: fq_codel limit 1000", 0)?;
-//! let packet = Packet::builder(1500).buf(7).build();
+//! let packet = Packet::builder(1500).buf(7).build()?;
 //! assert_eq!(device.arrive(&packet, 0)?, Fate::Kept);
 //! match device.poll(10)? {
 //!     Polled::Packet(packet) => assert_eq!(packet.buf(), 7),
@@ -46,6 +46,7 @@ mod node;
 mod offer_error;
 mod outlet;
 mod packet;
+mod packet_error;
 mod place;
 mod polled;
 mod port;
@@ -80,6 +81,7 @@ pub use losses::Losses;
 pub use node::{ListedFlows, Node};
 pub use offer_error::OfferError;
 pub use packet::Packet;
+pub use packet_error::PacketError;
 pub use place::Place;
 pub use polled::Polled;
 pub use port::Port;
@@ -93,10 +95,16 @@ pub use settled::Settled;
 pub use show::Show;
 pub use turn::Turn;
 
+/// The program of the crate's page.
+#[cfg(doctest)]
+#[doc = include_str!("../README.md")]
+struct Page;
+
 /// The latest time that a call takes: 2^62 nanoseconds.
 pub const MOMENT_MAX: u64 = 1 << 62;
 
 /// The version of the library that is linked: its major and its minor number.
+#[must_use]
 pub fn version() -> (u16, u16) {
     let version = raw::sys::qtree_version();
     ((version >> 16) as u16, version as u16)

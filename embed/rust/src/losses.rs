@@ -3,6 +3,7 @@ use crate::loss::Loss;
 
 /// The losses of a device that were not returned yet, oldest first. The device forgets each one that the iterator returns.
 #[derive(Debug)]
+#[must_use = "losses wait until the iterator returns them"]
 pub struct Losses<'a> {
     pub(crate) device: &'a mut Device,
 }

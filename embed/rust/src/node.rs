@@ -4,9 +4,11 @@ use crate::qdisc::Qdisc;
 use crate::raw::sys;
 use crate::row::Row;
 use alloc::vec::Vec;
+use core::fmt;
 
 /// A qdisc: where it stands, its settings, its classes and what it counted.
-#[derive(Clone, Debug, PartialEq, Eq)]
+#[derive(Clone, PartialEq, Eq)]
+#[non_exhaustive]
 pub struct Node {
     /// Its major number; `None` for a leaf that no line added.
     pub handle: Option<u16>,
@@ -22,8 +24,32 @@ pub struct Node {
     pub classes: Vec<Class>,
 }
 
+/// Its handle and its place as tc writes them, in hexadecimal: `drr 1: root`, or `pfifo 0: parent 1:1f`.
+impl fmt::Display for Node {
+    fn fmt(&self, f: &mut fmt::Formatter<'_>) -> fmt::Result {
+        write!(f, "{} {:x}: ", self.qdisc, self.handle.unwrap_or(0))?;
+        match self.place {
+            Place::Class(..) => write!(f, "parent {}", self.place),
+            place => place.fmt(f),
+        }
+    }
+}
+
+impl fmt::Debug for Node {
+    fn fmt(&self, f: &mut fmt::Formatter<'_>) -> fmt::Result {
+        f.debug_struct("Node")
+            .field("name", &format_args!("{self}"))
+            .field("qdisc", &self.qdisc)
+            .field("row", &self.row)
+            .field("listed", &self.listed)
+            .field("classes", &self.classes)
+            .finish()
+    }
+}
+
 /// How many flows of an fq_codel are in each of its lists. The others have no packets, and no turn.
 #[derive(Clone, Copy, Debug, PartialEq, Eq)]
+#[non_exhaustive]
 pub struct ListedFlows {
     /// In the list of new flows.
     pub new: u32,

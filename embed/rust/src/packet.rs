@@ -9,12 +9,13 @@ use core::net::{IpAddr, Ipv4Addr, Ipv6Addr};
 pub struct Packet(pub(crate) sys::Packet);
 
 impl Packet {
-    /// Begins a packet of this length in bytes; methods set its other fields by name. An arrival of a packet with length 0 is an error.
+    /// Begins a packet of this length in bytes; methods set its other fields by name.
     pub fn builder(len: u16) -> PacketBuilder {
         PacketBuilder::new(len)
     }
 
-    /// A packet of this length. Its other fields are read from its first bytes, which begin with its IP header. The seed is that of its hash.
+    /// A packet of this length. Its other fields are read from its first bytes, which begin with its IP header. The seed is that of its
+    /// hash. An arrival of a packet with length 0 is an error.
     ///
     /// ```
     /// let udp = [0x45, 0, 0, 28, 0, 0, 0, 0, 64, 17, 0, 0, 10, 0, 0, 1, 10, 0, 0, 2, 0x10, 0, 0x13, 0x89, 0, 8, 0, 0];
@@ -22,6 +23,7 @@ impl Packet {
     /// assert_eq!((packet.proto(), packet.ports(), packet.buf()), (17, (4096, 5001), 7));
     /// assert_eq!(packet.src(), Some([10, 0, 0, 1].into()));
     /// ```
+    #[must_use]
     pub fn read(bytes: &[u8], len: u16, buf: u32, seed: u32) -> Packet {
         let mut packet = sys::Packet {
             len,
@@ -40,6 +42,7 @@ impl Packet {
     /// let packet = qtree::Packet::read_hashed(&udp, 28, 7, 0x1234);
     /// assert_eq!((packet.hash(), packet.ports()), (0x1234, (4096, 5001)));
     /// ```
+    #[must_use]
     pub fn read_hashed(bytes: &[u8], len: u16, buf: u32, hash: u32) -> Packet {
         let mut packet = sys::Packet {
             len,
@@ -50,58 +53,90 @@ impl Packet {
         Packet(packet)
     }
 
+    /// The same packet with other ports of its source and its destination, and with the hash that it has. A program that knows the class of
+    /// a packet names it so, by a number that a filter matches as a port. No byte of the packet changes.
+    ///
+    /// ```
+    /// # use qtree::{Cause, Device, Error, Fate, Packet, Place, Settings};
+    /// let mut device = Device::open(Settings::default())?;
+    /// device.command("tc qdisc add dev wan root handle 1: drr", 0)?;
+    /// device.command("tc class add dev wan parent 1: classid 1:7 drr", 0)?;
+    /// device.command("tc filter add dev wan parent 1: prio 1 flower src_port 7 classid 1:7", 0)?;
+    /// let packet = Packet::read(&[0x45, 0], 28, 1, 0).with_ports(7, 0);
+    /// assert_eq!(device.arrive(&packet, 0)?, Fate::Kept);
+    /// assert_eq!(device.stats(Place::Class(1, 7)).map(|row| row.queued.packets), Some(1));
+    /// assert_eq!(device.arrive(&packet.with_ports(8, 0), 0)?, Fate::Lost(Cause::NoClass));
+    /// # Ok::<(), Error>(())
+    /// ```
+    #[must_use]
+    pub fn with_ports(mut self, src: u16, dst: u16) -> Packet {
+        (self.0.sport, self.0.dport) = (src, dst);
+        self
+    }
+
     /// The program's own number.
+    #[must_use]
     pub fn buf(&self) -> u32 {
         self.0.buf
     }
 
     /// The index of the sender's port that placed it, if it came by a ring.
+    #[must_use]
     pub fn port(&self) -> u32 {
         self.0.port
     }
 
     /// Its number among those of its port, counted from 1 by a [`Port`](crate::Port).
+    #[must_use]
     pub fn number(&self) -> u64 {
         self.0.number
     }
 
     /// The hash of its flow, by which an fq_codel chooses the flow.
+    #[must_use]
     pub fn hash(&self) -> u32 {
         self.0.hash
     }
 
     /// Its length in bytes.
     #[allow(clippy::len_without_is_empty)]
+    #[must_use]
     pub fn len(&self) -> u16 {
         self.0.len
     }
 
     /// The protocol above IP.
+    #[must_use]
     pub fn proto(&self) -> u8 {
         self.0.proto
     }
 
     /// The ports of its source and its destination, of TCP or UDP.
+    #[must_use]
     pub fn ports(&self) -> (u16, u16) {
         (self.0.sport, self.0.dport)
     }
 
     /// The address of its source; `None` if the packet is not IP.
+    #[must_use]
     pub fn src(&self) -> Option<IpAddr> {
         address(self.0.family, self.0.src_high, self.0.src_low)
     }
 
     /// The address of its destination; `None` if the packet is not IP.
+    #[must_use]
     pub fn dst(&self) -> Option<IpAddr> {
         address(self.0.family, self.0.dst_high, self.0.dst_low)
     }
 
     /// Its priority, 0 to 15.
+    #[must_use]
     pub fn prio(&self) -> u8 {
         self.0.prio
     }
 
     /// Its ECN codepoint, 0 to 3. Where a poll gives 3, [`mark_head`](crate::mark_head) writes it into the packet's bytes.
+    #[must_use]
     pub fn ecn(&self) -> u8 {
         self.0.ecn
     }

@@ -1,12 +1,41 @@
+use core::fmt;
+
 /// A place in which packets are counted.
-#[derive(Clone, Copy, Debug, PartialEq, Eq)]
+#[derive(Clone, Copy, PartialEq, Eq)]
 pub enum Place {
     /// The device itself.
     Top,
     /// Its root.
     Root,
-    /// The qdisc in the class `major:minor`, from 1:1 to fffe:ffff.
+    /// The qdisc in the class `major:minor`, from 1:1 to fffe:ffff. In lines of tc both are hexadecimal.
     Class(u16, u16),
+}
+
+/// As tc writes it: `root`, or the class as `1:1f`. The device itself is `top`.
+///
+/// ```
+/// # use qtree::Place;
+/// assert_eq!(Place::Class(1, 0x1f).to_string(), "1:1f");
+/// assert_eq!(format!("{:?}", Place::Class(1, 0x1f)), "Class(1:1f)");
+/// ```
+impl fmt::Display for Place {
+    fn fmt(&self, f: &mut fmt::Formatter<'_>) -> fmt::Result {
+        match self {
+            Place::Top => f.pad("top"),
+            Place::Root => f.pad("root"),
+            Place::Class(major, minor) => write!(f, "{major:x}:{minor:x}"),
+        }
+    }
+}
+
+impl fmt::Debug for Place {
+    fn fmt(&self, f: &mut fmt::Formatter<'_>) -> fmt::Result {
+        match self {
+            Place::Top => f.write_str("Top"),
+            Place::Root => f.write_str("Root"),
+            Place::Class(..) => write!(f, "Class({self})"),
+        }
+    }
 }
 
 impl Place {

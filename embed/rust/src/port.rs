@@ -13,7 +13,7 @@ use alloc::sync::Arc;
 ///
 /// let (mut drain, mut ports) = Drain::open(Settings::default(), 1, 2)?;
 /// let port = &mut ports[0];
-/// let packet = Packet::builder(100).build();
+/// let packet = Packet::builder(100).build()?;
 /// assert_eq!((port.offer(&packet), port.offer(&packet)), (Ok(()), Ok(())));
 /// assert_eq!(port.offer(&packet), Err(OfferError::Full));
 /// drain.turn(0, 1, &mut Vec::new())?;
@@ -43,6 +43,7 @@ impl Port {
     }
 
     /// Its index, counted from 0, which its packets have as their [`Packet::port`].
+    #[must_use]
     pub fn index(&self) -> u32 {
         self.index
     }
@@ -66,7 +67,7 @@ impl Port {
     /// ```
     /// # use qtree::{Drain, OfferError, Packet, Settings};
     /// let (mut drain, mut ports) = Drain::open(Settings::default(), 1, 2)?;
-    /// let burst: Vec<Packet> = (0..3).map(|buf| Packet::builder(100).buf(buf).build()).collect();
+    /// let burst = (0..3).map(|buf| Packet::builder(100).buf(buf).build()).collect::<Result<Vec<Packet>, _>>()?;
     /// assert_eq!(ports[0].offer_many(&burst), (2, Err(OfferError::Full)));
     /// drain.turn(0, 2, &mut Vec::new())?;
     /// assert_eq!(ports[0].offer_many(&burst[2..]), (1, Ok(())));
@@ -76,6 +77,7 @@ impl Port {
     /// # Errors
     ///
     /// As of [`Port::offer`], for the first packet that is not placed.
+    #[must_use = "packets that were not placed are to be offered again"]
     pub fn offer_many(&mut self, packets: &[Packet]) -> (usize, Result<(), OfferError>) {
         if self.ring.is_outlet_closed() {
             return (0, Err(OfferError::Closed));
@@ -85,6 +87,7 @@ impl Port {
     }
 
     /// What it placed so far.
+    #[must_use]
     pub fn share(&self) -> Count {
         Count::of(self.raw.share())
     }

@@ -1,4 +1,5 @@
 use crate::raw::sys;
+use core::fmt;
 
 /// A kind of qdisc, with all its settings.
 #[derive(Clone, Copy, Debug, PartialEq, Eq)]
@@ -38,6 +39,7 @@ pub enum Qdisc {
 
 /// The settings of an fq_codel. Times are nanoseconds.
 #[derive(Clone, Copy, Debug, PartialEq, Eq)]
+#[non_exhaustive]
 pub struct FqCodel {
     /// The most packets of all flows together.
     pub limit: u64,
@@ -55,6 +57,20 @@ pub struct FqCodel {
     pub drop_batch: u32,
     /// With so many bytes or fewer queued, CoDel drops nothing.
     pub mtu: u16,
+}
+
+/// Its kind, as tc has it.
+impl fmt::Display for Qdisc {
+    fn fmt(&self, f: &mut fmt::Formatter<'_>) -> fmt::Result {
+        f.pad(match self {
+            Qdisc::Pfifo { .. } => "pfifo",
+            Qdisc::Bfifo { .. } => "bfifo",
+            Qdisc::Prio { .. } => "prio",
+            Qdisc::Tbf { .. } => "tbf",
+            Qdisc::Drr => "drr",
+            Qdisc::FqCodel(_) => "fq_codel",
+        })
+    }
 }
 
 impl Qdisc {

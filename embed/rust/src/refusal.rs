@@ -52,6 +52,21 @@ impl Refusal {
 
 impl fmt::Display for Refusal {
     fn fmt(&self, f: &mut fmt::Formatter<'_>) -> fmt::Result {
-        fmt::Debug::fmt(self, f)
+        f.write_str(match self {
+            Refusal::NoParent => "no qdisc has the major number of the parent",
+            Refusal::Exists => "a qdisc, or the class, is there already",
+            Refusal::NoQdisc => "no qdisc that was added has this place and this handle",
+            Refusal::HandleTaken => "another qdisc has the handle",
+            Refusal::NotClassful => "the parent has no classes, or takes no filters",
+            Refusal::NoClass => "there is no such class",
+            Refusal::Busy => "a filter leads to the class",
+            Refusal::CannotChange => {
+                "the qdisc is of another kind, or the setting cannot be changed"
+            }
+            Refusal::TooDeep => "a qdisc would be deeper than 8",
+            Refusal::TooMany => "there would be more than 256 qdiscs, or filters of one qdisc",
+            Refusal::SmallBurst => "the burst is below the mtu and below the present burst",
+            Refusal::NoFilter => "no filter of the qdisc has this prio",
+        })
     }
 }

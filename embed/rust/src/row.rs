@@ -3,6 +3,7 @@ use crate::raw::sys;
 
 /// What was counted in a place: what arrived was sent, refused or dropped, or is queued.
 #[derive(Clone, Copy, Debug, Default, PartialEq, Eq)]
+#[non_exhaustive]
 pub struct Row {
     /// What arrived.
     pub arrived: Count,

@@ -8,27 +8,32 @@ pub struct Sent(pub(crate) sys::Sent);
 
 impl Sent {
     /// The program's own number.
+    #[must_use]
     pub fn buf(&self) -> u32 {
         self.0.buf
     }
 
     /// Its length in bytes.
     #[allow(clippy::len_without_is_empty)]
+    #[must_use]
     pub fn len(&self) -> u16 {
         self.0.len
     }
 
     /// Its ECN codepoint, 0 to 3. The program writes 3 into the packet's bytes.
+    #[must_use]
     pub fn ecn(&self) -> u8 {
         self.0.ecn
     }
 
     /// The index of the sender's port that placed it, if it came by a ring.
+    #[must_use]
     pub fn port(&self) -> u32 {
         self.0.port
     }
 
     /// Its number among those of its port, counted from 1 by a [`Port`](crate::Port).
+    #[must_use]
     pub fn number(&self) -> u64 {
         self.0.number
     }

@@ -6,6 +6,7 @@ use crate::raw::sys;
 /// program polls until no packet comes, and then at the time of [`crate::Device::ready_at`] at the latest, and the qdiscs, classes and
 /// quanta on the way to it stay as they are.
 #[derive(Clone, Copy, Debug, PartialEq, Eq)]
+#[non_exhaustive]
 pub struct Service {
     /// The rate of the tbf at the root in bits a second; `None` where a drr is at the root.
     pub link: Option<u64>,

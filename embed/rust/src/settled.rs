@@ -2,6 +2,7 @@ use crate::count::Count;
 
 /// What a drain that has settled took in.
 #[derive(Clone, Copy, Debug, PartialEq, Eq)]
+#[non_exhaustive]
 pub struct Settled {
     /// What its ports placed, together.
     pub placed: Count,

@@ -1,5 +1,6 @@
 /// What tc shows of a device.
 #[derive(Clone, Copy, Debug, PartialEq, Eq)]
+#[non_exhaustive]
 pub enum Show {
     /// `tc qdisc show`.
     Qdiscs = 0,

@@ -1,5 +1,6 @@
 /// What a turn of a drain did.
 #[derive(Clone, Copy, Debug, Default, PartialEq, Eq)]
+#[non_exhaustive]
 pub struct Turn {
     /// How many packets left their rings and arrived.
     pub taken: usize,

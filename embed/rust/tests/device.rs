@@ -8,6 +8,7 @@ fn udp(len: u16, buf: u32) -> Packet {
         .proto(17)
         .ports(4096, 5001)
         .build()
+        .expect("a length")
 }
 
 #[test]
@@ -53,7 +54,8 @@ fn what_is_refused_changes_nothing() -> Result<(), Error> {
         mtu: 1000,
         ..Settings::default()
     })?;
-    assert_eq!(device.arrive(&udp(0, 1), 0), Err(Error::OutOfRange));
+    let empty = Packet::read(&[], 0, 1, 0);
+    assert_eq!(device.arrive(&empty, 0), Err(Error::OutOfRange));
     assert_eq!(
         device.arrive(&udp(10, 1), qtree::MOMENT_MAX + 1),
         Err(Error::OutOfRange)

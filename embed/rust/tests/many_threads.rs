@@ -13,7 +13,7 @@ fn packets_of_each() -> u64 {
 }
 
 fn packet(len: u16, buf: u32) -> Packet {
-    Packet::builder(len).buf(buf).build()
+    Packet::builder(len).buf(buf).build().expect("a length")
 }
 
 /// Leaves the processor to the other threads.
@@ -136,11 +136,8 @@ fn a_full_ring_leaves_the_packet_to_its_sender() -> Result<(), Error> {
         .map(|it| (it.buf(), it.number(), it.port()))
         .collect();
     assert_eq!(seen, [(0, 1, 0), (1, 2, 0), (2, 3, 0), (3, 4, 0)]);
-    assert_eq!(port.offer(&packet(0, 4)), Err(OfferError::OutOfRange));
-    assert_eq!(
-        port.offer(&Packet::builder(1).prio(16).build()),
-        Err(OfferError::OutOfRange)
-    );
+    let empty = Packet::read(&[], 0, 4, 0);
+    assert_eq!(port.offer(&empty), Err(OfferError::OutOfRange));
     assert_eq!(port.share().packets, 4);
     Ok(())
 }
@@ -154,7 +151,7 @@ fn a_burst_is_placed_up_to_the_first_packet_that_is_not() -> Result<(), Error> {
     assert_eq!(port.offer_many(&burst), (20, Err(OfferError::Full)));
     let mut sent = Vec::new();
     drain.turn(0, 30, &mut sent)?;
-    burst[27] = packet(0, 27);
+    burst[27] = Packet::read(&[], 0, 27, 0);
     let ended = port.offer_many(&burst[20..]);
     assert_eq!(ended, (7, Err(OfferError::OutOfRange)));
     assert_eq!((port.share().packets, port.share().bytes), (27, 2700));

@@ -64,7 +64,7 @@ fn session(device: &mut Device, numbers: &mut Numbers) -> Result<Vec<String>, Er
                         [192, 0, 2, numbers.below(256) as u8].into(),
                     )
                     .ports(numbers.below(65536) as u16, 53)
-                    .build();
+                    .build()?;
                 device.arrive(&packet, now)?;
             }
             _ => answers.push(answer_of(device.poll(now)?)),
@@ -114,6 +114,7 @@ fn packet(words: &[&str], number: u64) -> Packet {
         .addresses(address_of("src_ip"), address_of("dst_ip"))
         .ports(number_of("src_port") as u16, number_of("dst_port") as u16)
         .build()
+        .expect("a packet of a script")
 }
 
 #[test]
@@ -133,7 +134,7 @@ fn a_session_is_played_again() -> Result<(), Error> {
 #[test]
 fn each_event_has_its_whole_content() -> Result<(), Error> {
     let mut device = Device::open(RECORDING)?;
-    let sent = Packet::builder(1500).number(2, 3).buf(7).hash(9).build();
+    let sent = Packet::builder(1500).number(2, 3).buf(7).hash(9).build()?;
     device.command("tc qdisc add dev wan root handle a: bfifo limit 9kb", 4)?;
     device.arrive(&sent, 5)?;
     device.poll(2)?;
@@ -141,7 +142,7 @@ fn each_event_has_its_whole_content() -> Result<(), Error> {
     let (events, recorded) = device.events();
     assert_eq!((events, recorded), (3, 3));
     for index in 0..recorded {
-        let Some(Event { moment, kind }) = device.recorded(index)? else {
+        let Some(Event { moment, kind, .. }) = device.recorded(index)? else {
             panic!("there is no event {index}");
         };
         match kind {
@@ -215,7 +216,7 @@ fn packets_from_rings_are_among_the_last_events() -> Result<(), Error> {
     let (mut drain, mut ports) = Drain::open(DEFAULTS, 2, 8)?;
     drain.device_mut().keep_last(3)?;
     for (i, port) in ports.iter_mut().enumerate() {
-        let packet = Packet::builder(100 + i as u16).buf(7).build();
+        let packet = Packet::builder(100 + i as u16).buf(7).build()?;
         port.offer(&packet).expect("room");
     }
     let mut sent = Vec::new();
@@ -233,7 +234,7 @@ fn packets_from_rings_are_among_the_last_events() -> Result<(), Error> {
     );
     drain.device_mut().keep_last(3)?;
     ports[1]
-        .offer(&Packet::builder(300).buf(8).build())
+        .offer(&Packet::builder(300).buf(8).build()?)
         .expect("room");
     drain.turn(10, 8, &mut sent)?;
     let last = drain.device().last_events()?;

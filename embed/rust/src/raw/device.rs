@@ -64,6 +64,37 @@ impl RawDevice {
         unsafe { sys::qtree_arrive_frame_seeded(&mut self.0, at, count, len, buf, seed, now) }
     }
 
+    pub(crate) fn arrive_frame_numbered(
+        &mut self,
+        bytes: &[u8],
+        len: u16,
+        buf: u32,
+        number: u64,
+        hash: u32,
+        now: u64,
+    ) -> u32 {
+        let (at, count) = (bytes.as_ptr(), bytes.len());
+        // SAFETY: the device is open; pointer and length are those of `bytes`.
+        unsafe {
+            sys::qtree_arrive_frame_numbered(&mut self.0, at, count, len, buf, number, hash, now)
+        }
+    }
+
+    /// Writes what each packet that arrives is answered into `codes`, which has room for all; also how many arrived.
+    pub(crate) fn arrive_many(
+        &mut self,
+        packets: &[Packet],
+        codes: &mut [u8],
+        now: u64,
+    ) -> (u32, usize) {
+        let (at, count) = (packets.as_ptr().cast(), packets.len());
+        let (room, places, mut done) = (codes.as_mut_ptr(), codes.len(), 0);
+        // SAFETY: the device is open; pointers and lengths are those of `packets`, as `Packet` is laid out like one of C, and of `codes`.
+        let code =
+            unsafe { sys::qtree_arrive_many(&mut self.0, at, count, room, places, &mut done, now) };
+        (code, done)
+    }
+
     pub(crate) fn poll(&mut self, now: u64) -> (u32, sys::Packet) {
         let mut packet = sys::Packet::default();
         // SAFETY: the device is open, and `packet` is another place.
@@ -107,6 +138,13 @@ impl RawDevice {
         // SAFETY: the device is open, and `moment` is another place.
         let code = unsafe { sys::qtree_ready_at(&self.0, &mut moment) };
         (code, moment)
+    }
+
+    pub(crate) fn most_packets(&self) -> u64 {
+        let mut packets = 0;
+        // SAFETY: the device is open, so the answer is QTREE_DONE, and `packets` is another place.
+        unsafe { sys::qtree_most_packets(&self.0, &mut packets) };
+        packets
     }
 
     pub(crate) fn reap(&mut self) -> (u32, sys::Loss) {

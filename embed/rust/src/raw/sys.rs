@@ -245,6 +245,16 @@ unsafe extern "C" {
         seed: u32,
         now: u64,
     ) -> u32;
+    pub fn qtree_arrive_frame_numbered(
+        device: *mut Device,
+        bytes: *const u8,
+        count: usize,
+        len: u16,
+        buf: u32,
+        number: u64,
+        hash: u32,
+        now: u64,
+    ) -> u32;
     pub fn qtree_arrive_many(
         device: *mut Device,
         packets: *const Packet,
@@ -271,6 +281,7 @@ unsafe extern "C" {
         count: *mut usize,
     ) -> u32;
     pub fn qtree_ready_at(device: *const Device, moment: *mut u64) -> u32;
+    pub fn qtree_most_packets(device: *const Device, packets: *mut u64) -> u32;
     pub fn qtree_reap(device: *mut Device, loss: *mut Loss) -> u32;
     pub fn qtree_reap_many(
         device: *mut Device,

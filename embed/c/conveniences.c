@@ -1,0 +1,212 @@
+/* What the header adds to the functions of the library: causes, lines that end with a zero byte, default settings, sentences and
+ * ranges; and what goes with them: numbered frames, and lines that are no commands. */
+#include "check.h"
+#include "qtree.h"
+
+#include <string.h>
+
+static qtree_device opened(void) {
+    qtree_device device = QTREE_CLOSED;
+    const qtree_settings settings = QTREE_DEFAULTS;
+    CHECK(settings.txqueuelen == 1000 && settings.recorder == 0 && settings.mtu == 1514);
+    CHECK(qtree_open(&device, &settings) == QTREE_DONE);
+    return device;
+}
+
+/* Losses are counted by their causes, and no other code is one. */
+static void causes(void) {
+    static const qtree_code losses[] = { QTREE_LOST_TOO_LONG, QTREE_LOST_NO_CLASS, QTREE_LOST_OVER_LIMIT,
+                                         QTREE_LOST_CODEL,    QTREE_LOST_FAT_FLOW, QTREE_LOST_PURGED };
+    for (size_t i = 0; i < sizeof losses / sizeof losses[0]; i++) {
+        CHECK(qtree_is_loss(losses[i]) && losses[i] <= QTREE_LOST_MOST);
+    }
+    CHECK(!qtree_is_loss(QTREE_DONE) && qtree_is_loss(QTREE_LOST_MOST) && !qtree_is_loss(QTREE_LOST_MOST + 1));
+    CHECK(!qtree_is_loss(QTREE_REFUSED_NO_PARENT) && !qtree_is_loss(QTREE_IDLE));
+    CHECK(!qtree_is_loss(QTREE_MEMORY) && !qtree_is_loss(UINT32_MAX));
+    qtree_device device = opened();
+    uint64_t lost[QTREE_LOST_MOST + 1] = { 0 };
+    qtree_packet packet = { .len = 1515 };
+    CHECK(qtree_is_loss(qtree_arrive(&device, &packet, 0)));
+    packet.len = 0;
+    CHECK(!qtree_is_loss(qtree_arrive(&device, &packet, 0)));
+    CHECK(qtree_run(&device, "tc qdisc add dev a root handle 1: drr", 0, NULL) == QTREE_DONE);
+    packet.len = 100;
+    CHECK(qtree_is_loss(qtree_arrive(&device, &packet, 0)));
+    qtree_loss loss;
+    while (qtree_reap(&device, &loss) == QTREE_DONE) {
+        lost[loss.cause]++;
+    }
+    CHECK(lost[QTREE_LOST_TOO_LONG] == 1 && lost[QTREE_LOST_NO_CLASS] == 1 && lost[QTREE_LOST_OVER_LIMIT] == 0);
+    qtree_close(&device);
+}
+
+static void lines(void) {
+    qtree_device device = QTREE_CLOSED;
+    qtree_fault fault = { 9, 9 };
+    CHECK(qtree_run(&device, "", 0, NULL) == QTREE_IS_CLOSED);
+    device = opened();
+    CHECK(qtree_run(&device, "tc qdisc add dev a root handle 1: pfifo limit 5\n", 0, NULL) == QTREE_DONE);
+    CHECK(qtree_run(&device, "tc qdisc add dev a root handle 1: drr", 0, &fault) == QTREE_REFUSED_EXISTS && fault.word == 9);
+    CHECK(qtree_run(&device, "tc qdisc ad", 0, NULL) == QTREE_FAULTY);
+    CHECK(qtree_run(&device, "tc qdisc ad", 0, &fault) == QTREE_FAULTY && fault.word == 3 && fault.number == QTREE_FAULT_UNKNOWN_WORD);
+    CHECK(qtree_run(&device, "tc qdisc ad", QTREE_MOMENT_MAX + 1, NULL) == QTREE_OUT_OF_RANGE);
+    CHECK(qtree_run(&device, "# a comment", 0, NULL) == QTREE_NO_COMMAND);
+    qtree_close(&device);
+}
+
+/* Each code that has a name has a sentence of its own, and no other code has. */
+static void sentences(void) {
+    const char *found[100];
+    size_t count = 0;
+    for (qtree_code code = 0; code < 300; code++) {
+        const char *sentence = qtree_code_sentence(code);
+        CHECK(sentence[0] >= 'A' && sentence[0] <= 'Z' && sentence[strlen(sentence) - 1] == '.');
+        if (strcmp(qtree_code_name(code), "Unknown") != 0) {
+            for (size_t i = 0; i < count; i++) {
+                CHECK(strcmp(found[i], sentence) != 0);
+            }
+            found[count++] = sentence;
+        } else {
+            CHECK(strcmp(sentence, qtree_code_sentence(qtree_is_loss(code) ? QTREE_LOST_MOST : UINT32_MAX)) == 0);
+        }
+    }
+    CHECK(count == 30 && strcmp(qtree_code_sentence(7), qtree_code_sentence(22)) != 0);
+    CHECK(strcmp(qtree_code_sentence(QTREE_REFUSED_BUSY), "A filter leads to this class: remove the filter first.") == 0);
+}
+
+static uint64_t random_bits(uint64_t *random) {
+    *random = *random * 6364136223846793005u + 1442695040888963407u;
+    return *random >> 32;
+}
+
+/* A packet and a time, of which each field is within its range or not. */
+static qtree_packet random_packet(uint64_t *random, uint64_t *now) {
+    qtree_packet packet = { 0 };
+    packet.len = (uint16_t)(random_bits(random) % 3);
+    packet.prio = (uint8_t)(random_bits(random) % 17);
+    packet.ecn = (uint8_t)(random_bits(random) % 5);
+    packet.family = (uint8_t)(random_bits(random) % 8);
+    uint64_t *const halves[] = { &packet.src_high, &packet.src_low, &packet.dst_high, &packet.dst_low };
+    for (size_t i = 0; i < 4; i++) {
+        *halves[i] = random_bits(random) % 4 == 0 ? (uint64_t)UINT32_MAX + random_bits(random) % 2 : 0;
+    }
+    packet.proto = (uint8_t)random_bits(random);
+    packet.hash = (uint32_t)random_bits(random);
+    *now = random_bits(random) % 16 == 0 ? QTREE_MOMENT_MAX + random_bits(random) % 2 : 0;
+    return packet;
+}
+
+/* 200,000 random packets: a field is named exactly where the library says that one is out of its range, and the packet arrives once
+ * each named field was set to 0 (len to 1). */
+static void ranges(void) {
+    static const struct {
+        const char *name;
+        size_t at, size;
+    } fields[] = { { "len", offsetof(qtree_packet, len), 2 },           { "prio", offsetof(qtree_packet, prio), 1 },
+                   { "ecn", offsetof(qtree_packet, ecn), 1 },           { "family", offsetof(qtree_packet, family), 1 },
+                   { "src_high", offsetof(qtree_packet, src_high), 8 }, { "src_low", offsetof(qtree_packet, src_low), 8 },
+                   { "dst_high", offsetof(qtree_packet, dst_high), 8 }, { "dst_low", offsetof(qtree_packet, dst_low), 8 } };
+    size_t seen[9] = { 0 };
+    uint64_t random = 1;
+    qtree_device device = opened();
+    for (int round = 0; round < 200000; round++) {
+        uint64_t now;
+        qtree_packet packet = random_packet(&random, &now);
+        const char *name;
+        while ((name = qtree_out_of_range(&packet, now)) != NULL) {
+            CHECK(qtree_arrive(&device, &packet, now) == QTREE_OUT_OF_RANGE);
+            size_t i = 0;
+            while (i < 8 && strcmp(fields[i].name, name) != 0) {
+                i++;
+            }
+            CHECK(i < 8 || strcmp(name, "now") == 0);
+            seen[i]++;
+            if (i == 8) {
+                now = QTREE_MOMENT_MAX;
+            } else {
+                memset((char *)&packet + fields[i].at, 0, fields[i].size);
+                packet.len = packet.len == 0 ? 1 : packet.len;
+            }
+        }
+        CHECK(qtree_arrive(&device, &packet, now) != QTREE_OUT_OF_RANGE && qtree_poll(&device, now, &packet) == QTREE_DONE);
+    }
+    for (size_t i = 0; i < 9; i++) {
+        CHECK(seen[i] > 1000);
+    }
+    qtree_close(&device);
+}
+
+/* A packet by its first bytes carries a pointer. */
+static void numbered_frames(void) {
+    static const uint8_t udp[] = { 0x45, 2, 0, 28, 0, 0, 0, 0, 64, 17, 0, 0, 10, 0, 0, 1, 10, 0, 0, 2, 0x10, 0, 0x13, 0x89, 0, 8, 0, 0 };
+    qtree_device device = QTREE_CLOSED;
+    qtree_packet packet, plain;
+    qtree_sent sent;
+    uint64_t pointer = (uint64_t)(uintptr_t)&packet;
+    CHECK(qtree_arrive_frame_numbered(&device, udp, sizeof udp, 1500, 7, pointer, 9, 0) == QTREE_IS_CLOSED);
+    device = opened();
+    CHECK(qtree_arrive_frame_numbered(&device, udp, sizeof udp, 0, 7, pointer, 9, 0) == QTREE_OUT_OF_RANGE);
+    CHECK(qtree_arrive_frame_numbered(&device, udp, sizeof udp, 1500, 7, pointer, 9, QTREE_MOMENT_MAX + 1) == QTREE_OUT_OF_RANGE);
+    CHECK(qtree_arrive_frame_numbered(&device, udp, sizeof udp, 1515, 7, pointer, 9, 0) == QTREE_LOST_TOO_LONG);
+    qtree_loss loss;
+    CHECK(qtree_reap(&device, &loss) == QTREE_DONE && loss.packet.number == pointer && loss.packet.buf == 7);
+    CHECK(qtree_arrive_frame_numbered(&device, udp, sizeof udp, 1500, 7, pointer, 9, 0) == QTREE_DONE);
+    CHECK(qtree_arrive_frame(&device, udp, sizeof udp, 1500, 7, 9, 0) == QTREE_DONE);
+    CHECK(qtree_arrive_frame_numbered(&device, udp, sizeof udp, 1500, 7, UINT64_MAX, 9, 0) == QTREE_DONE);
+    CHECK(qtree_poll(&device, 0, &packet) == QTREE_DONE && packet.number == pointer && packet.hash == 9 && packet.dport == 5001);
+    CHECK((qtree_packet *)(uintptr_t)packet.number == &packet);
+    CHECK(qtree_poll(&device, 0, &plain) == QTREE_DONE && plain.number == 0);
+    packet.number = 0;
+    CHECK(memcmp(&packet, &plain, offsetof(qtree_packet, ecn) + 1) == 0);
+    CHECK(qtree_poll_buf(&device, 0, &sent) == QTREE_DONE && sent.number == UINT64_MAX && sent.buf == 7 && sent.port == 0);
+    qtree_close(&device);
+}
+
+/* What is said of a line that is no command. */
+static void others(void) {
+    static const struct {
+        const char *line, *said;
+    } wanted[] = {
+        { "# my uplink\n", "line 5: # my uplink\n        ^\n  this line is a comment and changes no tree." },
+        { "", "line 5: \n         ^\n  this line is empty and changes no tree." },
+        { " \t", "line 5: " },
+        { "tc -s qdisc show", "line 5: tc -s qdisc show\n        ^^\n  this line asks for a text and changes no tree. qtree_show writes" },
+        { "at 7", "this line of a script sets the time. A program passes the time to each call" },
+        { "pkt 1500 hash 9", "this line of a script brings a packet. A program calls qtree_arrive for that" },
+        { "frame 28 4500", "this line of a script brings a packet by its first bytes. A program calls qtree_arrive_frame " },
+        { "poll 2", "this line of a script polls. A program calls qtree_poll " },
+        { "reap", "this line of a script asks for the losses. A program calls qtree_reap " },
+        { "totals", "this line of a script asks for the counters of the device. A program calls qtree_totals " },
+    };
+    qtree_device device = opened();
+    const qtree_fault fault = { 0, 0 };
+    char text[600];
+    size_t needed;
+    for (size_t i = 0; i < sizeof wanted / sizeof wanted[0]; i++) {
+        const uint8_t *line = (const uint8_t *)wanted[i].line;
+        size_t len = strlen(wanted[i].line);
+        CHECK(qtree_run(&device, wanted[i].line, 0, NULL) == QTREE_NO_COMMAND);
+        CHECK(qtree_explain(line, len, 5, QTREE_NO_COMMAND, &fault, (uint8_t *)text, sizeof text - 1, &needed) == QTREE_DONE);
+        text[needed] = '\0';
+        CHECK(strstr(text, wanted[i].said) != NULL && text[needed - 1] == '\n' && strncmp(text, "line 5: ", 8) == 0);
+        CHECK(qtree_explain(line, len, 5, QTREE_NO_COMMAND, &fault, NULL, 0, &needed) == QTREE_ROOM && needed == strlen(text));
+    }
+    static const char *const commands[] = { "tc qdisc add dev a root handle 1: drr", "tc qdisc ad" };
+    for (size_t i = 0; i < 2; i++) {
+        const uint8_t *line = (const uint8_t *)commands[i];
+        size_t len = strlen(commands[i]);
+        CHECK(qtree_explain(line, len, 5, QTREE_NO_COMMAND, &fault, NULL, 0, &needed) == QTREE_OUT_OF_RANGE && needed == 0);
+    }
+    qtree_close(&device);
+}
+
+int main(void) {
+    causes();
+    lines();
+    sentences();
+    ranges();
+    numbered_frames();
+    others();
+    puts("conveniences: each answers as the header says");
+    return 0;
+}

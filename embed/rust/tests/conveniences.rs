@@ -1,0 +1,180 @@
+//! Many arrivals by one call, frames with a number, causes, and what errors and names read as.
+use qtree::{Cause, Device, Error, Fate, Packet, PacketError, Place, Polled, Settings};
+use std::collections::HashSet;
+
+fn burst(count: u32) -> Result<Vec<Packet>, PacketError> {
+    (0..count)
+        .map(|buf| Packet::builder(100).buf(buf).build())
+        .collect()
+}
+
+#[test]
+fn many_packets_arrive_by_one_call() -> Result<(), Error> {
+    let mut device = Device::open(Settings::default())?;
+    device.command("tc qdisc add dev wan root handle 1: pfifo limit 150", 0)?;
+    let mut fates = vec![Fate::Kept];
+    device.arrive_many(&burst(200)?, 0, &mut fates)?;
+    assert_eq!(fates.len(), 201);
+    assert!(fates[..151].iter().all(|it| *it == Fate::Kept));
+    assert!(
+        fates[151..]
+            .iter()
+            .all(|it| *it == Fate::Lost(Cause::OverLimit))
+    );
+    for buf in 0..150 {
+        assert!(matches!(device.poll(0)?, Polled::Packet(packet) if packet.buf() == buf));
+    }
+    assert_eq!(device.losses().count(), 50);
+    device.arrive_many(&[], 0, &mut fates)?;
+    assert_eq!(fates.len(), 201);
+    Ok(())
+}
+
+#[test]
+fn packets_arrive_up_to_the_first_that_cannot() -> Result<(), Error> {
+    let mut device = Device::open(Settings::default())?;
+    let mut packets = burst(200)?;
+    packets[130] = Packet::read(&[], 0, 130, 0);
+    let mut fates = Vec::new();
+    let ended = device.arrive_many(&packets, 0, &mut fates);
+    assert_eq!((ended, fates.len()), (Err(Error::OutOfRange), 130));
+    assert_eq!(device.totals().arrived.packets, 130);
+    let late = device.arrive_many(&packets, qtree::MOMENT_MAX + 1, &mut fates);
+    assert_eq!((late, fates.len()), (Err(Error::OutOfRange), 130));
+    Ok(())
+}
+
+#[test]
+fn a_frame_carries_a_number() -> Result<(), Error> {
+    let mut device = Device::open(Settings::default())?;
+    let udp = [
+        0x45, 0, 0, 28, 0, 0, 0, 0, 64, 17, 0, 0, 10, 0, 0, 1, 10, 0, 0, 2, 0x10, 0, 0x13, 0x89, 0,
+        8, 0, 0,
+    ];
+    assert_eq!(
+        device.arrive_frame_numbered(&udp, 1500, 7, u64::MAX, 9, 0)?,
+        Fate::Kept
+    );
+    assert_eq!(
+        device.arrive_frame_numbered(&udp, 0, 7, 1, 9, 0),
+        Err(Error::OutOfRange)
+    );
+    let Polled::Packet(packet) = device.poll(0)? else {
+        panic!("nothing is queued");
+    };
+    assert_eq!(
+        (packet.number(), packet.buf(), packet.hash()),
+        (u64::MAX, 7, 9)
+    );
+    assert_eq!((packet.ports(), packet.port()), ((4096, 5001), 0));
+    Ok(())
+}
+
+#[test]
+fn a_packet_that_cannot_arrive_is_not_built() {
+    assert_eq!(Packet::builder(0).build(), Err(PacketError::Len));
+    for (prio, ecn) in [(16, 0), (15, 4), (255, 255)] {
+        assert!(Packet::builder(1).prio(prio).ecn(ecn).build().is_err());
+    }
+    assert!(Packet::builder(1).prio(15).ecn(3).build().is_ok());
+    let whole: Error = PacketError::Prio.into();
+    assert_eq!(whole.to_string(), "the priority of the packet is above 15");
+}
+
+#[test]
+fn causes_index_an_array() -> Result<(), Error> {
+    let mut device = Device::open(Settings::default())?;
+    let mut lost = [0; Cause::MOST + 1];
+    device.arrive(&Packet::builder(1515).build()?, 0)?;
+    device.command("tc qdisc add dev wan root handle 1: drr", 0)?;
+    device.arrive(&Packet::builder(100).build()?, 0)?;
+    for loss in device.losses() {
+        lost[loss.cause as usize] += 1;
+    }
+    assert_eq!(lost, [0, 1, 1, 0, 0, 0, 0, 0, 0, 0]);
+    Ok(())
+}
+
+/// Each line with what its error says.
+#[test]
+fn errors_read_as_sentences() -> Result<(), Error> {
+    let mut device = Device::open(Settings::default())?;
+    let mut seen = HashSet::new();
+    device.command("tc qdisc add dev wan root handle 1: prio", 0)?;
+    for (line, said) in [
+        (
+            "tc qdisc add dev wan root handle 1: drr",
+            "the command is refused: a qdisc, or the class, is there already",
+        ),
+        (
+            "tc qdisc add dev wan parent 9:1 handle 2: drr",
+            "the command is refused: no qdisc has the major number of the parent",
+        ),
+        (
+            "tc qdisc ad",
+            "the line cannot be read: word 3 has no meaning in its place",
+        ),
+        ("tc qdisc", "the line cannot be read: word 3 is missing"),
+        (
+            "tc -s qdisc show",
+            "the line is no command, and changes no tree",
+        ),
+    ] {
+        let error = device.command(line, 0).expect_err("it is refused");
+        assert_eq!(error.to_string(), said);
+        assert!(seen.insert(error.explain(line, 1).expect("a line of tc")));
+    }
+    assert!(seen.iter().any(|it| it.contains("Device::show")));
+    assert_eq!(Error::NoCommand.explain("tc qdisc ad", 1), None);
+    Ok(())
+}
+
+#[test]
+fn handles_are_hexadecimal() -> Result<(), Error> {
+    let mut device = Device::open(Settings::default())?;
+    device.command("tc qdisc add dev wan root handle ff: drr", 0)?;
+    device.command("tc class add dev wan parent ff: classid ff:1f drr", 0)?;
+    let nodes = device.nodes();
+    assert_eq!(nodes[0].to_string(), "drr ff: root");
+    assert_eq!(nodes[1].to_string(), "pfifo 0: parent ff:1f");
+    assert_eq!(nodes[0].classes[0].to_string(), "ff:1f");
+    assert_eq!(format!("{:?}", Place::Class(0xff, 0x1f)), "Class(ff:1f)");
+    let debug = format!("{:?}", nodes[0]);
+    assert!(
+        debug.starts_with("Node { name: drr ff: root, ") && debug.contains("Class { name: ff:1f, "),
+        "{debug}"
+    );
+    Ok(())
+}
+
+/// Two customers send the same packets, of two flows, which keep their hashes.
+#[test]
+fn the_program_names_the_class() -> Result<(), Error> {
+    let mut device = Device::open(Settings::default())?;
+    device.command("tc qdisc add dev wan root handle 1: drr", 0)?;
+    for customer in 1..=2 {
+        for line in [
+            format!("tc class add dev wan parent 1: classid 1:{customer} drr"),
+            format!("tc qdisc add dev wan parent 1:{customer} handle 1{customer}: fq_codel"),
+            format!(
+                "tc filter add dev wan parent 1: prio 1 flower src_port {customer} classid 1:{customer}"
+            ),
+        ] {
+            device.command(&line, 0)?;
+        }
+        for flow in [4096, 4097] {
+            let packet = Packet::builder(100).ports(flow, 53).proto(17).build()?;
+            let named = packet.with_ports(customer, 53);
+            assert_eq!(
+                (named.hash(), named.ports()),
+                (packet.hash(), (customer, 53))
+            );
+            assert_eq!(device.arrive(&named, 0)?, Fate::Kept);
+        }
+    }
+    for node in &device.nodes()[1..] {
+        assert_eq!(node.row.queued.packets, 2);
+        assert_eq!(node.listed.map(|it| it.new), Some(2));
+    }
+    Ok(())
+}
