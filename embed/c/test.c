@@ -479,7 +479,10 @@ static void explained(void) {
     CHECK(qtree_explain(bytes, strlen(line), 5, QTREE_FAULTY, &fault, text, 9, &needed) == QTREE_ROOM && needed > 100 && text[0] == 9);
     CHECK(qtree_explain(bytes, strlen(line), 5, QTREE_FAULTY, &fault, text, sizeof text, &needed) == QTREE_DONE);
     CHECK(needed > strlen(wanted) && memcmp(text, wanted, strlen(wanted)) == 0 && text[needed - 1] == '\n');
-    CHECK(qtree_explain(bytes, strlen(line), 5, QTREE_REFUSED_EXISTS, &fault, text, sizeof text, &needed) == QTREE_DONE && needed > 100);
+    for (qtree_code code = QTREE_REFUSED_NO_PARENT; code <= QTREE_MEMORY; code = code == QTREE_REFUSED_NO_FILTER ? QTREE_MEMORY : code + 1) {
+        CHECK(qtree_explain(bytes, strlen(line), 5, code, &fault, text, sizeof text, &needed) == QTREE_DONE);
+        CHECK(needed > 100 && memcmp(text, wanted, strcspn(wanted, "\n") + 1) == 0 && text[needed - 1] == '\n');
+    }
     fault.number = 7;
     CHECK(qtree_explain(bytes, strlen(line), 5, QTREE_FAULTY, &fault, text, sizeof text, &needed) == QTREE_OUT_OF_RANGE && needed == 0);
     CHECK(qtree_explain(bytes, strlen(line), 5, QTREE_DONE, &fault, text, sizeof text, &needed) == QTREE_OUT_OF_RANGE && needed == 0);
