@@ -5,6 +5,7 @@ pub mod Ends
 pub mod Explaining
 pub mod Folds
 pub mod Holding
+pub mod Lateness
 pub mod Lending
 pub mod Lines
 pub mod Promised
