@@ -54,24 +54,55 @@ static void lines(void) {
     qtree_close(&device);
 }
 
-/* Each code that has a name has a sentence of its own, and no other code has. */
+/* Each code that has a name has this sentence, and all others have one of two. */
 static void sentences(void) {
-    const char *found[100];
-    size_t count = 0;
+    static const struct {
+        qtree_code code;
+        const char *sentence;
+    } wanted[] = {
+        { QTREE_DONE, "The call did what it was called for." },
+        { QTREE_LOST_TOO_LONG, "The packet is longer than the mtu or a tbf's burst: shorten it, or raise that." },
+        { QTREE_LOST_NO_CLASS, "No filter of a drr takes the packet: add a filter that matches it." },
+        { QTREE_LOST_OVER_LIMIT, "The packet's queue is at its limit: send less, or raise the limit." },
+        { QTREE_LOST_CODEL, "Packets waited too long, so CoDel dropped one: its sender slows down by itself." },
+        { QTREE_LOST_FAT_FLOW, "An fq_codel was over its limit, and the flow had the most bytes: raise it." },
+        { QTREE_LOST_PURGED, "A command removed the packet's qdisc: free its buffer, or let it arrive again." },
+        { QTREE_REFUSED_NO_PARENT, "No qdisc has the parent's major number: add that qdisc first." },
+        { QTREE_REFUSED_EXISTS, "A qdisc, or the class, is there already: change it, or remove it first." },
+        { QTREE_REFUSED_NO_QDISC, "No qdisc that was added has this place and handle: add it first." },
+        { QTREE_REFUSED_HANDLE_TAKEN, "Another qdisc has this handle: choose another one." },
+        { QTREE_REFUSED_NOT_CLASSFUL, "The parent has no classes, or takes no filters: choose another parent." },
+        { QTREE_REFUSED_NO_CLASS, "There is no such class: add it first, or name another one." },
+        { QTREE_REFUSED_BUSY, "A filter leads to this class: remove the filter first." },
+        { QTREE_REFUSED_CANNOT_CHANGE, "This cannot be changed: remove the qdisc, and add it again." },
+        { QTREE_REFUSED_TOO_DEEP, "A qdisc would be deeper than 8: choose a parent further up." },
+        { QTREE_REFUSED_TOO_MANY, "More than 256 qdiscs, or filters of one qdisc, are too many: remove some." },
+        { QTREE_REFUSED_SMALL_BURST, "The burst is below the mtu and the tbf's present burst: raise it." },
+        { QTREE_REFUSED_NO_FILTER, "The qdisc has no filter of this prio: list its filters." },
+        { QTREE_IDLE, "No packet is queued: poll again when one has arrived." },
+        { QTREE_LATER, "No packet may be sent yet: poll again at the time of qtree_ready_at." },
+        { QTREE_NOTHING, "What was asked for is not there, or is no more: go on without it." },
+        { QTREE_FULL, "The ring is full: offer the packet again when some have been taken in." },
+        { QTREE_FAULTY, "The line cannot be read: qtree_explain says which word is wrong, and why." },
+        { QTREE_NO_COMMAND, "The line changes no tree: qtree_explain says which call does what it asks for." },
+        { QTREE_OUT_OF_RANGE, "An argument is out of its range: qtree_out_of_range checks a packet and the time." },
+        { QTREE_ROOM, "The memory that was lent is too small: call again with as much as is needed." },
+        { QTREE_IS_CLOSED, "The device, the port or the outlet is closed: open it first." },
+        { QTREE_IS_OPEN, "The device, the port or the outlet is open already: close it first." },
+        { QTREE_MEMORY, "An allocation failed: free memory, and call again for what was not done." },
+    };
+    size_t named = 0;
     for (qtree_code code = 0; code < 300; code++) {
         const char *sentence = qtree_code_sentence(code);
-        CHECK(sentence[0] >= 'A' && sentence[0] <= 'Z' && sentence[strlen(sentence) - 1] == '.');
         if (strcmp(qtree_code_name(code), "Unknown") != 0) {
-            for (size_t i = 0; i < count; i++) {
-                CHECK(strcmp(found[i], sentence) != 0);
-            }
-            found[count++] = sentence;
+            CHECK(wanted[named].code == code && strcmp(wanted[named].sentence, sentence) == 0);
+            named++;
         } else {
-            CHECK(strcmp(sentence, qtree_code_sentence(qtree_is_loss(code) ? QTREE_LOST_MOST : UINT32_MAX)) == 0);
+            CHECK(strcmp(sentence, qtree_is_loss(code) ? "The packet is lost, for a cause that is newer than this header."
+                                                       : "This header does not know the answer: the library is newer, or the number is none.") == 0);
         }
     }
-    CHECK(count == 30 && strcmp(qtree_code_sentence(7), qtree_code_sentence(22)) != 0);
-    CHECK(strcmp(qtree_code_sentence(QTREE_REFUSED_BUSY), "A filter leads to this class: remove the filter first.") == 0);
+    CHECK(named == sizeof wanted / sizeof wanted[0]);
 }
 
 static uint64_t random_bits(uint64_t *random) {
@@ -162,25 +193,25 @@ static void numbered_frames(void) {
     qtree_close(&device);
 }
 
-/* What is said of a line that is no command. */
+/* What is said of a line that is no command, with the mark under its first word. */
 static void others(void) {
     static const struct {
-        const char *line, *said;
+        const char *line, *shown, *mark, *sentence;
     } wanted[] = {
-        { "# my uplink\n", "line 5: # my uplink\n        ^\n  this line is a comment and changes no tree." },
-        { "", "line 5: \n         ^\n  this line is empty and changes no tree." },
-        { " \t", "line 5: " },
-        { "tc -s qdisc show", "line 5: tc -s qdisc show\n        ^^\n  this line asks for a text and changes no tree. qtree_show writes" },
-        { "at 7", "this line of a script sets the time. A program passes the time to each call" },
-        { "pkt 1500 hash 9", "this line of a script brings a packet. A program calls qtree_arrive for that" },
-        { "frame 28 4500", "this line of a script brings a packet by its first bytes. A program calls qtree_arrive_frame " },
-        { "poll 2", "this line of a script polls. A program calls qtree_poll " },
-        { "reap", "this line of a script asks for the losses. A program calls qtree_reap " },
-        { "totals", "this line of a script asks for the counters of the device. A program calls qtree_totals " },
+        { "# my uplink\n", "# my uplink", "^", "this line is a comment and changes no tree. A program that reads its lines from a file goes on with the next one." },
+        { "", "", " ^", "this line is empty and changes no tree. A program that reads its lines from a file goes on with the next one." },
+        { " \t", "", " ^", "this line is empty and changes no tree. A program that reads its lines from a file goes on with the next one." },
+        { "tc -s qdisc show", "tc -s qdisc show", "^^", "this line asks for a text and changes no tree. qtree_show writes that text (in Rust Device::show)." },
+        { "at 7", "at 7", "^^", "this line of a script sets the time. A program passes the time to each call, as its argument now." },
+        { "pkt 1500 hash 9", "pkt 1500 hash 9", "^^^", "this line of a script brings a packet. A program calls qtree_arrive for that (in Rust Device::arrive)." },
+        { "frame 28 4500", "frame 28 4500", "^^^^^", "this line of a script brings a packet by its first bytes. A program calls qtree_arrive_frame for that (in Rust Device::arrive_frame)." },
+        { "poll 2", "poll 2", "^^^^", "this line of a script polls. A program calls qtree_poll for that (in Rust Device::poll)." },
+        { "reap", "reap", "^^^^", "this line of a script asks for the losses. A program calls qtree_reap for that (in Rust Device::losses)." },
+        { "totals", "totals", "^^^^^^", "this line of a script asks for the counters of the device. A program calls qtree_totals for that (in Rust Device::totals)." },
     };
     qtree_device device = opened();
     const qtree_fault fault = { 0, 0 };
-    char text[600];
+    char text[600], whole[600];
     size_t needed;
     for (size_t i = 0; i < sizeof wanted / sizeof wanted[0]; i++) {
         const uint8_t *line = (const uint8_t *)wanted[i].line;
@@ -188,7 +219,8 @@ static void others(void) {
         CHECK(qtree_run(&device, wanted[i].line, 0, NULL) == QTREE_NO_COMMAND);
         CHECK(qtree_explain(line, len, 5, QTREE_NO_COMMAND, &fault, (uint8_t *)text, sizeof text - 1, &needed) == QTREE_DONE);
         text[needed] = '\0';
-        CHECK(strstr(text, wanted[i].said) != NULL && text[needed - 1] == '\n' && strncmp(text, "line 5: ", 8) == 0);
+        snprintf(whole, sizeof whole, "line 5: %s\n        %s\n  %s\n", wanted[i].shown, wanted[i].mark, wanted[i].sentence);
+        CHECK(strcmp(text, whole) == 0);
         CHECK(qtree_explain(line, len, 5, QTREE_NO_COMMAND, &fault, NULL, 0, &needed) == QTREE_ROOM && needed == strlen(text));
     }
     static const char *const commands[] = { "tc qdisc add dev a root handle 1: drr", "tc qdisc ad" };

@@ -302,9 +302,14 @@ static void keep_last(qtree_device *device, struct input *input) {
 /* What a class is promised is a part of the link; nothing is written where it is promised nothing. */
 static void promised(qtree_device *device, struct input *input) {
     qtree_promise promise = { 7, 7, 7, 7 };
-    qtree_code code = qtree_service(device, (uint32_t)take(input, 1) % 4, (uint16_t)take(input, 1), (uint16_t)take(input, 1), &promise);
+    uint64_t late = 7;
+    uint32_t place = (uint32_t)take(input, 1) % 4;
+    uint16_t major = (uint16_t)take(input, 1), minor = (uint16_t)take(input, 1);
+    qtree_code code = qtree_service(device, place, major, minor, &promise);
     CHECK(code == QTREE_DONE || code == QTREE_NOTHING || code == QTREE_OUT_OF_RANGE || code == QTREE_IS_CLOSED);
     CHECK(code == QTREE_DONE ? promise.rate <= promise.link && promise.part <= 1000000000 : promise.link == 7 && promise.slack == 7);
+    CHECK(qtree_lateness(device, place, major, minor, &late) == code);
+    CHECK(code == QTREE_DONE ? (promise.link == 0) == (late == UINT64_MAX) : late == 7);
 }
 
 /* Qdiscs and classes by their indexes: there are as many as can be asked for in a row, and each is one that the header describes. */

@@ -4,7 +4,7 @@
 
 #include <string.h>
 
-enum { CUSTOMERS = 2, HEAD = 28 };
+enum { CUSTOMERS = 2, HEAD = 28, SECOND = 1000000000 };
 
 /* A packet of a customer arrives. The filters find the customer's number in the place of the source port. The hash is that of
  * the real ports, since it is computed before, so an fq_codel still tells the customer's flows apart. */
@@ -14,6 +14,16 @@ static qtree_code arrive_for(qtree_device *device, uint16_t customer, const uint
     qtree_read_head(bytes, len, 0, &packet);
     packet.sport = customer;
     return qtree_arrive(device, &packet, now);
+}
+
+/* Counts what the device lost by customer and cause: only a loss has its cause, and a row of counters has one number for all
+ * causes. Losses of packets without a customer are counted in place 0. */
+static void count_losses(qtree_device *device, uint64_t lost[CUSTOMERS + 1][QTREE_LOST_MOST + 1]) {
+    qtree_loss loss;
+    while (qtree_reap(device, &loss) == QTREE_DONE) {
+        uint16_t customer = loss.packet.sport <= CUSTOMERS ? loss.packet.sport : 0;
+        lost[customer][loss.cause]++; /* and a program frees the buffer loss.packet.buf */
+    }
 }
 
 static void set_up(qtree_device *device) {
@@ -33,11 +43,58 @@ static void set_up(qtree_device *device) {
     }
 }
 
+static const uint8_t udp[HEAD] = { 0x45, 1, 0, 28, 0, 0, 0, 0, 64, 17, 0x66, 0xce, 10, 0, 0, 1,
+                                   10, 0, 0, 2, 0x10, 0, 0x13, 0x89, 0, 8 };
+
+/* What the row of a customer's class has refused and dropped is what was counted there by cause. Packets that are too long, or have no
+ * class, are lost above it. */
+static void compare_losses(const qtree_device *device, uint64_t lost[CUSTOMERS + 1][QTREE_LOST_MOST + 1]) {
+    for (uint16_t customer = 1; customer <= CUSTOMERS; customer++) {
+        qtree_row row;
+        uint64_t dropped = 0;
+        for (qtree_code cause = QTREE_LOST_CODEL; cause <= QTREE_LOST_MOST; cause++) {
+            dropped += lost[customer][cause];
+        }
+        CHECK(qtree_stats(device, QTREE_CLASS, 1, customer, &row) == QTREE_DONE);
+        CHECK(row.dropped.packets == dropped && row.refused.packets == lost[customer][QTREE_LOST_OVER_LIMIT]);
+    }
+}
+
+/* Packets of both customers are lost for each cause. */
+static void losses_by_customer(void) {
+    uint64_t lost[CUSTOMERS + 1][QTREE_LOST_MOST + 1] = { { 0 } };
+    uint8_t frame[1515] = { 0 };
+    qtree_device device = QTREE_CLOSED;
+    set_up(&device);
+    memcpy(frame, udp, sizeof udp);
+    CHECK(qtree_run(&device, "tc qdisc change dev wan parent 1:1 handle 11: fq_codel limit 8 noecn", 0, NULL) == QTREE_DONE);
+    CHECK(qtree_run(&device, "tc qdisc del dev wan parent 1:2 handle 12:", 0, NULL) == QTREE_DONE);
+    CHECK(qtree_run(&device, "tc qdisc add dev wan parent 1:2 handle 12: pfifo limit 4", 0, NULL) == QTREE_DONE);
+    for (uint32_t i = 0; i < 20; i++) {
+        arrive_for(&device, (uint16_t)(1 + i % CUSTOMERS), frame, 1500, i, 0);
+    }
+    CHECK(arrive_for(&device, 2, frame, 1515, 20, 0) == QTREE_LOST_TOO_LONG);
+    CHECK(arrive_for(&device, CUSTOMERS + 1, frame, 1500, 21, 0) == QTREE_LOST_NO_CLASS);
+    qtree_sent sent;
+    for (uint64_t now = 1; now <= 4; now++) {
+        CHECK(qtree_poll_buf(&device, now * SECOND, &sent) == QTREE_DONE);
+    }
+    count_losses(&device, lost);
+    compare_losses(&device, lost);
+    CHECK(lost[0][QTREE_LOST_NO_CLASS] == 1 && lost[2][QTREE_LOST_TOO_LONG] == 1 && lost[2][QTREE_LOST_OVER_LIMIT] == 6);
+    CHECK(lost[1][QTREE_LOST_FAT_FLOW] == 2 && lost[1][QTREE_LOST_CODEL] > 0);
+    qtree_row row;
+    CHECK(qtree_stats(&device, QTREE_CLASS, 1, 2, &row) == QTREE_DONE && row.queued.packets > 0);
+    CHECK(qtree_run(&device, "tc qdisc del dev wan parent 1:2 handle 12:", 5 * (uint64_t)SECOND, NULL) == QTREE_DONE);
+    count_losses(&device, lost);
+    CHECK(lost[2][QTREE_LOST_PURGED] == row.queued.packets);
+    qtree_close(&device);
+}
+
 /* Both customers send the same frames, of two flows: each frame goes to the class of its customer, and each flow has a
  * queue of its own. */
 int main(void) {
-    static const uint8_t udp[HEAD] = { 0x45, 1, 0, 28, 0, 0, 0, 0, 64, 17, 0x66, 0xce, 10, 0, 0, 1,
-                                       10, 0, 0, 2, 0x10, 0, 0x13, 0x89, 0, 8 };
+    losses_by_customer();
     uint8_t frames[2][1500] = { { 0 }, { 0 } }, before[2][1500];
     qtree_device device = QTREE_CLOSED;
     set_up(&device);
@@ -61,6 +118,6 @@ int main(void) {
     }
     CHECK(memcmp(before, frames, sizeof frames) == 0);
     qtree_close(&device);
-    puts("named_class: each packet goes to the class that the program names");
+    puts("named_class: each packet goes to the class that the program names, and losses are counted by class and cause");
     return 0;
 }

@@ -370,7 +370,9 @@ static void recorders(void) {
 static void services(void) {
     qtree_device device = QTREE_CLOSED;
     qtree_promise promise = { 7, 7, 7, 7 };
+    uint64_t late = 7;
     CHECK(qtree_service(&device, QTREE_CLASS, 2, 1, &promise) == QTREE_IS_CLOSED && promise.link == 7);
+    CHECK(qtree_lateness(&device, QTREE_CLASS, 2, 1, &late) == QTREE_IS_CLOSED && late == 7);
     CHECK(qtree_open(&device, &(qtree_settings){ 1000, 0, 1514 }) == QTREE_DONE);
     CHECK(tc(&device, "tc qdisc add dev a root handle 1: tbf rate 20mbit burst 1515 latency 50ms") == QTREE_DONE);
     CHECK(tc(&device, "tc qdisc add dev a parent 1:1 handle 2: drr") == QTREE_DONE);
@@ -381,11 +383,19 @@ static void services(void) {
     CHECK(qtree_service(&device, QTREE_CLASS, 2, 0, &promise) == QTREE_OUT_OF_RANGE && qtree_service(&device, 3, 0, 0, &promise) == QTREE_OUT_OF_RANGE);
     CHECK(qtree_service(&device, QTREE_CLASS, 2, 1, &promise) == QTREE_DONE && promise.link == 20000000 && promise.rate == 13333333);
     CHECK(promise.part == 666666666 && promise.slack == 5532);
+    CHECK(qtree_lateness(&device, QTREE_CLASS, 2, 3, &late) == QTREE_NOTHING && qtree_lateness(&device, QTREE_ROOT, 0, 0, &late) == QTREE_NOTHING);
+    CHECK(qtree_lateness(&device, QTREE_CLASS, 2, 0, &late) == QTREE_OUT_OF_RANGE && qtree_lateness(&device, 3, 0, 0, &late) == QTREE_OUT_OF_RANGE);
+    CHECK(late == 7 && qtree_lateness(&device, QTREE_CLASS, 2, 1, &late) == QTREE_DONE && late == (8000000000 - 20000000) / 20000000);
+    CHECK(tc(&device, "tc qdisc change dev a root tbf rate 20mbit burst 1640 latency 50ms") == QTREE_DONE);
+    CHECK(qtree_lateness(&device, QTREE_CLASS, 2, 2, &late) == QTREE_DONE && late == (126 * 8000000000 - 20000000) / 20000000);
+    CHECK(tc(&device, "tc qdisc change dev a root tbf rate 20mbit burst 1514 latency 50ms") == QTREE_DONE);
+    CHECK(qtree_lateness(&device, QTREE_CLASS, 2, 2, &late) == QTREE_NOTHING && qtree_service(&device, QTREE_CLASS, 2, 2, &promise) == QTREE_NOTHING);
     CHECK(tc(&device, "tc qdisc del dev a root") == QTREE_DONE && tc(&device, "tc qdisc add dev a root handle 2: drr") == QTREE_DONE);
     CHECK(tc(&device, "tc class add dev a parent 2: classid 2:1 drr quantum 3000") == QTREE_DONE);
     CHECK(tc(&device, "tc class add dev a parent 2: classid 2:2 drr quantum 1500") == QTREE_DONE);
     CHECK(qtree_service(&device, QTREE_CLASS, 2, 2, &promise) == QTREE_DONE && promise.link == 0 && promise.rate == 0);
     CHECK(promise.part == 333333333 && promise.slack == 3513);
+    CHECK(qtree_lateness(&device, QTREE_CLASS, 2, 2, &late) == QTREE_DONE && late == UINT64_MAX);
     qtree_close(&device);
 }
 
@@ -479,7 +489,10 @@ static void explained(void) {
     CHECK(qtree_explain(bytes, strlen(line), 5, QTREE_FAULTY, &fault, text, 9, &needed) == QTREE_ROOM && needed > 100 && text[0] == 9);
     CHECK(qtree_explain(bytes, strlen(line), 5, QTREE_FAULTY, &fault, text, sizeof text, &needed) == QTREE_DONE);
     CHECK(needed > strlen(wanted) && memcmp(text, wanted, strlen(wanted)) == 0 && text[needed - 1] == '\n');
-    CHECK(qtree_explain(bytes, strlen(line), 5, QTREE_REFUSED_EXISTS, &fault, text, sizeof text, &needed) == QTREE_DONE && needed > 100);
+    for (qtree_code code = QTREE_REFUSED_NO_PARENT; code <= QTREE_MEMORY; code = code == QTREE_REFUSED_NO_FILTER ? QTREE_MEMORY : code + 1) {
+        CHECK(qtree_explain(bytes, strlen(line), 5, code, &fault, text, sizeof text, &needed) == QTREE_DONE);
+        CHECK(needed > 100 && memcmp(text, wanted, strcspn(wanted, "\n") + 1) == 0 && text[needed - 1] == '\n');
+    }
     fault.number = 7;
     CHECK(qtree_explain(bytes, strlen(line), 5, QTREE_FAULTY, &fault, text, sizeof text, &needed) == QTREE_OUT_OF_RANGE && needed == 0);
     CHECK(qtree_explain(bytes, strlen(line), 5, QTREE_DONE, &fault, text, sizeof text, &needed) == QTREE_OUT_OF_RANGE && needed == 0);

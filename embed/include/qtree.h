@@ -332,9 +332,9 @@ qtree_code qtree_totals(const qtree_device *device, qtree_row *row);
 
 /* What a class of a drr is promised while something is queued in it, whatever comes to other classes. In any t nanoseconds between two
  * times at which a poll gives nothing it sends more than rate * t / (8 * 10^9) - slack bytes, if the program polls until no packet
- * comes, and then at the time of qtree_ready_at at the latest, and the qdiscs, classes and quanta on the way to it stay as they are. With a
- * drr at the root, link and rate are 0, and it sends at least part / 10^9 of what the root's classes send, less slack. All is rounded
- * against the class. */
+ * comes, and then no later after the time of qtree_ready_at than qtree_lateness says, and the qdiscs, classes and quanta on the way to
+ * it stay as they are. With a drr at the root, link and rate are 0, and it sends at least part / 10^9 of what the root's classes send,
+ * less slack. All is rounded against the class. */
 typedef struct qtree_promise {
     uint64_t link;  /* the rate of the tbf at the root, bits a second */
     uint64_t rate;  /* the class's part of it, bits a second */
@@ -347,6 +347,12 @@ typedef struct qtree_promise {
  * without room for a packet of the mtu and what its rate brings in a nanosecond.
  * QTREE_DONE, QTREE_NOTHING, QTREE_OUT_OF_RANGE, QTREE_IS_CLOSED. */
 qtree_code qtree_service(const qtree_device *device, uint32_t place, uint16_t major, uint16_t minor, qtree_promise *promise);
+
+/* How many nanoseconds after the time of qtree_ready_at a poll may come while the promise of qtree_service holds: as long as the burst of
+ * the tbf at the root has room beside a packet of the mtu for what the rate brings. UINT64_MAX where a drr is at the root, which may be
+ * polled at any time. QTREE_NOTHING where qtree_service answers so.
+ * QTREE_DONE, QTREE_NOTHING, QTREE_OUT_OF_RANGE, QTREE_IS_CLOSED. */
+qtree_code qtree_lateness(const qtree_device *device, uint32_t place, uint16_t major, uint16_t minor, uint64_t *late);
 
 /* What `tc qdisc show`, `tc -s qdisc show`, `tc class show` and `tc filter show` print, of which needed is the length in bytes; no
  * zero byte ends it. Nothing is written where room is less than that (QTREE_ROOM); so a call with room 0 asks for the length.

@@ -18,9 +18,10 @@ enum { LINE_SIZE = 512, REQUEST_SIZE = 4096, FLOWS = 64, CLASSES = 4, FIRST_PORT
 
 struct exporter {
     const char *name;
-    pthread_mutex_t lock; /* of the device and the losses */
+    pthread_mutex_t lock; /* of the device, the losses and the lateness */
     qtree_device device;
     struct losses losses;
+    struct lateness lateness;
     uint32_t made;
 };
 
@@ -47,11 +48,12 @@ static bool set_up(struct exporter *exporter, FILE *file) {
             return false;
         }
     }
+    lateness_begin(&exporter->lateness, &exporter->device);
     return true;
 }
 
-/* Some packets of several flows arrive, those that may go are sent, and losses are reaped. */
-static void turn(struct exporter *exporter, uint64_t now) {
+/* Some packets of several flows arrive. */
+static void bring(struct exporter *exporter, uint64_t now) {
     for (int i = 0; i < PACKETS; i++) {
         uint32_t flow = exporter->made++ % FLOWS;
         qtree_packet packet = {
@@ -59,10 +61,21 @@ static void turn(struct exporter *exporter, uint64_t now) {
             .dport = (uint16_t)(FIRST_PORT + flow % CLASSES), .ecn = flow % 3 == 0 ? 2 : 0,
         };
         qtree_arrive(&exporter->device, &packet, now);
+        lateness_ask(&exporter->lateness, &exporter->device, now);
     }
+}
+
+/* The packets that are due are sent, and losses are reaped. */
+static void turn(struct exporter *exporter, uint64_t now) {
     qtree_packet packet;
-    while (qtree_poll(&exporter->device, now, &packet) == QTREE_DONE) {
-        /* transmits packet.buf */
+    lateness_count(&exporter->lateness, now);
+    while (exporter->lateness.due <= now) {
+        if (qtree_poll(&exporter->device, now, &packet) == QTREE_DONE) {
+            /* transmits packet.buf */
+        } else {
+            exporter->lateness.due = UINT64_MAX; /* nothing is due any more, and what follows is asked anew */
+        }
+        lateness_ask(&exporter->lateness, &exporter->device, now);
     }
     qtree_loss loss;
     while (qtree_reap(&exporter->device, &loss) == QTREE_DONE) {
@@ -77,9 +90,10 @@ static bool write_all(struct exporter *exporter, FILE *file) {
     pthread_mutex_lock(&exporter->lock);
     bool is_read = tree_read(&tree, &exporter->device) == QTREE_DONE;
     struct losses losses = exporter->losses;
+    struct lateness lateness = exporter->lateness;
     pthread_mutex_unlock(&exporter->lock);
     if (is_read) {
-        metrics_write(file, exporter->name, &tree, &losses);
+        metrics_write(file, exporter->name, &tree, &losses, &lateness);
     }
     tree_free(&tree);
     return is_read;
@@ -119,14 +133,22 @@ static void answer(struct exporter *exporter, int client) {
     close(client);
 }
 
-/* The packets go on, however slow those are that ask. */
+/* The packets go on, however slow those are that ask: some come each millisecond, and each is sent when it is due. The time of each turn is
+ * read under the lock, just before its polls. */
 static void *go_on(void *its) {
     struct exporter *exporter = its;
-    for (;;) {
+    for (uint64_t next = now_ns();;) {
         pthread_mutex_lock(&exporter->lock);
-        turn(exporter, now_ns());
+        uint64_t now = now_ns();
+        if (now >= next) {
+            bring(exporter, now);
+            next = now + MILLISECOND;
+        }
+        turn(exporter, now);
+        uint64_t until = exporter->lateness.due < next ? exporter->lateness.due : next;
         pthread_mutex_unlock(&exporter->lock);
-        nanosleep(&(struct timespec){ .tv_nsec = MILLISECOND }, NULL);
+        struct timespec at = { .tv_sec = (time_t)(until / 1000000000), .tv_nsec = (long)(until % 1000000000) };
+        clock_nanosleep(CLOCK_MONOTONIC, TIMER_ABSTIME, &at, NULL);
     }
     return NULL;
 }
@@ -163,6 +185,7 @@ int main(int argc, char **argv) {
         status = serve(&exporter, (uint16_t)strtoul(argv[3], NULL, 10));
     } else {
         for (uint64_t now = 0; now < 10000 * (uint64_t)MILLISECOND; now += MILLISECOND) {
+            bring(&exporter, now);
             turn(&exporter, now);
         }
         status = write_all(&exporter, stdout) ? 0 : 1;

@@ -3,6 +3,8 @@
 #include <inttypes.h>
 #include <string.h>
 
+enum { SECOND = 1000000000 };
+
 /* The counts of a row, by their position in it. */
 static const struct {
     const char *name, *help;
@@ -116,7 +118,44 @@ static void write_flows(FILE *file, const char *device, const struct tree *tree,
     }
 }
 
-void metrics_write(FILE *file, const char *device, const struct tree *tree, const struct losses *losses) {
+/* A number of one family that has the device as its only label; a time is written in seconds. */
+static void write_number(FILE *file, const char *device, const char *name, const char *type, const char *help, uint64_t number, bool is_time) {
+    write_head(file, name, type, help, "");
+    write_begin(file, name, device);
+    if (is_time) {
+        fprintf(file, "} %.9f\n", (double)number / SECOND);
+    } else {
+        fprintf(file, "} %" PRIu64 "\n", number);
+    }
+}
+
+/* How late polls were, as a histogram, and beside it the greatest lateness, what the classes allow, and how many were later than that. */
+static void write_lateness(FILE *file, const char *device, const struct lateness *lateness) {
+    const char *name = "qtree_poll_lateness_seconds";
+    uint64_t polls = 0;
+    write_head(file, name, "histogram", "How long after the time of qtree_ready_at a poll came", "");
+    for (size_t i = 0; i <= LATENESS_BOUNDS; i++) {
+        polls += lateness->by_bound[i];
+        write_begin(file, "qtree_poll_lateness_seconds_bucket", device);
+        if (i < LATENESS_BOUNDS) {
+            fprintf(file, ",le=\"%g\"} %" PRIu64 "\n", (double)lateness_bounds[i] / SECOND, polls);
+        } else {
+            fprintf(file, ",le=\"+Inf\"} %" PRIu64 "\n", polls);
+        }
+    }
+    write_begin(file, "qtree_poll_lateness_seconds_sum", device);
+    fprintf(file, "} %.9f\n", (double)lateness->sum / SECOND);
+    write_begin(file, "qtree_poll_lateness_seconds_count", device);
+    fprintf(file, "} %" PRIu64 "\n", polls);
+    write_number(file, device, "qtree_poll_lateness_greatest_seconds", "gauge", "The greatest lateness of a poll", lateness->greatest, true);
+    write_number(file, device, "qtree_polls_too_late_total", "counter", "Polls that were later than the classes allow", lateness->above, false);
+    if (lateness->allowed < UINT64_MAX) {
+        write_number(file, device, "qtree_poll_lateness_allowed_seconds", "gauge", "How late a poll may be for the promise of each class to hold",
+                     lateness->allowed, true);
+    }
+}
+
+void metrics_write(FILE *file, const char *device, const struct tree *tree, const struct losses *losses, const struct lateness *lateness) {
     for (size_t which = 0; which < sizeof counts / sizeof counts[0]; which++) {
         write_counts(file, device, tree, which, false);
         write_counts(file, device, tree, which, true);
@@ -128,4 +167,5 @@ void metrics_write(FILE *file, const char *device, const struct tree *tree, cons
     }
     write_flows(file, device, tree, true);
     write_flows(file, device, tree, false);
+    write_lateness(file, device, lateness);
 }

@@ -2,6 +2,7 @@
 #ifndef METRICS_H
 #define METRICS_H
 
+#include "lateness.h"
 #include "tree.h"
 
 #include <stdio.h>
@@ -11,6 +12,6 @@ struct losses {
     qtree_count by_cause[QTREE_LOST_MOST + 1];
 };
 
-void metrics_write(FILE *file, const char *device, const struct tree *tree, const struct losses *losses);
+void metrics_write(FILE *file, const char *device, const struct tree *tree, const struct losses *losses, const struct lateness *lateness);
 
 #endif

@@ -3,10 +3,11 @@ ghost use Rattle.q_packet.specs.Descriptor.{Descriptor};
 ghost use Rattle.q_model.specs.Conserved.{IsBalanced};
 ghost use Rattle.q_model.specs.Tally.{no_totals};
 ghost use Rattle.q_model.specs.TreeState.{given, stats};
-ghost use Rattle.q_model.specs.Tally.{totals};
+ghost use Rattle.q_model.specs.Tally.{totals, with_packet};
 ghost use Rattle.q_model.specs.declared.event.Event.TheVariants as event;
 ghost use Rattle.q_model.specs.declared.reply.Reply.TheVariants as reply;
-ghost use Rattle.q_device.specs.DeviceSeen.{polled_memory, reaped, HasNoFewerPlaces, HasRoomFor, IsCommanded, IsRefusal, IsRefusedAt};
+ghost use Rattle.q_device.specs.Counters.{HasNotFallen};
+ghost use Rattle.q_device.specs.DeviceSeen.{as_counted, polled_memory, reaped, HasNoFewerPlaces, HasRoomFor, IsCommanded, IsRefusal, IsRefusedAt};
 ghost use Rattle.q_device.specs.Giving.{polled_in};
 ghost use Rattle.q_tree.specs.Commanding.{MayTakeMemory};
 ghost use Rattle.q_tree.specs.ReadyAt.{is_sure, ready_at};
@@ -84,7 +85,9 @@ impl<P: Ledger, B: Ledger> Booked<P, B> {
         now: Moment,
     ) -> Result<Fate, (Packet, AllocError)>
         ensures event { OnOk result (self.new ≡ with_memory self.new.memory (after_event (event.Arrive packet now) self.old)) }
+        ensures moment { OnOk result (as_counted self.old.device (event.Arrive packet now) ≡ event.Arrive packet self.new.device.clock) }
         ensures fate { IfOk result (λ fate. reply.Fate fate ≡ reply_to (event.Arrive packet now) self.old) }
+        ensures arrived { OnOk result (self.new.device.tree.top.arrived ≡ with_packet self.old.device.tree.top.arrived packet) }
         ensures seat { OnOk result (seat.new ≡ booking seat.old packet) }
         ensures same { OnErr result (self.new ≡ with_memory self.new.memory self.old) }
         ensures same_seat { OnErr result (seat.new ≡ seat.old) }
@@ -94,6 +97,7 @@ impl<P: Ledger, B: Ledger> Booked<P, B> {
         ensures queues { HasNoFewerPlaces self.old.memory self.new.memory }
         ensures keeps { OnErr result ((other : Descriptor) → HasRoomFor other self.old → HasRoomFor other self.new) }
         ensures recorder { self.new.memory.events ≡ self.old.memory.events }
+        ensures counters { HasNotFallen self.old.device.tree.top self.new.device.tree.top }
     {
         match self.arrive_at(seat, &packet, now) {
             Ok(fate) => Ok(fate),
@@ -113,7 +117,9 @@ impl<P: Ledger, B: Ledger> Booked<P, B> {
         now: Moment,
     ) -> Result<Fate, AllocError>
         ensures event { OnOk result (self.new ≡ with_memory self.new.memory (after_event (event.Arrive packet.now now) self.old)) }
+        ensures moment { OnOk result (as_counted self.old.device (event.Arrive packet.now now) ≡ event.Arrive packet.now self.new.device.clock) }
         ensures fate { IfOk result (λ fate. reply.Fate fate ≡ reply_to (event.Arrive packet.now now) self.old) }
+        ensures arrived { OnOk result (self.new.device.tree.top.arrived ≡ with_packet self.old.device.tree.top.arrived packet.now) }
         ensures seat { OnOk result (seat.new ≡ booking seat.old packet.now) }
         ensures same { OnErr result (self.new ≡ with_memory self.new.memory self.old) }
         ensures same_seat { OnErr result (seat.new ≡ seat.old) }
@@ -122,6 +128,7 @@ impl<P: Ledger, B: Ledger> Booked<P, B> {
         ensures queues { HasNoFewerPlaces self.old.memory self.new.memory }
         ensures keeps { OnErr result ((other : Descriptor) → HasRoomFor other self.old → HasRoomFor other self.new) }
         ensures recorder { self.new.memory.events ≡ self.old.memory.events }
+        ensures counters { HasNotFallen self.old.device.tree.top self.new.device.tree.top }
     {
         let fate = self.device.arrive_at(packet, now)?;
         self.packets.add(&mut seat.packets, 1);
@@ -133,7 +140,10 @@ impl<P: Ledger, B: Ledger> Booked<P, B> {
     pub fn poll(&mut self, now: Moment) -> Polled
         ensures event { self.new ≡ with_memory self.new.memory (after_event (event.Poll now) self.old) }
         ensures memory { self.new.memory ≡ polled_memory self.new.device.clock self.old.memory }
+        ensures moment { as_counted self.old.device (event.Poll now) ≡ event.Poll self.new.device.clock }
         ensures reply { reply.Polled result ≡ reply_to (event.Poll now) self.old }
+        ensures arrived { self.new.device.tree.top.arrived ≡ self.old.device.tree.top.arrived }
+        ensures counters { HasNotFallen self.old.device.tree.top self.new.device.tree.top }
     {
         self.device.poll(now)
     }
@@ -142,8 +152,11 @@ impl<P: Ledger, B: Ledger> Booked<P, B> {
     pub fn poll_into(&mut self, now: Moment, out: &mut Packet) -> Given
         ensures event { self.new ≡ with_memory self.new.memory (after_event (event.Poll now) self.old) }
         ensures memory { self.new.memory ≡ polled_memory self.new.device.clock self.old.memory }
+        ensures moment { as_counted self.old.device (event.Poll now) ≡ event.Poll self.new.device.clock }
         ensures reply { reply.Polled (polled_in out.new result) ≡ reply_to (event.Poll now) self.old }
         ensures packet { out.new ≡ unwrap_or (given self.new.device.clock self.old.device.tree) out.old }
+        ensures arrived { self.new.device.tree.top.arrived ≡ self.old.device.tree.top.arrived }
+        ensures counters { HasNotFallen self.old.device.tree.top self.new.device.tree.top }
     {
         self.device.poll_into(now, out)
     }
@@ -166,6 +179,7 @@ impl<P: Ledger, B: Ledger> Booked<P, B> {
     /// Those of [`Device::command`]: the first refusal of the command that holds, or that an allocation failed. Nothing has changed then.
     pub fn command(&mut self, command: Command, now: Moment) -> Result<(), Refusal>
         ensures event { OnOk result (self.new ≡ with_memory self.new.memory (after_event (event.Command command now) self.old)) }
+        ensures moment { OnOk result (as_counted self.old.device (event.Command command now) ≡ event.Command command self.new.device.clock) }
         ensures reply { OnOk result (reply.Done (Ok (record {})) ≡ reply_to (event.Command command now) self.old) }
         ensures refused { IfErr result (IsRefusal (MayTakeMemory command) (reply_to (event.Command command now) self.old)) }
         ensures memory { IfErr result (IsRefusedAt command now self.old) }
@@ -174,6 +188,7 @@ impl<P: Ledger, B: Ledger> Booked<P, B> {
         ensures queues { OnOk result (IsCommanded command self.new.device.clock self.old.memory self.new.memory) }
         ensures recorder { self.new.memory.events ≡ self.old.memory.events }
         ensures arrived { self.new.device.tree.top.arrived ≡ self.old.device.tree.top.arrived }
+        ensures counters { HasNotFallen self.old.device.tree.top self.new.device.tree.top }
     {
         self.device.command(command, now)
     }

@@ -208,6 +208,27 @@ fn lines_that_were_done_are_remarked_upon(rt: HostRuntime) -> Result<(), Fail> {
     Ok(())
 }
 
+/// Comments that name devices, and lines that name one, also where the name begins as a comment does.
+const COMMENTED: &[u8] = b"# tc qdisc del dev eth9 root
+ \t#dev eth8
+tc qdisc add dev #eth0 root handle 1: drr
+# dev eth7
+tc class add dev #eth0 parent 1: classid 1:1 drr quantum 1514
+tc qdisc add dev eth1 parent 1:1 pfifo
+";
+
+const COMMENTED_EXPLAINED: &str = "line 6: tc qdisc add dev eth1 parent 1:1 pfifo
+                         ^^^^
+  a line before this one has another name. A script has one device, and each line is for it, whatever name it has.
+";
+
+#[test]
+fn comments_name_no_device(rt: HostRuntime) -> Result<(), Fail> {
+    let line = "qtree play --explain";
+    assert_answers(&rt, line, COMMENTED, 0, "", COMMENTED_EXPLAINED)?;
+    Ok(())
+}
+
 /// A line that is done, with a burst below an mtu of 100 bytes.
 const SMALL: &[u8] = b"tc qdisc add dev eth0 root tbf rate 1mbit burst 99 latency 50ms";
 

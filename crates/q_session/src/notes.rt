@@ -99,8 +99,12 @@ impl Notes {
     }
 }
 
-/// The name of the device in a line without a fault: the word behind the first `dev`, which is no value of a word before it.
+/// The name of the device in a line without a fault: the word behind the first `dev`, which is no value of a word before it. A comment
+/// names none.
 fn named_device(line: &[u8]) -> Option<&[u8]> {
+    if is_comment(line) {
+        return None;
+    }
     let mut rest = line;
     let mut is_named = false;
     for _ in 0..line.len() {
@@ -116,4 +120,12 @@ fn named_device(line: &[u8]) -> Option<&[u8]> {
         rest = behind;
     }
     None
+}
+
+/// Whether the first word of a line begins with `#`.
+fn is_comment(line: &[u8]) -> bool {
+    match skip_blanks(line) {
+        [] => false,
+        [byte, ..] => *byte == b'#',
+    }
 }

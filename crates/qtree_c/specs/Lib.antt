@@ -4,7 +4,9 @@ pub mod Codes
 pub mod Ends
 pub mod Explaining
 pub mod Folds
+pub mod Frames
 pub mod Holding
+pub mod Lateness
 pub mod Lending
 pub mod Lines
 pub mod Promised

@@ -1,11 +1,12 @@
 //! Packets arrive by their first bytes.
-ghost use Rattle.std.specs.Prelude.{◌≡◌, ◌≤◌, ◌<◌, ◌^◌};
+ghost use Rattle.std.specs.Prelude.{◌≡◌, ◌≤◌, ◌<◌};
 ghost use Rattle.q_packet.specs.Head.{head};
 ghost use Rattle.q_packet.specs.Key.{key_bytes};
 ghost use Rattle.q_packet.specs.OneAtATime.{one_at_a_time};
-ghost use Rattle.qtree_c.specs.Calls.{Calls, IsArrival};
+ghost use Rattle.qtree_c.specs.Calls.{IsArrival};
 ghost use Rattle.qtree_c.specs.Folds.{arrival};
-ghost use Rattle.qtree_c.specs.Noting.{noting, one_event, Notes};
+ghost use Rattle.qtree_c.specs.Frames.{IsFrameArrival};
+ghost use Rattle.qtree_c.specs.Noting.{noting, one_event};
 ghost use Rattle.qtree_c.specs.Structs.{framed};
 
 use crate::arrivals::fate_number;
@@ -25,11 +26,7 @@ pub extern "C" fn qtree_arrive_frame(
     hash: u32,
     now: u64,
 ) -> u32
-    ensures arrival { now ≤ 2 ^ 62 → Calls (IsArrival (framed len buf 0 hash (head bytes.now)) now result) result device.old.held.device device.new.held.device }
-    ensures moment { 2 ^ 62 < now → (result ≡ 42) × (device.new.held.device ≡ device.old.held.device) }
-    ensures len { now ≤ 2 ^ 62 → result ≡ 42 → len ≡ 0 }
-    ensures noted { result ≤ 6 → Notes (one_event (arrival now (framed len buf 0 hash (head bytes.now)))) device.old.held.device device.old.held.last device.new.held.last }
-    ensures unnoted { 6 < result → device.new.held.last ≡ device.old.held.last }
+    ensures { IsFrameArrival (framed len buf 0 hash (head bytes.now)) now result device.old.held device.new.held }
 {
     arrive_frame(device, bytes, len, buf, 0, hash, now)
 }
@@ -45,11 +42,7 @@ pub extern "C" fn qtree_arrive_frame_numbered(
     hash: u32,
     now: u64,
 ) -> u32
-    ensures arrival { now ≤ 2 ^ 62 → Calls (IsArrival (framed len buf number hash (head bytes.now)) now result) result device.old.held.device device.new.held.device }
-    ensures moment { 2 ^ 62 < now → (result ≡ 42) × (device.new.held.device ≡ device.old.held.device) }
-    ensures len { now ≤ 2 ^ 62 → result ≡ 42 → len ≡ 0 }
-    ensures noted { result ≤ 6 → Notes (one_event (arrival now (framed len buf number hash (head bytes.now)))) device.old.held.device device.old.held.last device.new.held.last }
-    ensures unnoted { 6 < result → device.new.held.last ≡ device.old.held.last }
+    ensures { IsFrameArrival (framed len buf number hash (head bytes.now)) now result device.old.held device.new.held }
 {
     arrive_frame(device, bytes, len, buf, number, hash, now)
 }
@@ -64,11 +57,7 @@ pub extern "C" fn qtree_arrive_frame_seeded(
     seed: u32,
     now: u64,
 ) -> u32
-    ensures arrival { now ≤ 2 ^ 62 → Calls (IsArrival (framed len buf 0 (one_at_a_time seed (key_bytes (head bytes.now).key)) (head bytes.now)) now result) result device.old.held.device device.new.held.device }
-    ensures moment { 2 ^ 62 < now → (result ≡ 42) × (device.new.held.device ≡ device.old.held.device) }
-    ensures len { now ≤ 2 ^ 62 → result ≡ 42 → len ≡ 0 }
-    ensures noted { result ≤ 6 → Notes (one_event (arrival now (framed len buf 0 (one_at_a_time seed (key_bytes (head bytes.now).key)) (head bytes.now)))) device.old.held.device device.old.held.last device.new.held.last }
-    ensures unnoted { 6 < result → device.new.held.last ≡ device.old.held.last }
+    ensures { IsFrameArrival (framed len buf 0 (one_at_a_time seed (key_bytes (head bytes.now).key)) (head bytes.now)) now result device.old.held device.new.held }
 {
     let Some(now) = Moment::new(now) else {
         return OUT_OF_RANGE;
@@ -92,11 +81,7 @@ fn arrive_frame(
     hash: u32,
     now: u64,
 ) -> u32
-    ensures arrival { now ≤ 2 ^ 62 → Calls (IsArrival (framed len buf number hash (head bytes.now)) now result) result device.old.held.device device.new.held.device }
-    ensures moment { 2 ^ 62 < now → (result ≡ 42) × (device.new.held.device ≡ device.old.held.device) }
-    ensures len { now ≤ 2 ^ 62 → result ≡ 42 → len ≡ 0 }
-    ensures noted { result ≤ 6 → Notes (one_event (arrival now (framed len buf number hash (head bytes.now)))) device.old.held.device device.old.held.last device.new.held.last }
-    ensures unnoted { 6 < result → device.new.held.last ≡ device.old.held.last }
+    ensures { IsFrameArrival (framed len buf number hash (head bytes.now)) now result device.old.held device.new.held }
 {
     let Some(now) = Moment::new(now) else {
         return OUT_OF_RANGE;

@@ -31,6 +31,7 @@ mod held_outlet;
 mod held_port;
 mod intakes;
 mod last_events;
+mod lateness;
 mod layout;
 mod lines;
 mod losses;

@@ -359,12 +359,14 @@ impl Device {
     /// }
     /// let service = device.service(Place::Class(2, 1)).expect("a class of a drr");
     /// assert_eq!((service.rate, service.slack), (Some(13_333_333), 5532));
+    /// assert_eq!(service.late, Some(399));
     /// # Ok::<(), Error>(())
     /// ```
     #[must_use]
     pub fn service(&self, place: Place) -> Option<Service> {
         let (code, promise) = self.0.service(place.to_c());
-        (code == sys::QTREE_DONE).then(|| Service::of(promise))
+        let (_, late) = self.0.lateness(place.to_c());
+        (code == sys::QTREE_DONE).then(|| Service::of(promise, late))
     }
 
     /// What was counted by the device itself.

@@ -3,8 +3,8 @@ use crate::raw::sys;
 /// What a class of a drr is promised while something is queued in it, whatever comes to other classes, rounded against the class.
 ///
 /// In any `t` nanoseconds between two times at which a poll gives nothing it sends more than `rate * t / (8 * 10^9) - slack` bytes, if the
-/// program polls until no packet comes, and then at the time of [`crate::Device::ready_at`] at the latest, and the qdiscs, classes and
-/// quanta on the way to it stay as they are.
+/// program polls until no packet comes, and then at most [`Service::late`] nanoseconds after the time of [`crate::Device::ready_at`], and
+/// the qdiscs, classes and quanta on the way to it stay as they are.
 #[derive(Clone, Copy, Debug, PartialEq, Eq)]
 #[non_exhaustive]
 pub struct Service {
@@ -16,10 +16,13 @@ pub struct Service {
     pub part: u64,
     /// The bytes that it may lack.
     pub slack: u64,
+    /// How many nanoseconds polls may be late while this holds: as long as the burst of the tbf at the root has room beside a packet of the
+    /// mtu for what the rate brings. `None` where a drr is at the root, which may be polled at any time.
+    pub late: Option<u64>,
 }
 
 impl Service {
-    pub(crate) fn of(promise: sys::Promise) -> Service {
+    pub(crate) fn of(promise: sys::Promise, late: u64) -> Service {
         // A tbf has a rate of at least a bit a second.
         let is_linked = promise.link > 0;
         Service {
@@ -27,6 +30,7 @@ impl Service {
             rate: is_linked.then_some(promise.rate),
             part: promise.part,
             slack: promise.slack,
+            late: is_linked.then_some(late),
         }
     }
 }

@@ -94,6 +94,7 @@ fn a_class_is_promised_its_part() -> Result<(), Error> {
         .expect("a class of a drr");
     assert_eq!((service.link, service.rate), (None, None));
     assert_eq!((service.part, service.slack), (333_333_333, 3513));
+    assert_eq!(service.late, None);
     assert_eq!(device.service(Place::Class(3, 1)), None);
     assert_eq!(device.service(Place::Class(2, 3)), None);
     assert_eq!(device.service(Place::Root), None);

@@ -168,6 +168,13 @@ impl RawDevice {
         (code, promise)
     }
 
+    pub(crate) fn lateness(&self, (place, major, minor): (u32, u16, u16)) -> (u32, u64) {
+        let mut late = 0;
+        // SAFETY: the device is open, and `late` is another place.
+        let code = unsafe { sys::qtree_lateness(&self.0, place, major, minor, &mut late) };
+        (code, late)
+    }
+
     /// Also the length of the text, which is written where there is room for it.
     pub(crate) fn show(&self, what: u32, text: &mut [u8]) -> (u32, usize) {
         let mut needed = 0;

@@ -323,6 +323,13 @@ unsafe extern "C" {
         minor: u16,
         promise: *mut Promise,
     ) -> u32;
+    pub fn qtree_lateness(
+        device: *const Device,
+        place: u32,
+        major: u16,
+        minor: u16,
+        late: *mut u64,
+    ) -> u32;
     pub fn qtree_show(
         device: *const Device,
         what: u32,
