@@ -5,10 +5,11 @@ import os
 import re
 import shutil
 import subprocess
+import sys
 import tarfile
 import tempfile
 
-from kept import TOP, Kept
+from kept import TOP, Kept, Missing
 from llvm_text import Unreadable, read, write
 from rewrite import portable
 import tie
@@ -42,7 +43,7 @@ class Release:
 
     def __init__(self, kept):
         options = read(f"{TOP}/crates/q_options/src/command_line.rt")
-        version, self.kit = re.search(r'VERSION: &str = "([\d.]+), proved with ([\w-]+)"', options).groups()
+        version, self.kit = re.search(r'VERSION: &str = "([\d.]+) for x86_64, proved with ([\w-]+)"', options).groups()
         self.version = version if kept.verdict else f"{version}+unproved"
         self.commit = "commit " + run("git", "rev-parse", "HEAD").strip()
         if run("git", "status", "--porcelain").strip():
@@ -156,3 +157,21 @@ def refuse_others(folder):
         ran = subprocess.run(["make", f"TARGET={it}"], cwd=folder, capture_output=True, text=True, check=False)
         if ran.returncode == 0 or f"and not for {it.partition('-')[0]}" not in ran.stderr:
             raise Unreadable(f"make does not refuse {it}: {ran.stderr.strip()}")
+
+
+def status(unproved, to, is_tried):
+    """Makes the package and, where that is asked for, tries it: the status of tools/package."""
+    ended = 2
+    try:
+        made = pack(unproved, to)
+        print(os.path.relpath(made))
+        ended = 1
+        if is_tried:
+            print(f"{os.path.basename(made)}: tried ({tried(made)})")
+        return 0
+    except Missing as error:
+        print(error)
+        return 3
+    except (OSError, Unreadable) as error:
+        print(f"package: {error}", file=sys.stderr)
+        return ended
