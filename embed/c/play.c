@@ -23,12 +23,21 @@ static const char help[] =
 
 enum { CHUNK = 65536 };
 
+#if defined(__x86_64__)
+#define PROCESSOR "x86_64"
+#elif defined(__aarch64__)
+#define PROCESSOR "aarch64"
+#else
+#define PROCESSOR "this processor"
+#endif
+
 /* The libraries that are not, or not all, what the kit proved have one of these. */
 extern const char qtree_not_proved[] __attribute__((weak));
 extern const char qtree_rewritten[] __attribute__((weak));
 
 static int tell_version(void) {
-    const char *said = qtree_not_proved != NULL ? qtree_not_proved : qtree_rewritten != NULL ? qtree_rewritten : "libqtree as the kit built it";
+    const char *built = "libqtree as the kit built it for " PROCESSOR;
+    const char *said = qtree_not_proved != NULL ? qtree_not_proved : qtree_rewritten != NULL ? qtree_rewritten : built;
     printf("qtree-play over libqtree %u.%u: %s\n", qtree_version() >> 16, qtree_version() & 0xffff, said);
     if (qtree_not_proved != NULL && qtree_rewritten != NULL) {
         printf("%s\n", qtree_rewritten);

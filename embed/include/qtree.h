@@ -16,10 +16,10 @@
  *   - malloc, realloc and free are the C library's or behave as they have to.
  *   - The system is Linux, whichever its C library (glibc, musl), and the processor has pointers of 64 bits and
  *     little-endian byte order. The compiler refuses others here. The library that the kit builds is proved and compiled
- *     for x86-64-v2 or later (SSE4.2 and POPCNT); that an x86-64 processor is older, nothing here can see. The same
- *     library as a text that clang compiles was tried on x86-64 and, under qemu, on aarch64 and riscv64 by ./check, and
- *     once on ppc64le and mips64el. Structs have the same sizes and offsets on each: pointers and size_t have 8 bytes,
- *     and each number is aligned to its size.
+ *     for x86-64-v2 or later (SSE4.2 and POPCNT); that an x86-64 processor is older, nothing here can see. The kit proves
+ *     and builds it for aarch64 too, which was tried under qemu. The same library as a text that clang compiles was tried
+ *     on x86-64 and, under qemu, on aarch64 and riscv64 by ./check, and once on ppc64le and mips64el. Structs have the
+ *     same sizes and offsets on each: pointers and size_t have 8 bytes, and each number is aligned to its size.
  *
  * No function waits, prints, aborts or calls back. An offer, a poll and a reap allocate nothing, and neither do those that read
  * or mark headers, or read counters, shares and times.

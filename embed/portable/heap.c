@@ -5,7 +5,9 @@
 #include <string.h>
 
 /* By this name a program finds that the library is not, to the byte, what the kit built of what it proved. */
+#ifdef QTREE_REWRITTEN
 const char qtree_rewritten[] = QTREE_REWRITTEN;
+#endif
 
 typedef struct {
     uint64_t is_there;

@@ -5,15 +5,17 @@ import os
 import re
 import shutil
 import subprocess
+import sys
 import tarfile
 import tempfile
 
-from kept import TOP, Kept
+from kept import TOP, Kept, Missing
 from llvm_text import Unreadable, read, write
+from pages import broken_links, relinked
 from rewrite import portable
 import tie
 
-PAGES = ("LANGUAGE.md", "DISCIPLINES.md", "TC.md", "SERVICE.md", "GUARANTEES.md", "EMBEDDING.md", "ROUTER.md")
+PAGES = ("CONCEPTS", "SETTINGS", "LANGUAGE", "DISCIPLINES", "TC", "SERVICE", "GUARANTEES", "EMBEDDING", "ROUTER")
 # Programs of embed/c that are no tests, or need more than a C compiler.
 LEFT = ("fuzz.c", "bench.c", "until_idle.c", "long_session.c", "standards.c")
 HERE = f"{TOP}/embed/portable"
@@ -42,7 +44,7 @@ class Release:
 
     def __init__(self, kept):
         options = read(f"{TOP}/crates/q_options/src/command_line.rt")
-        version, self.kit = re.search(r'VERSION: &str = "([\d.]+), proved with ([\w-]+)"', options).groups()
+        version, self.kit = re.search(r'VERSION: &str = "([\d.]+) for x86_64, proved with ([\w-]+)"', options).groups()
         self.version = version if kept.verdict else f"{version}+unproved"
         self.commit = "commit " + run("git", "rev-parse", "HEAD").strip()
         if run("git", "status", "--porcelain").strip():
@@ -84,12 +86,19 @@ def laid_out(kept, root):
     copy([*(f"embed/portable/{it}" for it in own), "embed/c/qtree.pc.in"], root)
     proved_for = "proved for x86_64-unknown-linux-gnu" if release.verdict else "NOT proved"
     write(f"{root}/Makefile", read(f"{HERE}/Makefile").replace("PROVED_FOR", proved_for))
+    os.mkdir(f"{root}/openwrt")
+    write(f"{root}/openwrt/Makefile", read(f"{HERE}/openwrt.mk").replace("@VERSION@", release.version))
     write(f"{root}/libqtree.ll", text)
     write(f"{root}/PROVED.md", release.proved(counts, functions, lines))
-    copy(["embed/include/qtree.h"], f"{root}/include")
-    copy(below("embed/c/*.[ch]", LEFT) + below("crates/q_corpus/data/*.txt"), f"{root}/tests")
-    copy([it for it in below("examples/*.*") if not it.endswith(".md")], f"{root}/examples")
-    copy([f"docs/{it}" for it in PAGES] + ["embed/c/qtree.3"], f"{root}/doc")
+    files = {"include": ["embed/include/qtree.h"], "doc": ["embed/c/qtree.3"]}
+    files["tests"] = below("embed/c/*.[ch]", LEFT) + below("crates/q_corpus/data/*.txt")
+    files["examples"] = [it for it in below("examples/*.*") if not it.endswith(".md")]
+    for folder, names in files.items():
+        copy(names, f"{root}/{folder}")
+    places = {it: f"{folder}/{os.path.basename(it)}" for folder, names in files.items() for it in names}
+    places |= {f"docs/{it}.md": f"doc/{it}.md" for it in PAGES} | {"CHANGELOG.md": "doc/CHANGELOG.md", "examples/README.md": "examples/README.md"}
+    for it in (it for it in places if it.endswith(".md")):
+        write(f"{root}/{places[it]}", relinked(it, places))
     return release
 
 
@@ -147,6 +156,8 @@ def tried(package, *words):
             make(folder, *words, "CC=musl-gcc", "LDFLAGS=-static", "test")
             said += "; over musl too"
         refuse_others(folder)
+        if broken := list(broken_links(folder)):
+            raise Unreadable(f"a link of a packed page leads nowhere: {', '.join(broken)}")
         return said
 
 
@@ -156,3 +167,21 @@ def refuse_others(folder):
         ran = subprocess.run(["make", f"TARGET={it}"], cwd=folder, capture_output=True, text=True, check=False)
         if ran.returncode == 0 or f"and not for {it.partition('-')[0]}" not in ran.stderr:
             raise Unreadable(f"make does not refuse {it}: {ran.stderr.strip()}")
+
+
+def status(unproved, to, is_tried):
+    """Makes the package and, where that is asked for, tries it: the status of tools/package."""
+    ended = 2
+    try:
+        made = pack(unproved, to)
+        print(os.path.relpath(made))
+        ended = 1
+        if is_tried:
+            print(f"{os.path.basename(made)}: tried ({tried(made)})")
+        return 0
+    except Missing as error:
+        print(error)
+        return 3
+    except (OSError, Unreadable) as error:
+        print(f"package: {error}", file=sys.stderr)
+        return ended
