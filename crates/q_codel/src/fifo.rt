@@ -143,6 +143,14 @@ impl Fifo {
         Some(front.stamped())
     }
 
+    /// The packet in front, in the form in which it is kept; `None` where the queue is empty.
+    pub fn first(&self) -> Option<KeptPacket>
+        ensures { result ≡ option_map (λ (s : Stamped). s.packet) (slice_get self.now.packets 0) }
+    {
+        let front = self.packets.front()?;
+        Some(front.packet)
+    }
+
     /// Takes the packet in front; `None` where the queue is empty. Its place stays reserved.
     pub fn take(&mut self) -> Option<Stamped>
         ensures front { result ≡ slice_get self.old.packets 0 }
