@@ -16,11 +16,12 @@ use Rattle.q_device.specs.Counters.{HasNotFallen}
 use Rattle.q_device.specs.DeviceSeen.{DeviceSeen, polled_memory, with_event}
 use Rattle.q_device.specs.Giving.{given_of, polled_in}
 use Rattle.q_device.specs.Keeping.{device_seen}
+use Rattle.q_device.specs.Laws.{given_in}
 use Rattle.q_device.proofs.EventLemmas.{Happened, event-rises, event-seen, polled, polled-device, polled-others, reply-step}
 use Rattle.q_device.proofs.KeptLemmas.{event-kept, events-after, kept-arrived}
 use Rattle.q_device.proofs.ReadyNumbers.{given-numbers}
-use Rattle.q_device.proofs.device.Device.poll_into.Goals.{After-count_poll}
-use Rattle.q_device.proofs.device.Device.poll_into.Goals as goal
+use Rattle.q_device.proofs.device.Device.poll_kept.Goals.{After-count_poll}
+use Rattle.q_device.proofs.device.Device.poll_kept.Goals as goal
 
 -- the place and the answer together say what a poll gives
 told-poll : (g : Option Descriptor) (before : Descriptor) (empty : Bool) → polled_in (unwrap_or g before) (given_of (is_some g) empty) ≡ polled_of g empty
@@ -75,6 +76,25 @@ returns-clause-reply c =
     ∙ ap (λ t. reply.Polled (polled_of (given t tree) (is_empty (shape (take_packet kept t tree).root)))) c.later-at.ensures
     ∙ reply-step (numbers a.tree) a.tree refl e
     ∙ ap (λ (d : DeviceSeen). (step totals d.device e).reply) c.self.view_is
+
+-- the packet of the reply is the one that the tree gives
+
+polled-gives : (g : Option Descriptor) (empty : Bool) → given_in (reply.Polled (polled_of g empty)) ≡ g
+polled-gives (Some p) empty = refl
+polled-gives None true = refl
+polled-gives None false = refl
+
+pub returns-clause-gives : goal.returns-clause-gives
+returns-clause-gives c =
+    let a = c.self.inside in
+    let tree = a.tree.tree in
+    let e = event.Poll c.args.now in
+    let gives = sym (given-numbers c.later-at.result tree) ∙ ap (λ (d : DeviceSeen). given c.later-at.result d.device.tree) c.self.view_is ∙ ap (λ t. given t c.args.self.now.device.tree) (sym (ap (λ (d : DeviceState Kept). d.clock) c.send-sent.ensures.after)) in
+    sym (ap given_in (ap (λ t. reply.Polled (polled_of (given t tree) (is_empty (shape (take_packet kept t tree).root)))) c.later-at.ensures
+    ∙ reply-step (numbers a.tree) a.tree refl e
+    ∙ ap (λ (d : DeviceSeen). (step totals d.device e).reply) c.self.view_is))
+    ∙ polled-gives (given c.later-at.result tree) (is_empty (shape (take_packet kept c.later-at.result tree).root))
+    ∙ gives
 
 pub returns-clause-packet : goal.returns-clause-packet
 returns-clause-packet c =
