@@ -7,7 +7,7 @@ use crate::parameters::Parameters;
 use crate::queue::Queue;
 use crate::sink::Sink;
 use crate::taken::Taken;
-use q_packet::{Cause, Moment, SOME_PACKET};
+use q_packet::{Cause, Moment, SOME_KEPT};
 use std::marker::Model;
 
 /// The settings and the state of CoDel on one queue, put together (RFC 8289, section 5).
@@ -120,10 +120,13 @@ impl Codel {
         ensures kept { Q.keeps queue.old queue.new }
         ensures sink_kept { S.keeps sink.old sink.new }
     {
-        let mut packet = SOME_PACKET;
+        let mut packet = SOME_KEPT;
         let marked = self
             .state
             .take_into(&self.parameters, queue, now, sink, &mut packet)?;
-        Some(Taken { packet, marked })
+        Some(Taken {
+            packet: packet.packet(),
+            marked,
+        })
     }
 }

@@ -12,7 +12,7 @@ use crate::front::Front;
 use crate::parameters::Parameters;
 use crate::queue::Queue;
 use crate::sink::Sink;
-use q_packet::{Cause, Ecn, Moment, Packet};
+use q_packet::{Cause, Ecn, KeptPacket, Moment};
 use std::marker::Model;
 
 /// The state of CoDel on one queue, without its settings: 32 bytes, so that many queues may each have one.
@@ -119,7 +119,7 @@ impl ControlState {
         queue: &mut Q,
         now: Moment,
         sink: &mut S,
-        out: &mut Packet,
+        out: &mut KeptPacket,
     ) -> Option<bool>
         requires { count (Q.packets queue.old) ≤ S.room sink.old }
         ensures marked { result ≡ option_map (λ (t : Taken). t.marked) (taken (joined parameters.now self.old) now (Q.packets queue.old)) }
@@ -156,7 +156,7 @@ impl ControlState {
         queue: &mut Q,
         now: Moment,
         sink: &mut S,
-        out: &mut Packet,
+        out: &mut KeptPacket,
     ) -> bool
         requires front { IsFront front (Q.packets queue.old) }
         requires late { is_late (joined parameters.now self.old) now (Q.packets queue.old) ≡ true }
@@ -400,7 +400,7 @@ impl ControlState {
 
 // Takes the head of a queue that has one into `out`, with the codepoint `Ce` where it is marked.
 #[inline(always)]
-fn give_head<Q: Queue>(queue: &mut Q, marked: bool, out: &mut Packet)
+fn give_head<Q: Queue>(queue: &mut Q, marked: bool, out: &mut KeptPacket)
     requires some { 0 < count (Q.packets queue.old) }
     ensures given { Some out.new ≡ option_map (λ (s : Stamped). leaving marked s.packet) (slice_get (Q.packets queue.old) 0) }
     ensures rest { Q.packets queue.new ≡ drop 1 (Q.packets queue.old) }
@@ -408,7 +408,7 @@ fn give_head<Q: Queue>(queue: &mut Q, marked: bool, out: &mut Packet)
 {
     queue.take_into(out);
     if marked {
-        out.ecn = Ecn::Ce;
+        out.mark();
     }
 }
 

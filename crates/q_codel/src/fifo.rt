@@ -1,4 +1,5 @@
 ghost use Rattle.std.specs.Prelude.{◌≡◌, ◌≤◌, ◌<◌, ◌↔◌, ◌+◌, [], ◌∷◌, ◌++◌, drop, nat_lt, slice_get, option_map, IsTrue, OnOk, OnErr};
+ghost use Rattle.q_packet.specs.Stored.{descriptor, stored_of, IsStored};
 ghost use Rattle.q_packet.specs.Totals.{count, size};
 ghost use Rattle.q_codel.specs.Front.{front_of};
 ghost use Rattle.q_codel.specs.Losses.{losses_of};
@@ -10,7 +11,7 @@ use crate::limit::Limit;
 use crate::queue::Queue;
 use crate::ring::Ring;
 use crate::sink::Sink;
-use q_packet::{Cause, Moment, Packet, Stamped};
+use q_packet::{Cause, KeptPacket, Moment, Stamped, StoredPacket};
 use std::alloc::{AllocError, Global};
 use std::marker::Model;
 
@@ -107,17 +108,30 @@ impl Fifo {
         requires place { count self.old.packets < self.old.places }
         ensures { self.new ≡ record self.old { packets = self.old.packets ++ stamped ∷ [] } }
     {
-        self.put_from(&stamped.packet, stamped.at);
+        let packet = KeptPacket::of(&stamped.packet);
+        self.put_from(&packet, stamped.at);
     }
 
     /// Appends a packet that is read in the caller's memory, queued at the time `now`. There must be a place for it, and the limit must
     /// allow it. The packet is copied once.
-    pub fn put_from(&mut self, packet: &Packet, now: Moment)
+    pub fn put_from(&mut self, packet: &KeptPacket, now: Moment)
         requires fits { IsTrue (takes self.old.limit self.old.packets packet.now.len) }
         requires place { count self.old.packets < self.old.places }
         ensures { self.new ≡ record self.old { packets = self.old.packets ++ record { packet = packet.now; at = now } ∷ [] } }
     {
         self.packets.push(packet, now);
+        self.bytes += packet.len() as u64;
+    }
+
+    /// The same of a stored packet, each field of which is within its range. It is copied once, from the caller's memory to its place.
+    #[inline(always)]
+    pub fn put_stored(&mut self, packet: &StoredPacket, now: Moment)
+        requires fits { IsTrue (takes self.old.limit self.old.packets packet.now.len) }
+        requires place { count self.old.packets < self.old.places }
+        requires in_range { IsStored packet.now }
+        ensures { self.new ≡ record self.old { packets = self.old.packets ++ record { packet = descriptor packet.now; at = now } ∷ [] } }
+    {
+        self.packets.push_stored(packet, now);
         self.bytes += packet.len as u64;
     }
 
@@ -125,7 +139,16 @@ impl Fifo {
     pub fn head(&self) -> Option<Stamped>
         ensures { result ≡ slice_get self.now.packets 0 }
     {
-        self.packets.front().copied()
+        let front = self.packets.front()?;
+        Some(front.stamped())
+    }
+
+    /// The packet in front, in the form in which it is kept; `None` where the queue is empty.
+    pub fn first(&self) -> Option<KeptPacket>
+        ensures { result ≡ option_map (λ (s : Stamped). s.packet) (slice_get self.now.packets 0) }
+    {
+        let front = self.packets.front()?;
+        Some(front.packet)
     }
 
     /// Takes the packet in front; `None` where the queue is empty. Its place stays reserved.
@@ -135,8 +158,8 @@ impl Fifo {
     {
         let front = self.packets.front()?;
         let packet = &front.packet;
-        self.bytes -= packet.len as u64;
-        Some(self.packets.pop())
+        self.bytes -= packet.len() as u64;
+        Some(self.packets.pop().stamped())
     }
 
     /// What CoDel reads of the packet in front; `None` where the queue is empty. No packet is copied.
@@ -147,14 +170,14 @@ impl Fifo {
         let packet = &front.packet;
         Some(Front {
             at: front.at,
-            len: packet.len,
-            ecn: packet.ecn,
+            len: packet.len(),
+            ecn: packet.ecn(),
         })
     }
 
     /// Takes the packet in front into `out`, and returns its length in bytes; 0 if the queue is empty, and `out` stays
     /// then. The packet is copied once. Its place stays reserved.
-    pub fn take_into(&mut self, out: &mut Packet) -> u16
+    pub fn take_into(&mut self, out: &mut KeptPacket) -> u16
         ensures len { result ≡ option_map_or (λ (s : Stamped). s.packet.len) (slice_get self.old.packets 0) 0 }
         ensures some { (0 < result) ↔ (0 < count self.old.packets) }
         ensures given { out.new ≡ option_map_or (λ (s : Stamped). s.packet) (slice_get self.old.packets 0) out.old }
@@ -164,8 +187,27 @@ impl Fifo {
             return 0;
         };
         let packet = &front.packet;
-        let len = packet.len;
+        let len = packet.len();
         *out = *packet;
+        let _ = self.packets.pop();
+        self.bytes -= len as u64;
+        len
+    }
+
+    /// The same as [`Fifo::take_into`], to a place in which anything may be. The packet is copied once.
+    #[inline(always)]
+    pub fn take_stored(&mut self, out: &mut StoredPacket) -> u16
+        ensures len { result ≡ option_map_or (λ (s : Stamped). s.packet.len) (slice_get self.old.packets 0) 0 }
+        ensures some { (0 < result) ↔ (0 < count self.old.packets) }
+        ensures given { out.new ≡ option_map_or (λ (s : Stamped). stored_of s.packet) (slice_get self.old.packets 0) out.old }
+        ensures rest { self.new ≡ record self.old { packets = drop 1 self.old.packets } }
+    {
+        let Some(front) = self.packets.front() else {
+            return 0;
+        };
+        let packet = &front.packet;
+        let len = packet.len();
+        packet.write(out);
         let _ = self.packets.pop();
         self.bytes -= len as u64;
         len
@@ -234,7 +276,7 @@ impl Queue for Fifo {
         Fifo::front(self)
     }
 
-    fn take_into(&mut self, out: &mut Packet) {
+    fn take_into(&mut self, out: &mut KeptPacket) {
         let _ = Fifo::take_into(self, out);
     }
 

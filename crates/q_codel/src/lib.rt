@@ -2,7 +2,8 @@
 //!
 //! - [`Fifo`] is a first-in first-out queue under a [`Limit`] in packets or in bytes. Only `reserve` allocates;
 //!   `put`, `take` and `head` are O(1). Each contract says what the call does to the list of packets.
-//!   `put_from` and `take_into` copy a packet once, from and to where the caller has it.
+//!   `put_from` and `take_into` copy a packet once, from and to where the caller has it, in the form in which it is kept;
+//!   `put_stored` and `take_stored` do so where that form is not known to be in range.
 //! - [`Queue`] is what CoDel takes from. Its ghost members are the list of packets and a frame, `keeps`, which says what a
 //!   take leaves alone: so a queue may be a view of a larger whole. [`Fifo`] is one.
 //! - [`Sink`] is where lost packets go, in order. A caller needs to know nothing of it but its room. [`Losses`] is one that keeps each
@@ -29,6 +30,7 @@
 //! ```
 #![tactic(auto)]
 
+mod cell;
 mod codel;
 mod control_law;
 mod control_state;

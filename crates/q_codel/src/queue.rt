@@ -6,7 +6,7 @@ ghost use Rattle.q_codel.specs.Losses.{losses_of};
 
 use crate::front::Front;
 use crate::sink::Sink;
-use q_packet::{Cause, Packet, Stamped};
+use q_packet::{Cause, KeptPacket, Stamped};
 
 /// A queue that CoDel takes from: a list of stamped packets, front first.
 ///
@@ -40,7 +40,7 @@ pub trait Queue {
     }
 
     /// Takes the packet in front, which is there, into `out`: it is copied once.
-    fn take_into(&mut self, out: &mut Packet)
+    fn take_into(&mut self, out: &mut KeptPacket)
         requires { 0 < count (packets self.old) }
         ensures given { Some out.new ≡ option_map (λ (s : Stamped). s.packet) (slice_get (packets self.old) 0) }
         ensures rest { packets self.new ≡ drop 1 (packets self.old) }
@@ -49,7 +49,7 @@ pub trait Queue {
         let Some(stamped) = self.take() else {
             unreachable!()
         };
-        *out = stamped.packet;
+        *out = KeptPacket::of(&stamped.packet);
     }
 
     /// Loses the packet in front, which is there: `sink` gets it, with this cause.

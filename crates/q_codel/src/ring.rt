@@ -1,7 +1,9 @@
 ghost use Rattle.std.specs.Prelude.{◌≡◌, ◌≤◌, ◌<◌, ◌%◌, ◌^◌, [], ◌∷◌, ◌++◌, length, drop, slice_get, Some, MatchOption, OnOk, OnErr};
 ghost use Rattle.q_codel.specs.Ring.{IsPower};
+ghost use Rattle.q_packet.specs.Stored.{descriptor, IsStored};
 
-use q_packet::{Moment, Packet, SOME_PACKET, Stamped};
+use crate::cell::Cell;
+use q_packet::{KeptPacket, Moment, SOME_KEPT, StoredPacket};
 use std::alloc::{AllocError, Global};
 use std::marker::Model;
 
@@ -17,7 +19,7 @@ const FIRST_PLACES: usize = 4;
 /// So a step is one addition; and once the cells are doubled by a copy of them all, each packet is in the cell of its number.
 #[derive(Drop)]
 pub(crate) struct Ring {
-    cells: Vec<Stamped>,
+    cells: Vec<Cell>,
     // The numbers of the packet in front and of the next one to come.
     first: usize,
     next: usize,
@@ -75,8 +77,8 @@ impl Ring {
     {
         let places = self.cells.len();
         if places == 0 {
-            let unread = Stamped {
-                packet: SOME_PACKET,
+            let unread = Cell {
+                packet: SOME_KEPT,
                 at: Moment::zero(),
             };
             return self.cells.resize(FIRST_PLACES, unread);
@@ -90,13 +92,28 @@ impl Ring {
 
     /// Appends a packet, for which there has to be a place. It is copied once.
     #[inline(always)]
-    pub(crate) fn push(&mut self, packet: &Packet, at: Moment)
+    pub(crate) fn push(&mut self, packet: &KeptPacket, at: Moment)
         requires { length self.old.packets < self.old.places }
         ensures { self.new ≡ record self.old { packets = self.old.packets ++ record { packet = packet.now; at = at } ∷ [] } }
     {
         let cell = cell_of(self.next, self.cells.len());
-        self.cells[cell] = Stamped {
+        self.cells[cell] = Cell {
             packet: *packet,
+            at,
+        };
+        self.next = self.next.wrapping_add(1);
+    }
+
+    /// The same of a stored packet, each field of which is within its range. It is copied once, from the caller's memory to its cell.
+    #[inline(always)]
+    pub(crate) fn push_stored(&mut self, packet: &StoredPacket, at: Moment)
+        requires place { length self.old.packets < self.old.places }
+        requires in_range { IsStored packet.now }
+        ensures { self.new ≡ record self.old { packets = self.old.packets ++ record { packet = descriptor packet.now; at = at } ∷ [] } }
+    {
+        let cell = cell_of(self.next, self.cells.len());
+        self.cells[cell] = Cell {
+            packet: KeptPacket::kept(packet),
             at,
         };
         self.next = self.next.wrapping_add(1);
@@ -104,7 +121,7 @@ impl Ring {
 
     /// A reference to the packet in front; `None` if there is none.
     #[inline(always)]
-    pub(crate) fn front(&self) -> Option<&Stamped>
+    pub(crate) fn front(&self) -> Option<&Cell>
         ensures { MatchOption result (self.now.packets ≡ []) (λ front. slice_get self.now.packets 0 ≡ Some front.now) }
     {
         if self.first == self.next {
@@ -115,7 +132,7 @@ impl Ring {
 
     /// Takes the packet in front, which is there. It is copied last, from its cell to where the caller wants it.
     #[inline(always)]
-    pub(crate) fn pop(&mut self) -> Stamped
+    pub(crate) fn pop(&mut self) -> Cell
         requires { 0 < length self.old.packets }
         ensures front { slice_get self.old.packets 0 ≡ Some result }
         ensures rest { self.new ≡ record self.old { packets = drop 1 self.old.packets } }

@@ -1,4 +1,4 @@
-ghost use Rattle.std.specs.Prelude.{All, ℕ, ◌≡◌, ◌<◌, ◌≤◌, ◌+◌, ◌*◌, ◌^◌, ◌-◌, true, None, IsSome, IfSome, IfNone, Ok, IsOk, IfOk, OnOk, OnErr, IfErr, max, min, if◌then◌else◌, length, option_map, slice_get, unwrap_or};
+ghost use Rattle.std.specs.Prelude.{All, ℕ, ◌/◌, ◌≡◌, ◌<◌, ◌≤◌, ◌+◌, ◌*◌, ◌^◌, ◌-◌, true, None, IsSome, IfSome, IfNone, Ok, IsOk, IfOk, OnOk, OnErr, IfErr, max, min, if◌then◌else◌, length, option_map, slice_get, unwrap_or};
 ghost use Rattle.q_model.specs.Beneath.{beneath, is_empty, row_of};
 ghost use Rattle.q_model.specs.Node.{shape};
 ghost use Rattle.q_model.specs.Settings.{IsInRange};
@@ -8,6 +8,8 @@ ghost use Rattle.q_model.specs.TreeState.{given, stats};
 ghost use Rattle.q_model.specs.declared.event.Event.TheVariants as event;
 ghost use Rattle.q_model.specs.declared.reply.Reply.TheVariants as reply;
 ghost use Rattle.q_packet.specs.Descriptor.{Descriptor};
+ghost use Rattle.q_packet.specs.Stored.{IsStored, descriptor, stored_of};
+ghost use Rattle.std.specs.Option.{option_map_or};
 ghost use Rattle.q_tree.specs.Commanding.{MayTakeMemory};
 ghost use Rattle.q_tree.specs.MostPackets.{most_packets};
 ghost use Rattle.q_tree.specs.ReadyAt.{is_sure, ready_at};
@@ -17,14 +19,15 @@ ghost use Rattle.q_device.specs.Counters.{HasNotFallen};
 ghost use Rattle.q_device.specs.DeviceLaws.{HasItsMemory, IsReplayed};
 ghost use Rattle.q_device.specs.DeviceSeen.{IsRefusal, as_counted, longest, most_events, opened, polled_memory, reaped, with_event, HasNoFewerPlaces, HasRoomFor, IsCommanded, IsRefusedAt};
 ghost use Rattle.q_device.specs.Giving.{given_of, polled_in};
+ghost use Rattle.q_device.specs.Laws.{given_in};
 ghost use Rattle.q_device.specs.Promise.{promise_of, promise_seen};
 
 use crate::given::Given;
 use crate::recording::{has_room, record_arrival, record_command, record_poll};
 use crate::service::{Service, promised};
 use q_codel::{Loss as Lost, Losses};
-use q_model::{Command, Event, Fate, Place, Polled, Refusal, Row, Settings, packet_ranges};
-use q_packet::{Moment, Packet, SOME_PACKET};
+use q_model::{Command, Event, Fate, Place, Polled, Refusal, Row, Settings, stored_ranges};
+use q_packet::{KeptPacket, Moment, StoredPacket};
 use q_tree::Tree;
 use std::alloc::{AllocError, Global};
 use std::marker::Model;
@@ -90,65 +93,36 @@ impl Device {
         })
     }
 
-    /// A packet arrives, and is queued or lost. All memory is taken first: a place in its queue, and one for its loss.
-    ///
-    /// A time before the device's clock counts as the clock. The event is recorded at the time that the clock shows
-    /// after it.
-    ///
-    /// # Errors
-    ///
-    /// The packet and `AllocError` if an allocation fails, or if one packet more could overflow what the device counts of
-    /// arrivals; never where there is room for the packet already. Nothing has changed then but for places, and there was no event:
-    /// what there was room for there is room for still.
-    #[inline(always)]
-    pub fn arrive(&mut self, packet: Packet, now: Moment) -> Result<Fate, (Packet, AllocError)>
-        ensures event { OnOk result (self.new ≡ record (with_event (event.Arrive packet now) self.old) { memory = self.new.memory }) }
-        ensures moment { OnOk result (as_counted self.old.device (event.Arrive packet now) ≡ event.Arrive packet self.new.device.clock) }
-        ensures fate { IfOk result (λ fate. reply.Fate fate ≡ (step totals self.old.device (event.Arrive packet now)).reply) }
-        ensures arrived { OnOk result (self.new.device.tree.top.arrived ≡ with_packet self.old.device.tree.top.arrived packet) }
-        ensures same { OnErr result (self.new ≡ record self.old { memory = self.new.memory }) }
-        ensures succeeds { HasRoomFor packet self.old → IsOk result }
-        ensures places { self.old.memory.losses ≤ self.new.memory.losses }
-        ensures queues { HasNoFewerPlaces self.old.memory self.new.memory }
-        ensures keeps { OnErr result ((other : Descriptor) → HasRoomFor other self.old → HasRoomFor other self.new) }
-        ensures recorder { self.new.memory.events ≡ self.old.memory.events }
-        ensures back { IfErr result (λ refused. refused.0 ≡ packet) }
-        ensures counters { HasNotFallen self.old.device.tree.top self.new.device.tree.top }
-    {
-        match self.arrive_at(&packet, now) {
-            Ok(fate) => Ok(fate),
-            Err(refused) => Err((packet, refused)),
-        }
-    }
-
-    /// [`Device::arrive`] of a packet that stays where it is, and is copied once, to its queue.
+    /// [`Device::arrive`] of a stored packet, each field of which is within its range ([`StoredPacket::in_range`] tells). It stays where
+    /// it is, and is copied from there to its queue.
     ///
     /// # Errors
     ///
     /// `AllocError` where [`Device::arrive`] returns it. Nothing has changed then but for places, and there was no event: what there
     /// was room for there is room for still.
     #[inline(always)]
-    pub fn arrive_at(&mut self, packet: &Packet, now: Moment) -> Result<Fate, AllocError>
-        ensures event { OnOk result (self.new ≡ record (with_event (event.Arrive packet.now now) self.old) { memory = self.new.memory }) }
-        ensures moment { OnOk result (as_counted self.old.device (event.Arrive packet.now now) ≡ event.Arrive packet.now self.new.device.clock) }
-        ensures fate { IfOk result (λ fate. reply.Fate fate ≡ (step totals self.old.device (event.Arrive packet.now now)).reply) }
-        ensures arrived { OnOk result (self.new.device.tree.top.arrived ≡ with_packet self.old.device.tree.top.arrived packet.now) }
+    pub fn arrive_stored(&mut self, packet: &StoredPacket, now: Moment) -> Result<Fate, AllocError>
+        requires { IsStored packet.now }
+        ensures event { OnOk result (self.new ≡ record (with_event (event.Arrive (descriptor packet.now) now) self.old) { memory = self.new.memory }) }
+        ensures moment { OnOk result (as_counted self.old.device (event.Arrive (descriptor packet.now) now) ≡ event.Arrive (descriptor packet.now) self.new.device.clock) }
+        ensures fate { IfOk result (λ fate. reply.Fate fate ≡ (step totals self.old.device (event.Arrive (descriptor packet.now) now)).reply) }
+        ensures arrived { OnOk result (self.new.device.tree.top.arrived ≡ with_packet self.old.device.tree.top.arrived (descriptor packet.now)) }
         ensures same { OnErr result (self.new ≡ record self.old { memory = self.new.memory }) }
-        ensures succeeds { HasRoomFor packet.now self.old → IsOk result }
+        ensures succeeds { HasRoomFor (descriptor packet.now) self.old → IsOk result }
         ensures places { self.old.memory.losses ≤ self.new.memory.losses }
         ensures queues { HasNoFewerPlaces self.old.memory self.new.memory }
         ensures keeps { OnErr result ((other : Descriptor) → HasRoomFor other self.old → HasRoomFor other self.new) }
         ensures recorder { self.new.memory.events ≡ self.old.memory.events }
         ensures counters { HasNotFallen self.old.device.tree.top self.new.device.tree.top }
     {
-        packet_ranges(*packet);
+        stored_ranges(packet);
         moment_range(now);
         if self.spare == 0 {
-            return self.arrive_with_care(packet, now);
+            return self.arrive_with_care(&KeptPacket::kept(packet), now);
         }
         self.spare -= 1;
         let at = later(&self.tree, now);
-        let Ok(fate) = self.tree.arrive_counted(packet, at, &mut self.losses) else {
+        let Ok(fate) = self.tree.arrive_stored(packet, at, &mut self.losses) else {
             return Err(AllocError);
         };
         Ok(fate)
@@ -158,7 +132,7 @@ impl Device {
     // the recorder and for how many packets none of this has to be asked again.
     #[cold]
     #[inline(never)]
-    fn arrive_with_care(&mut self, packet: &Packet, now: Moment) -> Result<Fate, AllocError>
+    fn arrive_with_care(&mut self, packet: &KeptPacket, now: Moment) -> Result<Fate, AllocError>
         ensures event { OnOk result (self.new ≡ record (with_event (event.Arrive packet.now now) self.old) { memory = self.new.memory }) }
         ensures moment { OnOk result (as_counted self.old.device (event.Arrive packet.now now) ≡ event.Arrive packet.now self.new.device.clock) }
         ensures fate { IfOk result (λ fate. reply.Fate fate ≡ (step totals self.old.device (event.Arrive packet.now now)).reply) }
@@ -171,7 +145,7 @@ impl Device {
         ensures recorder { self.new.memory.events ≡ self.old.memory.events }
         ensures counters { HasNotFallen self.old.device.tree.top self.new.device.tree.top }
     {
-        packet_ranges(*packet);
+        stored_ranges(&packet.stored);
         moment_range(now);
         let at = later(&self.tree, now);
         let Ok(()) = make_room(&self.tree, &mut self.losses) else {
@@ -185,43 +159,42 @@ impl Device {
         Ok(fate)
     }
 
-    /// Takes the packet whose turn it is. Returns `Idle` if there is none to send and nothing is queued, and `Later` if there is
-    /// none to send though something is queued. It takes no memory.
-    ///
-    /// A time before the device's clock counts as the clock. The event is recorded at the time that the clock shows
-    /// after it.
+    /// [`Device::poll`] into the caller's place, in the form in which packets are kept: the packet whose turn it is is copied to `out`,
+    /// which stays as it is if there is none. It takes no memory.
     #[inline(always)]
-    pub fn poll(&mut self, now: Moment) -> Polled
-        ensures event { self.new ≡ record (with_event (event.Poll now) self.old) { memory = self.new.memory } }
-        ensures memory { self.new.memory ≡ polled_memory self.new.device.clock self.old.memory }
-        ensures moment { as_counted self.old.device (event.Poll now) ≡ event.Poll self.new.device.clock }
-        ensures reply { reply.Polled result ≡ (step totals self.old.device (event.Poll now)).reply }
-        ensures arrived { self.new.device.tree.top.arrived ≡ self.old.device.tree.top.arrived }
-        ensures counters { HasNotFallen self.old.device.tree.top self.new.device.tree.top }
-    {
-        let mut out = SOME_PACKET;
-        match self.poll_into(now, &mut out) {
-            Given::Packet => Polled::Packet(out),
-            Given::Idle => Polled::Idle,
-            Given::Later => Polled::Later,
-        }
-    }
-
-    /// [`Device::poll`] into the caller's place: the packet whose turn it is is written to `out`, which stays as it is if there
-    /// is none. It takes no memory.
-    #[inline(always)]
-    pub fn poll_into(&mut self, now: Moment, out: &mut Packet) -> Given
+    pub fn poll_kept(&mut self, now: Moment, out: &mut KeptPacket) -> Given
         ensures event { self.new ≡ record (with_event (event.Poll now) self.old) { memory = self.new.memory } }
         ensures memory { self.new.memory ≡ polled_memory self.new.device.clock self.old.memory }
         ensures moment { as_counted self.old.device (event.Poll now) ≡ event.Poll self.new.device.clock }
         ensures reply { reply.Polled (polled_in out.new result) ≡ (step totals self.old.device (event.Poll now)).reply }
         ensures packet { out.new ≡ unwrap_or (given self.new.device.clock self.old.device.tree) out.old }
+        ensures gives { given_in (step totals self.old.device (event.Poll now)).reply ≡ given self.new.device.clock self.old.device.tree }
         ensures arrived { self.new.device.tree.top.arrived ≡ self.old.device.tree.top.arrived }
         ensures counters { HasNotFallen self.old.device.tree.top self.new.device.tree.top }
     {
         moment_range(now);
         let at = later(&self.tree, now);
         let sent = self.tree.send(at, out, &mut self.losses);
+        record_poll(&mut self.recorded, &self.settings, self.spare, at);
+        count_poll(sent, &mut self.others);
+        given_of(sent, &self.tree)
+    }
+
+    /// The same into a place in which anything may be: it has a stored packet then, or what it had.
+    #[inline(always)]
+    pub fn poll_stored(&mut self, now: Moment, out: &mut StoredPacket) -> Given
+        ensures event { self.new ≡ record (with_event (event.Poll now) self.old) { memory = self.new.memory } }
+        ensures memory { self.new.memory ≡ polled_memory self.new.device.clock self.old.memory }
+        ensures moment { as_counted self.old.device (event.Poll now) ≡ event.Poll self.new.device.clock }
+        ensures reply { reply.Polled (polled_in (unwrap_or (given self.new.device.clock self.old.device.tree) (descriptor out.old)) result) ≡ (step totals self.old.device (event.Poll now)).reply }
+        ensures packet { out.new ≡ option_map_or stored_of (given self.new.device.clock self.old.device.tree) out.old }
+        ensures gives { given_in (step totals self.old.device (event.Poll now)).reply ≡ given self.new.device.clock self.old.device.tree }
+        ensures arrived { self.new.device.tree.top.arrived ≡ self.old.device.tree.top.arrived }
+        ensures counters { HasNotFallen self.old.device.tree.top self.new.device.tree.top }
+    {
+        moment_range(now);
+        let at = later(&self.tree, now);
+        let sent = self.tree.send_stored(at, out, &mut self.losses);
         record_poll(&mut self.recorded, &self.settings, self.spare, at);
         count_poll(sent, &mut self.others);
         given_of(sent, &self.tree)
@@ -421,6 +394,8 @@ fn budget(tree: &Tree, losses: &Losses, recorded: &Vec<Event>, settings: &Settin
     ensures packets { tree.now.tree.top.counts.arrived.packets + result < 2 ^ 64 }
     ensures bytes { tree.now.tree.top.counts.arrived.bytes + result * longest < 2 ^ 64 }
     ensures full { 1 ≤ result → settings.now.recorder ≤ length recorded.now.items }
+    ensures least { settings.now.recorder ≤ length recorded.now.items →
+        result ≡ min (min (losses.now.places - length losses.now.waiting - length (beneath tree.now.tree.root)) (2 ^ 64 - 1 - tree.now.tree.top.counts.arrived.packets)) ((2 ^ 64 - 1 - tree.now.tree.top.counts.arrived.bytes) / longest) }
 {
     if has_room(recorded, settings) {
         return 0;

@@ -3,6 +3,9 @@
 //!
 //! - [`Device`] takes packets in, is polled for them, and does commands on its tree or refuses them. [`Device::arrive_at`] and
 //!   [`Device::poll_into`] read and write a packet where the caller has it; a [`Given`] is what such a poll answers.
+//! - Queues keep a packet as a [`KeptPacket`]: [`Device::arrive_kept`] and [`Device::poll_kept`] copy it whole, and the other calls
+//!   convert a [`Packet`], field by field. [`Device::arrive_stored`] and [`Device::poll_stored`] are for a [`StoredPacket`], whose fields
+//!   nobody vouches for.
 //! - [`play`] gives the [`Replies`] to a list of events, by a device of its own.
 //! - [`LastEvents`] is a ring in which a program notes what happened last, while a device records what happened first.
 //! - A [`Service`] is what a class of a drr is promised, which [`Device::service`] answers.
@@ -39,6 +42,7 @@ mod device;
 mod given;
 pub mod last_events;
 pub mod laws;
+mod packets;
 mod playing;
 mod recording;
 mod service;
@@ -51,8 +55,8 @@ pub use playing::{Replies, play};
 pub use q_codel::Loss as Lost;
 pub use q_model::{Event, Fate, Polled, Reply, Settings};
 pub use q_packet::{
-    Cause, Ecn, FlowHash, FlowKey, Head, Moment, OneAtATime, Packet, SOME_PACKET, ip_at, mark_head,
-    one_at_a_time, read_head,
+    Cause, Ecn, FlowHash, FlowKey, Head, KeptPacket, Moment, OneAtATime, Packet, SOME_KEPT,
+    SOME_PACKET, SOME_STORED, StoredPacket, ip_at, mark_head, one_at_a_time, read_head,
 };
 pub use q_tree::{
     Burst, ClassId, ClassKind, ClassView, Command, Filter, FilterKeys, FilterPrio, FilterView,

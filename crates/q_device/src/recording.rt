@@ -6,14 +6,14 @@ ghost use Rattle.q_model.specs.declared.event.Event.TheVariants as event;
 ghost use Rattle.q_device.specs.DeviceSeen.{with_recorded};
 
 use q_model::{Command, Event, Settings};
-use q_packet::{Moment, Packet};
+use q_packet::{KeptPacket, Moment};
 
 /// Keeps the arrival of a packet where there is room.
 #[inline(always)]
 pub(crate) fn record_arrival(
     recorded: &mut Vec<Event>,
     settings: &Settings,
-    packet: &Packet,
+    packet: &KeptPacket,
     at: Moment,
 )
     requires { settings.now.recorder ≤ vec_capacity recorded.old }
@@ -64,12 +64,12 @@ pub(crate) fn has_room(recorded: &Vec<Event>, settings: &Settings) -> bool
 
 #[cold]
 #[inline(never)]
-fn keep_arrival(recorded: &mut Vec<Event>, packet: &Packet, at: Moment)
+fn keep_arrival(recorded: &mut Vec<Event>, packet: &KeptPacket, at: Moment)
     requires { length recorded.old.items < vec_capacity recorded.old }
     ensures items { recorded.new.items ≡ recorded.old.items ++ event.Arrive packet.now at ∷ [] }
     ensures capacity { vec_capacity recorded.new ≡ vec_capacity recorded.old }
 {
-    keep(recorded, Event::Arrive(*packet, at));
+    keep(recorded, Event::Arrive(packet.packet(), at));
 }
 
 // Where there is room.

@@ -6,11 +6,16 @@ ghost use Rattle.q_fqcodel.specs.Nodes.{used};
 
 use crate::flow_list::FlowList;
 use crate::nodes::Nodes;
-use q_packet::{Moment, Packet};
+use q_packet::{KeptPacket, Moment};
 
 /// Appends a packet, queued at the time `now`, to the list of its flow, however many flows there are.
 #[inline(always)]
-pub(crate) fn append(nodes: &mut Nodes, list: FlowList, packet: &Packet, now: Moment) -> FlowList
+pub(crate) fn append(
+    nodes: &mut Nodes,
+    list: FlowList,
+    packet: &KeptPacket,
+    now: Moment,
+) -> FlowList
     requires room { nodes.old.count < nodes.old.slab.capacity }
     requires linked { (flows : ℕ) × IsList (used nodes.old) flows (packet.now.hash % flows) list }
     requires few { list.count < 2 ^ 32 }
@@ -25,7 +30,7 @@ pub(crate) fn append(nodes: &mut Nodes, list: FlowList, packet: &Packet, now: Mo
     ensures len { nodes.new.count ≡ nodes.old.count + 1 }
     ensures capacity { nodes.new.slab.capacity ≡ nodes.old.slab.capacity }
 {
-    let len = packet.len;
+    let len = packet.stored.len;
     let key = nodes.claim(packet, now);
     if list.count == 0 {
         return FlowList {
@@ -62,7 +67,7 @@ pub(crate) fn drop_head(nodes: &mut Nodes, list: FlowList) -> FlowList
 {
     let node = nodes.at(list.head);
     let packet = &node.packet;
-    let len = packet.len;
+    let len = packet.stored.len;
     let next = node.next;
     nodes.vacate(list.head);
     FlowList {
@@ -75,7 +80,7 @@ pub(crate) fn drop_head(nodes: &mut Nodes, list: FlowList) -> FlowList
 
 /// Takes the first packet out of the list of a flow, into `out`: it is copied once.
 #[inline(always)]
-pub(crate) fn take_head_into(nodes: &mut Nodes, list: FlowList, out: &mut Packet) -> FlowList
+pub(crate) fn take_head_into(nodes: &mut Nodes, list: FlowList, out: &mut KeptPacket) -> FlowList
     requires some { 0 < list.count }
     requires few { list.count ≤ nodes.old.count }
     requires linked { (flows : ℕ) × (flow : ℕ) × IsList (used nodes.old) flows flow list }

@@ -10,7 +10,7 @@ ghost use Rattle.q_fqcodel.specs.PoolKept.{kept_same, kept_on};
 
 use crate::pool::Pool;
 use q_codel::{ControlState, Front, Parameters, Queue, Sink};
-use q_packet::{Cause, Moment, Packet, Stamped};
+use q_packet::{Cause, KeptPacket, Moment, Stamped};
 
 /// The queue of one flow, as a view of the packets of all.
 #[derive(Drop)]
@@ -45,7 +45,7 @@ impl<'a> Queue for FlowQueue<'a> {
         self.pool.lose_head(self.flow, cause, sink);
     }
 
-    fn take_into(&mut self, out: &mut Packet) {
+    fn take_into(&mut self, out: &mut KeptPacket) {
         self.pool.take_of_into(self.flow, out);
     }
 
@@ -72,7 +72,7 @@ pub(crate) fn send_late_from<S: Sink>(
     flow: u32,
     front: Front,
     now: Moment,
-    out: &mut Packet,
+    out: &mut KeptPacket,
     sink: &mut S,
 ) -> bool
     requires front { IsFront front (get_or pool.old.queues flow []) }

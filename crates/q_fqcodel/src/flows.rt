@@ -18,7 +18,7 @@ use crate::sent::Sent;
 use crate::settings::Settings;
 use crate::winners::Winners;
 use q_codel::{ControlState, Parameters, Sink};
-use q_packet::{Cause, Moment, Packet};
+use q_packet::{Cause, KeptPacket, Moment};
 use std::alloc::{AllocError, Global};
 use std::marker::Model;
 
@@ -113,7 +113,7 @@ impl Flows {
 
     /// Appends a packet to a flow.
     #[inline(always)]
-    pub(crate) fn push(&mut self, flow: u32, packet: &Packet, now: Moment)
+    pub(crate) fn push(&mut self, flow: u32, packet: &KeptPacket, now: Moment)
         requires in_range { flow < length self.old.flows }
         requires own { packet.now.hash % length self.old.flows ≡ flow }
         requires place { packets_of self.old.flows < self.old.places }
@@ -144,7 +144,7 @@ impl Flows {
         &mut self,
         flow: u32,
         now: Moment,
-        out: &mut Packet,
+        out: &mut KeptPacket,
     ) -> Result<u16, Late>
         requires in_range { flow < length self.old.flows }
         requires some { 0 < count (queue_of self.old.flows flow) }
@@ -176,7 +176,7 @@ impl Flows {
         &mut self,
         flow: u32,
         now: Moment,
-        out: &mut Packet,
+        out: &mut KeptPacket,
         sink: &mut S,
     ) -> Sent
         requires in_range { flow < length self.old.flows }
@@ -212,7 +212,7 @@ impl Flows {
         let bytes = self.pool.bytes_at(flow);
         self.winners.renew(flow, bytes, Course::Either);
         Sent {
-            len: out.len,
+            len: out.stored.len,
             marked,
             dropped: held - rest > 1,
         }
@@ -265,7 +265,7 @@ impl Flows {
     fn exchange<S: Sink>(
         &mut self,
         flow: u32,
-        packet: &Packet,
+        packet: &KeptPacket,
         now: Moment,
         lost: u64,
         sink: &mut S,
@@ -303,7 +303,7 @@ impl Flows {
 
     // Appends a packet to a flow, and loses the first packet of the fat one, whose node is the first that a packet takes.
     #[inline(always)]
-    fn swap<S: Sink>(&mut self, flow: u32, packet: &Packet, now: Moment, fat: u32, sink: &mut S)
+    fn swap<S: Sink>(&mut self, flow: u32, packet: &KeptPacket, now: Moment, fat: u32, sink: &mut S)
         requires in_range { flow < length self.old.flows }
         requires own { packet.now.hash % length self.old.flows ≡ flow }
         requires place { packets_of self.old.flows < self.old.places }
@@ -333,7 +333,7 @@ impl Flows {
     pub(crate) fn push_over<S: Sink>(
         &mut self,
         flow: u32,
-        packet: &Packet,
+        packet: &KeptPacket,
         now: Moment,
         batch: u32,
         sink: &mut S,
@@ -354,7 +354,7 @@ impl Flows {
         ensures room { S.room sink.new + shed_count (adjust (joined (stamp packet.now now)) flow self.old.flows) batch ≡ S.room sink.old }
         ensures kept { S.keeps sink.old sink.new }
     {
-        let fat = self.fattest_with(flow, packet.len);
+        let fat = self.fattest_with(flow, packet.stored.len);
         if self.sheds_one(fat, batch) {
             self.swap(flow, packet, now, fat, sink);
             return false;

@@ -15,7 +15,7 @@ use crate::link::Link;
 use crate::sent::Sent;
 use crate::settings::Settings;
 use q_codel::{ControlState, Sink, Taken};
-use q_packet::{Cause, Moment, Packet, SOME_PACKET};
+use q_packet::{Cause, KeptPacket, Moment, Packet, SOME_KEPT};
 use std::alloc::{AllocError, Global};
 use std::marker::Model;
 
@@ -75,15 +75,15 @@ impl FqCodel {
         ensures room { S.room sink.new + count (dropped_from now (selected self.old.state)) ≡ S.room sink.old }
         ensures kept { S.keeps sink.old sink.new }
     {
-        let mut packet = SOME_PACKET;
+        let mut packet = SOME_KEPT;
         let sent = self.take_into(now, &mut packet, sink);
         // A packet has a byte at least.
-        let _ = &packet.len;
+        let _ = &packet.stored.len;
         if sent.len == 0 {
             return None;
         }
         Some(Taken {
-            packet,
+            packet: packet.packet(),
             marked: sent.marked,
         })
     }
@@ -91,7 +91,7 @@ impl FqCodel {
     /// Does what [`FqCodel::take`] does, and writes the packet into `out`, so that it is copied once; `out` stays where no flow
     /// has a packet. The result has its length, and whether CoDel marked it or dropped packets before it.
     #[inline(always)]
-    pub fn take_into<S: Sink>(&mut self, now: Moment, out: &mut Packet, sink: &mut S) -> Sent
+    pub fn take_into<S: Sink>(&mut self, now: Moment, out: &mut KeptPacket, sink: &mut S) -> Sent
         requires { packets_of self.old.state.flows ≤ S.room sink.old }
         ensures len { result.len ≡ option_map_or (λ (t : Taken). t.packet.len) (sent_from now (selected self.old.state)) 0 }
         ensures some { (0 < result.len) ↔ (0 < packets_of self.old.state.flows) }
@@ -131,7 +131,7 @@ impl FqCodel {
     /// [`Late`] where CoDel finds that packet late, so that it has to drop or mark: the flow that sends is in front then, and
     /// [`FqCodel::take_late_into`] goes on.
     #[inline(always)]
-    pub fn pass_into(&mut self, now: Moment, out: &mut Packet) -> Result<Option<u16>, Late>
+    pub fn pass_into(&mut self, now: Moment, out: &mut KeptPacket) -> Result<Option<u16>, Late>
         ensures len { IfOk result (λ len. len ≡ option_map (λ (t : Taken). t.packet.len) (sent_from now (selected self.old.state))) }
         ensures some { IfOk result (λ len. IsSome len ↔ (0 < packets_of self.old.state.flows)) }
         ensures positive { IfOk result (λ len. IfSome len (λ n. 0 < n)) }
@@ -152,7 +152,12 @@ impl FqCodel {
 
     /// Does what [`FqCodel::take_into`] does, once [`FqCodel::pass_into`] has found the packet in front late.
     #[inline(always)]
-    pub fn take_late_into<S: Sink>(&mut self, now: Moment, out: &mut Packet, sink: &mut S) -> Sent
+    pub fn take_late_into<S: Sink>(
+        &mut self,
+        now: Moment,
+        out: &mut KeptPacket,
+        sink: &mut S,
+    ) -> Sent
         requires settled { IsSettled self.old.state }
         requires late { IsFrontLate now self.old.state }
         requires room { packets_of self.old.state.flows ≤ S.room sink.old }
@@ -190,12 +195,13 @@ impl FqCodel {
         ensures room { S.room sink.new + count (lost_by_put self.old.state packet now) ≡ S.room sink.old }
         ensures kept { S.keeps sink.old sink.new }
     {
+        let packet = KeptPacket::of(&packet);
         self.put_from(&packet, now, sink)
     }
 
     /// Does what [`FqCodel::put`] does, with a packet that is read in the caller's memory.
     #[inline(always)]
-    pub fn put_from<S: Sink>(&mut self, packet: &Packet, now: Moment, sink: &mut S) -> bool
+    pub fn put_from<S: Sink>(&mut self, packet: &KeptPacket, now: Moment, sink: &mut S) -> bool
         requires place { packets_of self.old.state.flows < self.old.places }
         requires room { min self.old.state.settings.drop_batch (packets_of self.old.state.flows + 1) ≤ S.room sink.old }
         ensures answer { result ≡ is_lost_itself self.old.state packet.now now }
@@ -210,7 +216,12 @@ impl FqCodel {
 
     /// Does what [`FqCodel::put_from`] does, and returns how much the fat flow lost, so that no caller counts before and after.
     #[inline(always)]
-    pub fn put_counted<S: Sink>(&mut self, packet: &Packet, now: Moment, sink: &mut S) -> Dropped
+    pub fn put_counted<S: Sink>(
+        &mut self,
+        packet: &KeptPacket,
+        now: Moment,
+        sink: &mut S,
+    ) -> Dropped
         requires place { packets_of self.old.state.flows < self.old.places }
         requires room { min self.old.state.settings.drop_batch (packets_of self.old.state.flows + 1) ≤ S.room sink.old }
         ensures itself { result.itself ≡ is_lost_itself self.old.state packet.now now }
@@ -225,7 +236,7 @@ impl FqCodel {
         // Before the lists are written, so that the compiler asks once where the caller has asked `fits`.
         let fits = self.fits();
         let settings = self.settings;
-        let flow = flow_by_hash(packet.hash, settings.flows);
+        let flow = flow_by_hash(packet.stored.hash, settings.flows);
         self.lists.enlist(flow, settings.quantum);
         if fits {
             self.flows.push(flow, packet, now);
@@ -236,7 +247,7 @@ impl FqCodel {
             };
         }
         let packets = self.flows.count() + 1;
-        let bytes = self.flows.bytes() + packet.len as u64;
+        let bytes = self.flows.bytes() + packet.stored.len as u64;
         let batch = settings.drop_batch;
         let itself = self.flows.push_over(flow, packet, now, batch, sink);
         let packets_after = self.flows.count();
@@ -440,7 +451,7 @@ impl FqCodel {
         &mut self,
         first: Option<Entry>,
         now: Moment,
-        out: &mut Packet,
+        out: &mut KeptPacket,
     ) -> Result<Option<u16>, Late>
         requires first { first ≡ front self.old.state }
         requires settled { IsSettled self.old.state }

@@ -33,7 +33,7 @@
 //! the fat flow at its root. A packet that leaves is not cleared: its node stays in the slab, linked to others that are spare,
 //! and the next packet takes the first of these. So a put takes a few steps, and one for each level of the tree at most, twice where it drops. A
 //! take does so too, after a few steps for each listed flow that it passes over, as it has no credits or no packets. A change
-//! of the settings touches no flow. A flow takes 96 bytes at most, and a packet 112.
+//! of the settings touches no flow. A flow takes 96 bytes at most, and a packet 88.
 //!
 //! [`laws`] states what follows from these definitions: nothing is made or lost, a put leaves a packet, each call keeps the
 //! state lawful, a flow that has just become new sends before any flow of the old list, and a flow's credits grow by the quanta

@@ -5,7 +5,7 @@ ghost use Rattle.q_fqcodel.specs.Nodes.{used};
 ghost use Rattle.q_fqcodel.specs.declared.node.Node.{Node};
 
 use crate::node::Node;
-use q_packet::{Moment, Packet};
+use q_packet::{KeptPacket, Moment};
 use slab::Slab;
 use std::alloc::{AllocError, Global};
 use std::marker::Model;
@@ -91,7 +91,7 @@ impl Nodes {
 
     /// Copies a packet into a node that has none, and returns its key.
     #[inline(always)]
-    pub(crate) fn claim(&mut self, packet: &Packet, now: Moment) -> usize
+    pub(crate) fn claim(&mut self, packet: &KeptPacket, now: Moment) -> usize
         requires { self.old.count < self.old.slab.capacity }
         ensures vacant { used self.old result ≡ None }
         ensures stored { IfSome (used self.new result) (λ x. stamped_of x ≡ record { packet = packet.now; at = now }) }
@@ -118,7 +118,7 @@ impl Nodes {
     /// Copies the packet of the node at a key into `out`, and leaves the node without it. Returns the key that the node led to, and
     /// the packet's length in bytes.
     #[inline(always)]
-    pub(crate) fn release_into(&mut self, key: usize, out: &mut Packet) -> (usize, u16)
+    pub(crate) fn release_into(&mut self, key: usize, out: &mut KeptPacket) -> (usize, u16)
         requires there { IsSome (used self.old key) }
         requires some { 0 < self.old.count }
         ensures given { (x : Node) → used self.old key ≡ Some x → out.new ≡ x.packet }
@@ -131,7 +131,7 @@ impl Nodes {
         let spare = self.spare;
         let node = &mut self.slab[key];
         let packet = &node.packet;
-        let len = packet.len;
+        let len = packet.stored.len;
         let next = node.next;
         *out = *packet;
         node.next = spare;
@@ -158,7 +158,7 @@ impl Nodes {
 // Puts a packet into a node that is new. It is a function of its own, since it is only called until there are enough.
 #[cold]
 #[inline(never)]
-fn insert(slab: &mut Slab<Node>, packet: &Packet, now: Moment) -> usize
+fn insert(slab: &mut Slab<Node>, packet: &KeptPacket, now: Moment) -> usize
     requires { HasRoomFor slab.old 1 }
     ensures vacant { get slab.old result ≡ None }
     ensures stored { IfSome (get slab.new result) (λ x. stamped_of x ≡ record { packet = packet.now; at = now }) }

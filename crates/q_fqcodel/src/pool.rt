@@ -9,7 +9,7 @@ use crate::chain::{append, drop_head, take_head_into};
 use crate::flow_list::FlowList;
 use crate::nodes::Nodes;
 use q_codel::{Front, Sink};
-use q_packet::{Cause, Moment, Packet, Stamped};
+use q_packet::{Cause, KeptPacket, Moment, Stamped};
 use std::alloc::{AllocError, Global};
 use std::marker::Model;
 
@@ -76,7 +76,7 @@ impl Pool {
 
     /// Appends a packet, queued at the time `now`, to a flow, and returns the flow's bytes.
     #[inline(always)]
-    pub(crate) fn push(&mut self, packet: &Packet, now: Moment, flow: u32) -> u64
+    pub(crate) fn push(&mut self, packet: &KeptPacket, now: Moment, flow: u32) -> u64
         requires in_range { flow < length self.old.queues }
         requires own { packet.now.hash % length self.old.queues ≡ flow }
         requires place { packets_in self.old.queues < self.old.places }
@@ -89,7 +89,7 @@ impl Pool {
         let list = list_at(&self.lists, flow);
         let longer = append(&mut self.nodes, list, packet, now);
         write_longer(&mut self.lists, flow, longer);
-        self.bytes += packet.len as u64;
+        self.bytes += packet.stored.len as u64;
         longer.bytes
     }
 
@@ -174,7 +174,7 @@ impl Pool {
 
     /// Takes the packet in front of a flow, which has one, into `out`.
     #[inline(always)]
-    pub(crate) fn take_of_into(&mut self, flow: u32, out: &mut Packet)
+    pub(crate) fn take_of_into(&mut self, flow: u32, out: &mut KeptPacket)
         requires { 0 < count (get_or self.old.queues flow []) }
         ensures given { Some out.new ≡ option_map (λ (s : Stamped). s.packet) (slice_get (get_or self.old.queues flow []) 0) }
         ensures some { 0 < out.new.len }
@@ -186,7 +186,7 @@ impl Pool {
         write_rest(&mut self.lists, flow, rest);
         self.bytes -= list.bytes - rest.bytes;
         // A packet has a byte at least.
-        let _ = &out.len;
+        let _ = &out.stored.len;
     }
 
     /// Loses the packet in front of the flow `from`, and appends another to a flow. Returns the bytes of that flow.
@@ -195,7 +195,7 @@ impl Pool {
         &mut self,
         from: u32,
         flow: u32,
-        packet: &Packet,
+        packet: &KeptPacket,
         now: Moment,
         sink: &mut S,
     ) -> u64

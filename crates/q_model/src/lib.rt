@@ -85,7 +85,7 @@ pub use prio_options::PrioOptions;
 pub use protocol::Protocol;
 pub use qdisc_view::QdiscView;
 pub use quantum::Quantum;
-pub use ranges::{laws_take_every_packet, packet_ranges};
+pub use ranges::{laws_take_every_packet, packet_ranges, stored_ranges};
 pub use rate::Rate;
 pub use refusal::Refusal;
 pub use reply::Reply;

@@ -5,6 +5,7 @@ ghost use Rattle.q_model.specs.Numbers.{IsHandle, IsQuantum, IsWithin, most_u32}
 ghost use Rattle.q_model.specs.Options.{IsPrefix};
 ghost use Rattle.q_model.specs.Ranges.{HasPacketFields, IsClassId, IsFilter, IsKind, IsPacket, IsPlace};
 ghost use Rattle.q_packet.specs.Descriptor.{Descriptor};
+ghost use Rattle.q_packet.specs.Stored.{descriptor, IsStored};
 
 use crate::class_id::ClassId;
 use crate::filter::Filter;
@@ -13,7 +14,7 @@ use crate::ip_prefix::IpPrefix;
 use crate::kind::Kind;
 use crate::place::Place;
 use crate::quantum::Quantum;
-use q_packet::Packet;
+use q_packet::{Packet, StoredPacket};
 
 /// What a line about a qdisc names is in its range, so far as it is given.
 pub(crate) fn qdisc_ranges(place: Option<Place>, handle: Option<Handle>, kind: Option<Kind>)
@@ -100,6 +101,21 @@ pub fn packet_ranges(packet: Packet)
     ensures fields { HasPacketFields packet }
 {
     let _ = &packet.key.family;
+    laws_take_every_packet();
+}
+
+/// The same of a stored packet, each field of which is within its range.
+pub fn stored_ranges(packet: &StoredPacket)
+    requires { IsStored packet.now }
+    ensures packet { IsPacket (descriptor packet.now) }
+    ensures fields { HasPacketFields (descriptor packet.now) }
+{
+    // That a number fits its field is known where it is read.
+    let _port = packet.port;
+    let _number = packet.number;
+    let _buf = packet.buf;
+    let _hash = packet.hash;
+    let _len = packet.len;
     laws_take_every_packet();
 }
 

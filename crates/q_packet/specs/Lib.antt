@@ -8,4 +8,6 @@ pub mod Key
 pub mod Least
 pub mod Marking
 pub mod OneAtATime
+pub mod Stored
+pub mod StoredLaw
 pub mod Totals

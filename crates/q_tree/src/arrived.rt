@@ -12,7 +12,7 @@ use crate::outcome::Outcome;
 use crate::tree::fate_of;
 use q_codel::Sink;
 use q_model::Fate;
-use q_packet::{Cause, Packet};
+use q_packet::{Cause, KeptPacket};
 use std::marker::Model;
 use std::snapshot::Snapshot;
 
@@ -91,7 +91,7 @@ impl Arrived {
 #[cold]
 #[inline(never)]
 pub(crate) fn refuse<S: Sink>(
-    packet: &Packet,
+    packet: &KeptPacket,
     cause: Cause,
     lost: &mut Outcome,
     sink: &mut S,
@@ -102,7 +102,7 @@ pub(crate) fn refuse<S: Sink>(
     ensures told { IsTold (record { packet = packet.now; cause = cause } ∷ []) (S.losses sink.old) (S.losses sink.new) (S.room sink.old) (S.room sink.new) }
     ensures kept { S.keeps sink.old sink.new }
 {
-    sink.lost(*packet, cause);
+    sink.lost(packet.packet(), cause);
     *lost = Outcome {
         loss: Some(cause),
         refused: one_packet(packet),
@@ -115,7 +115,7 @@ pub(crate) fn refuse<S: Sink>(
 #[inline(always)]
 pub(crate) fn book_arrival(
     row: &mut Counters,
-    packet: &Packet,
+    packet: &KeptPacket,
     arrived: &Arrived,
     outcome: &Outcome,
 )
@@ -134,13 +134,13 @@ pub(crate) fn book_arrival(
 
 /// Books a packet that has arrived and is kept, and for which none is lost.
 #[inline(always)]
-pub(crate) fn book_kept(row: &mut Counters, packet: &Packet)
+pub(crate) fn book_kept(row: &mut Counters, packet: &KeptPacket)
     requires balanced { IsBalanced row.old }
     requires room { CanCount row.old.arrived packet.now }
     ensures { row.new ≡ with_arrival packet.now nothing_lost row.old }
 {
     // The length is read before the row is written, and once: a compiler does not know that they are apart.
-    let len = u64::from(packet.len);
+    let len = u64::from(packet.stored.len);
     row.arrived_packets += 1;
     row.arrived_bytes += len;
     row.queued_packets += 1;

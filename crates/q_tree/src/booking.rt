@@ -11,7 +11,7 @@ use crate::outcome::Outcome;
 use crate::shown::Shown;
 use crate::signals::Signals;
 use q_model::Totals;
-use q_packet::Packet;
+use q_packet::KeptPacket;
 
 /// No packet.
 pub(crate) const NOTHING: Totals = Totals {
@@ -20,43 +20,43 @@ pub(crate) const NOTHING: Totals = Totals {
 };
 
 /// One packet.
-pub(crate) fn one_packet(packet: &Packet) -> Totals
+pub(crate) fn one_packet(packet: &KeptPacket) -> Totals
     ensures { result ≡ with_packet no_totals packet.now }
 {
     Totals {
         packets: 1,
-        bytes: u64::from(packet.len),
+        bytes: u64::from(packet.stored.len),
     }
 }
 
 /// Books a packet that has arrived, with all that was lost for it at the node or below.
 #[inline(never)]
-pub(crate) fn book_outcome(row: &mut Counters, packet: &Packet, outcome: &Outcome)
+pub(crate) fn book_outcome(row: &mut Counters, packet: &KeptPacket, outcome: &Outcome)
     requires balanced { IsBalanced row.old }
     requires room { CanCount row.old.arrived packet.now }
     requires lost { IsLostOf packet.now outcome.now row.old.queued }
     ensures { row.new ≡ with_arrival packet.now outcome.now row.old }
 {
     row.arrived_packets += 1;
-    row.arrived_bytes += u64::from(packet.len);
+    row.arrived_bytes += u64::from(packet.stored.len);
     row.refused_packets += outcome.refused.packets;
     row.refused_bytes += outcome.refused.bytes;
     row.dropped_packets += outcome.dropped.packets;
     row.dropped_bytes += outcome.dropped.bytes;
     row.queued_packets = row.queued_packets + 1
         - (outcome.refused.packets + outcome.dropped.packets);
-    row.queued_bytes = row.queued_bytes + u64::from(packet.len)
+    row.queued_bytes = row.queued_bytes + u64::from(packet.stored.len)
         - (outcome.refused.bytes + outcome.dropped.bytes);
 }
 
 /// Books a packet that was queued and is handed to the node above.
-pub(crate) fn book_sent(row: &mut Counters, packet: &Packet)
+pub(crate) fn book_sent(row: &mut Counters, packet: &KeptPacket)
     requires balanced { IsBalanced row.old }
     requires among { IsAmong packet.now row.old.queued }
     requires room { CanCount row.old.sent packet.now }
     ensures { row.new ≡ with_sent packet.now row.old }
 {
-    let len = u64::from(packet.len);
+    let len = u64::from(packet.stored.len);
     row.sent_packets += 1;
     row.sent_bytes += len;
     row.queued_packets -= 1;

@@ -1,4 +1,6 @@
 ghost use Rattle.std.specs.Prelude.{◌≡◌, ◌≤◌, ◌+◌, ◌++◌, List, None, Option, Some, is_some, length, true, unwrap_or, ℕ};
+ghost use Rattle.std.specs.Option.{option_map_or};
+ghost use Rattle.q_packet.specs.Stored.{stored_of};
 ghost use Rattle.q_model.specs.Ask.{ask};
 ghost use Rattle.q_model.specs.Beneath.{beneath};
 ghost use Rattle.q_model.specs.Node.{shape};
@@ -23,7 +25,7 @@ use crate::shown::Shown;
 use crate::signals::{NO_SIGNALS, Signals};
 use crate::tree::Tree;
 use q_codel::Sink;
-use q_packet::{Moment, Packet};
+use q_packet::{KeptPacket, Moment, SOME_KEPT, StoredPacket};
 
 impl Tree {
     /// Takes the packet whose turn it is into `out`, as [`Tree::take`] does, and says whether there was one: `false`, and `out`
@@ -31,7 +33,7 @@ impl Tree {
     ///
     /// The packet is written once, to the caller's place. It takes no memory. What CoDel drops for it goes to `sink`, which
     /// needs room for what is queued.
-    pub fn send<S: Sink>(&mut self, now: Moment, out: &mut Packet, sink: &mut S) -> bool
+    pub fn send<S: Sink>(&mut self, now: Moment, out: &mut KeptPacket, sink: &mut S) -> bool
         requires order { self.old.clock ≤ now }
         requires sink { length (beneath self.old.tree.root) ≤ S.room sink.old }
         ensures sent { result ≡ is_some (given now self.old.tree) }
@@ -51,6 +53,57 @@ impl Tree {
             self.clock = now;
             return true;
         }
+        self.send_asked(now, out, sink)
+    }
+
+    /// The same into a place in which anything may be: the packet is written there as it is stored.
+    #[inline(always)]
+    pub fn send_stored<S: Sink>(
+        &mut self,
+        now: Moment,
+        out: &mut StoredPacket,
+        sink: &mut S,
+    ) -> bool
+        requires order { self.old.clock ≤ now }
+        requires sink { length (beneath self.old.tree.root) ≤ S.room sink.old }
+        ensures sent { result ≡ is_some (given now self.old.tree) }
+        ensures packet { out.new ≡ option_map_or stored_of (given now self.old.tree) out.old }
+        ensures after { self.new ≡ record { clock = now; tree = take_packet kept now self.old.tree } }
+        ensures lost { S.losses sink.new ≡ S.losses sink.old ++ losses_in (noted_by_take now self.old.tree) }
+        ensures room { S.room sink.new + length (losses_in (noted_by_take now self.old.tree)) ≡ S.room sink.old }
+        ensures kept { S.keeps sink.old sink.new }
+    {
+        // A time is at most 2^62 nanoseconds.
+        let _ = now.ns();
+        self.top.fit();
+        if self.root.has_head() {
+            let packet = self.root.send_head_stored(out);
+            book_sent(&mut self.top, &packet);
+            self.clock = now;
+            return true;
+        }
+        let mut packet = SOME_KEPT;
+        if !self.send_asked(now, &mut packet, sink) {
+            return false;
+        }
+        packet.write(out);
+        true
+    }
+
+    // Sends what the root shows once it is asked, whatever it is.
+    #[inline(always)]
+    fn send_asked<S: Sink>(&mut self, now: Moment, out: &mut KeptPacket, sink: &mut S) -> bool
+        requires order { self.old.clock ≤ now }
+        requires sink { length (beneath self.old.tree.root) ≤ S.room sink.old }
+        ensures sent { result ≡ is_some (given now self.old.tree) }
+        ensures packet { out.new ≡ unwrap_or (given now self.old.tree) out.old }
+        ensures after { self.new ≡ record { clock = now; tree = take_packet kept now self.old.tree } }
+        ensures lost { S.losses sink.new ≡ S.losses sink.old ++ losses_in (noted_by_take now self.old.tree) }
+        ensures room { S.room sink.new + length (losses_in (noted_by_take now self.old.tree)) ≡ S.room sink.old }
+        ensures kept { S.keeps sink.old sink.new }
+    {
+        let _ = now.ns();
+        self.top.fit();
         let mut signals = NO_SIGNALS;
         let shown = self.root.dequeue_asked(now, out, &mut signals, sink);
         book_shown(&mut self.top, &shown, &signals);
@@ -81,7 +134,7 @@ impl Node {
 
     /// Dequeues the head of a fifo that has a packet, and holds none, into `out`, as [`Node::dequeue_at_hand`] does.
     #[inline(always)]
-    fn send_head(&mut self, out: &mut Packet)
+    fn send_head(&mut self, out: &mut KeptPacket)
         requires head { HasHead self.old }
         ensures packet { Some out.new ≡ (pop self.old).shown }
         ensures after { self.new ≡ booked kept self.old (pop self.old).after }
@@ -95,6 +148,27 @@ impl Node {
         book_sent(&mut self.row, out);
     }
 
+    /// The same into a place in which anything may be. Returns the packet.
+    #[inline(always)]
+    fn send_head_stored(&mut self, out: &mut StoredPacket) -> KeptPacket
+        requires head { HasHead self.old }
+        ensures given { Some result ≡ (pop self.old).shown }
+        ensures packet { out.new ≡ stored_of result }
+        ensures after { self.new ≡ booked kept self.old (pop self.old).after }
+        ensures arrived { self.new.memory.counts.arrived ≡ self.old.memory.counts.arrived }
+    {
+        self.row.fit();
+        let Discipline::Fifo(fifo) = &mut self.discipline else {
+            unreachable!()
+        };
+        let Some(packet) = fifo.first() else {
+            unreachable!()
+        };
+        let _ = fifo.take_stored(out);
+        book_sent(&mut self.row, &packet);
+        packet
+    }
+
     /// Peeks at the node, and dequeues the packet that it shows into `out`, in one walk. Where the node shows none,
     /// `out` stays as it is.
     ///
@@ -105,7 +179,7 @@ impl Node {
     pub(crate) fn dequeue<S: Sink>(
         &mut self,
         now: Moment,
-        out: &mut Packet,
+        out: &mut KeptPacket,
         signals: &mut Signals,
         sink: &mut S,
     ) -> Shown
@@ -142,7 +216,7 @@ impl Node {
     fn dequeue_asked<S: Sink>(
         &mut self,
         now: Moment,
-        out: &mut Packet,
+        out: &mut KeptPacket,
         signals: &mut Signals,
         sink: &mut S,
     ) -> Shown
@@ -169,7 +243,7 @@ impl Node {
     fn dequeue_further<S: Sink>(
         &mut self,
         now: Moment,
-        out: &mut Packet,
+        out: &mut KeptPacket,
         signals: &mut Signals,
         sink: &mut S,
     ) -> Shown
@@ -195,7 +269,7 @@ impl Node {
     /// whether there was one. No node is asked: after a peek it is the packet that was shown. Where there was none, nothing changes.
     #[cycle(dequeue_at_hand)]
     #[inline(always)]
-    pub(crate) fn dequeue_at_hand(&mut self, out: &mut Packet) -> bool
+    pub(crate) fn dequeue_at_hand(&mut self, out: &mut KeptPacket) -> bool
         ensures given { result ≡ is_some (pop self.old).shown }
         ensures packet { out.new ≡ unwrap_or (pop self.old).shown out.old }
         ensures after { self.new ≡ booked kept self.old (pop self.old).after }
@@ -223,7 +297,7 @@ impl Discipline {
     fn dequeue<S: Sink>(
         &mut self,
         now: Moment,
-        out: &mut Packet,
+        out: &mut KeptPacket,
         signals: &mut Signals,
         sink: &mut S,
     ) -> Shown
@@ -252,7 +326,7 @@ impl Discipline {
     // Dequeues a fifo's head, or the packet of a prio's first band that has one.
     #[cycle(dequeue_at_hand)]
     #[inline(always)]
-    fn dequeue_at_hand(&mut self, out: &mut Packet) -> bool
+    fn dequeue_at_hand(&mut self, out: &mut KeptPacket) -> bool
         ensures given { result ≡ is_some (popping_of self.old).shown }
         ensures packet { out.new ≡ unwrap_or (popping_of self.old).shown out.old }
         ensures after { IsPoppedIn self.old self.new }
@@ -267,7 +341,7 @@ impl Discipline {
     // The same, by a call.
     #[cycle(dequeue_at_hand)]
     #[inline(never)]
-    fn dequeue_at_hand_further(&mut self, out: &mut Packet) -> bool
+    fn dequeue_at_hand_further(&mut self, out: &mut KeptPacket) -> bool
         ensures given { result ≡ is_some (popping_of self.old).shown }
         ensures packet { out.new ≡ unwrap_or (popping_of self.old).shown out.old }
         ensures after { IsPoppedIn self.old self.new }

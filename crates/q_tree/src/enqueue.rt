@@ -8,6 +8,7 @@ ghost use Rattle.q_model.specs.Step.{fate_of, losses_in};
 ghost use Rattle.q_model.specs.Tally.{totals};
 ghost use Rattle.q_model.specs.TreeState.{noted_by_put, own_loss, put, put_on};
 ghost use Rattle.q_packet.specs.Descriptor.{Descriptor};
+ghost use Rattle.q_packet.specs.Stored.{descriptor, IsStored};
 ghost use Rattle.q_tree.specs.Arrivals.{CanCount, HasPlace};
 ghost use Rattle.q_tree.specs.ArriveSteps.{CanCome, CanComeIn, CanKeep, HasCome, HasComeBelow, HasComeIn, HasPlaceOn, IsPlaced, IsPlacedIn, nothing_lost, rises_along, way_in};
 ghost use Rattle.q_tree.specs.AskSteps.{IsToldOf, packets_within};
@@ -27,7 +28,7 @@ use crate::outcome::Outcome;
 use crate::tree::Tree;
 use q_codel::Sink;
 use q_model::Fate;
-use q_packet::{Cause, Moment, Packet};
+use q_packet::{Cause, KeptPacket, Moment, StoredPacket};
 use std::alloc::AllocError;
 
 impl Tree {
@@ -44,7 +45,7 @@ impl Tree {
     /// fewer, and nothing is lost.
     pub fn arrive<S: Sink>(
         &mut self,
-        packet: &Packet,
+        packet: &KeptPacket,
         now: Moment,
         sink: &mut S,
     ) -> Result<Fate, AllocError>
@@ -65,7 +66,7 @@ impl Tree {
     {
         self.top.fit();
         let arrived = self.top.arrived();
-        if arrived.packets == u64::MAX || arrived.bytes > u64::MAX - u64::from(packet.len) {
+        if arrived.packets == u64::MAX || arrived.bytes > u64::MAX - u64::from(packet.stored.len) {
             return Err(AllocError);
         }
         self.arrive_counted(packet, now, sink)
@@ -81,7 +82,7 @@ impl Tree {
     #[inline(always)]
     pub fn arrive_counted<S: Sink>(
         &mut self,
-        packet: &Packet,
+        packet: &KeptPacket,
         now: Moment,
         sink: &mut S,
     ) -> Result<Fate, AllocError>
@@ -102,9 +103,9 @@ impl Tree {
         ensures kept { S.keeps sink.old sink.new }
     {
         // A time is at most 2^62 nanoseconds, and a packet has a byte at least.
-        let _ = (now.ns(), packet.len);
+        let _ = (now.ns(), packet.stored.len);
         // A fifo at the root keeps the packet with no answer from below.
-        if packet.len <= self.mtu && self.root.can_keep(packet.len) {
+        if packet.stored.len <= self.mtu && self.root.can_keep(packet.stored.len) {
             self.root.keep(packet, now);
             book_kept(&mut self.top, packet);
             self.clock = now;
@@ -113,11 +114,47 @@ impl Tree {
         self.arrive_down(packet, now, sink)
     }
 
+    /// The same of a stored packet, each field of which is within its range.
+    #[inline(always)]
+    pub fn arrive_stored<S: Sink>(
+        &mut self,
+        packet: &StoredPacket,
+        now: Moment,
+        sink: &mut S,
+    ) -> Result<Fate, AllocError>
+        requires order { self.old.clock ≤ now }
+        requires in_range { IsStored packet.now }
+        requires counted { CanCount self.old.tree.top.counts.arrived (descriptor packet.now) }
+        requires sink { length (beneath self.old.tree.root) + 1 ≤ S.room sink.old }
+        ensures fate { IfOk result (λ fate. fate ≡ fate_of (own_loss now (descriptor packet.now) self.old.tree.device (shape self.old.tree.root))) }
+        ensures after { OnOk result (numbers self.new ≡ record { clock = now; tree = put totals now (descriptor packet.now) (tree_numbers self.old.tree) }) }
+        ensures exact { OnOk result (CanArrive (route_seen (descriptor packet.now) self.old.tree.device.mtu self.old.tree.root) self.old → self.new ≡ record { clock = now; tree = put kept now (descriptor packet.now) self.old.tree }) }
+        ensures lost { OnOk result (S.losses sink.new ≡ S.losses sink.old ++ losses_in (noted_by_put now (descriptor packet.now) self.old.tree)) }
+        ensures room { OnOk result (S.room sink.new + length (losses_in (noted_by_put now (descriptor packet.now) self.old.tree)) ≡ S.room sink.old) }
+        ensures same { OnErr result (numbers self.new ≡ numbers self.old) }
+        ensures not_lost { OnErr result ((S.losses sink.new ≡ S.losses sink.old) × (S.room sink.new ≡ S.room sink.old)) }
+        ensures routes { OnErr result ((p : Descriptor) → device_route p self.new.tree.device.mtu self.new.tree.root ≡ device_route p self.old.tree.device.mtu self.old.tree.root) }
+        ensures keeps { OnErr result ((other : RouteSeen) → CanArrive other self.old → CanArrive other self.new) }
+        ensures places { (path : List ℕ) → places_at path self.old.tree.root ≤ places_at path self.new.tree.root }
+        ensures succeeds { CanArrive (route_seen (descriptor packet.now) self.old.tree.device.mtu self.old.tree.root) self.old → IsOk result }
+        ensures kept { S.keeps sink.old sink.new }
+    {
+        // A time is at most 2^62 nanoseconds, and a packet has a byte at least.
+        let _ = (now.ns(), packet.len);
+        if packet.len <= self.mtu && self.root.can_keep(packet.len) {
+            self.root.keep_stored(packet, now);
+            book_kept(&mut self.top, &KeptPacket { stored: *packet });
+            self.clock = now;
+            return Ok(Fate::Kept);
+        }
+        self.arrive_down(&KeptPacket { stored: *packet }, now, sink)
+    }
+
     // The same by the path down from the root, where an outcome comes back from below.
     #[inline(always)]
     fn arrive_down<S: Sink>(
         &mut self,
-        packet: &Packet,
+        packet: &KeptPacket,
         now: Moment,
         sink: &mut S,
     ) -> Result<Fate, AllocError>
@@ -137,7 +174,7 @@ impl Tree {
         ensures kept { S.keeps sink.old sink.new }
     {
         // A time is at most 2^62 nanoseconds, and a packet has a byte at least.
-        let _ = (now.ns(), packet.len);
+        let _ = (now.ns(), packet.stored.len);
         let mut lost = NOTHING_LOST;
         let outcome = enqueue_below(&mut self.root, self.mtu, packet, now, &mut lost, sink)?;
         book_arrival(&mut self.top, packet, &outcome, &lost);
@@ -161,7 +198,7 @@ impl Node {
 
     /// Keeps a packet that arrives at a fifo which takes it and has a place for it. No packet is lost for it.
     #[inline(always)]
-    fn keep(&mut self, packet: &Packet, now: Moment)
+    fn keep(&mut self, packet: &KeptPacket, now: Moment)
         requires ready { CanCome now packet.now self.old }
         requires fifo { CanKeep packet.now.len self.old }
         ensures after { HasCome now packet.now self.old self.new nothing_lost }
@@ -174,13 +211,29 @@ impl Node {
         book_kept(&mut self.row, packet);
     }
 
+    /// The same of a stored packet, each field of which is within its range.
+    #[inline(always)]
+    fn keep_stored(&mut self, packet: &StoredPacket, now: Moment)
+        requires in_range { IsStored packet.now }
+        requires ready { CanCome now (descriptor packet.now) self.old }
+        requires fifo { CanKeep packet.now.len self.old }
+        ensures after { HasCome now (descriptor packet.now) self.old self.new nothing_lost }
+        ensures told { (losses : List Loss) (room : ℕ) → IsToldOf (rises_along now (descriptor packet.now) self.old) losses losses room room }
+    {
+        let Discipline::Fifo(fifo) = &mut self.discipline else {
+            unreachable!()
+        };
+        fifo.put_stored(packet, now);
+        book_kept(&mut self.row, &KeptPacket { stored: *packet });
+    }
+
     /// A packet arrives at the node, and goes down its route: a place is made where it is queued, and it is put there, or lost. It
     /// is booked at each node on the way back, and at none if an allocation fails.
     #[cycle(enqueue)]
     #[inline(always)]
     pub(crate) fn enqueue<S: Sink>(
         &mut self,
-        packet: &Packet,
+        packet: &KeptPacket,
         now: Moment,
         lost: &mut Outcome,
         sink: &mut S,
@@ -197,7 +250,7 @@ impl Node {
         ensures kept { S.keeps sink.old sink.new }
     {
         // A fifo that has a place is met with no call: most packets end in one.
-        if self.can_keep(packet.len) {
+        if self.can_keep(packet.stored.len) {
             self.keep(packet, now);
             return Ok(Arrived::kept());
         }
@@ -209,7 +262,7 @@ impl Node {
     #[inline(never)]
     fn enqueue_further<S: Sink>(
         &mut self,
-        packet: &Packet,
+        packet: &KeptPacket,
         now: Moment,
         lost: &mut Outcome,
         sink: &mut S,
@@ -240,7 +293,7 @@ impl Discipline {
     fn enqueue<S: Sink>(
         &mut self,
         filters: &Filters,
-        packet: &Packet,
+        packet: &KeptPacket,
         now: Moment,
         lost: &mut Outcome,
         sink: &mut S,
@@ -269,7 +322,7 @@ impl Discipline {
                 return bands[place].enqueue(packet, now, lost, sink);
             }
             Discipline::Tbf { bucket, child, .. } => {
-                if u32::from(packet.len) > bucket.burst() {
+                if u32::from(packet.stored.len) > bucket.burst() {
                     return Ok(refuse(packet, Cause::TooLong, lost, sink));
                 }
                 return child.enqueue(packet, now, lost, sink);
@@ -294,7 +347,7 @@ impl Discipline {
 fn enqueue_below<S: Sink>(
     root: &mut Node,
     mtu: u16,
-    packet: &Packet,
+    packet: &KeptPacket,
     now: Moment,
     lost: &mut Outcome,
     sink: &mut S,
@@ -310,7 +363,7 @@ fn enqueue_below<S: Sink>(
     ensures lost_is { IfOk result (λ outcome. lost.new ≡ outcome) }
     ensures kept { S.keeps sink.old sink.new }
 {
-    if packet.len > mtu {
+    if packet.stored.len > mtu {
         return Ok(refuse(packet, Cause::TooLong, lost, sink));
     }
     root.enqueue_further(packet, now, lost, sink)

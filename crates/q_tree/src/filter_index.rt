@@ -11,7 +11,7 @@ use crate::filter_shape::{FilterShape, bucket_of};
 use crate::masked_filter::MaskedFilter;
 use crate::matching::word_of;
 use q_model::Minor;
-use q_packet::Packet;
+use q_packet::KeptPacket;
 use std::alloc::{AllocError, Global};
 
 /// Fewer filters are compared one by one in less time.
@@ -60,7 +60,7 @@ impl FilterIndex {
 
     /// The class that the first matching filter names.
     #[inline(never)]
-    pub(crate) fn named_class(&self, filters: &[MaskedFilter], packet: &Packet) -> Option<Minor>
+    pub(crate) fn named_class(&self, filters: &[MaskedFilter], packet: &KeptPacket) -> Option<Minor>
         requires { IsIndexOf self.now filters.now }
         ensures { result ≡ named_class filters.now packet.now }
     {
@@ -70,14 +70,15 @@ impl FilterIndex {
 
     // The place of the first filter that takes a packet; the number of filters where none does.
     #[inline(always)]
-    fn first_match(&self, filters: &[MaskedFilter], packet: &Packet) -> usize
+    fn first_match(&self, filters: &[MaskedFilter], packet: &KeptPacket) -> usize
         requires { IsIndexOf self.now filters.now }
         ensures { slice_get filters.now result ≡ find (matches packet.now) filters.now }
     {
-        let word = word_of(&packet.key);
+        let key = packet.key();
+        let word = word_of(&key);
         let mut first = filters.len();
         for group in 0..self.shapes.len() {
-            let home = group * BUCKETS + self.shapes[group].bucket(word, &packet.key);
+            let home = group * BUCKETS + self.shapes[group].bucket(word, &key);
             first = first_of_home(&self.chains, filters, home, first, packet);
         }
         first
@@ -91,7 +92,7 @@ fn first_of_home(
     filters: &[MaskedFilter],
     home: usize,
     end: usize,
-    packet: &Packet,
+    packet: &KeptPacket,
 ) -> usize
     requires long { length chains.now ≡ length filters.now }
     requires within { end ≤ length filters.now }

@@ -9,7 +9,7 @@ use crate::filter_index::FilterIndex;
 use crate::masked_filter::MaskedFilter;
 use crate::matching::named_class;
 use q_model::{Filter, FilterPrio, Minor};
-use q_packet::Packet;
+use q_packet::KeptPacket;
 use std::alloc::{AllocError, Global};
 use std::marker::Model;
 
@@ -54,7 +54,7 @@ impl Filters {
 
     /// The class that the first matching filter names.
     #[inline(always)]
-    pub(crate) fn named_class(&self, packet: &Packet) -> Option<Minor>
+    pub(crate) fn named_class(&self, packet: &KeptPacket) -> Option<Minor>
         ensures { result ≡ named_class self.now packet.now }
     {
         match &self.index {

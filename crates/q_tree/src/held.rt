@@ -1,6 +1,6 @@
 ghost use Rattle.std.specs.Prelude.{◌≡◌, None, is_some};
 
-use q_packet::{Packet, SOME_PACKET};
+use q_packet::{KeptPacket, SOME_KEPT};
 use std::marker::Model;
 
 /// The packet that a node has dequeued in order to show it, if it holds one.
@@ -11,7 +11,7 @@ use std::marker::Model;
 pub(crate) struct Held {
     /// Whether the place has a packet that is held.
     pub(crate) holds: bool,
-    pub(crate) place: Packet,
+    pub(crate) place: KeptPacket,
 }
 
 impl Model for Held {
@@ -30,7 +30,7 @@ impl Held {
     {
         Held {
             holds: false,
-            place: SOME_PACKET,
+            place: SOME_KEPT,
         }
     }
 
@@ -44,7 +44,7 @@ impl Held {
 
     /// The packet that is held.
     #[inline(always)]
-    pub(crate) fn packet(&self) -> Option<Packet>
+    pub(crate) fn packet(&self) -> Option<KeptPacket>
         ensures { result ≡ self.now }
     {
         if self.holds {

@@ -4,7 +4,7 @@ ghost use Rattle.q_tree.specs.Matching.{mask_of, takes_numbers, wanted_of, word_
 
 use crate::matching::{packed, takes_addresses, word_of};
 use q_model::{Filter, Protocol};
-use q_packet::{FlowKey, Packet};
+use q_packet::{FlowKey, KeptPacket};
 use std::marker::Model;
 
 /// A filter, and what it asks of ports, protocol and family as one word under a mask: one comparison says whether a packet
@@ -81,11 +81,11 @@ impl MaskedFilter {
     }
 
     /// Whether it takes a packet (tc-flower(8)): whether the packet is of its protocol, and agrees with each key that is given.
-    pub(crate) fn matches(&self, packet: &Packet) -> bool
+    pub(crate) fn matches(&self, packet: &KeptPacket) -> bool
         ensures { result ≡ matches packet.now self.now }
     {
-        let key = &packet.key;
-        self.takes_numbers(word_of(key), key) && takes_addresses(&self.filter.keys, key)
+        let key = packet.key();
+        self.takes_numbers(word_of(&key), &key) && takes_addresses(&self.filter.keys, &key)
     }
 }
 

@@ -5,7 +5,7 @@ ghost use Rattle.q_tree.specs.Matching.{before_taker, packed, takes_addresses, w
 
 use crate::masked_filter::MaskedFilter;
 use q_model::{FilterKeys, IpPrefix, IpVersion, Minor};
-use q_packet::{FlowKey, Packet};
+use q_packet::{FlowKey, KeptPacket};
 
 /// Whether an address of the packet begins as the prefix does, and is of its version.
 fn has_prefix(prefix: &IpPrefix, key: &FlowKey, address: u128) -> bool
@@ -56,10 +56,11 @@ pub(crate) fn takes_addresses(keys: &FilterKeys, key: &FlowKey) -> bool
 }
 
 /// The class that the first matching filter names. Filters are in the order in which they are asked.
-pub(crate) fn named_class(filters: &[MaskedFilter], packet: &Packet) -> Option<Minor>
+pub(crate) fn named_class(filters: &[MaskedFilter], packet: &KeptPacket) -> Option<Minor>
     ensures { result ≡ named_class filters.now packet.now }
 {
-    let first = before_taker(filters, &packet.key);
+    let key = packet.key();
+    let first = before_taker(filters, &key);
     if first >= filters.len() {
         return None;
     }
@@ -91,7 +92,7 @@ fn before_taker(filters: &[MaskedFilter], key: &FlowKey) -> usize
 // The same where addresses are asked.
 #[cold]
 #[inline(never)]
-fn named_by_address(filters: &[MaskedFilter], packet: &Packet) -> Option<Minor>
+fn named_by_address(filters: &[MaskedFilter], packet: &KeptPacket) -> Option<Minor>
     ensures { result ≡ named_class filters.now packet.now }
 {
     filters

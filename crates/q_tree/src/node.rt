@@ -15,7 +15,7 @@ use q_codel::Fifo;
 use q_drr::Active;
 use q_fqcodel::FqCodel;
 use q_model::{Handle, Totals};
-use q_packet::{Cause, Packet};
+use q_packet::{Cause, KeptPacket};
 use std::marker::Model;
 
 /// A qdisc of the tree, with those below it.
@@ -97,14 +97,14 @@ impl Node {
 
     /// Goes on with the path of a packet, down from the node, from where it has come to.
     #[cycle(go)]
-    pub(crate) fn go(&self, packet: &Packet, way: &mut NodeRoute)
+    pub(crate) fn go(&self, packet: &KeptPacket, way: &mut NodeRoute)
         requires room { length way.old.path + depth self.now ≤ 8 }
         requires open { way.old.refusal ≡ None }
         ensures { way.new ≡ ahead way.old.path (route packet.now self.now) }
     {
         match &self.discipline {
             Discipline::Fifo(fifo) => {
-                if !fifo.fits(packet.len) {
+                if !fifo.fits(packet.stored.len) {
                     way.refuse(Cause::OverLimit);
                 }
                 return;
@@ -116,7 +116,7 @@ impl Node {
                 return;
             }
             Discipline::Tbf { bucket, child, .. } => {
-                if u32::from(packet.len) > bucket.burst() {
+                if u32::from(packet.stored.len) > bucket.burst() {
                     way.refuse(Cause::TooLong);
                     return;
                 }
@@ -138,7 +138,7 @@ impl Node {
 
 // Goes on from the child in this place; a packet that has none is refused.
 #[cycle(go)]
-fn go_on(children: &[Node], place: usize, packet: &Packet, way: &mut NodeRoute)
+fn go_on(children: &[Node], place: usize, packet: &KeptPacket, way: &mut NodeRoute)
     requires room { length way.old.path + greatest (depths children.now) < 8 }
     requires open { way.old.refusal ≡ None }
     ensures { way.new ≡ ahead way.old.path (through (ways packet.now children.now) place) }

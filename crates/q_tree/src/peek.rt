@@ -18,7 +18,7 @@ use crate::node::{Discipline, Node};
 use crate::shown::Shown;
 use crate::signals::Signals;
 use q_codel::Sink;
-use q_packet::{Moment, Packet};
+use q_packet::{KeptPacket, Moment};
 
 impl Node {
     /// Asks the node for its packet, which is at hand then, and books what CoDel dropped and marked for it, here and below.
@@ -72,7 +72,7 @@ impl Node {
     /// The packet that the node has at hand, without being asked: the one that it holds, a fifo's head, and for a prio that of
     /// its first band which has one. Once it was asked, it is the packet that it showed.
     #[cycle(at_hand)]
-    pub(crate) fn at_hand(&self) -> Option<Packet>
+    pub(crate) fn at_hand(&self) -> Option<KeptPacket>
         ensures { result ≡ (pop self.now).shown }
     {
         if self.held.is_some() {

@@ -89,7 +89,7 @@ impl Node {
         ensures { result ≡ outlook now self.now }
     {
         if let Some(packet) = self.held.packet() {
-            return Outlook::at_hand(now, packet.len);
+            return Outlook::at_hand(now, packet.len());
         }
         match &self.discipline {
             Discipline::Fifo(fifo) => return of_fifo(first_packet(fifo), now),

@@ -4,7 +4,7 @@ ghost use Rattle.q_tree.specs.AskSteps.{no_signals, signals_of};
 ghost use Rattle.q_tree.specs.Shown.{length_of};
 
 use crate::signals::{NO_SIGNALS, Signals};
-use q_packet::Packet;
+use q_packet::KeptPacket;
 use std::marker::Model;
 use std::snapshot::Snapshot;
 
@@ -18,7 +18,7 @@ pub(crate) struct Shown {
     len: u16,
     /// Nothing was dropped, and nothing was marked.
     is_quiet: bool,
-    packet: Snapshot<Option<Packet>>,
+    packet: Snapshot<Option<KeptPacket>>,
     signals: Snapshot<Signals>,
 }
 
@@ -41,7 +41,7 @@ impl Model for Shown {
 impl Shown {
     /// A node shows this packet, or none, after so much was dropped and marked.
     #[inline(always)]
-    pub(crate) fn new(packet: &Option<Packet>, signals: &Signals) -> Shown
+    pub(crate) fn new(packet: &Option<KeptPacket>, signals: &Signals) -> Shown
         ensures { result ≡ record { packet = packet.now; dropped = signals.now.dropped; marked = signals.now.marked } }
     {
         Shown {
@@ -54,11 +54,11 @@ impl Shown {
 
     /// A node sends this packet, after so much was dropped and marked.
     #[inline(always)]
-    pub(crate) fn sending(packet: &Packet, signals: &Signals) -> Shown
+    pub(crate) fn sending(packet: &KeptPacket, signals: &Signals) -> Shown
         ensures { result ≡ record { packet = Some packet.now; dropped = signals.now.dropped; marked = signals.now.marked } }
     {
         Shown {
-            len: packet.len,
+            len: packet.stored.len,
             is_quiet: signals.is_nothing(),
             packet: Snapshot::of(&Some(*packet)),
             signals: Snapshot::of(signals),
@@ -67,7 +67,7 @@ impl Shown {
 
     /// A node sends this packet, of which the length is known, and nothing was dropped or marked for that.
     #[inline(always)]
-    pub(crate) fn quiet(packet: &Packet, len: u16) -> Shown
+    pub(crate) fn quiet(packet: &KeptPacket, len: u16) -> Shown
         requires len { len ≡ packet.now.len }
         requires positive { 1 ≤ len }
         ensures { result ≡ record { packet = Some packet.now; dropped = no_signals.dropped; marked = no_signals.marked } }
@@ -82,7 +82,7 @@ impl Shown {
 
     /// A packet that was at hand, or none: nobody was asked.
     #[inline(always)]
-    pub(crate) fn at_hand(packet: &Option<Packet>) -> Shown
+    pub(crate) fn at_hand(packet: &Option<KeptPacket>) -> Shown
         ensures { result ≡ record { packet = packet.now; dropped = no_signals.dropped; marked = no_signals.marked } }
     {
         Shown::new(packet, &NO_SIGNALS)
@@ -118,7 +118,7 @@ impl Shown {
 
     /// The same with another packet, or none.
     #[inline(always)]
-    pub(crate) fn showing(self, packet: &Option<Packet>) -> Shown
+    pub(crate) fn showing(self, packet: &Option<KeptPacket>) -> Shown
         ensures { result ≡ record self { packet = packet.now } }
     {
         Shown {
@@ -159,12 +159,12 @@ impl Shown {
 
 // The length of a packet, 0 for none.
 #[inline(always)]
-fn len_of(packet: &Option<Packet>) -> u16
+fn len_of(packet: &Option<KeptPacket>) -> u16
     ensures len { result ≡ length_of packet.now }
     ensures positive { IfSome packet.now (λ p. 1 ≤ p.len) }
 {
     match packet {
-        Some(packet) => packet.len,
+        Some(packet) => packet.stored.len,
         None => 0,
     }
 }

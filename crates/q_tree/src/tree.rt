@@ -33,7 +33,7 @@ use crate::route::Route;
 use crate::signals::NO_SIGNALS;
 use q_codel::{Limit, Sink};
 use q_model::{ClassView, Command, Fate, FilterView, NodeView, Place, Refusal, Row};
-use q_packet::{Cause, Moment, Packet, SOME_PACKET};
+use q_packet::{Cause, KeptPacket, Moment, Packet, SOME_KEPT};
 use std::alloc::{AllocError, Global};
 use std::marker::Model;
 
@@ -232,7 +232,7 @@ impl Tree {
             is_too_long: packet.len > self.mtu,
         };
         if !route.is_too_long {
-            self.root.go(packet, &mut route.way);
+            self.root.go(&KeptPacket::of(packet), &mut route.way);
         }
         route
     }
@@ -283,7 +283,7 @@ impl Tree {
     {
         // Only the contract speaks of the route: the walk finds it again.
         let _ = route;
-        match self.arrive_counted(&packet, now, sink) {
+        match self.arrive_counted(&KeptPacket::of(&packet), now, sink) {
             Ok(fate) => return fate,
             Err(_) => unreachable!(),
         }
@@ -311,7 +311,7 @@ impl Tree {
         book_shown(&mut self.top, &shown, &signals);
         self.clock = now;
         // The root has at hand what it has shown.
-        self.root.at_hand()
+        as_packet(self.root.at_hand())
     }
 
     /// Takes the packet whose turn it is; `None` where none may go now. `now` is at or after the latest time that the tree
@@ -327,12 +327,20 @@ impl Tree {
         ensures room { S.room sink.new + length (losses_in (noted_by_take now self.old.tree)) ≡ S.room sink.old }
         ensures kept { S.keeps sink.old sink.new }
     {
-        let mut packet = SOME_PACKET;
+        let mut packet = SOME_KEPT;
         if !self.send(now, &mut packet, sink) {
             return None;
         }
-        Some(packet)
+        Some(packet.packet())
     }
+}
+
+// The packet, if there is one, in the form in which callers have it.
+fn as_packet(packet: Option<KeptPacket>) -> Option<Packet>
+    ensures { result ≡ packet }
+{
+    let packet = packet?;
+    Some(packet.packet())
 }
 
 /// What became of a packet that was lost for this cause, or was not lost.

@@ -42,7 +42,7 @@ fn purge_held<S: Sink>(held: Held, sink: &mut S)
     ensures kept { S.keeps sink.old sink.new }
 {
     if let Some(packet) = held.packet() {
-        sink.lost(packet, Cause::Purged);
+        sink.lost(packet.packet(), Cause::Purged);
     }
 }
 

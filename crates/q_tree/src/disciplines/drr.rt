@@ -29,11 +29,11 @@ use crate::signals::{NO_SIGNALS, Signals};
 use q_codel::Sink;
 use q_drr::{Active, Turn};
 use q_model::{Minor, Quantum, Refusal, Totals};
-use q_packet::{Moment, Packet};
+use q_packet::{KeptPacket, Moment};
 use std::alloc::AllocError;
 
 /// The place of the class that a filter names, if there is one (tc-drr(8)).
-pub(crate) fn class_place(active: &Active, filters: &Filters, packet: &Packet) -> Option<usize>
+pub(crate) fn class_place(active: &Active, filters: &Filters, packet: &KeptPacket) -> Option<usize>
     ensures { result ≡ option_and_then (λ minor. place_of minor active.now.classes) (named_class filters.now packet.now) }
 {
     let minor = filters.named_class(packet)?;
@@ -78,7 +78,7 @@ pub(crate) fn settle(active: &mut Active, place: usize, is_empty: bool)
 pub(crate) fn dequeue_class<S: Sink>(
     active: &mut Active,
     classes: &mut [Node],
-    out: &mut Packet,
+    out: &mut KeptPacket,
     now: Moment,
     signals: &mut Signals,
     sink: &mut S,
@@ -117,7 +117,12 @@ pub(crate) fn dequeue_class<S: Sink>(
 }
 
 // The class in this place hands out its packet, and becomes inactive where that was its last.
-fn dequeue_class_at_hand(active: &mut Active, classes: &mut [Node], place: usize, out: &mut Packet)
+fn dequeue_class_at_hand(
+    active: &mut Active,
+    classes: &mut [Node],
+    place: usize,
+    out: &mut KeptPacket,
+)
     requires { place < length classes.old }
     ensures packet { (c : spec.Node Kept) → slice_get classes.old place ≡ Some c → out.new ≡ unwrap_or (pop c).shown out.old }
     ensures given { (c : spec.Node Kept) → slice_get classes.old place ≡ Some c → IsGivenBy place c active.old active.new classes.old classes.new }

@@ -27,7 +27,7 @@ use crate::ready_at::Outlook;
 use crate::shown::Shown;
 use q_codel::{Fifo, Limit, Sink};
 use q_model::{Handle, Refusal};
-use q_packet::{Cause, Moment, Packet};
+use q_packet::{Cause, KeptPacket, Moment};
 use std::alloc::{AllocError, Global};
 
 impl Node {
@@ -76,7 +76,7 @@ impl Planner<'_> {
 #[inline(always)]
 pub(crate) fn enqueue_in_fifo<S: Sink>(
     fifo: &mut Fifo,
-    packet: &Packet,
+    packet: &KeptPacket,
     now: Moment,
     lost: &mut Outcome,
     sink: &mut S,
@@ -90,7 +90,7 @@ pub(crate) fn enqueue_in_fifo<S: Sink>(
     ensures lost_is { IfOk result (λ outcome. lost.new ≡ outcome) }
     ensures kept { S.keeps sink.old sink.new }
 {
-    if !fifo.fits(packet.len) {
+    if !fifo.fits(packet.stored.len) {
         return Ok(refuse(packet, Cause::OverLimit, lost, sink));
     }
     fifo.reserve()?;
@@ -100,7 +100,7 @@ pub(crate) fn enqueue_in_fifo<S: Sink>(
 
 /// Writes the head of a fifo to `out`.
 #[inline(always)]
-pub(crate) fn dequeue_head(fifo: &mut Fifo, out: &mut Packet) -> Shown
+pub(crate) fn dequeue_head(fifo: &mut Fifo, out: &mut KeptPacket) -> Shown
     ensures shown { result.packet ≡ option_map (λ (s : Stamped). s.packet) (slice_get fifo.old.packets 0) }
     ensures dropped { result.dropped ≡ no_totals }
     ensures marked { result.marked ≡ no_totals }
@@ -115,20 +115,20 @@ pub(crate) fn dequeue_head(fifo: &mut Fifo, out: &mut Packet) -> Shown
 }
 
 /// The packet at the head of a fifo.
-pub(crate) fn first_packet(fifo: &Fifo) -> Option<Packet>
+pub(crate) fn first_packet(fifo: &Fifo) -> Option<KeptPacket>
     ensures { result ≡ slice_get (packets_of fifo.now.packets) 0 }
 {
-    Some(fifo.head()?.packet)
+    fifo.first()
 }
 
 /// A fifo shows its head.
-pub(crate) fn of_fifo(head: Option<Packet>, now: Moment) -> Outlook
+pub(crate) fn of_fifo(head: Option<KeptPacket>, now: Moment) -> Outlook
     ensures { result ≡ of_fifo now head }
 {
     let Some(packet) = head else {
         return Outlook::NO_PACKET;
     };
-    Outlook::at_hand(now, packet.len)
+    Outlook::at_hand(now, packet.len())
 }
 
 impl Node {

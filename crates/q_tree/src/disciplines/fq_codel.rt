@@ -32,7 +32,7 @@ use crate::signals::{NO_SIGNALS, Signals};
 use q_codel::Sink;
 use q_fqcodel::{FqCodel, Settings};
 use q_model::{FqCodelOptions, Refusal, Totals};
-use q_packet::{Cause, Moment, Packet};
+use q_packet::{Cause, KeptPacket, Moment};
 use std::alloc::{AllocError, Global};
 
 /// The queue of an fq_codel with these settings.
@@ -65,7 +65,7 @@ pub(crate) fn with_options(options: &FqCodelOptions, old: Settings) -> Settings
 /// The packet is queued in its flow, and what the fattest flow loses is counted.
 pub(crate) fn enqueue_in_flows<S: Sink>(
     queue: &mut FqCodel,
-    packet: &Packet,
+    packet: &KeptPacket,
     now: Moment,
     lost: &mut Outcome,
     sink: &mut S,
@@ -96,7 +96,7 @@ pub(crate) fn enqueue_in_flows<S: Sink>(
 #[inline(never)]
 fn enqueue_over<S: Sink>(
     queue: &mut FqCodel,
-    packet: &Packet,
+    packet: &KeptPacket,
     now: Moment,
     lost: &mut Outcome,
     sink: &mut S,
@@ -115,7 +115,12 @@ fn enqueue_over<S: Sink>(
 
 // Puts a packet into its flow, and counts what the fattest flow loses.
 #[inline(always)]
-fn put_in_flow<S: Sink>(queue: &mut FqCodel, packet: &Packet, now: Moment, sink: &mut S) -> Outcome
+fn put_in_flow<S: Sink>(
+    queue: &mut FqCodel,
+    packet: &KeptPacket,
+    now: Moment,
+    sink: &mut S,
+) -> Outcome
     requires place { packets_of queue.old.state.flows < queue.old.places }
     requires flow { CanFlow packet.now queue.old.state }
     requires sink { packets_of queue.old.state.flows + 1 ≤ S.room sink.old }
@@ -137,7 +142,7 @@ fn put_in_flow<S: Sink>(queue: &mut FqCodel, packet: &Packet, now: Moment, sink:
 /// Writes the packet that the flow in front sends (RFC 8290, section 4.2) to `out`, and counts what CoDel drops and marks.
 pub(crate) fn dequeue_flow<S: Sink>(
     queue: &mut FqCodel,
-    out: &mut Packet,
+    out: &mut KeptPacket,
     now: Moment,
     signals: &mut Signals,
     sink: &mut S,
@@ -165,7 +170,7 @@ pub(crate) fn dequeue_flow<S: Sink>(
 #[inline(never)]
 fn dequeue_late<S: Sink>(
     queue: &mut FqCodel,
-    out: &mut Packet,
+    out: &mut KeptPacket,
     now: Moment,
     signals: &mut Signals,
     sink: &mut S,
@@ -204,7 +209,7 @@ fn dequeue_late<S: Sink>(
 
 // Shows the packet, where nothing was dropped for it. Mostly it was not marked either, and nothing is written then.
 #[inline(always)]
-fn show_marked(is_marked: bool, out: &Packet, signals: &mut Signals) -> Shown
+fn show_marked(is_marked: bool, out: &KeptPacket, signals: &mut Signals) -> Shown
     requires { signals.old ≡ no_signals }
     ensures shown { result ≡ record { packet = Some out.now; dropped = no_totals; marked = if is_marked then with_packet no_totals out.now else no_totals } }
     ensures signals { signals.new ≡ signals_of result }
@@ -220,7 +225,7 @@ fn show_marked(is_marked: bool, out: &Packet, signals: &mut Signals) -> Shown
 }
 
 // The packet, where it was marked.
-fn marking(is_marked: bool, packet: &Packet) -> Totals
+fn marking(is_marked: bool, packet: &KeptPacket) -> Totals
     ensures { result ≡ (if is_marked then with_packet no_totals packet.now else no_totals) }
 {
     if is_marked {

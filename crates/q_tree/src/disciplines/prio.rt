@@ -38,7 +38,7 @@ use crate::shown::Shown;
 use crate::signals::{NO_SIGNALS, Signals};
 use q_codel::Sink;
 use q_model::{PrioOptions, Refusal, Totals};
-use q_packet::{Moment, Packet};
+use q_packet::{KeptPacket, Moment};
 use std::alloc::AllocError;
 
 impl Planner<'_> {
@@ -56,12 +56,12 @@ impl Planner<'_> {
 }
 
 /// The band of a packet: the class that a filter names, else that of its priority (tc-prio(8)).
-pub(crate) fn band(filters: &Filters, priomap: &[u8; 16], packet: &Packet) -> usize
+pub(crate) fn band(filters: &Filters, priomap: &[u8; 16], packet: &KeptPacket) -> usize
     ensures { result ≡ option_map_or (λ minor. minor - 1) (named_class filters.now packet.now) (slice_index priomap.now packet.now.prio) }
 {
     match filters.named_class(packet) {
         Some(minor) => usize::from(minor.number()) - 1,
-        None => usize::from(priomap[usize::from(packet.prio)]),
+        None => usize::from(priomap[usize::from(packet.stored.prio)]),
     }
 }
 
@@ -70,7 +70,7 @@ pub(crate) fn band(filters: &Filters, priomap: &[u8; 16], packet: &Packet) -> us
 pub(crate) fn dequeue_bands<S: Sink>(
     bands: &mut [Node],
     now: Moment,
-    out: &mut Packet,
+    out: &mut KeptPacket,
     signals: &mut Signals,
     sink: &mut S,
 ) -> Shown
@@ -100,7 +100,7 @@ fn dequeue_band<S: Sink>(
     band: &mut Node,
     so_far: Shown,
     now: Moment,
-    out: &mut Packet,
+    out: &mut KeptPacket,
     signals: &mut Signals,
     sink: &mut S,
 ) -> Shown
@@ -125,7 +125,7 @@ fn dequeue_band_further<S: Sink>(
     band: &mut Node,
     so_far: Shown,
     now: Moment,
-    out: &mut Packet,
+    out: &mut KeptPacket,
     signals: &mut Signals,
     sink: &mut S,
 ) -> Shown
@@ -184,7 +184,7 @@ pub(crate) fn peek_bands<S: Sink>(
 
 /// That of the first band which has one.
 #[cycle(at_hand)]
-pub(crate) fn first_at_hand(bands: &[Node]) -> Option<Packet>
+pub(crate) fn first_at_hand(bands: &[Node]) -> Option<KeptPacket>
     ensures { result ≡ first_shown (map pop bands.now) }
 {
     for band in bands {

@@ -22,7 +22,7 @@ use crate::signals::Signals;
 use q_bucket::Bucket;
 use q_codel::{Limit, Sink};
 use q_model::{Burst, Rate, Refusal, TbfLimit};
-use q_packet::{Moment, Packet};
+use q_packet::{KeptPacket, Moment};
 use std::alloc::{AllocError, Global};
 
 /// A tbf with its bucket, over an implicit bfifo of so many bytes.
@@ -60,7 +60,7 @@ const UNITS_IN_BYTE: u128 = 8_000_000_000;
 pub(crate) fn dequeue_child<S: Sink>(
     bucket: &mut Bucket,
     child: &mut Node,
-    out: &mut Packet,
+    out: &mut KeptPacket,
     now: Moment,
     signals: &mut Signals,
     sink: &mut S,

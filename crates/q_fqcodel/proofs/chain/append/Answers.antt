@@ -23,16 +23,16 @@ stored c = (some_of (used c.claim-key.new.self c.claim-key.result) c.claim-key.e
 holds : (c : After-claim-key) → stamped_of (node c) ≡ stamped c
 holds c = subst (λ (o : Option Node). IfSome o (λ x. stamped_of x ≡ stamped c)) (stored c) c.claim-key.ensures.stored
 
-len : (c : After-claim-key) → c.packet.inside.len ≡ c.args.packet.now.len
+len : (c : After-claim-key) → c.packet.inside.stored.len ≡ c.args.packet.now.len
 len c = ap (λ (p : Descriptor). p.len) c.packet.view_is
 
 own : (c : After-claim-key) (w : ℕ) → IsNode w (c.args.packet.now.hash % w) (node c)
-own c w = node_of w (node c) (stamped c) (holds c) (omega (arith, len c, c.packet.invariant.0)) (omega (arith, len c))
+own c w = node_of w (node c) (stamped c) (holds c) (omega (arith, len c, c.packet.invariant.len)) (omega (arith, len c))
 
 more : (c : After-claim-key) (q : List Stamped) → q ++ stamped_of (node c) ∷ [] ≡ q ++ stamped c ∷ []
 more c q = ap (λ (s : Stamped). q ++ s ∷ []) (holds c)
 
-heavier : (c : After-claim-key) → c.packet.inside.len ≡ (node c).packet.len
+heavier : (c : After-claim-key) → c.packet.inside.stored.len ≡ (node c).packet.len
 heavier c = len c ∙ sym (ap (λ (s : Stamped). s.packet.len) (holds c))
 
 -- ---- the first packet
@@ -84,16 +84,16 @@ stored_led c = (some_of (used c.claim-key.new.self c.claim-key.result) c.claim-k
 holds_led : (c : After-link) → stamped_of (node_led c) ≡ stamped_led c
 holds_led c = subst (λ (o : Option Node). IfSome o (λ x. stamped_of x ≡ stamped_led c)) (stored_led c) c.claim-key.ensures.stored
 
-len_led : (c : After-link) → c.packet.inside.len ≡ c.args.packet.now.len
+len_led : (c : After-link) → c.packet.inside.stored.len ≡ c.args.packet.now.len
 len_led c = ap (λ (p : Descriptor). p.len) c.packet.view_is
 
 own_led : (c : After-link) (w : ℕ) → IsNode w (c.args.packet.now.hash % w) (node_led c)
-own_led c w = node_of w (node_led c) (stamped_led c) (holds_led c) (omega (arith, len_led c, c.packet.invariant.0)) (omega (arith, len_led c))
+own_led c w = node_of w (node_led c) (stamped_led c) (holds_led c) (omega (arith, len_led c, c.packet.invariant.len)) (omega (arith, len_led c))
 
 more_led : (c : After-link) (q : List Stamped) → q ++ stamped_of (node_led c) ∷ [] ≡ q ++ stamped_led c ∷ []
 more_led c q = ap (λ (s : Stamped). q ++ s ∷ []) (holds_led c)
 
-heavier_led : (c : After-link) → c.packet.inside.len ≡ (node_led c).packet.len
+heavier_led : (c : After-link) → c.packet.inside.stored.len ≡ (node_led c).packet.len
 heavier_led c = len_led c ∙ sym (ap (λ (s : Stamped). s.packet.len) (holds_led c))
 
 added : (c : After-link) → IsAppended led_to (used c.args.nodes.now) (used c.link.new.self) c.args.list.tail c.claim-key.result (node_led c)

@@ -4,6 +4,7 @@ use Rattle.q_packet.specs.Descriptor.{Descriptor}
 use Rattle.q_model.specs.declared.event.Event.TheVariants as event
 use Rattle.q_model.specs.declared.reply.Reply.TheVariants as reply
 use Rattle.q_model.specs.Node.{shape}
+use Rattle.q_model.specs.Ranges.{HasPacketFields}
 use Rattle.q_model.specs.Step.{DeviceState, fate_of, losses_in, step}
 use Rattle.q_model.specs.Tally.{Counts, totals, with_packet}
 use Rattle.q_model.specs.TreeState.{noted_by_put, own_loss}
@@ -75,13 +76,13 @@ happened c n =
     let p = c.args.packet.now in
     let e = event.Arrive p c.args.now in
     let lost = c.in-Ok-arrive.ensures.lost ∙ ap (λ (l : LossList). l.waiting ++ losses_in (noted_by_put c.later-at.result p a.tree.tree)) c.make_room.ensures.same in
-    let counted = events-after a c.self.invariant e b (c.packet_ranges.ensures.fields, c.moment_range.ensures) (arrived-device a b p c.args.now c.later-at.result c.later-at.ensures c.in-Ok-arrive.ensures.after) refl in
+    let counted = events-after a c.self.invariant e b ((subst HasPacketFields c.packet.view_is c.stored_ranges.ensures.fields), c.moment_range.ensures) (arrived-device a b p c.args.now c.later-at.result c.later-at.ensures c.in-Ok-arrive.ensures.after) refl in
     arrived a b p c.args.now c.later-at.result c.later-at.ensures refl c.in-Ok-arrive.ensures.after lost refl c.record_arrival.ensures.items c.record_arrival.ensures.capacity counted
 
 -- before more may, there is room for what is queued
 still_kept : (c : After-record_arrival) → IsKeptDevice (after c 0)
 still_kept c =
-    event-kept c.self.inside c.self.invariant (event.Arrive c.args.packet.now c.args.now) (after c 0) (happened c 0) (c.packet_ranges.ensures.fields, c.moment_range.ensures) (omega arith)
+    event-kept c.self.inside c.self.invariant (event.Arrive c.args.packet.now c.args.now) (after c 0) (happened c 0) ((subst HasPacketFields c.packet.view_is c.stored_ranges.ensures.fields), c.moment_range.ensures) (omega arith)
     (omega (arith, c.in-Ok-arrive.ensures.counted.packets))
     (omega (arith, c.in-Ok-arrive.ensures.counted.bytes))
     (omega (arith, c.in-Ok.ensures.room, ap (λ (l : LossList). l.places) c.arrive.ensures.kept))
@@ -125,7 +126,7 @@ returns-clause-arrived c =
     let d = (goal.at.returns-clause-arrived c).After-record_arrival in
     let e = event.Arrive c.args.packet.now c.args.now in
     ap (λ (x : DeviceSeen). x.device.tree.top.arrived) (event-seen c.self.inside e (after d c.budget-self-inside.result) (happened d c.budget-self-inside.result))
-    ∙ kept-arrived c.self.inside c.self.invariant e (c.packet_ranges.ensures.fields, c.moment_range.ensures)
+    ∙ kept-arrived c.self.inside c.self.invariant e ((subst HasPacketFields c.packet.view_is c.stored_ranges.ensures.fields), c.moment_range.ensures)
     ∙ ap (λ (x : DeviceSeen). with_packet x.device.tree.top.arrived c.args.packet.now) c.self.view_is
 
 pub returns-clause-counters : goal.returns-clause-counters

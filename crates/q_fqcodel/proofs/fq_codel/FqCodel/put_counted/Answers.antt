@@ -87,7 +87,7 @@ enlist-requires-clause-few g c =
 own_flow : (g : _) (c : After-enlist g) → c.args.packet.now.hash % length c.self.inside.flows.flows ≡ own g c
 own_flow g c =
     let count : c.settings.inside.flows ≡ length c.self.inside.flows.flows = ap (λ (x : FqSettings). x.flows) c.settings.view_is ∙ sym c.self.invariant.0.each_flow in
-    ap (λ (p : Descriptor). p.hash % length c.self.inside.flows.flows) (sym c.packet.view_is) ∙ ap (λ (n : ℕ). c.packet.inside.hash % n) (sym count) ∙ sym c.flow_by_hash-flow.ensures
+    ap (λ (p : Descriptor). p.hash % length c.self.inside.flows.flows) (sym c.packet.view_is) ∙ ap (λ (n : ℕ). c.packet.inside.stored.hash % n) (sym count) ∙ sym c.flow_by_hash-flow.ensures
 
 pub push-requires-clause-own : goal.push-requires-clause-own
 push-requires-clause-own g c = own_flow g (goal.at.push-requires-clause-own g c).After-enlist
@@ -218,7 +218,7 @@ counted g c =
 
 counted_after : (g : _) (c : After-bytes-bytes_after g)
     → (c.count-packets_after.result + count (lost_by_put c.args.self.now.state c.args.packet.now c.args.now) ≡ c.count-packets.result + 1)
-    × (c.bytes-bytes_after.result + size (lost_by_put c.args.self.now.state c.args.packet.now c.args.now) ≡ c.bytes.result + c.packet.inside.len)
+    × (c.bytes-bytes_after.result + size (lost_by_put c.args.self.now.state c.args.packet.now c.args.now) ≡ c.bytes.result + c.packet.inside.stored.len)
 unfolding opening
 counted_after g c =
     let at = opening g c in

@@ -14,4 +14,4 @@ none_sent (Some t) len out place is given some zero = absurd (omega (arith, is, 
 pub returns-then-sent-eq0-clause-sent : goal.returns-then-sent-eq0-clause-sent
 returns-then-sent-eq0-clause-sent g c =
     none_sent (sent_from c.args.now (selected c.args.self.now.state)) c.take_into-sent.result.len c.take_into-sent.new.out _ c.take_into-sent.ensures.len c.take_into-sent.ensures.packet
-    (omega (arith, c.packet.invariant.0, ap (λ (p : Descriptor). p.len) c.packet.view_is)) c.if-sent-eq0.true
+    (omega (arith, c.packet.invariant.len, ap (λ (p : Descriptor). p.len) c.packet.view_is)) c.if-sent-eq0.true

@@ -17,7 +17,7 @@ pub keep-requires-clause-ready : goal.keep-requires-clause-ready
 keep-requires-clause-ready g c =
     let later : c.self.inside.clock ≤ c.args.now = omega (arith, ap (λ (d : DeviceState Kept). d.clock) c.self.view_is, c.requires.order) in
     let low : c.args.now ≤ 2 ^ 62 = omega (arith, c.ns.ensures.in_range, c.ns.ensures.value) in
-    let byte : 1 ≤ c.args.packet.now.len = omega (arith, c.packet.invariant.0, ap (λ (p : Descriptor). p.len) c.packet.view_is) in
+    let byte : 1 ≤ c.args.packet.now.len = omega (arith, c.packet.invariant.len, ap (λ (p : Descriptor). p.len) c.packet.view_is) in
     let room : CanCount c.self.inside.top.arrived c.args.packet.now = subst (λ (d : DeviceState Kept). CanCount d.tree.top.counts.arrived c.args.packet.now) (sym c.self.view_is) c.requires.counted in
     let short : c.args.packet.now.len ≤ c.self.inside.mtu = omega (arith, c.if-packet-self.true, ap (λ (q : Descriptor). q.len) c.packet.view_is) in
     can-come c.self.inside c.self.invariant c.args.now c.args.packet.now later low byte room short
@@ -29,7 +29,7 @@ pub invariant_of-self : goal.invariant_of-self
 invariant_of-self g c =
     let later : c.self.inside.clock ≤ c.args.now = omega (arith, ap (λ (d : DeviceState Kept). d.clock) c.self.view_is, c.requires.order) in
     let low : c.args.now ≤ 2 ^ 62 = omega (arith, c.ns.ensures.in_range, c.ns.ensures.value) in
-    let byte : 1 ≤ c.args.packet.now.len = omega (arith, c.packet.invariant.0, ap (λ (p : Descriptor). p.len) c.packet.view_is) in
+    let byte : 1 ≤ c.args.packet.now.len = omega (arith, c.packet.invariant.len, ap (λ (p : Descriptor). p.len) c.packet.view_is) in
     let room : CanCount c.self.inside.top.arrived c.args.packet.now = subst (λ (d : DeviceState Kept). CanCount d.tree.top.counts.arrived c.args.packet.now) (sym c.self.view_is) c.requires.counted in
     let short : c.args.packet.now.len ≤ c.self.inside.mtu = omega (arith, c.if-packet-self.true, ap (λ (q : Descriptor). q.len) c.packet.view_is) in
     let come = at-root c.args.now c.args.packet.now c.self.inside.mtu c.self.inside.root c.keep.new.self (Ok nothing_lost) short c.keep.ensures.after in
@@ -39,7 +39,7 @@ pub returns-then-can_keep-clause-after : goal.returns-then-can_keep-clause-after
 returns-then-can_keep-clause-after g c =
     let later : c.self.inside.clock ≤ c.args.now = omega (arith, ap (λ (d : DeviceState Kept). d.clock) c.self.view_is, c.requires.order) in
     let low : c.args.now ≤ 2 ^ 62 = omega (arith, c.ns.ensures.in_range, c.ns.ensures.value) in
-    let byte : 1 ≤ c.args.packet.now.len = omega (arith, c.packet.invariant.0, ap (λ (p : Descriptor). p.len) c.packet.view_is) in
+    let byte : 1 ≤ c.args.packet.now.len = omega (arith, c.packet.invariant.len, ap (λ (p : Descriptor). p.len) c.packet.view_is) in
     let room : CanCount c.self.inside.top.arrived c.args.packet.now = subst (λ (d : DeviceState Kept). CanCount d.tree.top.counts.arrived c.args.packet.now) (sym c.self.view_is) c.requires.counted in
     let short : c.args.packet.now.len ≤ c.self.inside.mtu = omega (arith, c.if-packet-self.true, ap (λ (q : Descriptor). q.len) c.packet.view_is) in
     let come = at-root c.args.now c.args.packet.now c.self.inside.mtu c.self.inside.root c.keep.new.self (Ok nothing_lost) short c.keep.ensures.after in
@@ -49,7 +49,7 @@ pub returns-then-can_keep-clause-exact : goal.returns-then-can_keep-clause-exact
 returns-then-can_keep-clause-exact g c = λ can.
     let later : c.self.inside.clock ≤ c.args.now = omega (arith, ap (λ (d : DeviceState Kept). d.clock) c.self.view_is, c.requires.order) in
     let low : c.args.now ≤ 2 ^ 62 = omega (arith, c.ns.ensures.in_range, c.ns.ensures.value) in
-    let byte : 1 ≤ c.args.packet.now.len = omega (arith, c.packet.invariant.0, ap (λ (p : Descriptor). p.len) c.packet.view_is) in
+    let byte : 1 ≤ c.args.packet.now.len = omega (arith, c.packet.invariant.len, ap (λ (p : Descriptor). p.len) c.packet.view_is) in
     let room : CanCount c.self.inside.top.arrived c.args.packet.now = subst (λ (d : DeviceState Kept). CanCount d.tree.top.counts.arrived c.args.packet.now) (sym c.self.view_is) c.requires.counted in
     let short : c.args.packet.now.len ≤ c.self.inside.mtu = omega (arith, c.if-packet-self.true, ap (λ (q : Descriptor). q.len) c.packet.view_is) in
     let come = at-root c.args.now c.args.packet.now c.self.inside.mtu c.self.inside.root c.keep.new.self (Ok nothing_lost) short c.keep.ensures.after in
@@ -61,7 +61,7 @@ pub returns-then-can_keep-clause-places : goal.returns-then-can_keep-clause-plac
 returns-then-can_keep-clause-places g c =
     let later : c.self.inside.clock ≤ c.args.now = omega (arith, ap (λ (d : DeviceState Kept). d.clock) c.self.view_is, c.requires.order) in
     let low : c.args.now ≤ 2 ^ 62 = omega (arith, c.ns.ensures.in_range, c.ns.ensures.value) in
-    let byte : 1 ≤ c.args.packet.now.len = omega (arith, c.packet.invariant.0, ap (λ (p : Descriptor). p.len) c.packet.view_is) in
+    let byte : 1 ≤ c.args.packet.now.len = omega (arith, c.packet.invariant.len, ap (λ (p : Descriptor). p.len) c.packet.view_is) in
     let room : CanCount c.self.inside.top.arrived c.args.packet.now = subst (λ (d : DeviceState Kept). CanCount d.tree.top.counts.arrived c.args.packet.now) (sym c.self.view_is) c.requires.counted in
     let short : c.args.packet.now.len ≤ c.self.inside.mtu = omega (arith, c.if-packet-self.true, ap (λ (q : Descriptor). q.len) c.packet.view_is) in
     let come = at-root c.args.now c.args.packet.now c.self.inside.mtu c.self.inside.root c.keep.new.self (Ok nothing_lost) short c.keep.ensures.after in

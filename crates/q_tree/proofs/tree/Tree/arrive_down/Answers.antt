@@ -23,7 +23,7 @@ pub enqueue_below-requires-clause-ready : goal.enqueue_below-requires-clause-rea
 enqueue_below-requires-clause-ready g c =
     let later : c.self.inside.clock ≤ c.args.now = omega (arith, ap (λ (d : DeviceState Kept). d.clock) c.self.view_is, c.requires.order) in
     let low : c.args.now ≤ 2 ^ 62 = omega (arith, c.ns.ensures.in_range, c.ns.ensures.value) in
-    let byte : 1 ≤ c.args.packet.now.len = omega (arith, c.packet.invariant.0, ap (λ (p : Descriptor). p.len) c.packet.view_is) in
+    let byte : 1 ≤ c.args.packet.now.len = omega (arith, c.packet.invariant.len, ap (λ (p : Descriptor). p.len) c.packet.view_is) in
     let room : CanCount c.self.inside.top.arrived c.args.packet.now = subst (λ (d : DeviceState Kept). CanCount d.tree.top.counts.arrived c.args.packet.now) (sym c.self.view_is) c.requires.counted in
     can-come c.self.inside c.self.invariant c.args.now c.args.packet.now later low byte room
 
@@ -37,7 +37,7 @@ pub book_arrival-requires-clause-room : goal.book_arrival-requires-clause-room
 book_arrival-requires-clause-room g c =
     let later : c.self.inside.clock ≤ c.args.now = omega (arith, ap (λ (d : DeviceState Kept). d.clock) c.self.view_is, c.requires.order) in
     let low : c.args.now ≤ 2 ^ 62 = omega (arith, c.ns.ensures.in_range, c.ns.ensures.value) in
-    let byte : 1 ≤ c.args.packet.now.len = omega (arith, c.packet.invariant.0, ap (λ (p : Descriptor). p.len) c.packet.view_is) in
+    let byte : 1 ≤ c.args.packet.now.len = omega (arith, c.packet.invariant.len, ap (λ (p : Descriptor). p.len) c.packet.view_is) in
     let room : CanCount c.self.inside.top.arrived c.args.packet.now = subst (λ (d : DeviceState Kept). CanCount d.tree.top.counts.arrived c.args.packet.now) (sym c.self.view_is) c.requires.counted in
     room
 
@@ -45,7 +45,7 @@ pub book_arrival-requires-clause-lost : goal.book_arrival-requires-clause-lost
 book_arrival-requires-clause-lost g c =
     let later : c.self.inside.clock ≤ c.args.now = omega (arith, ap (λ (d : DeviceState Kept). d.clock) c.self.view_is, c.requires.order) in
     let low : c.args.now ≤ 2 ^ 62 = omega (arith, c.ns.ensures.in_range, c.ns.ensures.value) in
-    let byte : 1 ≤ c.args.packet.now.len = omega (arith, c.packet.invariant.0, ap (λ (p : Descriptor). p.len) c.packet.view_is) in
+    let byte : 1 ≤ c.args.packet.now.len = omega (arith, c.packet.invariant.len, ap (λ (p : Descriptor). p.len) c.packet.view_is) in
     let room : CanCount c.self.inside.top.arrived c.args.packet.now = subst (λ (d : DeviceState Kept). CanCount d.tree.top.counts.arrived c.args.packet.now) (sym c.self.view_is) c.requires.counted in
     tree-lost c.self.inside c.self.invariant c.args.now c.args.packet.now later low byte room c.in_ok-outcome.outcome c.enqueue_below.new.root c.in_ok-outcome.ensures.after
 
@@ -56,7 +56,7 @@ pub invariant_of-self-2 : goal.invariant_of-self-2
 invariant_of-self-2 g c =
     let later : c.self.inside.clock ≤ c.args.now = omega (arith, ap (λ (d : DeviceState Kept). d.clock) c.self.view_is, c.requires.order) in
     let low : c.args.now ≤ 2 ^ 62 = omega (arith, c.ns.ensures.in_range, c.ns.ensures.value) in
-    let byte : 1 ≤ c.args.packet.now.len = omega (arith, c.packet.invariant.0, ap (λ (p : Descriptor). p.len) c.packet.view_is) in
+    let byte : 1 ≤ c.args.packet.now.len = omega (arith, c.packet.invariant.len, ap (λ (p : Descriptor). p.len) c.packet.view_is) in
     let room : CanCount c.self.inside.top.arrived c.args.packet.now = subst (λ (d : DeviceState Kept). CanCount d.tree.top.counts.arrived c.args.packet.now) (sym c.self.view_is) c.requires.counted in
     tree-indexed c.self.inside c.self.invariant c.args.now c.args.packet.now later low byte room c.in_ok-outcome.outcome c.enqueue_below.new.root c.in_ok-outcome.ensures.after c.book_arrival.new.row c.book_arrival.ensures
 
@@ -64,7 +64,7 @@ pub returns-clause-fate : goal.returns-clause-fate
 returns-clause-fate g c =
     let later : c.self.inside.clock ≤ c.args.now = omega (arith, ap (λ (d : DeviceState Kept). d.clock) c.self.view_is, c.requires.order) in
     let low : c.args.now ≤ 2 ^ 62 = omega (arith, c.ns.ensures.in_range, c.ns.ensures.value) in
-    let byte : 1 ≤ c.args.packet.now.len = omega (arith, c.packet.invariant.0, ap (λ (p : Descriptor). p.len) c.packet.view_is) in
+    let byte : 1 ≤ c.args.packet.now.len = omega (arith, c.packet.invariant.len, ap (λ (p : Descriptor). p.len) c.packet.view_is) in
     let room : CanCount c.self.inside.top.arrived c.args.packet.now = subst (λ (d : DeviceState Kept). CanCount d.tree.top.counts.arrived c.args.packet.now) (sym c.self.view_is) c.requires.counted in
     c.fate.ensures ∙ ap fate_of (tree-loss c.self.inside c.self.invariant c.args.now c.args.packet.now later low byte room c.in_ok-outcome.outcome c.enqueue_below.new.root c.in_ok-outcome.ensures.after) ∙ ap (λ (d : DeviceState Kept). fate_of (own_loss c.args.now c.args.packet.now d.tree.device (shape d.tree.root))) c.self.view_is
 
@@ -72,7 +72,7 @@ pub returns-clause-after : goal.returns-clause-after
 returns-clause-after g c =
     let later : c.self.inside.clock ≤ c.args.now = omega (arith, ap (λ (d : DeviceState Kept). d.clock) c.self.view_is, c.requires.order) in
     let low : c.args.now ≤ 2 ^ 62 = omega (arith, c.ns.ensures.in_range, c.ns.ensures.value) in
-    let byte : 1 ≤ c.args.packet.now.len = omega (arith, c.packet.invariant.0, ap (λ (p : Descriptor). p.len) c.packet.view_is) in
+    let byte : 1 ≤ c.args.packet.now.len = omega (arith, c.packet.invariant.len, ap (λ (p : Descriptor). p.len) c.packet.view_is) in
     let room : CanCount c.self.inside.top.arrived c.args.packet.now = subst (λ (d : DeviceState Kept). CanCount d.tree.top.counts.arrived c.args.packet.now) (sym c.self.view_is) c.requires.counted in
     tree-after c.self.inside c.self.invariant c.args.now c.args.packet.now later low byte room c.in_ok-outcome.outcome c.enqueue_below.new.root c.in_ok-outcome.ensures.after c.book_arrival.new.row c.book_arrival.ensures ∙ ap (λ (d : DeviceState Kept). record { clock = c.args.now; tree = put totals c.args.now c.args.packet.now (tree_numbers d.tree) }) c.self.view_is
 
@@ -80,7 +80,7 @@ pub returns-clause-exact : goal.returns-clause-exact
 returns-clause-exact g c = λ can.
     let later : c.self.inside.clock ≤ c.args.now = omega (arith, ap (λ (d : DeviceState Kept). d.clock) c.self.view_is, c.requires.order) in
     let low : c.args.now ≤ 2 ^ 62 = omega (arith, c.ns.ensures.in_range, c.ns.ensures.value) in
-    let byte : 1 ≤ c.args.packet.now.len = omega (arith, c.packet.invariant.0, ap (λ (p : Descriptor). p.len) c.packet.view_is) in
+    let byte : 1 ≤ c.args.packet.now.len = omega (arith, c.packet.invariant.len, ap (λ (p : Descriptor). p.len) c.packet.view_is) in
     let room : CanCount c.self.inside.top.arrived c.args.packet.now = subst (λ (d : DeviceState Kept). CanCount d.tree.top.counts.arrived c.args.packet.now) (sym c.self.view_is) c.requires.counted in
     tree-exact c.self.inside c.self.invariant c.args.now c.args.packet.now later low byte room c.in_ok-outcome.outcome c.enqueue_below.new.root c.in_ok-outcome.ensures.after c.book_arrival.new.row c.book_arrival.ensures
     (subst (λ (d : DeviceState Kept). CanArrive (route_seen c.args.packet.now d.tree.device.mtu d.tree.root) d) (sym c.self.view_is) can)
@@ -90,7 +90,7 @@ pub returns-clause-told : goal.returns-clause-told
 returns-clause-told g c =
     let later : c.self.inside.clock ≤ c.args.now = omega (arith, ap (λ (d : DeviceState Kept). d.clock) c.self.view_is, c.requires.order) in
     let low : c.args.now ≤ 2 ^ 62 = omega (arith, c.ns.ensures.in_range, c.ns.ensures.value) in
-    let byte : 1 ≤ c.args.packet.now.len = omega (arith, c.packet.invariant.0, ap (λ (p : Descriptor). p.len) c.packet.view_is) in
+    let byte : 1 ≤ c.args.packet.now.len = omega (arith, c.packet.invariant.len, ap (λ (p : Descriptor). p.len) c.packet.view_is) in
     let room : CanCount c.self.inside.top.arrived c.args.packet.now = subst (λ (d : DeviceState Kept). CanCount d.tree.top.counts.arrived c.args.packet.now) (sym c.self.view_is) c.requires.counted in
     subst (λ (d : DeviceState Kept). IsToldOf (noted_by_put c.args.now c.args.packet.now d.tree) (g.S.Sink.losses c.args.sink.now) (g.S.Sink.losses c.enqueue_below.new.sink) (g.S.Sink.room c.args.sink.now) (g.S.Sink.room c.enqueue_below.new.sink)) c.self.view_is
     (told-tree c.self.inside c.self.invariant c.args.now c.args.packet.now later low byte room (g.S.Sink.losses c.args.sink.now) (g.S.Sink.losses c.enqueue_below.new.sink) (g.S.Sink.room c.args.sink.now) (g.S.Sink.room c.enqueue_below.new.sink) c.in_ok-outcome.ensures.told)
@@ -99,7 +99,7 @@ pub returns-clause-places : goal.returns-clause-places
 returns-clause-places g c =
     let later : c.self.inside.clock ≤ c.args.now = omega (arith, ap (λ (d : DeviceState Kept). d.clock) c.self.view_is, c.requires.order) in
     let low : c.args.now ≤ 2 ^ 62 = omega (arith, c.ns.ensures.in_range, c.ns.ensures.value) in
-    let byte : 1 ≤ c.args.packet.now.len = omega (arith, c.packet.invariant.0, ap (λ (p : Descriptor). p.len) c.packet.view_is) in
+    let byte : 1 ≤ c.args.packet.now.len = omega (arith, c.packet.invariant.len, ap (λ (p : Descriptor). p.len) c.packet.view_is) in
     let room : CanCount c.self.inside.top.arrived c.args.packet.now = subst (λ (d : DeviceState Kept). CanCount d.tree.top.counts.arrived c.args.packet.now) (sym c.self.view_is) c.requires.counted in
     λ path. subst (λ (d : DeviceState Kept). places_at path d.tree.root ≤ places_at path c.enqueue_below.new.root) c.self.view_is (tree-places c.self.inside c.self.invariant c.args.now c.args.packet.now later low byte room c.in_ok-outcome.outcome c.enqueue_below.new.root c.in_ok-outcome.ensures.after path)
 

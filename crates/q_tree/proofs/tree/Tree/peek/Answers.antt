@@ -40,4 +40,4 @@ pub returns-clause-packet : goal.returns-clause-packet
 returns-clause-packet g c =
     let later : c.self.inside.clock ≤ c.args.now = omega (arith, ap (λ (d : DeviceState Kept). d.clock) c.self.view_is, c.requires.order) in
     let low : c.args.now ≤ 2 ^ 62 = omega (arith, c.ns.ensures.in_range, c.ns.ensures.value) in
-    c.at_hand.ensures ∙ gives-shown c.self.inside c.self.invariant.device c.args.now later low c.peek-shown.result c.peek-shown.ensures.peeked.shown c.peek-shown.new.self c.peek-shown.ensures.peeked.after ∙ c.peek-shown.ensures.peeked.shown.packet ∙ ap (λ (d : DeviceState Kept). given c.args.now d.tree) c.self.view_is
+    c.as_packet.ensures ∙ c.at_hand.ensures ∙ gives-shown c.self.inside c.self.invariant.device c.args.now later low c.peek-shown.result c.peek-shown.ensures.peeked.shown c.peek-shown.new.self c.peek-shown.ensures.peeked.after ∙ c.peek-shown.ensures.peeked.shown.packet ∙ ap (λ (d : DeviceState Kept). given c.args.now d.tree) c.self.view_is

@@ -1,0 +1,6 @@
+use Rattle.std.proofs.Common.{arith}
+use Rattle.q_codel.proofs.Counted.{one_more}
+use Rattle.q_codel.proofs.fifo.Fifo.put_stored.Goals as goal
+
+pub overflow_add-self : goal.overflow_add-self
+overflow_add-self c = let h = one_more _ _ c.args.packet.now.len c.self.invariant.counted (omega arith) in omega arith
