@@ -8,13 +8,14 @@ struct load {
 	const u32 *hashes;
 	const u8 *prios;
 	const u16 *ports;
-	u32 packets, shape, flows, drop_batch, queued;
+	u32 packets, shape, flows, drop_batch, queued, limit;
 	bool ecn;
 };
-enum { PFIFO, PRIO, TBF, DRR_OF_PFIFOS, FQ_CODEL, DRR_OF_FQ_CODELS, DEEP };
+enum { PFIFO, PRIO, TBF, DRR_OF_PFIFOS, FQ_CODEL, DRR_OF_FQ_CODELS, DEEP, SCHED, SCHED_OF_16, PRIO_OF_16 };
 
-#define BUFFERS (1 << 17)
+#define BUFFERS (1 << 20)
 #define CLASSES 8
+#define QUEUES 4
 #define FIRST_PORT 5000
 #define STEP 100
 static struct sk_buff *buffers;
@@ -23,7 +24,6 @@ static u32 spares;
 
 static struct net_device dev;
 static struct attrs at;
-static unsigned long class_of[CLASSES];
 
 static inline void give_back(struct sk_buff *skb)
 {
@@ -35,14 +35,25 @@ static void shim_lost(struct sk_buff *skb)
 	give_back(skb);
 }
 
-static int by_mark(struct sk_buff *skb, struct tcf_proto *tp, struct tcf_result *res)
+/* The filter of a drr: it reads the class from a mark, or names the first one. */
+struct filter {
+	struct tcf_proto proto;
+	bool by_mark;
+	u32 major;
+	unsigned long class_of[16];
+};
+static struct filter filters[32];
+static u32 filters_used;
+
+static int filtered(struct sk_buff *skb, struct tcf_proto *tp, struct tcf_result *res)
 {
-	(void)tp;
-	res->class = class_of[skb->mark];
-	res->classid = 0x10000 | (skb->mark + 1);
+	const struct filter *filter = container_of(tp, struct filter, proto);
+	u32 at = filter->by_mark ? skb->mark : 0;
+
+	res->class = filter->class_of[at];
+	res->classid = filter->major | (at + 1);
 	return 0;
 }
-static struct tcf_proto mark_filter = { .classify = by_mark };
 
 static struct Qdisc *make(const struct Qdisc_ops *ops, u32 parent, u32 handle, struct nlattr *options)
 {
@@ -66,7 +77,7 @@ static struct nlattr *options_of(const void *bytes, int len)
 static struct Qdisc *fq_codel(const struct load *load, u32 parent, u32 handle)
 {
 	at_start(&at);
-	at_u32(&at, TCA_FQ_CODEL_LIMIT, 10240);
+	at_u32(&at, TCA_FQ_CODEL_LIMIT, load->limit);
 	at_u32(&at, TCA_FQ_CODEL_FLOWS, load->flows);
 	at_u32(&at, TCA_FQ_CODEL_ECN, load->ecn);
 	at_u32(&at, TCA_FQ_CODEL_DROP_BATCH_SIZE, load->drop_batch);
@@ -75,7 +86,7 @@ static struct Qdisc *fq_codel(const struct load *load, u32 parent, u32 handle)
 
 static struct Qdisc *pfifo(void)
 {
-	struct tc_fifo_qopt options = { 200000 };
+	struct tc_fifo_qopt options = { 1000000 };
 
 	return make(&pfifo_qdisc_ops, TC_H_ROOT, 0x10000, options_of(&options, sizeof(options)));
 }
@@ -87,6 +98,15 @@ static struct Qdisc *prio(u32 parent, u32 handle, bool deep)
 	if (deep)
 		memset(options.priomap, 0, sizeof(options.priomap));
 	return make(&prio_qdisc_ops, parent, handle, options_of(&options, sizeof(options)));
+}
+
+/* Sixteen bands, of which all packets come to the last. */
+static struct Qdisc *wide(void)
+{
+	struct tc_prio_qopt options = { 16 };
+
+	memset(options.priomap, 15, sizeof(options.priomap));
+	return make(&prio_qdisc_ops, TC_H_ROOT, 0x10000, options_of(&options, sizeof(options)));
 }
 
 /* Seven prios, each in the first band of the one above. */
@@ -105,7 +125,7 @@ static struct Qdisc *path(void)
 }
 
 /* 34 Gbit/s, at which nothing waits. */
-static struct Qdisc *tbf(void)
+static struct Qdisc *tbf(u32 parent, u32 handle)
 {
 	struct tc_tbf_qopt options = { 0 };
 
@@ -115,31 +135,73 @@ static struct Qdisc *tbf(void)
 	at_start(&at);
 	at_u32(&at, TCA_TBF_BURST, 1u << 30);
 	at_put(&at, TCA_TBF_PARMS, &options, sizeof(options));
-	return make(&tbf_qdisc_ops, TC_H_ROOT, 0x10000, at_end(&at));
+	return make(&tbf_qdisc_ops, parent, handle, at_end(&at));
 }
 
-/* A drr whose one filter reads the class from a mark. */
-static struct Qdisc *drr(const struct load *load, bool has_flows)
+/* A drr of so many classes, whose one filter reads the class from a mark or names the first. */
+static struct Qdisc *drr(u32 parent, u32 handle, u32 classes, bool by_mark)
 {
-	struct Qdisc *q = make(&drr_qdisc_ops, TC_H_ROOT, 0x10000, NULL), *old;
+	struct Qdisc *q = make(&drr_qdisc_ops, parent, handle, NULL);
+	struct filter *filter = &filters[filters_used++];
 	struct nlattr *attributes[16] = { 0 };
 	struct drr_sched *sched = qdisc_priv(q);
 
-	for (int i = 0; i < CLASSES; i++) {
-		unsigned long class = 0;
-
+	*filter = (struct filter){ .proto.classify = filtered, .by_mark = by_mark, .major = handle };
+	for (u32 i = 0; i < classes; i++) {
 		at_start(&at);
 		attributes[TCA_OPTIONS] = at_end(&at);
-		if (drr_change_class(q, 0x10001 + i, 0x10000, attributes, &class, NULL))
+		if (drr_change_class(q, handle + 1 + i, handle, attributes, &filter->class_of[i], NULL))
 			exit(1);
-		class_of[i] = class;
-		if (has_flows) {
-			drr_graft_class(q, class, fq_codel(load, 0x10001 + i, (0x10 + i) << 16), &old, NULL);
-			qdisc_put(old);
-		}
 	}
-	sched->filter_list = &mark_filter;
+	sched->filter_list = &filter->proto;
 	return q;
+}
+
+static void graft_class(struct Qdisc *drr_qdisc, u32 class, struct Qdisc *q)
+{
+	struct drr_sched *sched = qdisc_priv(drr_qdisc);
+	const struct filter *filter = container_of(sched->filter_list, struct filter, proto);
+	struct Qdisc *old;
+
+	drr_graft_class(drr_qdisc, filter->class_of[class], q, &old, NULL);
+	qdisc_put(old);
+}
+
+static struct Qdisc *drr_of_eight(const struct load *load, bool has_flows)
+{
+	struct Qdisc *q = drr(TC_H_ROOT, 0x10000, CLASSES, true);
+
+	for (u32 i = 0; has_flows && i < CLASSES; i++)
+		graft_class(q, i, fq_codel(load, 0x10001 + i, (0x10 + i) << 16));
+	return q;
+}
+
+static void graft_tbf(struct Qdisc *above, struct Qdisc *q)
+{
+	struct Qdisc *old;
+
+	tbf_graft(above, 1, q, &old, NULL);
+	qdisc_put(old);
+}
+
+/* The tree of DPDK's rte_sched: a tbf, a drr of pipes, and for each a tbf, a prio of four traffic classes and a drr of four queues. */
+static struct Qdisc *sched(u32 pipes)
+{
+	struct Qdisc *root = tbf(TC_H_ROOT, 0x10000), *port = drr(0x10001, 0x20000, pipes, true), *old;
+
+	graft_tbf(root, port);
+	for (u32 i = 0; i < pipes; i++) {
+		struct tc_prio_qopt options = { 4, { 0, 1, 2, 3, 3, 3, 3, 3, 3, 3, 3, 3, 3, 3, 3, 3 } };
+		u32 major = 16 + 3 * i;
+		struct Qdisc *shaper = tbf(0x20001 + i, major << 16);
+		struct Qdisc *bands = make(&prio_qdisc_ops, (major << 16) + 1, (major + 1) << 16, options_of(&options, sizeof(options)));
+
+		graft_class(port, i, shaper);
+		graft_tbf(shaper, bands);
+		prio_graft(bands, 4, drr(((major + 1) << 16) + 4, (major + 2) << 16, QUEUES, false), &old, NULL);
+		qdisc_put(old);
+	}
+	return root;
 }
 
 static struct Qdisc *tree(const struct load *load)
@@ -147,10 +209,13 @@ static struct Qdisc *tree(const struct load *load)
 	switch (load->shape) {
 	case PFIFO: return pfifo();
 	case PRIO: return prio(TC_H_ROOT, 0x10000, false);
-	case TBF: return tbf();
-	case DRR_OF_PFIFOS: return drr(load, false);
+	case TBF: return tbf(TC_H_ROOT, 0x10000);
+	case DRR_OF_PFIFOS: return drr_of_eight(load, false);
 	case FQ_CODEL: return fq_codel(load, TC_H_ROOT, 0x10000);
-	case DRR_OF_FQ_CODELS: return drr(load, true);
+	case DRR_OF_FQ_CODELS: return drr_of_eight(load, true);
+	case SCHED: return sched(1);
+	case SCHED_OF_16: return sched(16);
+	case PRIO_OF_16: return wide();
 	default: return path();
 	}
 }
@@ -240,6 +305,7 @@ static struct Qdisc *ready(const struct load *load, const struct made *made)
 		spare[spares] = &buffers[BUFFERS - 1 - spares];
 	shim_device(&dev, 1514, 200000);
 	shim_now = 1000000000;
+	filters_used = 0;
 	q = tree(load);
 	for (u32 i = 0; i < load->queued; i++) {
 		shim_now += STEP;

@@ -18,6 +18,9 @@ pub enum Shape {
     FqCodel = 4,
     DrrOfFqCodels = 5,
     Deep = 6,
+    Sched = 7,
+    SchedOf16 = 8,
+    PrioOf16 = 9,
 }
 
 #[derive(Clone, Copy)]
@@ -28,18 +31,31 @@ pub struct Tree {
     pub drop_batch: u32,
     /// The packets that wait before the work begins, and then at each arrival.
     pub queued: u32,
+    /// Whether the packets are of random flows, and not of each flow in turn.
+    pub random: bool,
     /// Whether plain Rust keeps the tournament tree of an fq_codel only near its limit: it then does less than a device of Rattle, whose
     /// tree has the fat flow at its top after each put and take.
     pub lazy: bool,
 }
 
 impl Tree {
-    /// The flows that packets have: all of them, or 64 where eight fq_codels share the packets.
-    fn met(&self) -> u32 {
-        match self.shape {
+    /// The packets that arrive, with marks where `ecn` says so. Where eight fq_codels share them they have 64 flows.
+    fn plan(&self, ecn: bool) -> inputs::Plan {
+        let flows = match self.shape {
             Shape::DrrOfFqCodels => 64,
             _ => self.flows,
+        };
+        match self.shape {
+            Shape::Sched => inputs::pipes(1),
+            Shape::SchedOf16 => inputs::pipes(16),
+            _ if self.random => inputs::random_plan(flows),
+            _ => inputs::plan(flows, ecn),
         }
+    }
+
+    /// The packets that fit each fq_codel: Linux's default, or so many that all that are queued at first do.
+    pub fn limit(&self) -> u32 {
+        if self.queued <= 10_240 { 10_240 } else { 200_000 }
     }
 }
 
@@ -57,12 +73,13 @@ const LATE_PASSES: u32 = 2;
 
 pub fn all() -> Vec<Row> {
     let mut rows = vec![harness()];
-    rows.extend([0, 1000, 100_000].map(|queued| {
+    rows.extend([0, 1000, 100_000, 900_000].map(|queued| {
         let name = format!("root pfifo, {queued} queued");
         pairs(&name, tree(Shape::Pfifo, queued), STEP)
     }));
     rows.extend([
         pairs("prio of 3 pfifos", tree(Shape::Prio, 1000), STEP),
+        pairs("prio of 16 pfifos, the last band", tree(Shape::PrioOf16, 1000), STEP),
         pairs("tbf that never waits", tree(Shape::Tbf, 1000), SLOW_STEP),
         pairs("drr of 8 pfifos, filters", tree(Shape::DrrOfPfifos, 1000), STEP),
         pairs("drr of 8 fq_codels, filters", tree(Shape::DrrOfFqCodels, 1000), STEP),
@@ -85,8 +102,21 @@ pub fn all() -> Vec<Row> {
         };
         rows.push(pairs(&name, tree, STEP));
     }
+    for (flows, queued) in [(1024, 10_000), (65536, 100_000)] {
+        let name = format!("fq_codel, {flows} random flows, {queued} queued");
+        let tree = Tree {
+            flows,
+            random: true,
+            ..tree(Shape::FqCodel, queued)
+        };
+        rows.push(pairs(&name, tree, STEP));
+    }
     rows.extend(lossy());
-    rows.push(pairs("path of 8 qdiscs", tree(Shape::Deep, 1000), STEP));
+    rows.extend([
+        pairs("path of 8 qdiscs", tree(Shape::Deep, 1000), STEP),
+        pairs("tree of rte_sched, 1 pipe", tree(Shape::Sched, 1000), SLOW_STEP),
+        pairs("tree of rte_sched, 16 pipes", tree(Shape::SchedOf16, 1000), SLOW_STEP),
+    ]);
     rows
 }
 
@@ -97,6 +127,7 @@ fn tree(shape: Shape, queued: u32) -> Tree {
         flows: 1024,
         drop_batch: 64,
         queued,
+        random: false,
         lazy: false,
     }
 }
@@ -132,10 +163,10 @@ fn pairs(name: &str, tree: Tree, step: u32) -> Row {
 fn pairs_of(name: &str, tree: Tree, step: u32, passes: u32, ecn: bool) -> Row {
     Row {
         name: name.to_string(),
-        ops: PACKETS.into(),
+        ops: tree.plan(ecn).hashes.len() as u64,
         passes,
         sides: Box::new(move || {
-            let plan = Rc::new(inputs::plan(tree.met(), ecn));
+            let plan = Rc::new(tree.plan(ecn));
             let lines = Lines::of(&lines(&tree, ecn));
             let (for_rattle, for_plain) = (Rc::clone(&plan), Rc::clone(&plan));
             Sides {
@@ -154,7 +185,7 @@ fn losses(name: &str, tree: Tree, polls: usize, waits: fn() -> Vec<u32>) -> Row 
         ops: TURNS as u64,
         passes: (polls / TURNS) as u32,
         sides: Box::new(move || {
-            let inputs = Rc::new((inputs::plan(tree.met(), false), waits()));
+            let inputs = Rc::new((tree.plan(false), waits()));
             let lines = Lines::of(&lines(&tree, false));
             let (for_rattle, for_plain) = (Rc::clone(&inputs), Rc::clone(&inputs));
             let first = |passes: u32| ..passes as usize * TURNS;
@@ -195,7 +226,7 @@ fn harness() -> Row {
 /// The lines that set the tree up.
 fn lines(tree: &Tree, ecn: bool) -> Vec<String> {
     match tree.shape {
-        Shape::Pfifo => root("pfifo limit 200000"),
+        Shape::Pfifo => root("pfifo limit 1000000"),
         Shape::Prio => root("prio bands 3 priomap 1 2 2 2 1 2 0 0 1 1 1 1 1 1 1 1"),
         Shape::Tbf => root("tbf rate 34gbit burst 1gb limit 1gb"),
         Shape::DrrOfPfifos => drr(),
@@ -209,6 +240,9 @@ fn lines(tree: &Tree, ecn: bool) -> Vec<String> {
             lines
         }
         Shape::Deep => deep(),
+        Shape::Sched => sched(1),
+        Shape::SchedOf16 => sched(16),
+        Shape::PrioOf16 => root("prio bands 16 priomap 15 15 15 15 15 15 15 15 15 15 15 15 15 15 15 15"),
     }
 }
 
@@ -219,23 +253,17 @@ fn root(kind: &str) -> Vec<String> {
 fn fq_codel(tree: &Tree, ecn: bool) -> String {
     let ecn = if ecn { "ecn" } else { "noecn" };
     format!(
-        "fq_codel limit 10240 flows {} {ecn} drop_batch {}",
-        tree.flows, tree.drop_batch
+        "fq_codel limit {} flows {} {ecn} drop_batch {}",
+        tree.limit(),
+        tree.flows,
+        tree.drop_batch
     )
 }
 
 /// A drr of eight classes, with a filter for each by its port.
 fn drr() -> Vec<String> {
     let mut lines = root("drr");
-    for (class, port) in (1..=8).zip(FIRST_PORT..) {
-        lines.push(format!(
-            "tc class add dev eth0 parent 1: classid 1:{class} drr quantum 1514"
-        ));
-        lines.push(format!(
-            "tc filter add dev eth0 parent 1: prio {class} protocol ip flower ip_proto udp dst_port {port} \
-             classid 1:{class}"
-        ));
-    }
+    lines.extend((1..=8).flat_map(|minor| class(1, minor, &format!("dst_port {}", FIRST_PORT + minor - 1))));
     lines
 }
 
@@ -245,4 +273,33 @@ fn deep() -> Vec<String> {
     let mut lines = root(prio);
     lines.extend((1..=6).map(|major| format!("tc qdisc add dev eth0 parent {major}:1 handle {}: {prio}", major + 1)));
     lines
+}
+
+/// The tree of DPDK's rte_sched, with so many pipes: a tbf for the port, a drr of pipes, and for each pipe a tbf, a prio of four traffic
+/// classes and, in the last of them, a drr of four queues.
+fn sched(pipes: u16) -> Vec<String> {
+    let tbf = "tbf rate 34gbit burst 1gb limit 1gb";
+    let prio = "prio bands 4 priomap 0 1 2 3 3 3 3 3 3 3 3 3 3 3 3 3";
+    let mut lines = root(tbf);
+    lines.push("tc qdisc add dev eth0 parent 1:1 handle 2: drr".to_string());
+    for pipe in 1..=pipes {
+        let (shaper, bands, last) = (3 * pipe + 13, 3 * pipe + 14, 3 * pipe + 15);
+        lines.extend(class(2, pipe, &format!("dst_port {}", FIRST_PORT + pipe - 1)));
+        lines.push(format!("tc qdisc add dev eth0 parent 2:{pipe:x} handle {shaper:x}: {tbf}"));
+        lines.push(format!("tc qdisc add dev eth0 parent {shaper:x}:1 handle {bands:x}: {prio}"));
+        lines.push(format!("tc qdisc add dev eth0 parent {bands:x}:4 handle {last:x}: drr"));
+        lines.extend((1..=4).flat_map(|queue| class(last, queue, &format!("src_port {}", 999 + queue))));
+    }
+    lines
+}
+
+/// A class of a drr, with a filter for its packets.
+fn class(major: u16, minor: u16, port: &str) -> [String; 2] {
+    [
+        format!("tc class add dev eth0 parent {major:x}: classid {major:x}:{minor:x} drr quantum 1514"),
+        format!(
+            "tc filter add dev eth0 parent {major:x}: prio {minor} protocol ip flower ip_proto udp {port} \
+             classid {major:x}:{minor:x}"
+        ),
+    ]
 }

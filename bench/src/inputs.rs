@@ -176,6 +176,28 @@ pub fn plan(flows: u32, ecn: bool) -> Plan {
     }
 }
 
+/// Packets of flows at random: as many as there are flows, and at least as many as in [`plan`].
+pub fn random_plan(flows: u32) -> Plan {
+    let mut random = Xorshift::new();
+    let count = flows.max(PACKETS) as usize;
+    Plan {
+        hashes: (0..count).map(|_| (random.next() >> 20) as u32 % flows).collect(),
+        prios: vec![0; count],
+        ports: vec![FIRST_PORT; count],
+        ecn: false,
+    }
+}
+
+/// Packets to so many pipes in turn, all of the last traffic class.
+pub fn pipes(count: u16) -> Plan {
+    Plan {
+        hashes: vec![0; PACKETS as usize],
+        prios: vec![12; PACKETS as usize],
+        ports: (0..PACKETS).map(|number| FIRST_PORT + number as u16 % count).collect(),
+        ecn: false,
+    }
+}
+
 /// The nanoseconds from poll to poll at which one flow that never empties loses exactly one packet each, once CoDel has begun to drop.
 pub fn drop_waits(count: usize, interval: u64) -> Vec<u32> {
     let moments = drop_moments(count, interval);

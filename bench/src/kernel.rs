@@ -52,6 +52,7 @@ mod linked {
         flows: u32,
         drop_batch: u32,
         queued: u32,
+        limit: u32,
         ecn: bool,
     }
 
@@ -66,6 +67,7 @@ mod linked {
                 flows: tree.flows,
                 drop_batch: tree.drop_batch,
                 queued: tree.queued,
+                limit: tree.limit(),
                 ecn: plan.ecn,
             }
         }
@@ -99,6 +101,7 @@ mod linked {
             flows: 1,
             drop_batch: 1,
             queued: 0,
+            random: false,
             lazy: false,
         };
         Some(Box::new(move |passes| unsafe {

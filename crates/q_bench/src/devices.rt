@@ -12,6 +12,11 @@ const MTU: u16 = 1514;
 /// The packets that fit a pfifo of which no line says more.
 const TXQUEUELEN: u32 = 200_000;
 
+/// The packets that fit an fq_codel, by default and where more are queued at first.
+const DEFAULT_LIMIT: u32 = 10_240;
+
+const LARGE_LIMIT: u32 = 200_000;
+
 /// The nanoseconds between the packets that are queued at first.
 const STEP: u32 = 100;
 
@@ -52,6 +57,7 @@ pub extern "C" fn q_bench_pairs(
         return 0;
     };
     let tree = Tree {
+        limit: limit_for(queued),
         flows,
         drop_batch,
         ecn,
@@ -112,6 +118,7 @@ pub extern "C" fn q_bench_losses(
         return 0;
     };
     let tree = Tree {
+        limit: limit_for(queued),
         flows,
         drop_batch,
         ecn,
@@ -181,6 +188,15 @@ fn pass_wire(made: &[Packet], step: u32, passes: u32) -> Option<u64> {
         }
     }
     Some(sum)
+}
+
+/// The packets that fit an fq_codel: Linux's default, or so many that all that are queued at first do.
+fn limit_for(queued: u32) -> u32 {
+    if queued <= DEFAULT_LIMIT {
+        DEFAULT_LIMIT
+    } else {
+        LARGE_LIMIT
+    }
 }
 
 /// A device with this tree, at which the first packets have arrived, round and round.

@@ -11,7 +11,7 @@
 //! - [`spends`]: a token bucket.
 //! - [`turns`]: deficit round robin.
 //! - [`lines`]: reading the lines of a script.
-//! - [`devices`]: arrivals and polls of a device, over the trees of [`trees`], of [`packets`] that are made before.
+//! - [`devices`]: arrivals and polls of a device, over the trees of [`trees`] and [`pipes`], of [`packets`] that are made before.
 //!
 //! No contract says what a checksum is: the benchmark compares it with that of plain Rust. What is proved is that each
 //! workload keeps to the contracts of what it calls, for all inputs.
@@ -24,6 +24,7 @@ mod gaps;
 mod heads;
 mod lines;
 mod packets;
+mod pipes;
 mod queues;
 mod spends;
 mod trees;

@@ -1,3 +1,4 @@
+use crate::pipes::sched;
 use q_device::Device;
 use q_model::{
     Burst, ClassId, Command, Filter, FilterKeys, FilterPrio, FqCodelOptions, Handle, Kind, Minor,
@@ -9,7 +10,7 @@ use q_packet::Moment;
 const PRIOMAP: [u8; 16] = [1, 2, 2, 2, 1, 2, 0, 0, 1, 1, 1, 1, 1, 1, 1, 1];
 
 /// The protocol of all packets, UDP.
-const UDP: u8 = 17;
+pub const UDP: u8 = 17;
 
 /// The port before that of the first class.
 const PORT_BEFORE: u16 = 4999;
@@ -33,6 +34,9 @@ pub enum Shape {
     FqCodel,
     DrrOfFqCodels,
     Deep,
+    Sched,
+    SchedOf16,
+    PrioOf16,
 }
 
 impl Shape {
@@ -46,6 +50,9 @@ impl Shape {
             4 => Some(Shape::FqCodel),
             5 => Some(Shape::DrrOfFqCodels),
             6 => Some(Shape::Deep),
+            7 => Some(Shape::Sched),
+            8 => Some(Shape::SchedOf16),
+            9 => Some(Shape::PrioOf16),
             _ => None,
         }
     }
@@ -54,6 +61,7 @@ impl Shape {
 /// What is set of each fq_codel.
 #[derive(Clone, Copy)]
 pub struct Tree {
+    pub limit: u32,
     pub flows: u32,
     pub drop_batch: u32,
     pub ecn: bool,
@@ -63,54 +71,55 @@ pub struct Tree {
 pub fn set_up(device: &mut Device, shape: Shape, tree: Tree) -> Option<()> {
     match shape {
         Shape::Pfifo => pfifo(device),
-        Shape::Prio => prio(device, Place::Root, 1, PRIOMAP),
-        Shape::Tbf => tbf(device),
+        Shape::Prio => prio(device, Place::Root, 1, 3, PRIOMAP),
+        Shape::Tbf => tbf(device, Place::Root, 1),
         Shape::DrrOfPfifos => drr(device),
         Shape::FqCodel => fq_codel(device, Place::Root, 1, tree),
         Shape::DrrOfFqCodels => drr_of_fq_codels(device, tree),
         Shape::Deep => deep(device),
+        Shape::Sched => sched(device, 1),
+        Shape::SchedOf16 => sched(device, 16),
+        Shape::PrioOf16 => prio(device, Place::Root, 1, 16, [15; 16]),
     }
 }
 
 fn pfifo(device: &mut Device) -> Option<()> {
-    let limit = Some(200_000);
+    let limit = Some(1_000_000);
     graft(device, Place::Root, 1, Kind::Pfifo { limit })
 }
 
-fn prio(device: &mut Device, place: Place, major: u16, priomap: [u8; 16]) -> Option<()> {
-    let options = PrioOptions::new(3, priomap)?;
+pub fn prio(
+    device: &mut Device,
+    place: Place,
+    major: u16,
+    bands: u8,
+    priomap: [u8; 16],
+) -> Option<()> {
+    let options = PrioOptions::new(bands, priomap)?;
     graft(device, place, major, Kind::Prio(options))
 }
 
 /// Seven prios, each in the first band of the one above, to which all packets go; with its pfifo the path has eight qdiscs.
 fn deep(device: &mut Device) -> Option<()> {
-    prio(device, Place::Root, 1, [0; 16])?;
+    prio(device, Place::Root, 1, 3, [0; 16])?;
     for major in INNER {
-        let above = ClassId {
-            major: Handle::new(major)?,
-            minor: Minor::new(1)?,
-        };
-        prio(
-            device,
-            Place::Class(above),
-            major.saturating_add(1),
-            [0; 16],
-        )?;
+        let place = Place::Class(class(major, 1)?);
+        prio(device, place, major.saturating_add(1), 3, [0; 16])?;
     }
     Some(())
 }
 
 /// A tbf that is faster than the packets come.
-fn tbf(device: &mut Device) -> Option<()> {
+pub fn tbf(device: &mut Device, place: Place, major: u16) -> Option<()> {
     let rate = Rate::new(34_000_000_000)?;
     let burst = Burst::new(1 << 30)?;
     let limit = TbfLimit::Bytes(1 << 30);
-    graft(device, Place::Root, 1, Kind::Tbf { rate, burst, limit })
+    graft(device, place, major, Kind::Tbf { rate, burst, limit })
 }
 
 fn fq_codel(device: &mut Device, place: Place, major: u16, tree: Tree) -> Option<()> {
     let options = FqCodelOptions::new(
-        Some(10_240),
+        Some(tree.limit),
         Some(tree.flows),
         None,
         None,
@@ -124,13 +133,13 @@ fn fq_codel(device: &mut Device, place: Place, major: u16, tree: Tree) -> Option
 fn drr_of_fq_codels(device: &mut Device, tree: Tree) -> Option<()> {
     drr(device)?;
     for minor in CLASSES {
-        let place = Place::Class(class(minor)?);
+        let place = Place::Class(class(1, minor)?);
         fq_codel(device, place, MAJOR_BEFORE.saturating_add(minor), tree)?;
     }
     Some(())
 }
 
-fn graft(device: &mut Device, place: Place, major: u16, kind: Kind) -> Option<()> {
+pub fn graft(device: &mut Device, place: Place, major: u16, kind: Kind) -> Option<()> {
     do_command(
         device,
         Command::QdiscAdd {
@@ -152,13 +161,13 @@ fn do_command(device: &mut Device, command: Command) -> Option<()> {
 fn drr(device: &mut Device) -> Option<()> {
     graft(device, Place::Root, 1, Kind::Drr)?;
     for minor in CLASSES {
-        add_class(device, minor)?;
+        add_class(device, class(1, minor)?, to_port(minor))?;
     }
     Some(())
 }
 
-fn add_class(device: &mut Device, minor: u16) -> Option<()> {
-    let class = class(minor)?;
+/// Adds a class of a drr, with a filter for its packets.
+pub fn add_class(device: &mut Device, class: ClassId, keys: FilterKeys) -> Option<()> {
     do_command(
         device,
         Command::ClassAdd {
@@ -167,35 +176,36 @@ fn add_class(device: &mut Device, minor: u16) -> Option<()> {
             quantum: Quantum::new(1514),
         },
     )?;
+    let filter = Filter {
+        prio: FilterPrio::new(class.minor.number())?,
+        protocol: Protocol::Ip,
+        keys,
+        minor: class.minor,
+    };
     do_command(
         device,
         Command::FilterAdd {
             parent: class.major,
             major: class.major,
-            filter: filter(class.minor)?,
+            filter,
         },
     )
 }
 
-fn filter(minor: Minor) -> Option<Filter> {
-    let keys = FilterKeys {
+/// Packets to the port of the class with this minor number.
+pub fn to_port(minor: u16) -> FilterKeys {
+    FilterKeys {
         ip_proto: Some(UDP),
         src_ip: None,
         dst_ip: None,
         src_port: None,
-        dst_port: Some(PORT_BEFORE.saturating_add(minor.number())),
-    };
-    Some(Filter {
-        prio: FilterPrio::new(minor.number())?,
-        protocol: Protocol::Ip,
-        keys,
-        minor,
-    })
+        dst_port: Some(PORT_BEFORE.saturating_add(minor)),
+    }
 }
 
-fn class(minor: u16) -> Option<ClassId> {
+pub fn class(major: u16, minor: u16) -> Option<ClassId> {
     Some(ClassId {
-        major: Handle::new(1)?,
+        major: Handle::new(major)?,
         minor: Minor::new(minor)?,
     })
 }
