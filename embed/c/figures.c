@@ -178,6 +178,37 @@ static void many_filters_have_an_index(void) {
     qtree_close(&device);
 }
 
+/* One call takes a thousand packets, gives as many, and hands out as many losses. */
+static void calls_for_a_thousand(void) {
+    enum { MANY = 1000 };
+    static qtree_packet packets[MANY];
+    static qtree_sent sent[MANY];
+    static qtree_loss losses[MANY];
+    static uint8_t codes[MANY];
+    qtree_port port = QTREE_CLOSED;
+    qtree_outlet outlet = QTREE_CLOSED;
+    size_t count;
+    for (uint32_t i = 0; i < MANY; i++) {
+        packets[i] = (qtree_packet){ .len = 100, .buf = i };
+    }
+    open_with(0);
+    CHECK(qtree_ring_open(&port, &outlet, 0, MANY) == QTREE_DONE);
+    CHECK(qtree_offer_many(&port, packets, MANY, &count) == QTREE_DONE && count == MANY);
+    CHECK(qtree_take_in(&device, &outlet, 0, MANY, &count) == QTREE_DONE && count == MANY);
+    /* The queue is full then. */
+    CHECK(qtree_arrive_many(&device, packets, MANY, codes, MANY, &count, 0) == QTREE_DONE && count == MANY);
+    CHECK(qtree_reap_many(&device, losses, MANY, &count) == QTREE_DONE && count == MANY);
+    CHECK(qtree_poll_bufs(&device, 0, sent, MANY, &count) == QTREE_DONE && count == MANY);
+    for (uint32_t i = 0; i < MANY; i++) {
+        CHECK(codes[i] == QTREE_LOST_OVER_LIMIT && losses[i].packet.buf == i && sent[i].buf == i && sent[i].number == i + 1);
+    }
+    CHECK(qtree_reap_many(&device, losses, MANY, &count) == QTREE_NOTHING && count == 0);
+    qtree_port_close(&port);
+    qtree_outlet_close(&outlet);
+    qtree_close(&device);
+    puts("figures: one call takes, gives and hands out a thousand packets");
+}
+
 /* A packet arrives and is polled, so many times. */
 static void pass(qtree_packet packet, unsigned long times) {
     qtree_sent sent;
@@ -269,5 +300,6 @@ int main(int count, char **words) {
     keeps_events();
     filters_of_256_shapes();
     many_filters_have_an_index();
+    calls_for_a_thousand();
     return 0;
 }
