@@ -305,9 +305,8 @@ fn a_name_that_begins_as_another_is_another(rt: HostRuntime) -> Result<(), Fail>
     Ok(())
 }
 
-/// A line that is refused, as it is explained.
-const ABSENT_EXPLAINED: &str = "tc qdisc del dev eth0 root
-                              ^^^^
+/// What is explained of a line that names a qdisc that is not there.
+const ABSENT: &str = "^^^^
   no qdisc that was added has this place and this handle. tc qdisc show lists them; one of handle 0 came by itself, and add replaces it.
 ";
 
@@ -321,8 +320,11 @@ fn refused_lines(alloc: Global, count: u32) -> Result<(String, String, String), 
     for number in 1..count.saturating_add(1) {
         script.push_str("tc qdisc del dev eth0 root\n")?;
         report.push_str(&format!(in alloc; "line {number}: refused 12 NoQdisc\n")?)?;
-        told.push_str(&format!(in alloc; "line {number}: ")?)?;
-        told.push_str(ABSENT_EXPLAINED)?;
+        let place = format!(in alloc; "line {number}: tc qdisc del dev eth0 ")?;
+        told.push_str(&place)?;
+        told.push_str("root\n")?;
+        repeat(&mut told, ' ', place.len())?;
+        told.push_str(ABSENT)?;
     }
     Ok((script, report, told))
 }
