@@ -17,7 +17,7 @@ import tie
 
 PAGES = ("CONCEPTS", "SETTINGS", "LANGUAGE", "DISCIPLINES", "TC", "SERVICE", "GUARANTEES", "EMBEDDING", "ROUTER")
 # Programs of embed/c that are no tests, or need more than a C compiler.
-LEFT = ("fuzz.c", "bench.c", "until_idle.c", "long_session.c", "standards.c")
+LEFT = ("fuzz.c", "bench.c", "figures.c", "until_idle.c", "long_session.c", "standards.c")
 HERE = f"{TOP}/embed/portable"
 PATH = "PATH=/usr/bin:/bin"
 # What PROVED.md says of a module that was proved, and of one that was not.

@@ -1,0 +1,305 @@
+/* What the library takes for its work, in figures that no contract names: allocations, their bytes, and sizes that a device reaches.
+ *
+ *   figures                     allocations, bytes and sizes
+ *   figures steps WORKLOAD N    a workload of N packets, whose instructions count-steps counts
+ *
+ * The linker sends the library's allocations here (--wrap), and none of this program's. */
+#include "check.h"
+#include "qtree.h"
+
+#include <limits.h>
+#include <string.h>
+
+static unsigned long allocations;
+static size_t bytes;
+
+static void count(size_t size) {
+    allocations++;
+    bytes += size;
+}
+
+void *__real_malloc(size_t size);
+void *__real_realloc(void *at, size_t size);
+void *__real_aligned_alloc(size_t alignment, size_t size);
+int __real_posix_memalign(void **at, size_t alignment, size_t size);
+void *__wrap_malloc(size_t size);
+void *__wrap_realloc(void *at, size_t size);
+void *__wrap_aligned_alloc(size_t alignment, size_t size);
+int __wrap_posix_memalign(void **at, size_t alignment, size_t size);
+
+void *__wrap_malloc(size_t size) {
+    count(size);
+    return __real_malloc(size);
+}
+
+void *__wrap_realloc(void *at, size_t size) {
+    count(size);
+    return __real_realloc(at, size);
+}
+
+void *__wrap_aligned_alloc(size_t alignment, size_t size) {
+    count(size);
+    return __real_aligned_alloc(alignment, size);
+}
+
+int __wrap_posix_memalign(void **at, size_t alignment, size_t size) {
+    count(size);
+    return __real_posix_memalign(at, alignment, size);
+}
+
+static void begin(void) {
+    allocations = 0;
+    bytes = 0;
+}
+
+static qtree_device device = QTREE_CLOSED;
+
+static void open_with(uint32_t recorder) {
+    qtree_settings settings = QTREE_DEFAULTS;
+    settings.recorder = recorder;
+    CHECK(qtree_open(&device, &settings) == QTREE_DONE);
+}
+
+static void run(const char *line) {
+    if (qtree_run(&device, line, 0, NULL) != QTREE_DONE) {
+        fprintf(stderr, "%s\n", line);
+        abort();
+    }
+}
+
+static void arrives(uint32_t buf, uint32_t hash) {
+    const qtree_packet packet = { .len = 100, .buf = buf, .hash = hash };
+    CHECK(qtree_arrive(&device, &packet, 0) == QTREE_DONE);
+}
+
+/* Fills the queue of a line and empties it again: all its packets are kept, and come back; the fifo's are in order. The memory doubles as
+ * it grows, so that few allocations are made. */
+static void fills(const char *line, uint32_t packets, bool in_order) {
+    qtree_sent sent;
+    open_with(0);
+    run(line);
+    begin();
+    for (uint32_t i = 0; i < packets; i++) {
+        arrives(i, i);
+    }
+    printf("figures: %u packets in %lu allocations of %zu bytes: %s\n", packets, allocations, bytes, line);
+    CHECK(allocations <= 64 && bytes <= 1000 * (size_t)packets);
+    uint64_t sum = 0;
+    for (uint32_t i = 0; i < packets; i++) {
+        CHECK(qtree_poll_buf(&device, 0, &sent) == QTREE_DONE && (!in_order || sent.buf == i));
+        sum += sent.buf;
+    }
+    CHECK(sum == (uint64_t)packets * (packets - 1) / 2 && qtree_poll_buf(&device, 0, &sent) == QTREE_IDLE);
+    qtree_close(&device);
+}
+
+/* A queue with one packet takes little memory: there may be 256 of them. */
+static void begins_small(const char *line, size_t most) {
+    open_with(0);
+    run(line);
+    begin();
+    arrives(0, 0);
+    printf("figures: the first packet takes %zu bytes: %s\n", bytes, line);
+    CHECK(bytes <= most);
+    qtree_close(&device);
+}
+
+/* A recorder takes the memory of its events and no more, and so does the ring of the last events. */
+static void keeps_events(void) {
+    enum { EVENTS = 1000, MOST = 180 };
+    begin();
+    open_with(EVENTS);
+    printf("figures: a recorder of %d events takes %zu bytes\n", EVENTS, bytes);
+    CHECK(bytes <= EVENTS * MOST);
+    begin();
+    CHECK(qtree_keep_last(&device, EVENTS) == QTREE_DONE);
+    printf("figures: the last %d events take %zu bytes\n", EVENTS, bytes);
+    CHECK(bytes <= EVENTS * MOST);
+    begin();
+    CHECK(qtree_keep_last(&device, 1) == QTREE_DONE);
+    CHECK(bytes <= 4 * MOST);
+    qtree_close(&device);
+}
+
+/* An address with so many leading ones and a zero behind them: of the prefixes that end with that zero it has one. */
+static uint32_t ones(uint32_t many) { return many == 0 ? 0 : UINT32_MAX << (32 - many); }
+
+static const char *dotted(uint32_t address, char text[16]) {
+    snprintf(text, 16, "%u.%u.%u.%u", address >> 24, address >> 16 & 255, address >> 8 & 255, address & 255);
+    return text;
+}
+
+/* The i-th of 256 filters, each of a shape of its own: no two compare the same bits of both addresses. */
+static void add_shape(uint32_t i) {
+    char line[200], src[16], dst[16];
+    snprintf(line, sizeof line, "tc filter add dev wan parent 1: protocol ip prio 1 flower src_ip %s/%u dst_ip %s/%u classid 1:%u",
+             dotted(ones(i / 16), src), i / 16 + 1, dotted(ones(i % 16), dst), i % 16 + 1, i % 2 + 1);
+    run(line);
+}
+
+/* A packet that the i-th of these filters takes, and no other, with the same addresses behind the prefixes as any other. */
+static qtree_packet of_shape(uint32_t i) {
+    return (qtree_packet){ .src_low = ones(i / 16), .dst_low = ones(i % 16), .len = 100, .family = 4 };
+}
+
+/* A prio takes 256 filters of 256 shapes, and each packet goes to the class of its own, however many filters there are. */
+static void filters_of_256_shapes(void) {
+    qtree_row row;
+    open_with(0);
+    run("tc qdisc add dev wan root handle 1: prio bands 3 priomap 2 2 2 2 2 2 2 2 2 2 2 2 2 2 2 2");
+    for (uint32_t many = 0; many < 256; many++) {
+        add_shape(many);
+    }
+    for (uint32_t i = 0; i < 256; i++) {
+        qtree_packet packet = of_shape(i);
+        CHECK(qtree_arrive(&device, &packet, 0) == QTREE_DONE);
+        CHECK(qtree_stats(&device, QTREE_CLASS, 1, (uint16_t)(i % 2 + 1), &row) == QTREE_DONE && row.arrived.packets == i / 2 + 1);
+    }
+    puts("figures: 256 filters of 256 shapes find each packet's class");
+    qtree_close(&device);
+}
+
+/* Ten filters or more that compare the same have an index: its memory is taken as they are added, also where they are of two shapes. */
+static void many_filters_have_an_index(void) {
+    char line[120];
+    unsigned long least = ULONG_MAX;
+    open_with(0);
+    run("tc qdisc add dev wan root handle 1: prio");
+    for (uint32_t many = 1; many <= 256; many++) {
+        snprintf(line, sizeof line, "tc filter add dev wan parent 1: prio 1 flower %s %u classid 1:1", many % 2 == 0 ? "src_port" : "dst_port", many);
+        begin();
+        run(line);
+        if (many > 9) {
+            least = allocations < least ? allocations : least;
+        }
+    }
+    printf("figures: each of 246 filters takes %lu allocations at least\n", least);
+    CHECK(least >= 4);
+    qtree_close(&device);
+}
+
+/* One call takes a thousand packets, gives as many, and hands out as many losses. */
+static void calls_for_a_thousand(void) {
+    enum { MANY = 1000 };
+    static qtree_packet packets[MANY];
+    static qtree_sent sent[MANY];
+    static qtree_loss losses[MANY];
+    static uint8_t codes[MANY];
+    qtree_port port = QTREE_CLOSED;
+    qtree_outlet outlet = QTREE_CLOSED;
+    size_t count;
+    for (uint32_t i = 0; i < MANY; i++) {
+        packets[i] = (qtree_packet){ .len = 100, .buf = i };
+    }
+    open_with(0);
+    CHECK(qtree_ring_open(&port, &outlet, 0, MANY) == QTREE_DONE);
+    CHECK(qtree_offer_many(&port, packets, MANY, &count) == QTREE_DONE && count == MANY);
+    CHECK(qtree_take_in(&device, &outlet, 0, MANY, &count) == QTREE_DONE && count == MANY);
+    /* The queue is full then. */
+    CHECK(qtree_arrive_many(&device, packets, MANY, codes, MANY, &count, 0) == QTREE_DONE && count == MANY);
+    CHECK(qtree_reap_many(&device, losses, MANY, &count) == QTREE_DONE && count == MANY);
+    CHECK(qtree_poll_bufs(&device, 0, sent, MANY, &count) == QTREE_DONE && count == MANY);
+    for (uint32_t i = 0; i < MANY; i++) {
+        CHECK(codes[i] == QTREE_LOST_OVER_LIMIT && losses[i].packet.buf == i && sent[i].buf == i && sent[i].number == i + 1);
+    }
+    CHECK(qtree_reap_many(&device, losses, MANY, &count) == QTREE_NOTHING && count == 0);
+    qtree_port_close(&port);
+    qtree_outlet_close(&outlet);
+    qtree_close(&device);
+    puts("figures: one call takes, gives and hands out a thousand packets");
+}
+
+/* A packet arrives and is polled, so many times. */
+static void pass(qtree_packet packet, unsigned long times) {
+    qtree_sent sent;
+    for (unsigned long i = 0; i < times; i++) {
+        CHECK(qtree_arrive(&device, &packet, 0) == QTREE_DONE && qtree_poll_buf(&device, 0, &sent) == QTREE_DONE);
+    }
+}
+
+static void through_a_pfifo(unsigned long times) {
+    run("tc qdisc add dev wan root pfifo");
+    pass((qtree_packet){ .len = 100 }, times);
+}
+
+static void add_filters(uint32_t filters) {
+    char line[120];
+    run("tc qdisc add dev wan root handle 1: prio");
+    for (uint32_t many = 1; many <= filters; many++) {
+        snprintf(line, sizeof line, "tc filter add dev wan parent 1: prio 1 flower %s %u classid 1:1", many % 2 == 0 ? "src_port" : "dst_port", many);
+        run(line);
+    }
+}
+
+/* So many filters of two shapes; the packet is the last one's. */
+static void through_filters(unsigned long times, uint32_t filters) {
+    add_filters(filters);
+    pass((qtree_packet){ .len = 100, .sport = (uint16_t)filters }, times);
+}
+
+/* The same where another filter was removed. */
+static void through_filters_left(unsigned long times) {
+    add_filters(254);
+    run("tc filter add dev wan parent 1: prio 2 flower classid 1:2");
+    run("tc filter del dev wan parent 1: prio 2");
+    pass((qtree_packet){ .len = 100, .sport = 254 }, times);
+}
+
+static void through_few_filters(unsigned long times) { through_filters(times, 8); }
+static void through_many_filters(unsigned long times) { through_filters(times, 256); }
+
+/* CoDel drops a packet of a flow that always stands, with a gap that it computes each time: polls come an interval apart, and with the
+ * longest interval a number that is found step by step would take the most of them. */
+static void through_codel(unsigned long times) {
+    qtree_sent sent;
+    uint64_t now = 0;
+    run("tc qdisc add dev wan root fq_codel limit 1000000 flows 1 target 1us interval 1000s");
+    for (unsigned long i = 0; i < times; i++) {
+        for (int more = 0; more < 8; more++) {
+            const qtree_packet packet = { .len = 1000 };
+            CHECK(qtree_arrive(&device, &packet, now) == QTREE_DONE);
+        }
+        now += UINT64_C(1000000000000);
+        CHECK(qtree_poll_buf(&device, now, &sent) == QTREE_DONE);
+    }
+}
+
+/* One workload of these, with a device of its own. */
+static int steps(const char *name, const char *times) {
+    static const struct {
+        const char *name;
+        void (*work)(unsigned long times);
+    } all[] = {
+        { "pfifo", through_a_pfifo },
+        { "few-filters", through_few_filters },
+        { "many-filters", through_many_filters },
+        { "filters-left", through_filters_left },
+        { "codel", through_codel },
+    };
+    for (size_t i = 0; i < sizeof all / sizeof all[0]; i++) {
+        if (strcmp(all[i].name, name) == 0) {
+            open_with(0);
+            all[i].work(strtoul(times, NULL, 10));
+            qtree_close(&device);
+            return 0;
+        }
+    }
+    fprintf(stderr, "figures: there is no workload %s\n", name);
+    return 2;
+}
+
+int main(int count, char **words) {
+    setvbuf(stdout, NULL, _IOLBF, 0);
+    if (count == 4 && strcmp(words[1], "steps") == 0) {
+        return steps(words[2], words[3]);
+    }
+    fills("tc qdisc add dev wan root pfifo limit 1000000", 300000, true);
+    fills("tc qdisc add dev wan root fq_codel limit 1000000", 300000, false);
+    begins_small("tc qdisc add dev wan root pfifo", 2048);
+    begins_small("tc qdisc add dev wan root fq_codel", 2048);
+    keeps_events();
+    filters_of_256_shapes();
+    many_filters_have_an_index();
+    calls_for_a_thousand();
+    return 0;
+}
