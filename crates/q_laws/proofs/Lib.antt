@@ -1,5 +1,6 @@
 mod FlowService
 mod LeastShare
+mod LevelsLeft
 mod LinkAsks
 mod LinkStretches
 mod NeverLate
@@ -12,6 +13,7 @@ mod OrderRows
 mod OrderSteps
 mod OrderWays
 mod PartLemmas
+mod PaidInTime
 mod PassedStretches
 mod PromiseKept
 mod PromiseNumbers

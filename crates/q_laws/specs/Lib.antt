@@ -1,3 +1,4 @@
+pub mod Delay
 pub mod Delivered
 pub mod InTime
 pub mod Order

@@ -1,4 +1,5 @@
 //! What is true of service, of work and of order over every replay of a device. Each law is the contract of a function that does nothing.
+ghost use Rattle.q_laws.specs.Delay.{BytesArePaidInTime};
 ghost use Rattle.q_laws.specs.Delivered.{LatenessIsTheGreatest, ServiceIsDelivered, ShareIsDelivered, SlackIsTheLaws};
 ghost use Rattle.q_laws.specs.InTime.{ClassesShareInTime, SharesMultiply};
 ghost use Rattle.q_laws.specs.Order.{FlowsKeepOrder};
@@ -95,6 +96,20 @@ pub fn rate_is_delivered(settings: Settings)
     ensures exact { RateIsSpent settings }
     ensures in_time { RateIsDelivered settings }
     ensures never_late { NeverLateIsDrained }
+{
+    settings.ranges();
+}
+
+/// When what a tbf at the root has to pay is paid: from any state on, whatever it holds and whenever it was polled before. As long as one
+/// of the first `bytes` bytes is left to pay, the next event comes by `begin + ceil(max(0, bytes*8*10^9 - level)/rate)` nanoseconds, or
+/// `late` after that, and a poll that gives nothing was before that time. `begin` is the clock of the state and `level` is that of its bucket
+/// then, in units of 1/(8*10^9) byte, or what its burst is above `late` nanoseconds of the rate, where that is less: what
+/// comes above the burst before a first late poll is lost. So a packet that is among those bytes has left by then.
+///
+/// No other tbf is below, something stays queued, and the device is polled as [`rate_is_delivered`] says. For all settings and every list
+/// of events whose fields are in their ranges, whatever comes meanwhile, a command that adds a qdisc or a class beside too.
+pub fn bytes_are_paid_in_time(settings: Settings)
+    ensures { BytesArePaidInTime settings }
 {
     settings.ranges();
 }
