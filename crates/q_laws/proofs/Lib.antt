@@ -1,6 +1,9 @@
 mod FlowService
 mod LeastShare
 mod LevelsLeft
+mod LineAsks
+mod LinePuts
+mod LineStretches
 mod LinkAsks
 mod LinkStretches
 mod NeverLate

@@ -1,6 +1,7 @@
 pub mod Delay
 pub mod Delivered
 pub mod InTime
+pub mod Line
 pub mod Order
 pub mod Rate
 pub mod Rest

@@ -2,6 +2,7 @@
 ghost use Rattle.q_laws.specs.Delay.{BytesArePaidInTime};
 ghost use Rattle.q_laws.specs.Delivered.{LatenessIsTheGreatest, ServiceIsDelivered, ShareIsDelivered, SlackIsTheLaws};
 ghost use Rattle.q_laws.specs.InTime.{ClassesShareInTime, SharesMultiply};
+ghost use Rattle.q_laws.specs.Line.{LinesLeaveFirst};
 ghost use Rattle.q_laws.specs.Order.{FlowsKeepOrder};
 ghost use Rattle.q_laws.specs.Rate.{NeverLateIsDrained, RateIsDelivered, RateIsSpent};
 ghost use Rattle.q_laws.specs.Rest.{JoiningFlowsAreSpared};
@@ -184,6 +185,19 @@ pub fn bands_are_strict(settings: Settings)
 /// of a flow along another path, which can be shorter.
 pub fn flows_keep_order(settings: Settings)
     ensures { FlowsKeepOrder settings }
+{
+    settings.ranges();
+}
+
+/// Nothing leaves a device before what is in line there: what polls give over an interval, and then what is in line at last, begins with
+/// what was in line at first, packet by packet. In line are the packets that leave next in their order whatever arrives: those of a
+/// fifo (tc-pfifo(8)), of a prio's first band (tc-prio(8)) and of a tbf's child, where the qdisc there is one of these
+/// again, and the packet that a qdisc holds. So before the last of them leaves, only their bytes do.
+///
+/// No tbf is below the root, since a prio goes on to its next band while one waits; a tbf may be at the root. A command leaves the line as
+/// it was, or longer at its end. For all settings and every list of events whose fields are in their ranges.
+pub fn lines_leave_first(settings: Settings)
+    ensures { LinesLeaveFirst settings }
 {
     settings.ranges();
 }
