@@ -2,6 +2,8 @@ mod FlowService
 mod LeastShare
 mod LevelsLeft
 mod LineAsks
+mod LineDelay
+mod LineInTime
 mod LinePuts
 mod LineStretches
 mod LinkAsks

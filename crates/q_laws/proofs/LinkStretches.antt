@@ -48,7 +48,7 @@ use Rattle.q_laws.proofs.WorkTrees.{NoTbfs, no-tbfs, tbfs-memory, forest-rests}
 -- ---- a tbf that shows nothing, though its child has a packet
 
 -- the length of the packet that the first of these shows, and 0 where none is shown
-abbrev first_length : List Asked → ℕ
+abbrev pub first_length : List Asked → ℕ
 first_length below = option_map_or (λ (a : Asked). length_held a.shown) (slice_get below 0) 0
 
 -- it is at most the mtu
@@ -107,12 +107,18 @@ pub rate-splits : (r a b c : ℕ) → a ≤ b → b ≤ c → r * (c - a) ≡ r 
 rate-splits r a b c first next = let whole : (b - a) + (c - b) ≡ c - a = omega (arith, first, next) in ap (λ n. r * n) (sym whole) ∙ mul-add r (b - a) (c - b)
 
 -- what the child of a root shows
-next-is : (u : ℕ) (root : Node (List Note)) → first_length (each (ask_own u) (shape root).below) ≡ option_map_or (λ (c : Node (List Note)). length_held (ask u (shape c)).shown) (slice_get (children root) 0) 0
+pub next-is : (u : ℕ) (root : Node (List Note)) → first_length (each (ask_own u) (shape root).below) ≡ option_map_or (λ (c : Node (List Note)). length_held (ask u (shape c)).shown) (slice_get (children root) 0) 0
 next-is u root = ap first_length (each-each_memory (ask_own u) (λ m. tt) root.below ∙ each-nodes (ask_own u) root.below) ∙ by (nodes_in root.below)
   where
     by : (ns : List (Node (List Note))) → first_length (map (from_below (ask_own u)) ns) ≡ option_map_or (λ (c : Node (List Note)). length_held (ask u (shape c)).shown) (slice_get ns 0) 0
     by [] = refl
     by (c ∷ ns) = ap (λ (a : Asked). length_held a.shown) (sym (asked-shape u c))
+
+-- a qdisc at the root is found there
+pub root-at : (major : ℕ) (d : DeviceState (List Note)) → d.tree.root.own.handle ≡ Some major → qdisc major d ≡ Some d.tree.root
+root-at major d is =
+    cond-true (has_major major d.tree.root) (Some d.tree.root) (find (has_major major) (nodes_of d.tree.root.below))
+    (ap (λ (o : Option ℕ). option_map_or (λ (k : ℕ). k == major) o false) is ∙ eq-eqb major major refl)
 
 -- what is in time at first is so where the clock is what was due
 pub due-begins : (late : ℕ) (d : DeviceState (List Note)) (t : ℕ) → IfSome (ready_at d.clock d.tree.root) (λ at. t ≤ at + late) → IfSome (due_in (Some d.clock) d) (λ at. t ≤ at + late)
@@ -132,9 +138,7 @@ module _ (major rate burst : ℕ) where
     bucket = h.tbf.tbf.bucket
 
     pub at-root : qdisc major d ≡ Some d.tree.root
-    at-root =
-        cond-true (has_major major d.tree.root) (Some d.tree.root) (find (has_major major) (nodes_of d.tree.root.below))
-        (ap (λ (o : Option ℕ). option_map_or (λ (k : ℕ). k == major) o false) h.root ∙ eq-eqb major major refl)
+    at-root = root-at major d h.root
 
     -- a poll that gives nothing finds less than the packet takes that the child shows
     pub polled-next : (u : ℕ) → IsKept d → d.clock ≤ u → u ≤ 2 ^ 62 → given u d.tree ≡ None → (level_at bucket u < next_below u d * units_in_byte) × (next_below u d ≤ d.tree.device.mtu)

@@ -2,7 +2,7 @@
 ghost use Rattle.q_laws.specs.Delay.{BytesArePaidInTime};
 ghost use Rattle.q_laws.specs.Delivered.{LatenessIsTheGreatest, ServiceIsDelivered, ShareIsDelivered, SlackIsTheLaws};
 ghost use Rattle.q_laws.specs.InTime.{ClassesShareInTime, SharesMultiply};
-ghost use Rattle.q_laws.specs.Line.{LinesLeaveFirst};
+ghost use Rattle.q_laws.specs.Line.{LinesLeaveFirst, LinesLeaveInTime};
 ghost use Rattle.q_laws.specs.Order.{FlowsKeepOrder};
 ghost use Rattle.q_laws.specs.Rate.{NeverLateIsDrained, RateIsDelivered, RateIsSpent};
 ghost use Rattle.q_laws.specs.Rest.{JoiningFlowsAreSpared};
@@ -198,6 +198,19 @@ pub fn flows_keep_order(settings: Settings)
 /// it was, or longer at its end. For all settings and every list of events whose fields are in their ranges.
 pub fn lines_leave_first(settings: Settings)
     ensures { LinesLeaveFirst settings }
+{
+    settings.ranges();
+}
+
+/// What is in line below a tbf at the root leaves in time, from any state on: as long as less has been paid than was in line in the first
+/// state, the next event comes by `begin + ceil(max(0, bytes*8*10^9 - level)/rate)` nanoseconds, or `late` after that. `bytes` is the
+/// length of the line then, `begin` the clock, and `level` what [`bytes_are_paid_in_time`] says. So a packet that has just been queued in
+/// a pfifo or bfifo there, or in the fifo of a prio's first band, is gone by then, whatever arrives after it and whatever waits behind it.
+///
+/// No other tbf is there, the device is polled as [`rate_is_delivered`] says, and a command leaves the line as it was, or longer at its
+/// end. For all settings and every list of events whose fields are in their ranges.
+pub fn lines_leave_in_time(settings: Settings)
+    ensures { LinesLeaveInTime settings }
 {
     settings.ranges();
 }
