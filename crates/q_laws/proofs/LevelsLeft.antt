@@ -11,14 +11,14 @@ use Rattle.q_model.specs.Ask.{Asked, holding, ask_discipline, ask_own}
 use Rattle.q_model.specs.Beneath.{is_empty}
 use Rattle.q_model.specs.Edit.{edited_at}
 use Rattle.q_model.specs.Events.{IsEvent}
-use Rattle.q_model.specs.Node.{Discipline, Tbf, Own, Node, children, shape, each}
+use Rattle.q_model.specs.Node.{Discipline, Tbf, Node, children, shape, each}
 use Rattle.q_model.specs.Put.{queued_in}
 use Rattle.q_model.specs.Step.{DeviceState, step}
 use Rattle.q_model.specs.Stretches.{bytes_spent, TbfAt, tbf_in}
 use Rattle.q_model.specs.Tally.{Note, history}
 use Rattle.q_model.specs.Work.{Worked, losses_of, settled_in}
 use Rattle.q_invariants.proofs.AskStages.{IsStageOf}
-use Rattle.q_invariants.proofs.BucketMoves.{same-bucket, tbf-node, tbf-step}
+use Rattle.q_invariants.proofs.BucketMoves.{same-bucket, tbf-node}
 use Rattle.q_invariants.proofs.BucketSteps.{IsTbfStage, tbf-stage, holding-stage}
 use Rattle.q_invariants.proofs.EditComes.{IsAbove}
 use Rattle.q_invariants.proofs.EditForms.{IsForm}

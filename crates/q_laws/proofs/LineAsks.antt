@@ -1,5 +1,5 @@
 -- What asking a node leaves of the line before it: all of it, but for a packet that is taken, which is the first of it.
-use Rattle.std.proofs.Common.{◌≡◌, ℕ, zero, suc, ◌+◌, ◌∙◌, refl, sym, ap, ap₂, subst, List, [], ◌∷◌, ◌++◌, map, take, drop, Option, Some, None, option_and_then, option_to_list}
+use Rattle.std.proofs.Common.{◌≡◌, ℕ, zero, suc, ◌+◌, ◌∙◌, refl, sym, ap, ap₂, subst, List, [], ◌∷◌, ◌++◌, map, take, drop, Option, Some, None, option_to_list}
 use Rattle.std.specs.Prelude.{Bool, true, false, not, cond, is_some, unwrap_or, slice_get, option_map, if◌then◌else◌}
 use Rattle.std.specs.List.{position_or_len}
 use Rattle.std.specs.Option.{option_map_or}
@@ -7,16 +7,13 @@ use Rattle.std.proofs.lemmas.List.{append-nil}
 use Rattle.std.proofs.lemmas.Option.{none-some}
 use Rattle.q_packet.specs.Descriptor.{Descriptor}
 use Rattle.q_codel.specs.declared.limit.Limit.{Limit}
-use Rattle.q_codel.specs.declared.taken.Taken.{Taken}
 use Rattle.q_packet.specs.declared.stamped.Stamped.{Stamped}
 use Rattle.q_bucket.specs.Level.{TokenBucket, allows, after_spend}
-use Rattle.q_fqcodel.specs.FqState.{FqState}
-use Rattle.q_drr.specs.Schedule.{Schedule}
 use Rattle.q_model.specs.declared.filter.Filter.{Filter}
-use Rattle.q_model.specs.Ask.{Asked, befores, holding, Dequeue, dequeued, waits, spends, ask_tbf, ask_prio, ask_drr, ask_fq_codel, ask_discipline, ask_own, ask}
+use Rattle.q_model.specs.Ask.{Asked, befores, holding, waits, spends, ask_prio, ask_drr, ask_fq_codel, ask_discipline, ask_own, ask}
 use Rattle.q_model.specs.Beneath.{packets_of}
-use Rattle.q_model.specs.Node.{Discipline, Fifo, Prio, Tbf, Drr, FqCodel, Own, Forest, none, more, Node, Shape, side_by_side, each}
-use Rattle.q_model.specs.Tally.{Note, Spent}
+use Rattle.q_model.specs.Node.{Discipline, Fifo, Prio, Tbf, Drr, FqCodel, Own, Forest, none, more, Shape, each}
+use Rattle.q_model.specs.Tally.{Note}
 use Rattle.q_model.specs.Work.{Worked, worked}
 use Rattle.q_invariants.proofs.Asks.{before-is}
 use Rattle.q_invariants.proofs.Forests.{each-side}
@@ -214,9 +211,10 @@ module _ (now : ℕ) (s : Shape) (other : NoTbfs s.below) where
             BeginsWith ls (line t.peeked) × BeginsWith ls (option_to_list t.shown ++ line t.taken))
         by false = (waits-lined ls [] a cs h, subst (BeginsWith ls) (sym (line-worked tbf (waits tbf (a ∷ cs) a).taken.memory (a.peeked ∷ []))) h.peeked)
         by true =
-            let after : Own = record tbf { discipline = Tbf (after_spend b now p.len) limit } in
-            (subst (BeginsWith ls) (sym (line-worked (record after { held = Some p }) (spends tbf (a ∷ cs) b limit now a p).peeked.memory (a.taken ∷ []))) given,
-            subst (λ (xs : List Descriptor). BeginsWith ls (p ∷ xs)) (sym (line-worked after (spends tbf (a ∷ cs) b limit now a p).taken.memory (a.taken ∷ []))) given)
+            let after : Own = record tbf { discipline = Tbf (after_spend b now p.len) limit } in (
+              subst (BeginsWith ls) (sym (line-worked (record after { held = Some p }) (spends tbf (a ∷ cs) b limit now a p).peeked.memory (a.taken ∷ []))) given,
+              subst (λ (xs : List Descriptor). BeginsWith ls (p ∷ xs)) (sym (line-worked after (spends tbf (a ∷ cs) b limit now a p).taken.memory (a.taken ∷ []))) given,
+            )
 
     tbf-lined : (ks : List (List Descriptor)) (cs : List Asked) → AreLined ks cs → IsLined (line_own tbf ks) (ask_own now tbf cs)
     tbf-lined [] [] h = record { before = refl; peeked = begins-refl []; taken = begins-refl [] }

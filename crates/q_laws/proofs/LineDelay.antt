@@ -1,17 +1,16 @@
 -- When the line below a tbf at the root has left: it is a part of the first bytes that the tbf pays.
-use Rattle.std.proofs.Common.{◌≡◌, ℕ, ◌+◌, ◌<◌, ◌≤◌, ◌^◌, refl, sym, ap, subst, ◌∙◌, List, [], ◌∷◌, ◌++◌, drop, length, flat_map, Option, Some, None, option_map, option_to_list, arith}
-use Rattle.std.specs.Prelude.{false, All, ◌==◌, unwrap_or, slice_get, sum_by}
-use Rattle.std.specs.Option.{option_map_or}
+use Rattle.std.proofs.Common.{◌≡◌, ℕ, ◌+◌, ◌<◌, ◌≤◌, sym, ap, subst, ◌∙◌, List, [], ◌∷◌, ◌++◌, drop, length, flat_map, Option, option_to_list, arith}
+use Rattle.std.specs.Prelude.{false, All, unwrap_or, slice_get}
 use Rattle.std.proofs.lemmas.Bool.{ne_eqb}
 use Rattle.std.proofs.lemmas.List.{append_assoc, length-append}
 use Rattle.std.proofs.lemmas.List.Sums.{sum_by-cons}
-use Rattle.std.proofs.lemmas.Option.{none-some, same_Some, slice_get-map}
+use Rattle.std.proofs.lemmas.Option.{same_Some, slice_get-map}
 use Rattle.q_packet.specs.Descriptor.{Descriptor}
 use Rattle.q_model.specs.declared.event.Event.{Event}
-use Rattle.q_model.specs.Ask.{Asked, ask_own, ask}
-use Rattle.q_model.specs.Beneath.{beneath_own, beneath, is_empty, packets_in, packets_of}
+use Rattle.q_model.specs.Ask.{Asked, ask_own}
+use Rattle.q_model.specs.Beneath.{beneath_own, beneath, is_empty, packets_in}
 use Rattle.q_model.specs.Events.{IsEvent}
-use Rattle.q_model.specs.Node.{Discipline, Fifo, Prio, Tbf, Drr, FqCodel, Own, Forest, none, more, Node, Shape, nodes_in, children, each, shape, from_below}
+use Rattle.q_model.specs.Node.{Discipline, Fifo, Prio, Tbf, Drr, FqCodel, Own, Forest, none, more, Node, nodes_in, each, shape, from_below}
 use Rattle.q_model.specs.Settings.{DeviceSettings, IsInRange}
 use Rattle.q_model.specs.Step.{DeviceState, step}
 use Rattle.q_model.specs.Stretches.{length_held, Throughout}
@@ -20,8 +19,8 @@ use Rattle.q_model.proofs.ShrinkLemmas.{each-each_memory}
 use Rattle.q_invariants.proofs.Forests.{each-nodes}
 use Rattle.q_invariants.proofs.Members.{All-front}
 use Rattle.q_device.specs.Sharing.{device_after}
-use Rattle.q_laws.specs.Delay.{paid_so_far, next_below, IsLeft}
-use Rattle.q_laws.specs.Line.{line_in, line_own, line, line_below_root, bytes_in, BeginsWith, KeepLine, IsLink, IsInLine, LinesLeaveInTime}
+use Rattle.q_laws.specs.Delay.{next_below, IsLeft}
+use Rattle.q_laws.specs.Line.{line_in, line_own, line_below_root, bytes_in, KeepLine, IsLink, LinesLeaveInTime}
 use Rattle.q_laws.specs.Rate.{IsBackloggedLink}
 use Rattle.q_laws.proofs.LineAsks.{AreLined, forest-lined}
 use Rattle.q_laws.proofs.LineInTime.{Passes, line-passes}

@@ -1,45 +1,43 @@
 -- The line below a tbf at the root over a stretch: the tbf pays for its packets in their order, and for all of them in time.
-use Rattle.std.proofs.Common.{◌≡◌, ℕ, ◌+◌, ◌<◌, ◌≤◌, ◌^◌, max, ◌⊎◌, inl, inr, refl, sym, ap, subst, ◌∙◌, List, [], ◌∷◌, ◌++◌, map, drop, length, flat_map, Option, Some, None, option_map, option_to_list, arith}
-use Rattle.std.specs.Prelude.{Bool, true, false, All, nat_lt, is_some, unwrap_or, slice_get, if◌then◌else◌, sum_by}
+use Rattle.std.proofs.Common.{◌≡◌, ℕ, ◌+◌, ◌≤◌, ◌^◌, max, inl, inr, refl, sym, ap, subst, ◌∙◌, List, [], ◌∷◌, ◌++◌, map, length, Option, Some, None, option_map, option_to_list, arith}
+use Rattle.std.specs.Prelude.{Bool, true, false, All, nat_lt, is_some, unwrap_or, slice_get, if◌then◌else◌}
 use Rattle.std.specs.Option.{option_map_or}
-use Rattle.std.proofs.lemmas.Bool.{ne_eqb}
-use Rattle.std.proofs.lemmas.List.{append-nil, append_assoc, append_cancel_left, length-append}
+use Rattle.std.proofs.lemmas.List.{append_assoc, append_cancel_left}
 use Rattle.std.proofs.lemmas.List.Sums.{sum_by-cons, sum_by-append}
-use Rattle.std.proofs.lemmas.Option.{none-some, same_Some, slice_get-map}
+use Rattle.std.proofs.lemmas.Option.{same_Some, slice_get-map}
 use Rattle.q_packet.specs.Descriptor.{Descriptor}
 use Rattle.q_bucket.specs.Level.{TokenBucket}
 use Rattle.q_model.specs.declared.event.Event.{Event}
 use Rattle.q_model.specs.declared.event.Event.TheVariants as event
-use Rattle.q_model.specs.Ask.{Asked, ask_own, ask, take_from}
-use Rattle.q_model.specs.Beneath.{beneath_own, beneath, is_empty, packets_in, packets_of}
+use Rattle.q_model.specs.Ask.{ask_own, ask, take_from}
+use Rattle.q_model.specs.Beneath.{beneath_own}
 use Rattle.q_model.specs.Events.{IsEvent}
 use Rattle.q_model.specs.Lawful.{IsLawfulDiscipline}
-use Rattle.q_model.specs.Node.{Discipline, Fifo, Prio, Tbf, Drr, FqCodel, Own, Forest, none, more, Node, Shape, nodes_in, children, each, shape, from_below, side_by_side}
+use Rattle.q_model.specs.Node.{Discipline, Tbf, Own, none, more, Node, Shape, nodes_in, children, each, shape, from_below}
 use Rattle.q_model.specs.Settings.{DeviceSettings, IsInRange}
 use Rattle.q_model.specs.Step.{DeviceState, step}
-use Rattle.q_model.specs.Stretches.{spent_by, bytes_spent, length_held, qdisc, TbfAt, tbf_in, IsTbf, Throughout}
+use Rattle.q_model.specs.Stretches.{spent_by, bytes_spent, length_held, TbfAt, Throughout}
 use Rattle.q_model.specs.Tally.{Note, history}
-use Rattle.q_model.specs.Work.{Worked, quiet, booked}
+use Rattle.q_model.specs.Work.{Worked, booked}
 use Rattle.q_model.proofs.ShrinkLemmas.{each-each_memory}
 use Rattle.q_invariants.proofs.Along.{counted}
 use Rattle.q_invariants.proofs.Answer.{IsAnswer}
 use Rattle.q_invariants.proofs.Asks.{before-root, ask-answers}
-use Rattle.q_invariants.proofs.AskStages.{IsStageOf, each-length}
+use Rattle.q_invariants.proofs.AskStages.{IsStageOf}
 use Rattle.q_invariants.proofs.BucketMoves.{tbf-node}
 use Rattle.q_invariants.proofs.EditLater.{root-later}
 use Rattle.q_invariants.proofs.Forests.{each-nodes, lawful-with_memory}
 use Rattle.q_invariants.proofs.Kept.{IsLawfulRoot}
 use Rattle.q_invariants.proofs.NoteSums.{AreRisen}
 use Rattle.q_invariants.proofs.PutKinds.{put-stage}
-use Rattle.q_invariants.proofs.Quiet.{one-quiet}
 use Rattle.q_invariants.proofs.Related.{forget}
-use Rattle.q_invariants.proofs.Replays.{IsKept, not-before, not-after, step-kept}
+use Rattle.q_invariants.proofs.Replays.{IsKept, not-before, not-after}
 use Rattle.q_invariants.proofs.Risen.{all-rise}
-use Rattle.q_invariants.proofs.StepNodes.{IsPut, Becomes, becomes, taken-stage}
+use Rattle.q_invariants.proofs.StepNodes.{Becomes, becomes, taken-stage}
 use Rattle.q_invariants.proofs.Told.{IsRootTold, noted-history, root-memory, root-booked}
 use Rattle.q_device.specs.Sharing.{device_after}
 use Rattle.q_laws.specs.Delay.{paid_so_far}
-use Rattle.q_laws.specs.Line.{line_in, line_own, line, line_at_root, line_below_root, bytes_in, BeginsWith, KeepLine, IsAlone, IsLink}
+use Rattle.q_laws.specs.Line.{line_in, line_own, line, line_at_root, line_below_root, bytes_in, BeginsWith, KeepLine, IsLink}
 use Rattle.q_laws.proofs.LineAsks.{begins-refl, IsLined, root-lined}
 use Rattle.q_laws.proofs.LineStretches.{begins-on, put-line}
 use Rattle.q_laws.proofs.LinkAsks.{Leaves, TakesOf, root-takes}

@@ -2,7 +2,7 @@
 use Rattle.std.proofs.Common.{◌≡◌, ℕ, zero, suc, ◌∙◌, refl, sym, ap, ap₂, subst, List, [], ◌∷◌, ◌++◌, map, set, Option, Some, None, option_to_list}
 use Rattle.std.specs.Prelude.{Bool, unwrap_or, slice_get}
 use Rattle.std.specs.Option.{option_map_or}
-use Rattle.std.proofs.lemmas.List.{append-nil, append_assoc, map-append}
+use Rattle.std.proofs.lemmas.List.{append_assoc, map-append}
 use Rattle.std.proofs.lemmas.Option.{none-some, same_Some}
 use Rattle.q_packet.specs.Descriptor.{Descriptor}
 use Rattle.q_packet.specs.declared.cause.Cause.{Cause}
@@ -10,7 +10,6 @@ use Rattle.q_packet.specs.declared.stamped.Stamped.{Stamped}
 use Rattle.q_model.specs.Beneath.{is_empty, packets_of}
 use Rattle.q_model.specs.Node.{Discipline, Fifo, Prio, Tbf, Drr, FqCodel, Own, Forest, none, more, Shape, nodes_in, children, each}
 use Rattle.q_model.specs.Put.{queued_in, put_here, put_beneath, put_along}
-use Rattle.q_model.specs.Tally.{Note}
 use Rattle.q_model.specs.Work.{Worked, quiet, settled_in}
 use Rattle.q_model.proofs.ShrinkLemmas.{each-each_memory}
 use Rattle.q_laws.specs.Line.{line_in, line_own, line, BeginsWith}

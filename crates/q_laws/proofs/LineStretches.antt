@@ -1,6 +1,6 @@
 -- The line of a device over a stretch: what polls give, and then what is in line, begins with what was in line at first.
 use Rattle.std.proofs.Common.{◌≡◌, ℕ, ◌≤◌, ◌^◌, max, refl, sym, ap, subst, ◌∙◌, List, [], ◌∷◌, ◌++◌, Option, Some, None, Result, Ok, Err, option_to_list}
-use Rattle.std.specs.Prelude.{Bool, true, false, All, nat_lt, is_some, if◌then◌else◌}
+use Rattle.std.specs.Prelude.{Bool, true, false, nat_lt, is_some, if◌then◌else◌}
 use Rattle.std.specs.List.{filter_map}
 use Rattle.std.proofs.lemmas.Bool.{ltb-false}
 use Rattle.std.proofs.lemmas.List.{append_assoc}
@@ -10,7 +10,7 @@ use Rattle.q_model.specs.declared.event.Event.TheVariants as event
 use Rattle.q_model.specs.declared.refusal.Refusal.{Refusal}
 use Rattle.q_model.specs.declared.reply.Reply.{Reply}
 use Rattle.q_model.specs.declared.reply.Reply.TheVariants as reply
-use Rattle.q_model.specs.Ask.{Asked, ask, take_from}
+use Rattle.q_model.specs.Ask.{ask, take_from}
 use Rattle.q_model.specs.Beneath.{is_empty}
 use Rattle.q_model.specs.Edit.{Edit}
 use Rattle.q_model.specs.Events.{IsEvent}
@@ -33,11 +33,11 @@ use Rattle.q_invariants.proofs.Quiet.{one-quiet}
 use Rattle.q_invariants.proofs.Replays.{IsKept, not-before, not-after}
 use Rattle.q_invariants.proofs.Told.{IsRootTold, root-memory, root-booked}
 use Rattle.q_device.specs.Laws.{given_in}
-use Rattle.q_laws.specs.Line.{line_own, line, line_at_root, BeginsWith, KeepsLine, KeepLine, IsAlone, LinesLeaveFirst}
+use Rattle.q_laws.specs.Line.{line_own, line, line_at_root, BeginsWith, KeepLine, IsAlone, LinesLeaveFirst}
 use Rattle.q_laws.specs.Order.{answers}
 use Rattle.q_laws.proofs.LineAsks.{begins-refl, IsLined, root-lined}
 use Rattle.q_laws.proofs.LinePuts.{line-quiet, along-line}
-use Rattle.q_laws.proofs.WorkTrees.{NoTbfs, no-tbfs, tbfs-memory}
+use Rattle.q_laws.proofs.WorkTrees.{no-tbfs, tbfs-memory}
 
 -- what begins with what begins with a line
 pub begins-on : (xs given ys zs : List Descriptor) → BeginsWith xs (given ++ ys) → BeginsWith ys zs → BeginsWith xs (given ++ zs)

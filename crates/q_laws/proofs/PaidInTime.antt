@@ -1,12 +1,11 @@
 -- A tbf at the root that is polled in time, from any state on: when it has paid the first so many bytes.
-use Rattle.std.proofs.Common.{◌≡◌, ℕ, ◌+◌, ◌-◌, ◌*◌, ◌<◌, ◌≤◌, ◌^◌, min, inl, inr, List, [], ◌∷◌, ◌++◌, refl, sym, ap, subst, ◌∙◌, Option, Some, None, arith}
-use Rattle.std.specs.Prelude.{Bool, true, false, nat_lt, if◌then◌else◌, All, IfSome, option_and_then}
+use Rattle.std.proofs.Common.{◌≡◌, ℕ, ◌+◌, ◌-◌, ◌*◌, ◌<◌, ◌≤◌, ◌^◌, inl, inr, List, [], ◌∷◌, ◌++◌, refl, sym, ap, subst, ◌∙◌, Option, Some, None, arith}
+use Rattle.std.specs.Prelude.{Bool, true, false, nat_lt, if◌then◌else◌, IfSome, option_and_then}
 use Rattle.std.specs.Int.{div_ceil}
 use Rattle.std.specs.Option.{option_map_or}
 use Rattle.std.proofs.Math.Nat.{mul-add, mul_comm, mul-le-mul_left}
-use Rattle.std.proofs.lemmas.Bool.{cases_lt, ltb-true, ltb-false}
+use Rattle.std.proofs.lemmas.Bool.{cases_lt, ltb-true}
 use Rattle.std.proofs.lemmas.Grind.{div_ceil_times}
-use Rattle.std.proofs.lemmas.List.Elements.{All-append}
 use Rattle.std.proofs.lemmas.List.Sums.{sum_by-append}
 use Rattle.std.proofs.lemmas.Option.{same_Some}
 use Rattle.q_bucket.specs.Level.{TokenBucket, units_in_byte, level_at}
@@ -30,7 +29,7 @@ use Rattle.q_tree.specs.ReadyAt.{ready_at}
 use Rattle.q_device.specs.Sharing.{device_after}
 use Rattle.q_device.proofs.ClassStretches.{at-start, mtu-stays}
 use Rattle.q_laws.specs.Delay.{paid_so_far, next_below, IsLeft, latest, level_counted, PaysInTime, BytesArePaidInTime}
-use Rattle.q_laws.specs.Rate.{IsBackloggedLink, due_in, IsDrainedFrom, IsPolledOut, HasRoom}
+use Rattle.q_laws.specs.Rate.{IsBackloggedLink, due_in, IsDrainedFrom, HasRoom}
 use Rattle.q_laws.proofs.LevelsLeft.{level-left}
 use Rattle.q_laws.proofs.LinkStretches.{rate-splits, due-begins, polled-next, Lasts, silent-before, lasts-on, paid-uncut}
 

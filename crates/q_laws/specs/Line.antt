@@ -1,7 +1,7 @@
 -- What leaves before a packet that waits in line, over every interval of every replay: only what is before it there, whatever comes.
 -- tc-pfifo(8), and tc-prio(8), whose first band goes before all others; a fifo that no packet passes is what bounds on delay begin
 -- with (J.-Y. Le Boudec and P. Thiran, "Network Calculus" (2001), section 1.4).
-use Rattle.std.specs.Prelude.{◌≡◌, ℕ, ◌+◌, ◌<◌, false, List, [], ◌∷◌, ◌++◌, All, Option, Some, option_map, option_and_then, unwrap_or, slice_get, sum_by}
+use Rattle.std.specs.Prelude.{◌≡◌, ℕ, ◌+◌, ◌<◌, false, List, [], ◌∷◌, ◌++◌, All, Some, option_map, unwrap_or, slice_get, sum_by}
 use Rattle.std.specs.List.{filter_map}
 use Rattle.std.specs.Option.{option_to_list}
 use Rattle.q_packet.specs.Descriptor.{Descriptor}
