@@ -32,6 +32,8 @@ mod RestReplays
 mod RestSteps
 mod ServiceStretches
 mod ShareInTime
+mod TurnStretches
+mod TurnSums
 mod WayStretches
 mod WorkAsks
 mod WorkTrees

@@ -6,4 +6,5 @@ pub mod Order
 pub mod Rate
 pub mod Rest
 pub mod Service
+pub mod Turn
 pub mod Work

@@ -7,6 +7,7 @@ ghost use Rattle.q_laws.specs.Order.{FlowsKeepOrder};
 ghost use Rattle.q_laws.specs.Rate.{NeverLateIsDrained, RateIsDelivered, RateIsSpent};
 ghost use Rattle.q_laws.specs.Rest.{JoiningFlowsAreSpared};
 ghost use Rattle.q_laws.specs.Service.{ClassAgainstAny, ClassesGetTheirParts, FlowAgainstAny, NoFlowStarves, NewFlowFirst};
+ghost use Rattle.q_laws.specs.Turn.{ClassesWaitTheirTurn};
 ghost use Rattle.q_laws.specs.Work.{BandsAreStrict, WorkIsConserved};
 
 use q_model::Settings;
@@ -211,6 +212,19 @@ pub fn lines_leave_first(settings: Settings)
 /// end. For all settings and every list of events whose fields are in their ranges.
 pub fn lines_leave_in_time(settings: Settings)
     ensures { LinesLeaveInTime settings }
+{
+    settings.ranges();
+}
+
+/// What the classes of a drr send before a packet of one of them, from any state on: at most `bytes_of_turn`, the packet among them. Where it
+/// ends within `bytes` bytes of its class, whose quantum is q of Q and whose deficit is d, that is
+/// `bytes + ceil(max(0, bytes - d)/q)*(Q - q)` and the deficits of the others, each whole where that class is before this one in the active
+/// list, and else as far as it is above its quantum. So the others send no more than their quanta for each grant that this class needs.
+///
+/// The drr keeps its classes and their quanta, and the class stays backlogged until the packet leaves. For all settings and every list of
+/// events whose fields are in their ranges, whatever comes to the other classes. Bytes are those that a class's child hands to the drr.
+pub fn classes_wait_their_turn(settings: Settings)
+    ensures { ClassesWaitTheirTurn settings }
 {
     settings.ranges();
 }
