@@ -10,7 +10,7 @@ use Rattle.std.proofs.lemmas.Option.{same_Some}
 use Rattle.q_packet.specs.Descriptor.{Descriptor}
 use Rattle.q_drr.specs.Schedule.{quantum_of, deficit_of}
 use Rattle.q_model.specs.declared.event.Event.{Event}
-use Rattle.q_model.specs.Ask.{length_of, ask}
+use Rattle.q_model.specs.Ask.{ask}
 use Rattle.q_model.specs.Beneath.{is_empty}
 use Rattle.q_model.specs.Events.{IsEvent}
 use Rattle.q_model.specs.Node.{shape}
@@ -24,7 +24,7 @@ use Rattle.q_invariants.proofs.Replays.{IsKept, step-kept}
 use Rattle.q_invariants.proofs.StepNodes.{clock-rises}
 use Rattle.q_device.specs.Sharing.{device_after}
 use Rattle.q_laws.specs.Service.{given_so_far, class_sent}
-use Rattle.q_laws.specs.Turn.{shown_by, IsClassLeft, StaysLeft}
+use Rattle.q_laws.specs.Turn.{IsClassLeft, StaysLeft}
 use Rattle.q_laws.proofs.ServiceStretches.{given-at}
 
 -- so many grants are enough, where the last one came while less than the bytes was covered

@@ -1,28 +1,23 @@
 -- What the other classes of a drr send before a packet of one of them, summed over the classes.
-use Rattle.std.proofs.Common.{◌≡◌, ℕ, ◌+◌, ◌-◌, ◌*◌, ◌<◌, ◌≤◌, ◌⊎◌, Bool, true, false, eqb, ◌||◌, List, [], ◌∷◌, ◌++◌, refl, sym, ap, subst, ◌∙◌, inl, inr, Option, Some, arith}
+use Rattle.std.proofs.Common.{◌≡◌, ℕ, ◌+◌, ◌-◌, ◌*◌, ◌<◌, ◌≤◌, ◌⊎◌, Bool, true, false, eqb, ◌||◌, List, [], ◌∷◌, ◌++◌, refl, sym, ap, subst, ◌∙◌, inl, inr, arith}
 use Rattle.std.specs.Prelude.{All, ◌==◌, sum_by, if◌then◌else◌}
 use Rattle.std.specs.Int.{div_ceil}
 use Rattle.std.proofs.Math.Nat.{mul-add, mul_comm, mul-le-mul_left}
 use Rattle.std.proofs.lemmas.Bool.{cases_Bool, eqb-true, eqb-false, false≢true, or_parts}
 use Rattle.std.proofs.lemmas.List.Elements.{All-head, All-tail, All-nil, All-cons}
 use Rattle.std.proofs.lemmas.List.Sums.{sum_by-cons}
-use Rattle.std.proofs.lemmas.Option.{same_Some}
-use Rattle.q_drr.specs.Schedule.{Class, Entry, Schedule, has_class, quantum_of, deficit_of}
+use Rattle.q_drr.specs.Schedule.{Class, Entry, has_class, quantum_of, deficit_of}
 use Rattle.q_drr.specs.Stretch.{stands_first}
 use Rattle.q_drr.proofs.DifferLemmas.{ClassesDiffer}
 use Rattle.q_drr.proofs.TakeLemmas.{has_quantum}
-use Rattle.q_model.specs.declared.event.Event.{Event}
-use Rattle.q_model.specs.Events.{IsEvent}
 use Rattle.q_model.specs.Settings.{DeviceSettings, IsInRange}
-use Rattle.q_model.specs.Step.{DeviceState}
-use Rattle.q_model.specs.Stretches.{grants_to, ClassAt, class_in, IsBackloggedClass, Throughout}
-use Rattle.q_model.specs.Tally.{Note}
-use Rattle.q_invariants.proofs.ClassMoves.{class-node, drr-lawful}
+use Rattle.q_model.specs.Stretches.{grants_to, IsBackloggedClass}
+use Rattle.q_invariants.proofs.ClassMoves.{drr-lawful}
 use Rattle.q_invariants.proofs.Replays.{replay-kept}
 use Rattle.q_device.specs.Sharing.{device_after}
 use Rattle.q_device.proofs.ClassStretches.{at-start}
-use Rattle.q_laws.specs.Service.{class_sent, HasClasses, quanta_of, all_sent}
-use Rattle.q_laws.specs.Turn.{shown_by, deficit_ahead, deficits_ahead, ClassesWaitTheirTurn}
+use Rattle.q_laws.specs.Service.{class_sent, HasClasses, quanta_of}
+use Rattle.q_laws.specs.Turn.{deficit_ahead, deficits_ahead, ClassesWaitTheirTurn}
 use Rattle.q_laws.proofs.LeastShare.{drr-node, is-class, classes-differ, IsOwn, own-quanta, kept-at, Stands, stands-among}
 use Rattle.q_laws.proofs.ServiceStretches.{class-against-any}
 use Rattle.q_laws.proofs.TurnStretches.{few-grants, Waits, class-waits}
