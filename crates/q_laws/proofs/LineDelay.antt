@@ -1,11 +1,15 @@
 -- When the line below a tbf at the root has left: it is a part of the first bytes that the tbf pays.
-use Rattle.std.proofs.Common.{◌≡◌, ℕ, ◌+◌, ◌<◌, ◌≤◌, sym, ap, subst, ◌∙◌, List, [], ◌∷◌, ◌++◌, drop, length, flat_map, Option, option_to_list, arith}
+use Rattle.std.proofs.Common.{◌≡◌, ℕ, ◌+◌, ◌-◌, ◌*◌, ◌<◌, ◌≤◌, inl, inr, sym, ap, subst, ◌∙◌, List, [], ◌∷◌, ◌++◌, drop, length, flat_map, Option, option_to_list, arith}
 use Rattle.std.specs.Prelude.{false, All, unwrap_or, slice_get}
-use Rattle.std.proofs.lemmas.Bool.{ne_eqb}
+use Rattle.std.specs.Int.{div_ceil}
+use Rattle.std.proofs.Math.Nat.{add-mul, mul_comm, mul-le-mul_left}
+use Rattle.std.proofs.lemmas.Bool.{ne_eqb, cases_lt}
+use Rattle.std.proofs.lemmas.Grind.{div_ceil_times}
 use Rattle.std.proofs.lemmas.List.{append_assoc, length-append}
 use Rattle.std.proofs.lemmas.List.Sums.{sum_by-cons}
 use Rattle.std.proofs.lemmas.Option.{same_Some, slice_get-map}
 use Rattle.q_packet.specs.Descriptor.{Descriptor}
+use Rattle.q_bucket.specs.Level.{units_in_byte, level_at}
 use Rattle.q_model.specs.declared.event.Event.{Event}
 use Rattle.q_model.specs.Ask.{Asked, ask_own}
 use Rattle.q_model.specs.Beneath.{beneath_own, beneath, is_empty, packets_in}
@@ -13,19 +17,21 @@ use Rattle.q_model.specs.Events.{IsEvent}
 use Rattle.q_model.specs.Node.{Discipline, Fifo, Prio, Tbf, Drr, FqCodel, Own, Forest, none, more, Node, nodes_in, each, shape, from_below}
 use Rattle.q_model.specs.Settings.{DeviceSettings, IsInRange}
 use Rattle.q_model.specs.Step.{DeviceState, step}
-use Rattle.q_model.specs.Stretches.{length_held, Throughout}
+use Rattle.q_model.specs.Stretches.{length_held, TbfAt, Throughout}
 use Rattle.q_model.specs.Tally.{Note, history}
 use Rattle.q_model.proofs.ShrinkLemmas.{each-each_memory}
 use Rattle.q_invariants.proofs.Forests.{each-nodes}
 use Rattle.q_invariants.proofs.Members.{All-front}
+use Rattle.q_invariants.proofs.Replays.{replay-kept}
 use Rattle.q_device.specs.Sharing.{device_after}
-use Rattle.q_laws.specs.Delay.{next_below, IsLeft}
-use Rattle.q_laws.specs.Line.{line_in, line_own, line_below_root, bytes_in, KeepLine, IsLink, LinesLeaveInTime}
+use Rattle.q_device.proofs.ClassStretches.{at-start}
+use Rattle.q_laws.specs.Delay.{next_below, IsLeft, latest, level_counted, PaysInTime}
+use Rattle.q_laws.specs.Line.{line_in, line_own, line_below_root, bytes_in, KeepLine, IsLink, LinesLeaveInTime, LimitsAreDelays}
 use Rattle.q_laws.specs.Rate.{IsBackloggedLink}
 use Rattle.q_laws.proofs.LineAsks.{AreLined, forest-lined}
 use Rattle.q_laws.proofs.LineInTime.{Passes, line-passes}
 use Rattle.q_laws.proofs.LinkStretches.{first_length, next-is}
-use Rattle.q_laws.proofs.PaidInTime.{bytes-are-paid}
+use Rattle.q_laws.proofs.PaidInTime.{rate-some, bytes-are-paid}
 use Rattle.q_laws.proofs.WorkTrees.{no-tbfs, tbfs-memory}
 
 -- ---- the first packet of a line
@@ -138,3 +144,31 @@ lines-leave-in-time settings range before during e link rate burst late first al
         let paid = p.paid in
         let shown = shows-next link rate burst d (stays seen later es) n.next n.others n.is t in
         omega (arith, within, paid, shown)
+
+-- ---- within a limit
+
+ceil-rises : (x y r : ℕ) → 1 ≤ r → x ≤ y → div_ceil x r ≤ div_ceil y r
+ceil-rises x y r some less = elim (cases_lt (div_ceil y r) (div_ceil x r)) [
+  | inl over ↦
+      let first = (div_ceil_times x r (omega (arith, some))).1 in
+      let last = (div_ceil_times y r (omega (arith, some))).0 in
+      let most : r * (div_ceil y r + 1) ≤ r * div_ceil x r = mul-le-mul_left r (omega (arith, over)) in
+      let parts : (div_ceil y r + 1) * r ≡ div_ceil y r * r + 1 * r = add-mul (div_ceil y r) 1 r in
+      absurd (omega (arith, first, last, most, parts, less, mul_comm r (div_ceil y r + 1), mul_comm r (div_ceil x r)))
+  | inr past ↦ omega (arith, past)
+]
+
+later-still : (at by late : ℕ) (d next : DeviceState (List Note)) → at ≤ by → PaysInTime at late d next → PaysInTime by late d next
+later-still at by late d next after h = record { in_time = let soon = h.in_time in omega (arith, soon, after); polled_out = λ out. let soon = h.polled_out out in omega (arith, soon, after) }
+
+pub limits-are-delays : (settings : DeviceSettings) → IsInRange settings → LimitsAreDelays settings
+limits-are-delays settings range before during e link rate burst late limit all_before all_during happens room stays waits keep drained within =
+    let start : DeviceState (List Note) = device_after settings before in
+    let h = at-start (IsLink link rate burst) settings before during stays in
+    let first : TbfAt = h.tbf.tbf in
+    let level : ℕ = level_counted late rate burst (level_at first.bucket start.clock) in
+    let bytes : ℕ = bytes_in (line_below_root start) in
+    let some : 1 ≤ rate = subst (λ n. 1 ≤ n) h.tbf.same_rate (rate-some link start first (replay-kept settings before range all_before) h.tbf.there) in
+    let rises = ceil-rises (bytes * units_in_byte - level) (limit * units_in_byte) rate some (omega (arith, within)) in
+    later-still (latest start.clock rate level bytes) (start.clock + div_ceil (limit * units_in_byte) rate) late (device_after settings (before ++ during)) (step history (device_after settings (before ++ during)) e).device
+    (omega (arith, rises)) (lines-leave-in-time settings range before during e link rate burst late first all_before all_during happens room stays waits keep drained h.tbf.there)

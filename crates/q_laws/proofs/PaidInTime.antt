@@ -44,7 +44,7 @@ before-latest begin rate level bytes u some from less = elim (cases_lt (u - begi
 ]
 
 -- the rate of a tbf is one bit a second at least
-rate-some : (major : ℕ) (d : DeviceState (List Note)) (x : TbfAt) → IsKept d → tbf_in major d ≡ Some x → 1 ≤ x.bucket.rate
+pub rate-some : (major : ℕ) (d : DeviceState (List Note)) (x : TbfAt) → IsKept d → tbf_in major d ≡ Some x → 1 ≤ x.bucket.rate
 rate-some major d x kept is =
     let t = tbf-node major d x is in
     let f = found major d t.node t.there in

@@ -1,11 +1,12 @@
 -- What leaves before a packet that waits in line, over every interval of every replay: only what is before it there, whatever comes.
 -- tc-pfifo(8), and tc-prio(8), whose first band goes before all others; a fifo that no packet passes is what bounds on delay begin
 -- with (J.-Y. Le Boudec and P. Thiran, "Network Calculus" (2001), section 1.4).
-use Rattle.std.specs.Prelude.{◌≡◌, ℕ, ◌+◌, ◌<◌, false, List, [], ◌∷◌, ◌++◌, All, Some, option_map, unwrap_or, slice_get, sum_by}
+use Rattle.std.specs.Prelude.{◌≡◌, ℕ, ◌+◌, ◌*◌, ◌<◌, ◌≤◌, false, List, [], ◌∷◌, ◌++◌, All, Some, option_map, unwrap_or, slice_get, sum_by}
+use Rattle.std.specs.Int.{div_ceil}
 use Rattle.std.specs.List.{filter_map}
 use Rattle.std.specs.Option.{option_to_list}
 use Rattle.q_packet.specs.Descriptor.{Descriptor}
-use Rattle.q_bucket.specs.Level.{level_at}
+use Rattle.q_bucket.specs.Level.{units_in_byte, level_at}
 use Rattle.q_model.specs.declared.event.Event.{Event}
 use Rattle.q_model.specs.declared.event.Event.TheVariants as event
 use Rattle.q_model.specs.Beneath.{packets_of}
@@ -102,3 +103,15 @@ LinesLeaveInTime settings =
     (latest (device_after settings before).clock rate (level_counted late rate burst (level_at first.bucket (device_after settings before).clock))
     (bytes_in (line_below_root (device_after settings before))))
     late (device_after settings (before ++ during)) (step history (device_after settings (before ++ during)) e).device
+
+-- Whatever the level was: where no more was in line than a limit, as in a bfifo that has just taken a packet, all of it leaves within the time
+-- in which the rate brings that limit.
+abbrev pub LimitsAreDelays : DeviceSettings → Type 0
+LimitsAreDelays settings =
+    (before during : List Event) (e : Event) (major rate burst late limit : ℕ) → All IsEvent before → All IsEvent during → IsEvent e
+    → HasRoom settings.mtu late rate burst
+    → Throughout (IsLink major rate burst) settings before during → Throughout (IsInLine major (device_after settings before)) settings before during
+    → KeepLine line_below_root (device_after settings before) during
+    → IsDrained late (device_after settings before) (during ++ e ∷ []) → bytes_in (line_below_root (device_after settings before)) ≤ limit
+    → PaysInTime ((device_after settings before).clock + div_ceil (limit * units_in_byte) rate) late
+    (device_after settings (before ++ during)) (step history (device_after settings (before ++ during)) e).device

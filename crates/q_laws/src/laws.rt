@@ -2,7 +2,7 @@
 ghost use Rattle.q_laws.specs.Delay.{BytesArePaidInTime};
 ghost use Rattle.q_laws.specs.Delivered.{LatenessIsTheGreatest, ServiceIsDelivered, ShareIsDelivered, SlackIsTheLaws};
 ghost use Rattle.q_laws.specs.InTime.{ClassesShareInTime, SharesMultiply};
-ghost use Rattle.q_laws.specs.Line.{LinesLeaveFirst, LinesLeaveInTime};
+ghost use Rattle.q_laws.specs.Line.{LimitsAreDelays, LinesLeaveFirst, LinesLeaveInTime};
 ghost use Rattle.q_laws.specs.Order.{FlowsKeepOrder};
 ghost use Rattle.q_laws.specs.Rate.{NeverLateIsDrained, RateIsDelivered, RateIsSpent};
 ghost use Rattle.q_laws.specs.Rest.{JoiningFlowsAreSpared};
@@ -205,13 +205,16 @@ pub fn lines_leave_first(settings: Settings)
 
 /// What is in line below a tbf at the root leaves in time, from any state on: as long as less has been paid than was in line in the first
 /// state, the next event comes by `begin + ceil(max(0, bytes*8*10^9 - level)/rate)` nanoseconds, or `late` after that. `bytes` is the
-/// length of the line then, `begin` the clock, and `level` what [`bytes_are_paid_in_time`] says. So a packet that has just been queued in
-/// a pfifo or bfifo there, or in the fifo of a prio's first band, is gone by then, whatever arrives after it and whatever waits behind it.
+/// length of the line then, `begin` the clock, and `level` what [`bytes_are_paid_in_time`] says (`from_any_state`). So a packet that has just
+/// been queued in a pfifo or bfifo there, or in the fifo of a prio's first band, is gone by then, whatever arrives after it and whatever
+/// waits behind it. Where no more than `limit` bytes are in line, as in a bfifo right after it took a packet, that is at most
+/// `ceil(limit*8*10^9/rate)` nanoseconds after `begin`, whatever the level (`within_a_limit`).
 ///
 /// No other tbf is there, the device is polled as [`rate_is_delivered`] says, and a command leaves the line as it was, or longer at its
 /// end. For all settings and every list of events whose fields are in their ranges.
 pub fn lines_leave_in_time(settings: Settings)
-    ensures { LinesLeaveInTime settings }
+    ensures from_any_state { LinesLeaveInTime settings }
+    ensures within_a_limit { LimitsAreDelays settings }
 {
     settings.ranges();
 }
