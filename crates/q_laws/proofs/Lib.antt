@@ -1,3 +1,4 @@
+mod DelayRows
 mod FlowService
 mod LeastShare
 mod LevelsLeft
