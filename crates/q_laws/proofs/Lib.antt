@@ -11,6 +11,7 @@ mod LinkAsks
 mod LinkStretches
 mod NeverLate
 mod NewFlowService
+mod NewFlowSums
 mod OrderAsks
 mod OrderFlows
 mod OrderParts

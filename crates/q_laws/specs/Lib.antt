@@ -2,6 +2,7 @@ pub mod Delay
 pub mod Delivered
 pub mod InTime
 pub mod Line
+pub mod NewFlow
 pub mod Order
 pub mod Rate
 pub mod Rest

@@ -3,6 +3,7 @@ ghost use Rattle.q_laws.specs.Delay.{BytesArePaidInTime};
 ghost use Rattle.q_laws.specs.Delivered.{LatenessIsTheGreatest, ServiceIsDelivered, ShareIsDelivered, SlackIsTheLaws};
 ghost use Rattle.q_laws.specs.InTime.{ClassesShareInTime, SharesMultiply};
 ghost use Rattle.q_laws.specs.Line.{LimitsAreDelays, LinesLeaveFirst, LinesLeaveInTime};
+ghost use Rattle.q_laws.specs.NewFlow.{NewFlowsGoBefore};
 ghost use Rattle.q_laws.specs.Order.{FlowsKeepOrder};
 ghost use Rattle.q_laws.specs.Rate.{NeverLateIsDrained, RateIsDelivered, RateIsSpent};
 ghost use Rattle.q_laws.specs.Rest.{JoiningFlowsAreSpared};
@@ -228,6 +229,18 @@ pub fn lines_leave_in_time(settings: Settings)
 /// events whose fields are in their ranges, whatever comes to the other classes. Bytes are those that a class's child hands to the drr.
 pub fn classes_wait_their_turn(settings: Settings)
     ensures { ClassesWaitTheirTurn settings }
+{
+    settings.ranges();
+}
+
+/// All that leaves an fq_codel before the first packet of a flow that joins it from neither list: the flows that were in the new list give at
+/// most their credits and a longest packet less a byte, each, and nothing else leaves, until the flow gives a packet or has none left. So
+/// with the packet itself that is the bytes before which it leaves, or is lost to the fat flow.
+///
+/// For all settings and every list of events whose fields are in their ranges, whatever comes meanwhile, a command that changes the quantum
+/// too. Packets that CoDel or the fat flow loses are not among the bytes, and the fq_codel may hold one packet more.
+pub fn new_flows_go_before(settings: Settings)
+    ensures { NewFlowsGoBefore settings }
 {
     settings.ranges();
 }
