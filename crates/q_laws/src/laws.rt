@@ -109,8 +109,9 @@ pub fn rate_is_delivered(settings: Settings)
 /// then, in units of 1/(8*10^9) byte, or what its burst is above `late` nanoseconds of the rate, where that is less: what
 /// comes above the burst before a first late poll is lost. So a packet that is among those bytes has left by then.
 ///
-/// No other tbf is below, something stays queued, and the device is polled as [`rate_is_delivered`] says. For all settings and every list
-/// of events whose fields are in their ranges, whatever comes meanwhile, a command that adds a qdisc or a class beside too.
+/// No other tbf is below, something stays queued, and the device is polled as [`rate_is_delivered`] says; a poll is due at once where
+/// `Device::ready_at` of `q_device` answers no time ahead of the clock in that state. For all settings and every list of events whose fields
+/// are in their ranges, whatever comes meanwhile, a command that adds a qdisc or a class beside too.
 pub fn bytes_are_paid_in_time(settings: Settings)
     ensures { BytesArePaidInTime settings }
 {
