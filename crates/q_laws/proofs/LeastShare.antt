@@ -73,7 +73,7 @@ is-class major classes d kept e c quantum has is =
       same_quantum = ap (quantum_of c) at.same ∙ is;
     }
 
-classes-differ : (major : ℕ) (classes : List Class) (d : DeviceState (List Note)) → IsKept d → HasClasses major classes d → ClassesDiffer classes
+pub classes-differ : (major : ℕ) (classes : List Class) (d : DeviceState (List Note)) → IsKept d → HasClasses major classes d → ClassesDiffer classes
 classes-differ major classes d kept e =
     let at = drr-node major classes d e in
     let law = drr-lawful major d at.node at.schedule kept at.there at.discipline in
@@ -81,10 +81,10 @@ classes-differ major classes d kept e =
 
 -- ---- each class has its own quantum
 
-abbrev IsOwn : List Class → Class → Type 0
+abbrev pub IsOwn : List Class → Class → Type 0
 IsOwn classes c = (has_class c.name classes ≡ true) × (quantum_of c.name classes ≡ c.quantum)
 
-own-quanta : (classes : List Class) → ClassesDiffer classes → All (IsOwn classes) classes
+pub own-quanta : (classes : List Class) → ClassesDiffer classes → All (IsOwn classes) classes
 own-quanta [] differ = All-nil (IsOwn [])
 own-quanta (k ∷ classes) differ =
     let here : eqb k.name k.name ≡ true = eq-eqb k.name k.name refl in
@@ -212,11 +212,11 @@ module _ (settings : DeviceSettings) (range : IsInRange settings) (before during
         All-cons (λ (c : Class). c.name ≡ i → c.quantum ≡ quantum) c cs (λ e. sym (All-head (IsOwn classes) c cs h).1 ∙ ap (λ m. quantum_of m classes) e ∙ own) (quanta-are cs (All-tail (IsOwn classes) c cs h))
 
 -- class i stands among the classes, with its quantum
-record Stands (i quantum : ℕ) (classes : List Class) : Type 0 where
-  has : has_class i classes ≡ true
-  own : quantum_of i classes ≡ quantum
+pub record Stands (i quantum : ℕ) (classes : List Class) : Type 0 where
+  pub has : has_class i classes ≡ true
+  pub own : quantum_of i classes ≡ quantum
 
-stands-among : (major i quantum : ℕ) (classes : List Class) (d : DeviceState (List Note)) → HasClasses major classes d → IsBackloggedClass major i quantum d → Stands i quantum classes
+pub stands-among : (major i quantum : ℕ) (classes : List Class) (d : DeviceState (List Note)) → HasClasses major classes d → IsBackloggedClass major i quantum d → Stands i quantum classes
 stands-among major i quantum classes d e h =
     let node = class-node major i d h.class h.there in
     let drr = drr-node major classes d e in

@@ -1,9 +1,17 @@
+mod DelayRows
 mod FlowService
 mod LeastShare
+mod LevelsLeft
+mod LineAsks
+mod LineDelay
+mod LineInTime
+mod LinePuts
+mod LineStretches
 mod LinkAsks
 mod LinkStretches
 mod NeverLate
 mod NewFlowService
+mod NewFlowSums
 mod OrderAsks
 mod OrderFlows
 mod OrderParts
@@ -12,6 +20,7 @@ mod OrderRows
 mod OrderSteps
 mod OrderWays
 mod PartLemmas
+mod PaidInTime
 mod PassedStretches
 mod PromiseKept
 mod PromiseNumbers
@@ -25,6 +34,8 @@ mod RestReplays
 mod RestSteps
 mod ServiceStretches
 mod ShareInTime
+mod TurnStretches
+mod TurnSums
 mod WayStretches
 mod WorkAsks
 mod WorkTrees

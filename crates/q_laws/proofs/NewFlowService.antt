@@ -1,5 +1,5 @@
 -- A flow that joins an fq_codel, until it gives a packet.
-use Rattle.std.proofs.Common.{◌≡◌, ◌≢◌, ℕ, ◌+◌, ℤ, pos, ◌<ℤ◌, false, List, [], ◌∷◌, ◌++◌, sym, ap, subst, ◌∙◌, Some, refl, arith}
+use Rattle.std.proofs.Common.{◌≡◌, ◌≢◌, ℕ, ◌+◌, ℤ, pos, ◌<ℤ◌, true, false, List, [], ◌∷◌, ◌++◌, sym, ap, subst, ◌∙◌, Some, refl, arith}
 use Rattle.std.specs.Prelude.{All}
 use Rattle.std.proofs.lemmas.Int.{ints}
 use Rattle.std.proofs.lemmas.List.{append_assoc}
@@ -7,6 +7,7 @@ use Rattle.std.proofs.lemmas.List.Elements.{All-push}
 use Rattle.std.proofs.lemmas.List.Sums.{sum_by-append}
 use Rattle.std.proofs.lemmas.Option.{same_Some}
 use Rattle.q_fqcodel.specs.FqState.{is_idle}
+use Rattle.q_fqcodel.specs.Put.{is_listed}
 use Rattle.q_fqcodel.proofs.PutLemmas.{listed_not}
 use Rattle.q_model.specs.declared.event.Event.{Event}
 use Rattle.q_model.specs.Events.{IsEvent}
@@ -23,7 +24,7 @@ use Rattle.q_invariants.proofs.FlowMoves.{fq-node, fq-lawful}
 use Rattle.q_device.specs.Sharing.{device_after}
 use Rattle.q_device.proofs.ClassStretches.{at-start, mtu-stays}
 use Rattle.q_device.proofs.ReplayLemmas.{replay_from-append}
-use Rattle.q_laws.specs.Service.{IsQueuedFlow, NewFlowFirst}
+use Rattle.q_laws.specs.Service.{IsQueuedFlow, GoesFirst, NewFlowFirst}
 
 module _ (major j k mtu : ℕ) (apart : j ≢ k) (z : ℤ) (high : pos 0 <ℤ z) where
   abbrev Stays : DeviceState (List Note) → Type 0
@@ -48,8 +49,18 @@ module _ (major j k mtu : ℕ) (apart : j ≢ k) (z : ℤ) (high : pos 0 <ℤ z)
   over settings before during range all_before all_during same stays =
       moves Stays Moves still one more settings before during range all_before all_during (λ seen later e. (stays seen later e, mtu-stays settings (before ++ seen) ∙ same))
 
-pub new-flow-first : (settings : DeviceSettings) → IsInRange settings → NewFlowFirst settings
-new-flow-first settings range before e during major j k first next last apart all_before event all_during is then at absent listed stays silent =
+-- what the fq_codel noted meanwhile, and what that says of another flow
+pub record GoesOn (k mtu : ℕ) (first last : FqAt) : Type 0 where
+  pub notes : List Note
+  pub is : last.noted ≡ first.noted ++ notes
+  pub first_goes : GoesFirst k mtu first last
+
+pub new-flow-goes : (settings : DeviceSettings) → IsInRange settings → (before : List Event) (e : Event) (during : List Event) (major j k : ℕ) (first next last : FqAt) → j ≢ k → All IsEvent before → IsEvent e → All IsEvent during
+    → fq_in major (device_after settings before) ≡ Some first → fq_in major (device_after settings (before ++ e ∷ [])) ≡ Some next → fq_in major (device_after settings (before ++ e ∷ during)) ≡ Some last
+    → is_listed j (first.state.new_flows ++ first.state.old_flows) ≡ false → is_listed j (next.state.new_flows ++ next.state.old_flows) ≡ true
+    → Throughout (IsQueuedFlow major j) settings (before ++ e ∷ []) during → bytes_given j last.noted ≡ bytes_given j first.noted
+    → GoesOn k settings.mtu first last
+new-flow-goes settings range before e during major j k first next last apart all_before event all_during is then at absent listed stays silent =
     let start : DeviceState (List Note) = device_after settings before in
     let kept : IsKept start = replay-kept settings before range all_before in
     let stepped : device_after settings (before ++ e ∷ []) ≡ (step history start e).device = ap (λ (r : Replay (List Note)). r.device) (replay_from-append history (nothing_yet history settings) before e) in
@@ -70,6 +81,14 @@ new-flow-first settings range before e during major j k first next last apart al
     let waits = m.waits none begins in
     let less = waits.less in
     record {
-      in_new = λ c credits. omega (arith, less, gave_first k, gave_then k, joins.joins.in_new c credits);
-      others = λ gone. omega (arith, less, gave_first k, gave_then k, joins.joins.absent (listed_not k first.state.new_flows gone));
+      notes = joins.notes ++ m.notes;
+      is = m.is ∙ ap (λ ns. ns ++ m.notes) joins.is ∙ append_assoc first.noted joins.notes m.notes;
+      first_goes = record {
+        in_new = λ c credits. omega (arith, less, gave_first k, gave_then k, joins.joins.in_new c credits);
+        others = λ gone. omega (arith, less, gave_first k, gave_then k, joins.joins.absent (listed_not k first.state.new_flows gone));
+      };
     }
+
+pub new-flow-first : (settings : DeviceSettings) → IsInRange settings → NewFlowFirst settings
+new-flow-first settings range before e during major j k first next last apart all_before event all_during is then at absent listed stays silent =
+    (new-flow-goes settings range before e during major j k first next last apart all_before event all_during is then at absent listed stays silent).first_goes

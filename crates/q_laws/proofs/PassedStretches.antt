@@ -60,14 +60,14 @@ sum-has f c (k ∷ classes) has = elim (cases_Bool (c == k.name)) [
 
 -- ---- arrivals and commands take nothing
 
-record IsQuiet (n after : Node (List Note)) : Type 0 where
-  notes : List Note
-  memory : after.memory ≡ n.memory ++ notes
-  spent : bytes_spent notes ≡ 0
-  sent : bytes_sent notes ≡ 0
-  held : length_held after.own.held ≡ length_held n.own.held
+pub record IsQuiet (n after : Node (List Note)) : Type 0 where
+  pub notes : List Note
+  pub memory : after.memory ≡ n.memory ++ notes
+  pub spent : bytes_spent notes ≡ 0
+  pub sent : bytes_sent notes ≡ 0
+  pub held : length_held after.own.held ≡ length_held n.own.held
 
-put-quiet : (now : ℕ) (p : Descriptor) (n after : Node (List Note)) → IsPut now p n after → IsQuiet n after
+pub put-quiet : (now : ℕ) (p : Descriptor) (n after : Node (List Note)) → IsPut now p n after → IsQuiet n after
 put-quiet now p n after put =
     let st = put-stage now p put.refusal (shape n) put.worked put.way in
     record {
@@ -87,7 +87,7 @@ same-quiet n after e = record {
   held = ap (λ (k : Node (List Note)). length_held k.own.held) e;
 }
 
-command-quiet : (now : ℕ) (n after : Node (List Note)) → (after ≡ n) ⊎ IsEdited now n after → IsQuiet n after
+pub command-quiet : (now : ℕ) (n after : Node (List Note)) → (after ≡ n) ⊎ IsEdited now n after → IsQuiet n after
 command-quiet now n after (inl e) = same-quiet n after e
 command-quiet now n after (inr edit) = by edit.by
   where
@@ -124,7 +124,7 @@ leaves-stage a w taken (inl h) = inl h.0
 leaves-stage a w taken (inr (inl h)) = inr (inl h.0)
 leaves-stage a w taken (inr (inr h)) = inr (inr h.0)
 
-only-child : (root n : Node (List Note)) → children root ≡ n ∷ [] → root.below ≡ more n.own n.memory n.below none
+pub only-child : (root n : Node (List Note)) → children root ≡ n ∷ [] → root.below ≡ more n.own n.memory n.below none
 only-child root n e = sym (side-nodes root.below) ∙ ap side_by_side e
 
 same-head : (n m : Node (List Note)) → n ∷ [] ≡ m ∷ [] → n ≡ m

@@ -1,7 +1,11 @@
+pub mod Delay
 pub mod Delivered
 pub mod InTime
+pub mod Line
+pub mod NewFlow
 pub mod Order
 pub mod Rate
 pub mod Rest
 pub mod Service
+pub mod Turn
 pub mod Work

@@ -1,10 +1,14 @@
 //! What is true of service, of work and of order over every replay of a device. Each law is the contract of a function that does nothing.
+ghost use Rattle.q_laws.specs.Delay.{BytesArePaidInTime};
 ghost use Rattle.q_laws.specs.Delivered.{LatenessIsTheGreatest, ServiceIsDelivered, ShareIsDelivered, SlackIsTheLaws};
 ghost use Rattle.q_laws.specs.InTime.{ClassesShareInTime, SharesMultiply};
+ghost use Rattle.q_laws.specs.Line.{LimitsAreDelays, LinesLeaveFirst, LinesLeaveInTime};
+ghost use Rattle.q_laws.specs.NewFlow.{NewFlowsGoBefore};
 ghost use Rattle.q_laws.specs.Order.{FlowsKeepOrder};
 ghost use Rattle.q_laws.specs.Rate.{NeverLateIsDrained, RateIsDelivered, RateIsSpent};
 ghost use Rattle.q_laws.specs.Rest.{JoiningFlowsAreSpared};
 ghost use Rattle.q_laws.specs.Service.{ClassAgainstAny, ClassesGetTheirParts, FlowAgainstAny, NoFlowStarves, NewFlowFirst};
+ghost use Rattle.q_laws.specs.Turn.{ClassesWaitTheirTurn};
 ghost use Rattle.q_laws.specs.Work.{BandsAreStrict, WorkIsConserved};
 
 use q_model::Settings;
@@ -99,6 +103,21 @@ pub fn rate_is_delivered(settings: Settings)
     settings.ranges();
 }
 
+/// When what a tbf at the root has to pay is paid: from any state on, whatever it holds and whenever it was polled before. As long as one
+/// of the first `bytes` bytes is left to pay, the next event comes by `begin + ceil(max(0, bytes*8*10^9 - level)/rate)` nanoseconds, or
+/// `late` after that, and a poll that gives nothing was before that time. `begin` is the clock of the state and `level` is that of its bucket
+/// then, in units of 1/(8*10^9) byte, or what its burst is above `late` nanoseconds of the rate, where that is less: what
+/// comes above the burst before a first late poll is lost. So a packet that is among those bytes has left by then.
+///
+/// No other tbf is below, something stays queued, and the device is polled as [`rate_is_delivered`] says; a poll is due at once where
+/// `Device::ready_at` of `q_device` answers no time ahead of the clock in that state. For all settings and every list of events whose fields
+/// are in their ranges, whatever comes meanwhile, a command that adds a qdisc or a class beside too.
+pub fn bytes_are_paid_in_time(settings: Settings)
+    ensures { BytesArePaidInTime settings }
+{
+    settings.ranges();
+}
+
 /// A class of a drr gets its part of a rate, in time. A tbf at the root is over the drr alone, with no other tbf below, and is
 /// polled as [`rate_is_delivered`] says; the drr keeps its classes and their quanta. A class that stays backlogged then sends its quantum's
 /// part of what the rate brings in the time between, less a number of bytes that does not grow: its part of two longest packets, and what
@@ -169,6 +188,60 @@ pub fn bands_are_strict(settings: Settings)
 /// of a flow along another path, which can be shorter.
 pub fn flows_keep_order(settings: Settings)
     ensures { FlowsKeepOrder settings }
+{
+    settings.ranges();
+}
+
+/// Nothing leaves a device before what is in line there: what polls give over an interval, and then what is in line at last, begins with
+/// what was in line at first, packet by packet. In line are the packets that leave next in their order whatever arrives: those of a
+/// fifo (tc-pfifo(8)), of a prio's first band (tc-prio(8)) and of a tbf's child, where the qdisc there is one of these
+/// again, and the packet that a qdisc holds. So before the last of them leaves, only their bytes do.
+///
+/// No tbf is below the root, since a prio goes on to its next band while one waits; a tbf may be at the root. A command leaves the line as
+/// it was, or longer at its end. For all settings and every list of events whose fields are in their ranges.
+pub fn lines_leave_first(settings: Settings)
+    ensures { LinesLeaveFirst settings }
+{
+    settings.ranges();
+}
+
+/// What is in line below a tbf at the root leaves in time, from any state on: as long as less has been paid than was in line in the first
+/// state, the next event comes by `begin + ceil(max(0, bytes*8*10^9 - level)/rate)` nanoseconds, or `late` after that. `bytes` is the
+/// length of the line then, `begin` the clock, and `level` what [`bytes_are_paid_in_time`] says (`from_any_state`). So a packet that has just
+/// been queued in a pfifo or bfifo there, or in the fifo of a prio's first band, is gone by then, whatever arrives after it and whatever
+/// waits behind it. Where no more than `limit` bytes are in line, as in a bfifo right after it took a packet, that is at most
+/// `ceil(limit*8*10^9/rate)` nanoseconds after `begin`, whatever the level (`within_a_limit`).
+///
+/// No other tbf is there, the device is polled as [`rate_is_delivered`] says, and a command leaves the line as it was, or longer at its
+/// end. For all settings and every list of events whose fields are in their ranges.
+pub fn lines_leave_in_time(settings: Settings)
+    ensures from_any_state { LinesLeaveInTime settings }
+    ensures within_a_limit { LimitsAreDelays settings }
+{
+    settings.ranges();
+}
+
+/// What the classes of a drr send before a packet of one of them, from any state on: at most `bytes_of_turn`, the packet among them. Where it
+/// ends within `bytes` bytes of its class, whose quantum is q of Q and whose deficit is d, that is
+/// `bytes + ceil(max(0, bytes - d)/q)*(Q - q)` and the deficits of the others, each whole where that class is before this one in the active
+/// list, and else as far as it is above its quantum. So the others send no more than their quanta for each grant that this class needs.
+///
+/// The drr keeps its classes and their quanta, and the class stays backlogged until the packet leaves. For all settings and every list of
+/// events whose fields are in their ranges, whatever comes to the other classes. Bytes are those that a class's child hands to the drr.
+pub fn classes_wait_their_turn(settings: Settings)
+    ensures { ClassesWaitTheirTurn settings }
+{
+    settings.ranges();
+}
+
+/// All that leaves an fq_codel before the first packet of a flow that joins it from neither list: the flows that were in the new list give at
+/// most their credits and a longest packet less a byte, each, and nothing else leaves, until the flow gives a packet or has none left. So
+/// with the packet itself that is the bytes before which it leaves, or is lost to the fat flow.
+///
+/// For all settings and every list of events whose fields are in their ranges, whatever comes meanwhile, a command that changes the quantum
+/// too. Packets that CoDel or the fat flow loses are not among the bytes, and the fq_codel may hold one packet more.
+pub fn new_flows_go_before(settings: Settings)
+    ensures { NewFlowsGoBefore settings }
 {
     settings.ranges();
 }

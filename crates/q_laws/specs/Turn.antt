@@ -1,0 +1,60 @@
+-- What the classes of a drr send before a packet of one of them, over every interval of every replay: by its bytes, its quantum and the
+-- deficits at first, whatever comes to the others. M. Shreedhar and G. Varghese, "Efficient Fair Queuing Using Deficit Round-Robin" (1995),
+-- and tc-drr(8); how it grows with the bytes is the staircase of S. M. Tabatabaee and J.-Y. Le Boudec, "Deficit Round-Robin: A Second
+-- Network Calculus Analysis" (2022).
+use Rattle.std.specs.Prelude.{◌≡◌, ℕ, ◌+◌, ◌-◌, ◌*◌, ◌^◌, ◌≤◌, ◌==◌, if◌then◌else◌, List, [], ◌∷◌, ◌++◌, All, Some, sum_by}
+use Rattle.std.specs.Int.{div_ceil}
+use Rattle.q_drr.specs.Schedule.{Class, Entry, deficit_of}
+use Rattle.q_drr.specs.Stretch.{stands_first}
+use Rattle.q_model.specs.declared.event.Event.{Event}
+use Rattle.q_model.specs.Ask.{ask}
+use Rattle.q_model.specs.Events.{IsEvent}
+use Rattle.q_model.specs.Node.{shape}
+use Rattle.q_model.specs.Settings.{DeviceSettings}
+use Rattle.q_model.specs.Step.{DeviceState, step}
+use Rattle.q_model.specs.Stretches.{length_held, ClassAt, class_in, IsBackloggedClass, Throughout}
+use Rattle.q_model.specs.Tally.{Note, history}
+use Rattle.q_device.specs.Sharing.{device_after}
+use Rattle.q_laws.specs.Service.{given_so_far, HasClasses, quanta_of, all_sent}
+
+-- ---- the bytes of the class itself
+
+-- the length of the packet that the child of a class shows where it is asked at this time, and 0 where it shows none
+abbrev pub shown_by : ℕ → ClassAt → ℕ
+shown_by t class = length_held (ask t (shape class.child)).shown
+
+-- A packet is left of the first so many bytes of the class, which has sent some of them: whenever its child is asked from now on, those
+-- and the packet that it shows are no more.
+abbrev pub IsClassLeft : ℕ → ℕ → ℕ → ℕ → DeviceState (List Note) → Type 0
+IsClassLeft major i bytes sent d = (class : ClassAt) (t : ℕ) → class_in major i d ≡ Some class → d.clock ≤ t → t ≤ 2 ^ 62 → sent + shown_by t class ≤ bytes
+
+-- in each state from a first one on, in which it has sent so many
+abbrev pub StaysLeft : ℕ → ℕ → ℕ → ℕ → DeviceState (List Note) → List Event → Type 0
+StaysLeft major i bytes sent d [] = IsClassLeft major i bytes sent d
+StaysLeft major i bytes sent d (e ∷ events) =
+    let next = (step history d e).device in
+    IsClassLeft major i bytes sent d × StaysLeft major i bytes (sent + (given_so_far major i next - given_so_far major i d)) next events
+
+-- ---- the others
+
+-- what another class may send of its deficit: all of it where it is before class i in the active list, else only what is above a quantum
+abbrev pub deficit_ahead : ℕ → List Entry → Class → ℕ
+deficit_ahead i active c = if stands_first c.name i active then deficit_of c.name active else deficit_of c.name active - c.quantum
+
+abbrev pub deficits_ahead : ℕ → List Entry → List Class → ℕ
+deficits_ahead i active classes = sum_by (λ (c : Class). if i == c.name then 0 else deficit_ahead i active c) classes
+
+-- All that is sent until a packet of class i has left that ends within so many bytes of it: those, for each grant that class i may need the
+-- quanta of the others, and their deficits.
+abbrev pub bytes_of_turn : ℕ → ℕ → List Class → List Entry → ℕ → ℕ
+bytes_of_turn i quantum classes active bytes =
+    bytes + div_ceil (bytes - deficit_of i active) quantum * (quanta_of classes - quantum) + deficits_ahead i active classes
+
+abbrev pub ClassesWaitTheirTurn : DeviceSettings → Type 0
+ClassesWaitTheirTurn settings =
+    (before during : List Event) (major i quantum bytes : ℕ) (classes : List Class) (first last : ClassAt) (t : ℕ) → All IsEvent before → All IsEvent during
+    → Throughout (HasClasses major classes) settings before during → Throughout (IsBackloggedClass major i quantum) settings before during
+    → StaysLeft major i bytes 0 (device_after settings before) during
+    → class_in major i (device_after settings before) ≡ Some first → class_in major i (device_after settings (before ++ during)) ≡ Some last
+    → (device_after settings (before ++ during)).clock ≤ t → t ≤ 2 ^ 62
+    → all_sent major classes (device_after settings before) during + shown_by t last ≤ bytes_of_turn i quantum classes first.schedule.active bytes
