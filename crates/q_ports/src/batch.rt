@@ -8,18 +8,43 @@ ghost use Rattle.rtrb.specs.Ring.{known_free, ProducerLooked};
 
 use crate::ring_rule::PacketProducer;
 use q_device::Totals as Share;
-use q_packet::Packet;
+use q_packet::{KeptPacket, Packet, StoredPacket};
 
 /// What was placed, with a packet more; `None` where a count would overflow.
-pub(crate) fn with_packet(share: &Share, packet: &Packet) -> Option<Share>
+pub(crate) fn with_packet(share: &Share, packet: &KeptPacket) -> Option<Share>
     ensures some { IfSome result (λ s. s ≡ with_packet share.now packet.now) }
     ensures counted { IfSome result (λ s. (share.now.packets + 1 < 2 ^ 64) × (share.now.bytes + packet.now.len < 2 ^ 64)) }
     ensures none { IfNone result ((2 ^ 64 ≤ share.now.packets + 1) ⊎ (2 ^ 64 ≤ share.now.bytes + packet.now.len)) }
 {
     Some(Share {
         packets: share.packets.checked_add(1)?,
-        bytes: share.bytes.checked_add(u64::from(packet.len))?,
+        bytes: share.bytes.checked_add(u64::from(packet.stored.len))?,
     })
+}
+
+/// A packet with this port and number.
+#[inline(always)]
+pub(crate) fn numbered(packet: &KeptPacket, port: u32, number: u64) -> KeptPacket
+    ensures { result ≡ record packet.now { port = port; number = number } }
+{
+    KeptPacket {
+        stored: StoredPacket {
+            port,
+            number,
+            ..packet.stored
+        },
+    }
+}
+
+/// Writes packets into the first places of a batch, as they are kept.
+pub(crate) fn keep_batch(packets: &[Packet], batch: &mut [KeptPacket])
+    requires { length packets.now ≤ length batch.old }
+    ensures length { length batch.new ≡ length batch.old }
+    ensures kept { take (length packets.now) batch.new ≡ packets.now }
+{
+    for at in 0..packets.len() {
+        batch[at] = KeptPacket::of(&packets[at]);
+    }
 }
 
 /// How many places of the ring are known to be free, up to so many. Where too few are, it checks again.
@@ -39,8 +64,8 @@ pub(crate) fn free_places(ring: &mut PacketProducer, most: usize) -> usize
 /// Writes packets as the port with this index places them behind those of the share, up to the first with which a count would overflow.
 /// Answers how many, and the share with them.
 pub(crate) fn write_batch(
-    batch: &mut [Packet],
-    packets: &[Packet],
+    batch: &mut [KeptPacket],
+    packets: &[KeptPacket],
     index: u32,
     share: Share,
 ) -> (usize, Share)
@@ -59,11 +84,7 @@ pub(crate) fn write_batch(
             return (at, share);
         };
         share = more;
-        batch[at] = Packet {
-            port: index,
-            number: share.packets,
-            ..*packet
-        };
+        batch[at] = numbered(packet, index, share.packets);
     }
     (packets.len(), share)
 }

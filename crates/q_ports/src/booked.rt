@@ -17,7 +17,7 @@ ghost use Rattle.q_ports.specs.Held.{booking, held};
 use crate::seat::Seat;
 use q_device::laws::device_is_lawful;
 use q_device::{Command, Device, Event, Fate, Given, Lost, Place, Polled, Refusal, Row};
-use q_packet::{Moment, Packet};
+use q_packet::{KeptPacket, Moment, Packet};
 use std::alloc::AllocError;
 use std::marker::Model;
 use std::sync::ledger::{Blank, Book, Ledger};
@@ -72,7 +72,7 @@ impl<P: Ledger, B: Ledger> Booked<P, B> {
         (booked, seat)
     }
 
-    /// A packet arrives, as at [`Device::arrive`], and is booked with the permit. It and [`Booked::arrive_at`] are the only ways in.
+    /// A packet arrives, as at [`Device::arrive`], and is booked with the permit. It, [`Booked::arrive_at`] and [`Booked::arrive_kept`] are the only ways in.
     ///
     /// # Errors
     ///
@@ -130,9 +130,34 @@ impl<P: Ledger, B: Ledger> Booked<P, B> {
         ensures recorder { self.new.memory.events ≡ self.old.memory.events }
         ensures counters { HasNotFallen self.old.device.tree.top self.new.device.tree.top }
     {
-        let fate = self.device.arrive_at(packet, now)?;
+        self.arrive_kept(seat, &KeptPacket::of(packet), now)
+    }
+
+    /// The same in the form in which packets are kept, as at [`Device::arrive_kept`].
+    ///
+    /// # Errors
+    ///
+    /// `AllocError` where [`Device::arrive_kept`] returns it. Nothing has changed then but for places.
+    pub fn arrive_kept(
+        &mut self,
+        seat: &mut Seat<P, B>,
+        packet: &KeptPacket,
+        now: Moment,
+    ) -> Result<Fate, AllocError>
+        ensures event { OnOk result (self.new ≡ with_memory self.new.memory (after_event (event.Arrive packet.now now) self.old)) }
+        ensures fate { IfOk result (λ fate. reply.Fate fate ≡ reply_to (event.Arrive packet.now now) self.old) }
+        ensures seat { OnOk result (seat.new ≡ booking seat.old packet.now) }
+        ensures same { OnErr result (self.new ≡ with_memory self.new.memory self.old) }
+        ensures same_seat { OnErr result (seat.new ≡ seat.old) }
+        ensures succeeds { HasRoomFor packet.now self.old → IsOk result }
+        ensures places { self.old.memory.losses ≤ self.new.memory.losses }
+        ensures queues { HasNoFewerPlaces self.old.memory self.new.memory }
+        ensures keeps { OnErr result ((other : Descriptor) → HasRoomFor other self.old → HasRoomFor other self.new) }
+        ensures recorder { self.new.memory.events ≡ self.old.memory.events }
+    {
+        let fate = self.device.arrive_kept(packet, now)?;
         self.packets.add(&mut seat.packets, 1);
-        self.bytes.add(&mut seat.bytes, u64::from(packet.len));
+        self.bytes.add(&mut seat.bytes, u64::from(packet.len()));
         Ok(fate)
     }
 

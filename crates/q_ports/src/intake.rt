@@ -89,7 +89,7 @@ impl<P: Ledger, B: Ledger> Intake<P, B> {
         let ring = &mut rings[at];
         let packet = ring.peek_known();
         booked_has_its_memory(booked);
-        let Ok(_) = booked.arrive_at(seat, packet, now) else {
+        let Ok(_) = booked.arrive_kept(seat, packet, now) else {
             return Err(AllocError);
         };
         ring.pop_known();

@@ -13,7 +13,7 @@ use crate::ring_rule::PacketConsumer;
 use crate::taken_in::TakenIn;
 use q_device::laws::device_has_its_memory;
 use q_device::{Device, Totals as Share};
-use q_packet::{Moment, Packet};
+use q_packet::{KeptPacket, Moment};
 use std::alloc::AllocError;
 use std::marker::Model;
 
@@ -55,7 +55,7 @@ impl Outlet {
         }
     }
 
-    /// Takes up to `most` packets, oldest first: each arrives at the device at this time, as by [`Device::arrive_at`], and only then
+    /// Takes up to `most` packets, oldest first: each arrives at the device at this time, as by [`Device::arrive_kept`], and only then
     /// leaves the ring. It waits for nobody, and takes memory only as the arrivals do.
     ///
     /// Where an arrival fails to allocate, its packet stays first in the ring, and nothing more is taken.
@@ -118,7 +118,7 @@ impl Outlet {
     }
 
     /// The first packet that is known to wait.
-    pub(crate) fn first(&self) -> Packet
+    pub(crate) fn first(&self) -> KeptPacket
         requires { 0 < length self.now.known }
         ensures { self.now.known ≡ result ∷ drop 1 self.now.known }
     {
@@ -135,9 +135,9 @@ impl Outlet {
         ensures clock { OnOk result (device.new.device.clock ≡ counts_at now device.old.device) }
     {
         let packet = self.ring.peek_known();
-        let len = u64::from(packet.len);
+        let len = u64::from(packet.len());
         device_has_its_memory(device);
-        let Ok(_) = device.arrive_at(packet, now) else {
+        let Ok(_) = device.arrive_kept(packet, now) else {
             return Err(AllocError);
         };
         self.ring.pop_known();

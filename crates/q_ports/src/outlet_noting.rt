@@ -68,7 +68,7 @@ impl Outlet {
     {
         let packet = self.first();
         self.take_first(device, now)?;
-        last.note(Event::Arrive(packet, device.clock()));
+        last.note(Event::Arrive(packet.packet(), device.clock()));
         Ok(())
     }
 }

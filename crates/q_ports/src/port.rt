@@ -6,11 +6,11 @@ ghost use Rattle.q_ports.specs.Offered.{MayBeFull};
 ghost use Rattle.q_ports.specs.Placed.{bytes_in, placed_by, placing, port_seen, ring_at, ring_length, ring_of, ring_of_port, HasRing};
 ghost use Rattle.rtrb.specs.Ring.{known_items, producer_capacity, received, sent, ConsumerLooked};
 
-use crate::batch::{free_places, with_packet, write_batch};
+use crate::batch::{free_places, keep_batch, numbered, with_packet, write_batch};
 use crate::full::Full;
 use crate::ring_rule::{PacketConsumer, PacketProducer};
 use q_device::Totals as Share;
-use q_packet::{Packet, SOME_PACKET};
+use q_packet::{KeptPacket, Packet, SOME_KEPT};
 use std::marker::Model;
 
 /// How many packets are placed by one store.
@@ -26,7 +26,7 @@ pub struct Port {
     /// What it placed.
     share: Share,
     /// Where the packets of a batch are written as they are to be placed. What was there before does not matter.
-    batch: [Packet; BATCH],
+    batch: [KeptPacket; BATCH],
 }
 
 impl Model for Port {
@@ -56,7 +56,7 @@ impl Port {
                 packets: 0,
                 bytes: 0,
             },
-            batch: [SOME_PACKET; BATCH],
+            batch: [SOME_KEPT; BATCH],
         }
     }
 
@@ -73,11 +73,31 @@ impl Port {
         ensures full { IfErr result (λ full. (full.0 ≡ packet) × (self.new ≡ self.old)) }
         ensures only { OnErr result ((ring_length self.old.ring ≤ length self.old.placed) ⊎ (2 ^ 64 ≤ bytes_in self.old.placed + packet.len)) }
     {
-        if self.place(&packet) {
+        if self.offer_kept(&KeptPacket::of(&packet)) {
             Ok(())
         } else {
             Err(Full(packet))
         }
+    }
+
+    /// [`Port::offer`] of a packet in the form in which packets are kept, which stays where it is. Returns whether it was placed; nothing
+    /// has changed where it was not.
+    #[inline(always)]
+    pub fn offer_kept(&mut self, packet: &KeptPacket) -> bool
+        ensures placed { result ≡ true → self.new ≡ placing self.old packet.now }
+        ensures same { result ≡ false → self.new ≡ self.old }
+        ensures full { result ≡ false → MayBeFull self.old packet.now }
+    {
+        let Some(share) = with_packet(&self.share, packet) else {
+            return false;
+        };
+        if self.ring.is_full() {
+            return false;
+        }
+        self.ring
+            .push_reserved(numbered(packet, self.index, share.packets));
+        self.share = share;
+        true
     }
 
     /// Places as many of the packets as fit the ring, from the first on and in order, each as by [`Port::offer`], and answers how
@@ -86,6 +106,24 @@ impl Port {
     ///
     /// It places fewer than all only where the next packet finds the ring full, or where the bytes placed would pass 2^64 - 1 by it.
     pub fn offer_many(&mut self, packets: &[Packet]) -> usize
+        ensures few { result ≤ length packets.now }
+        ensures placed { self.new ≡ fold placing self.old (take result packets.now) }
+        ensures full { result < length packets.now → (d : Descriptor) → MayBeFull self.new (get_or packets.now result d) }
+    {
+        let mut placed = 0;
+        while placed < packets.len() {
+            let wanted = BATCH.min(packets.len() - placed);
+            let count = self.place_packets(&packets[placed..placed + wanted]);
+            placed += count;
+            if count < wanted {
+                return placed;
+            }
+        }
+        placed
+    }
+
+    /// The same in the form in which packets are kept, in which they are copied whole.
+    pub fn offer_many_kept(&mut self, packets: &[KeptPacket]) -> usize
         ensures few { result ≤ length packets.now }
         ensures placed { self.new ≡ fold placing self.old (take result packets.now) }
         ensures full { result < length packets.now → (d : Descriptor) → MayBeFull self.new (get_or packets.now result d) }
@@ -102,8 +140,20 @@ impl Port {
         placed
     }
 
-    // Places as many of the packets of a batch as fit the ring.
-    fn place_batch(&mut self, packets: &[Packet]) -> usize
+    // Places as many of the packets of a batch as fit the ring, in the form in which they are kept.
+    fn place_packets(&mut self, packets: &[Packet]) -> usize
+        requires { length packets.now ≤ 16 }
+        ensures few { result ≤ length packets.now }
+        ensures placed { self.new ≡ fold placing self.old (take result packets.now) }
+        ensures full { result < length packets.now → (d : Descriptor) → MayBeFull self.new (get_or packets.now result d) }
+    {
+        let mut batch = [SOME_KEPT; BATCH];
+        keep_batch(packets, &mut batch);
+        self.place_batch(&batch[..packets.len()])
+    }
+
+    // The same of packets that are kept already.
+    fn place_batch(&mut self, packets: &[KeptPacket]) -> usize
         requires { length packets.now ≤ 16 }
         ensures few { result ≤ length packets.now }
         ensures placed { self.new ≡ fold placing self.old (take result packets.now) }
@@ -120,28 +170,6 @@ impl Port {
         let _pushed = self.ring.push_entire_slice(&self.batch[..count]);
         self.share = share;
         count
-    }
-
-    // Places a packet that stays where it is, and answers whether there was room for it.
-    #[inline(always)]
-    fn place(&mut self, packet: &Packet) -> bool
-        ensures placed { result ≡ true → self.new ≡ placing self.old packet.now }
-        ensures same { result ≡ false → self.new ≡ self.old }
-        ensures full { result ≡ false → MayBeFull self.old packet.now }
-    {
-        let Some(share) = with_packet(&self.share, packet) else {
-            return false;
-        };
-        if self.ring.is_full() {
-            return false;
-        }
-        self.ring.push_reserved(Packet {
-            port: self.index,
-            number: share.packets,
-            ..*packet
-        });
-        self.share = share;
-        true
     }
 
     /// Its index among the drain's ports, from 0.

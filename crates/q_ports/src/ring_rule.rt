@@ -1,4 +1,4 @@
-use q_packet::Packet;
+use q_packet::KeptPacket;
 use rtrb::{Consumer, Producer, Protocol};
 use std::alloc::Global;
 
@@ -6,7 +6,7 @@ use std::alloc::Global;
 #[derive(Clone, Copy)]
 pub struct RingRule;
 
-impl Protocol<Packet> for RingRule {
+impl Protocol<KeptPacket> for RingRule {
     ghost use Rattle.std.specs.Prelude.{◌++◌, ◌∷◌, []};
     ghost use Rattle.q_ports.specs.Placed.{CanBeCounted};
 
@@ -14,7 +14,7 @@ impl Protocol<Packet> for RingRule {
 }
 
 /// The end of a ring at which packets are placed.
-pub type PacketProducer = Producer<Packet, Global, RingRule>;
+pub type PacketProducer = Producer<KeptPacket, Global, RingRule>;
 
 /// The end of a ring at which packets are taken.
-pub type PacketConsumer = Consumer<Packet, Global, RingRule>;
+pub type PacketConsumer = Consumer<KeptPacket, Global, RingRule>;

@@ -4,13 +4,13 @@ use Rattle.q_model.specs.Step.{step}
 use Rattle.q_model.specs.Tally.{totals}
 use Rattle.q_device.specs.DeviceSeen.{DeviceSeen, with_event}
 use Rattle.q_device.specs.Events.{after_event, reply_to, with_memory}
-use Rattle.q_ports.proofs.booked.Booked.arrive_at.Goals as goal
+use Rattle.q_ports.proofs.booked.Booked.arrive_kept.Goals as goal
 
 pub returns-clause-event : goal.returns-clause-event
 unfolding after_event
 returns-clause-event g c =
     let e = event.Arrive c.args.packet.now c.args.now in
-    c.in_ok-fate.ensures.event ∙ ap (λ (d : DeviceSeen). with_memory c.arrive_at.new.self.memory (with_event e d)) c.self.view_is
+    c.in_ok-fate.ensures.event ∙ ap (λ (d : DeviceSeen). with_memory c.arrive_kept.new.self.memory (with_event e d)) c.self.view_is
 
 pub returns-clause-fate : goal.returns-clause-fate
 unfolding reply_to

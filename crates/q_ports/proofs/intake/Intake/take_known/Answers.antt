@@ -52,7 +52,7 @@ returns-clause-taken g c =
             e ∙ ap (λ (ks : List Descriptor). p ∷ drop 1 ks) (sym e);
       };
       arrived = c.in-Ok.ensures.event;
-      places = record { queues = c.arrive_at.ensures.queues; losses = c.arrive_at.ensures.places; events = c.arrive_at.ensures.recorder };
+      places = record { queues = c.arrive_kept.ensures.queues; losses = c.arrive_kept.ensures.places; events = c.arrive_kept.ensures.recorder };
     }
 
 pub returns-in_default-clause-refused : goal.returns-in_default-clause-refused

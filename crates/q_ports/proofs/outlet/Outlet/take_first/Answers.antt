@@ -23,7 +23,7 @@ returns-clause-taken c =
       received = seen-popped a b p c.pop_known.ensures.ring all known ∙ ap (λ (r : RingSeen). popped p r) c.self.view_is;
       arrived = c.in-Ok.ensures.event;
       counted = c.in-Ok.ensures.arrived;
-      places = record { queues = c.arrive_at.ensures.queues; losses = c.arrive_at.ensures.places; events = c.arrive_at.ensures.recorder };
+      places = record { queues = c.arrive_kept.ensures.queues; losses = c.arrive_kept.ensures.places; events = c.arrive_kept.ensures.recorder };
     }
 
 pub returns-in_default-clause-refused : goal.returns-in_default-clause-refused
