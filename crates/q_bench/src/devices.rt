@@ -3,7 +3,7 @@ use crate::packets::Plan;
 use crate::trees::{Shape, Tree, set_up};
 use q_device::{Device, Fate, Given, Row, Settings, Totals};
 use q_model::{ClassId, Handle, Minor, Place};
-use q_packet::{Moment, Packet};
+use q_packet::{KeptPacket, Moment};
 use std::alloc::Global;
 
 /// The longest packet, in bytes.
@@ -70,7 +70,7 @@ fn pairs(
     shape: u32,
     tree: Tree,
     queued: u32,
-    made: &[Packet],
+    made: &[KeptPacket],
     step: u32,
     passes: u32,
 ) -> Option<u64> {
@@ -78,7 +78,7 @@ fn pairs(
     pass_pairs(&mut ready, made, step, passes)
 }
 
-fn pass_pairs(ready: &mut Ready, made: &[Packet], step: u32, passes: u32) -> Option<u64> {
+fn pass_pairs(ready: &mut Ready, made: &[KeptPacket], step: u32, passes: u32) -> Option<u64> {
     let mut now = ready.now;
     let mut sum = ready.sum;
     let device = &mut ready.device;
@@ -131,14 +131,14 @@ fn losses(
     shape: u32,
     tree: Tree,
     queued: u32,
-    made: &[Packet],
+    made: &[KeptPacket],
     waits: &[u32],
 ) -> Option<u64> {
     let mut ready = queued_up(alloc, shape, tree, queued, made)?;
     pass_losses(&mut ready, made, waits)
 }
 
-fn pass_losses(ready: &mut Ready, made: &[Packet], waits: &[u32]) -> Option<u64> {
+fn pass_losses(ready: &mut Ready, made: &[KeptPacket], waits: &[u32]) -> Option<u64> {
     let mut now = ready.now;
     let mut sum = ready.sum;
     let device = &mut ready.device;
@@ -177,7 +177,7 @@ pub extern "C" fn q_bench_harness(
     pass_wire(made.as_slice(), step, passes).unwrap_or(0)
 }
 
-fn pass_wire(made: &[Packet], step: u32, passes: u32) -> Option<u64> {
+fn pass_wire(made: &[KeptPacket], step: u32, passes: u32) -> Option<u64> {
     let mut now = Moment::zero();
     let mut sum = 1;
     for _ in 0..passes {
@@ -200,7 +200,13 @@ fn limit_for(queued: u32) -> u32 {
 }
 
 /// A device with this tree, at which the first packets have arrived, round and round.
-fn queued_up(alloc: Global, shape: u32, tree: Tree, queued: u32, made: &[Packet]) -> Option<Ready> {
+fn queued_up(
+    alloc: Global,
+    shape: u32,
+    tree: Tree,
+    queued: u32,
+    made: &[KeptPacket],
+) -> Option<Ready> {
     let mut device = opened(alloc)?;
     match queue_up(&mut device, shape, tree, queued, made) {
         Some((now, sum)) => Some(Ready { device, now, sum }),
@@ -218,7 +224,7 @@ fn queue_up(
     shape: u32,
     tree: Tree,
     queued: u32,
-    made: &[Packet],
+    made: &[KeptPacket],
 ) -> Option<(Moment, u64)> {
     set_up(device, Shape::of(shape)?, tree)?;
     let mut now = Moment::zero();
@@ -233,8 +239,8 @@ fn queue_up(
 }
 
 /// The number of the cause where the packet is lost, else 0.
-fn arrive(device: &mut Device, packet: &Packet, now: Moment) -> Option<u64> {
-    match device.arrive_at(packet, now) {
+fn arrive(device: &mut Device, packet: &KeptPacket, now: Moment) -> Option<u64> {
+    match device.arrive_kept(packet, now) {
         Ok(Fate::Kept) => Some(0),
         Ok(Fate::Lost(cause)) => Some(u64::from(cause.number())),
         Err(_) => None,
@@ -242,19 +248,20 @@ fn arrive(device: &mut Device, packet: &Packet, now: Moment) -> Option<u64> {
 }
 
 /// The summary of the packet that a poll writes to `out`, or what it says where there is none.
-fn poll(device: &mut Device, now: Moment, out: &mut Packet) -> u64 {
-    match device.poll_into(now, out) {
+fn poll(device: &mut Device, now: Moment, out: &mut KeptPacket) -> u64 {
+    match device.poll_kept(now, out) {
         Given::Packet => summary(out),
         Given::Idle => 1 << 60,
         Given::Later => 2 << 60,
     }
 }
 
-fn summary(packet: &Packet) -> u64 {
-    packet.number
-        ^ u64::from(packet.hash) << 16
-        ^ u64::from(packet.len) << 32
-        ^ u64::from(packet.ecn.bits()) << 48
+fn summary(packet: &KeptPacket) -> u64 {
+    let stored = &packet.stored;
+    stored.number
+        ^ u64::from(stored.hash) << 16
+        ^ u64::from(stored.len) << 32
+        ^ u64::from(stored.ecn) << 48
 }
 
 /// The checksum with the number of each packet that was lost, and why.

@@ -2,7 +2,7 @@ use crate::checksum;
 use crate::packets::{blank, hashed};
 use q_codel::Losses;
 use q_fqcodel::{FqCodel, Settings};
-use q_packet::{Moment, Packet};
+use q_packet::{KeptPacket, Moment};
 use std::alloc::Global;
 
 /// Puts a packet of each of these hashes into an fq_codel of so many flows, so many times over; with `takes` it takes one
@@ -44,7 +44,7 @@ pub extern "C" fn q_bench_flows(
 }
 
 /// Puts so many packets, round and round.
-fn fill(fq: &mut FqCodel, losses: &mut Losses, queued: u32, made: &[Packet]) -> Option<()> {
+fn fill(fq: &mut FqCodel, losses: &mut Losses, queued: u32, made: &[KeptPacket]) -> Option<()> {
     let mut next = 0;
     for _ in 0..queued {
         put(fq, losses, made.get(next)?)?;
@@ -57,7 +57,7 @@ fn pass_through(
     fq: &mut FqCodel,
     losses: &mut Losses,
     takes: bool,
-    made: &[Packet],
+    made: &[KeptPacket],
     passes: u32,
 ) -> Option<u64> {
     let mut out = blank()?;
@@ -67,7 +67,7 @@ fn pass_through(
             sum = checksum::with(sum, put(fq, losses, packet)?);
             if takes {
                 take(fq, losses, &mut out)?;
-                sum = checksum::with(sum, out.number);
+                sum = checksum::with(sum, out.stored.number);
             }
             for _ in 0..losses.count() {
                 let loss = losses.reap()?;
@@ -82,7 +82,7 @@ fn pass_through(
 
 /// 1 where the packet that is put is itself lost, else 0.
 #[inline(always)]
-fn put(fq: &mut FqCodel, losses: &mut Losses, packet: &Packet) -> Option<u64> {
+fn put(fq: &mut FqCodel, losses: &mut Losses, packet: &KeptPacket) -> Option<u64> {
     let settings = fq.settings();
     if fq.reserve().is_err() || losses.reserve(settings.drop_batch as usize).is_err() {
         return None;
@@ -92,7 +92,7 @@ fn put(fq: &mut FqCodel, losses: &mut Losses, packet: &Packet) -> Option<u64> {
 
 /// Takes a packet into `out`.
 #[inline(always)]
-fn take(fq: &mut FqCodel, losses: &mut Losses, out: &mut Packet) -> Option<()> {
+fn take(fq: &mut FqCodel, losses: &mut Losses, out: &mut KeptPacket) -> Option<()> {
     let (packets, _) = fq.queued();
     if losses.reserve(packets as usize).is_err() {
         return None;

@@ -1,11 +1,11 @@
-use q_packet::{Ecn, FlowKey, Packet};
+use q_packet::{Ecn, FlowKey, KeptPacket, Packet};
 use std::alloc::Global;
 
 /// The length of each packet of a plan, in bytes.
 const LEN: u16 = 1000;
 
 /// The packets of a queue alone, with these lengths and all of one flow.
-pub fn sized(alloc: Global, lens: &[u16]) -> Option<Vec<Packet>> {
+pub fn sized(alloc: Global, lens: &[u16]) -> Option<Vec<KeptPacket>> {
     let mut made = Vec::new(alloc);
     for (number, len) in lens.iter().enumerate() {
         let packet = plain(number as u64, *len, 3)?;
@@ -17,7 +17,7 @@ pub fn sized(alloc: Global, lens: &[u16]) -> Option<Vec<Packet>> {
 }
 
 /// The packets of an fq_codel alone, with these hashes, from which their lengths follow.
-pub fn hashed(alloc: Global, hashes: &[u32]) -> Option<Vec<Packet>> {
+pub fn hashed(alloc: Global, hashes: &[u32]) -> Option<Vec<KeptPacket>> {
     let mut made = Vec::new(alloc);
     for (number, hash) in hashes.iter().enumerate() {
         let packet = plain(number as u64, (60 + *hash % 1400) as u16, *hash)?;
@@ -29,12 +29,13 @@ pub fn hashed(alloc: Global, hashes: &[u32]) -> Option<Vec<Packet>> {
 }
 
 /// A place for a packet that is taken.
-pub fn blank() -> Option<Packet> {
+pub fn blank() -> Option<KeptPacket> {
     plain(0, 1, 0)
 }
 
-fn plain(number: u64, len: u16, hash: u32) -> Option<Packet> {
-    Packet::new(1, number, 2, len, FlowKey::zero(), hash, 4, Ecn::NotEct)
+fn plain(number: u64, len: u16, hash: u32) -> Option<KeptPacket> {
+    let packet = Packet::new(1, number, 2, len, FlowKey::zero(), hash, 4, Ecn::NotEct)?;
+    Some(KeptPacket::of(&packet))
 }
 
 /// What the packets of a workload are: of each its hash, its priority and its port of destination, and whether they can be
@@ -49,7 +50,7 @@ pub struct Plan<'a> {
 
 impl<'a> Plan<'a> {
     /// All packets in their order; `None` where a number is out of range or an allocation fails.
-    pub fn made(self, alloc: Global) -> Option<Vec<Packet>> {
+    pub fn made(self, alloc: Global) -> Option<Vec<KeptPacket>> {
         let mut made = Vec::new(alloc);
         for i in 0..self.hashes.len() {
             if made.push(self.packet(i)?).is_err() {
@@ -59,11 +60,12 @@ impl<'a> Plan<'a> {
         Some(made)
     }
 
-    fn packet(self, i: usize) -> Option<Packet> {
+    fn packet(self, i: usize) -> Option<KeptPacket> {
         let port = *self.ports.get(i)?;
         let key = FlowKey::new(4, 17, 0x0a00_0001, 0x0a00_0002, 1000, port)?;
         let (hash, prio) = (*self.hashes.get(i)?, *self.prios.get(i)?);
         let ecn = if self.ecn { Ecn::Ect0 } else { Ecn::NotEct };
-        Packet::new(1, i as u64, 2, LEN, key, hash, prio, ecn)
+        let packet = Packet::new(1, i as u64, 2, LEN, key, hash, prio, ecn)?;
+        Some(KeptPacket::of(&packet))
     }
 }

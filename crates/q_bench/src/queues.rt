@@ -1,7 +1,7 @@
 use crate::checksum;
 use crate::packets::{blank, sized};
 use q_codel::{ControlState, Fifo, Limit, Losses, Parameters};
-use q_packet::{Moment, Packet};
+use q_packet::{KeptPacket, Moment, StoredPacket};
 use std::alloc::Global;
 
 /// CoDel's target, in nanoseconds.
@@ -27,7 +27,7 @@ pub extern "C" fn q_bench_fifo(alloc: Global, queued: u32, lens: &[u16], passes:
     pass_through(&mut queue, made.as_slice(), passes).unwrap_or(0)
 }
 
-fn pass_through(queue: &mut Fifo, made: &[Packet], passes: u32) -> Option<u64> {
+fn pass_through(queue: &mut Fifo, made: &[KeptPacket], passes: u32) -> Option<u64> {
     let now = Moment::zero();
     let mut out = blank()?;
     let mut sum = 1;
@@ -62,7 +62,12 @@ pub extern "C" fn q_bench_codel(alloc: Global, queued: u32, lens: &[u16], moment
     take_at(&mut queue, &mut losses, made.as_slice(), moments).unwrap_or(0)
 }
 
-fn take_at(queue: &mut Fifo, losses: &mut Losses, made: &[Packet], moments: &[u64]) -> Option<u64> {
+fn take_at(
+    queue: &mut Fifo,
+    losses: &mut Losses,
+    made: &[KeptPacket],
+    moments: &[u64],
+) -> Option<u64> {
     let parameters = Parameters::new(TARGET, INTERVAL, MTU, false)?;
     let mut codel = ControlState::new();
     let mut out = blank()?;
@@ -90,14 +95,14 @@ fn take_at(queue: &mut Fifo, losses: &mut Losses, made: &[Packet], moments: &[u6
 fn put_for_losses(
     queue: &mut Fifo,
     losses: &mut Losses,
-    packet: &Packet,
+    packet: &KeptPacket,
     now: Moment,
     before: u64,
 ) -> Option<u64> {
     let mut sum = before;
     for _ in 0..losses.count() {
         let loss = losses.reap()?;
-        sum = checksum::with(sum, summary(&loss.packet));
+        sum = checksum::with(sum, summary(&KeptPacket::of(&loss.packet)));
         put(queue, packet, now)?;
     }
     Some(sum)
@@ -105,7 +110,7 @@ fn put_for_losses(
 
 /// Puts so many packets at time 0, round and round: a function of its own, which leaves its registers to what is measured.
 #[inline(never)]
-fn fill(queue: &mut Fifo, queued: u32, made: &[Packet]) -> Option<()> {
+fn fill(queue: &mut Fifo, queued: u32, made: &[KeptPacket]) -> Option<()> {
     let mut next = 0;
     for _ in 0..queued {
         put(queue, made.get(next)?, Moment::zero())?;
@@ -114,29 +119,29 @@ fn fill(queue: &mut Fifo, queued: u32, made: &[Packet]) -> Option<()> {
     Some(())
 }
 
-fn summary(packet: &Packet) -> u64 {
-    let Packet {
+fn summary(packet: &KeptPacket) -> u64 {
+    let StoredPacket {
+        src_low,
         port,
         number,
         buf,
         len,
-        key,
         hash,
         prio,
         ..
-    } = *packet;
+    } = packet.stored;
     let place = (u64::from(port) << 32) | u64::from(buf);
     let queue = (u64::from(hash) << 32) | (u64::from(len) << 8) | u64::from(prio);
-    number ^ place ^ queue ^ checksum::low(key.src)
+    number ^ place ^ queue ^ src_low
 }
 
 /// Puts a packet at the end; `None` if an allocation fails or the limit is reached.
 #[inline(always)]
-fn put(queue: &mut Fifo, packet: &Packet, now: Moment) -> Option<()> {
+fn put(queue: &mut Fifo, packet: &KeptPacket, now: Moment) -> Option<()> {
     if queue.reserve().is_err() {
         return None;
     }
-    if !queue.fits(packet.len) {
+    if !queue.fits(packet.len()) {
         return None;
     }
     queue.put_from(packet, now);

@@ -4,7 +4,7 @@ ghost use Rattle.q_ports.specs.Held.{held};
 
 use crate::{device, span_since};
 use q_device::Device;
-use q_packet::{Moment, Packet};
+use q_packet::{KeptPacket, Moment, Packet};
 use q_ports::{Booked, Drain, Port, Seat, open_ports};
 use std::alloc::Global;
 use std::marker::Brand;
@@ -151,10 +151,10 @@ fn timed_offers_of_many<C: Clock>(
     given: Packet,
     count: usize,
 ) -> Option<u64> {
-    let packets = [given; MOST];
+    let packets = [KeptPacket::of(&given); MOST];
     let start = Instant::now(clock).ok()?;
     for _ in 0..count / MOST {
-        if port.offer_many(&packets) < MOST {
+        if port.offer_many_kept(&packets) < MOST {
             return None;
         }
     }

@@ -11,12 +11,13 @@ use Rattle.q_ports.proofs.RoomLemmas.{keeps-same, keeps-then}
 use Rattle.qtree_c.specs.Calls.{IsArrival}
 use Rattle.qtree_c.specs.Codes.{reply_number}
 use Rattle.qtree_c.specs.Folds.{arrival, arrived_by, fates_by, IsArrivals}
-use Rattle.qtree_c.specs.Structs.{IsPacket, descriptor, zero_packet}
-use Rattle.qtree_c.specs.declared.c_packet.CPacket.{CPacket}
+use Rattle.qtree_c.specs.Structs.{IsPacket, zero_packet}
+use Rattle.q_packet.specs.Stored.{descriptor}
+use Rattle.q_packet.specs.declared.stored_packet.StoredPacket.{StoredPacket}
 use Rattle.qtree_c.proofs.PlaceLemmas.{filled-more, length-front}
 
 -- the first `i` packets arrived, and the numbers of their fates stand in the first places; no place of the device was lost
-pub record IsArriving (i now : ℕ) (packets : List CPacket) (before after : List ℕ) (d d' : DeviceSeen) : Type 0 where
+pub record IsArriving (i now : ℕ) (packets : List StoredPacket) (before after : List ℕ) (d d' : DeviceSeen) : Type 0 where
   pub arrived : d' ≡ with_memory d'.memory (arrived_by now (take i packets) d)
   pub fates : after ≡ fates_by now (take i packets) d ++ drop i before
   pub in_range : All IsPacket (take i packets)
@@ -25,23 +26,23 @@ pub record IsArriving (i now : ℕ) (packets : List CPacket) (before after : Lis
 
 -- ---- one packet more
 
-arrived-more : (now : ℕ) (cs : List CPacket) (c : CPacket) (d : DeviceSeen) → arrived_by now (cs ++ c ∷ []) d ≡ after_event (arrival now c) (arrived_by now cs d)
+arrived-more : (now : ℕ) (cs : List StoredPacket) (c : StoredPacket) (d : DeviceSeen) → arrived_by now (cs ++ c ∷ []) d ≡ after_event (arrival now c) (arrived_by now cs d)
 arrived-more now [] c d = refl
 arrived-more now (x ∷ cs) c d = arrived-more now cs c (after_event (arrival now x) d)
 
-fates-more : (now : ℕ) (cs : List CPacket) (c : CPacket) (d : DeviceSeen)
+fates-more : (now : ℕ) (cs : List StoredPacket) (c : StoredPacket) (d : DeviceSeen)
     → fates_by now (cs ++ c ∷ []) d ≡ fates_by now cs d ++ reply_number (reply_to (arrival now c) (arrived_by now cs d)) ∷ []
 fates-more now [] c d = refl
 fates-more now (x ∷ cs) c d = ap (λ ns. reply_number (reply_to (arrival now x) d) ∷ ns) (fates-more now cs c (after_event (arrival now x) d))
 
-fates-length : (now : ℕ) (cs : List CPacket) (d : DeviceSeen) → length (fates_by now cs d) ≡ length cs
+fates-length : (now : ℕ) (cs : List StoredPacket) (d : DeviceSeen) → length (fates_by now cs d) ≡ length cs
 fates-length now [] d = refl
 fates-length now (x ∷ cs) d = ap suc (fates-length now cs (after_event (arrival now x) d))
 
-pub arriving-begins : (now : ℕ) (packets : List CPacket) (before : List ℕ) (d : DeviceSeen) → IsArriving 0 now packets before before d d
+pub arriving-begins : (now : ℕ) (packets : List StoredPacket) (before : List ℕ) (d : DeviceSeen) → IsArriving 0 now packets before before d d
 arriving-begins now packets before d = record { arrived = refl; fates = refl; in_range = All-nil IsPacket; places = keeps-same d; first = λ e. refl }
 
-pub arriving-more : (i now code : ℕ) (packets : List CPacket) (before after : List ℕ) (d d' d'' : DeviceSeen) (c : CPacket)
+pub arriving-more : (i now code : ℕ) (packets : List StoredPacket) (before after : List ℕ) (d d' d'' : DeviceSeen) (c : StoredPacket)
     → IsArriving i now packets before after d d' → i < length packets → length packets ≤ length before → take (i + 1) packets ≡ take i packets ++ c ∷ []
     → IsArrival c now code d' d'' → code ≤ 6 → IsArriving (i + 1) now packets before (set after i code) d d''
 arriving-more i now code packets before after d d' d'' c inv lt room more did few =
@@ -55,12 +56,12 @@ arriving-more i now code packets before after d d' d'' c inv lt room more did fe
       arrived = did.arrived few
           ∙ (ap (λ (y : DeviceSeen). with_memory d''.memory (after_event (arrival now c) y)) inv.arrived
           ∙ (ap (λ (y : DeviceSeen). with_memory d''.memory y) (after-memory (arrival now c) d'.memory x)
-          ∙ ap (λ (y : DeviceSeen). with_memory d''.memory y) (sym (ap (λ (cs : List CPacket). arrived_by now cs d) more ∙ arrived-more now firsts c d))));
+          ∙ ap (λ (y : DeviceSeen). with_memory d''.memory y) (sym (ap (λ (cs : List StoredPacket). arrived_by now cs d) more ∙ arrived-more now firsts c d))));
       fates = ap (λ (ns : List ℕ). set ns i code) inv.fates
           ∙ (subst (λ (k : ℕ). set (fates_by now firsts d ++ drop k before) k code ≡ (fates_by now firsts d ++ code ∷ []) ++ drop (suc k) before) counted
           (filled-more (fates_by now firsts d) before code (omega (arith, counted, lt, room)))
           ∙ ap₂ (λ (ns : List ℕ) (k : ℕ). ns ++ drop k before)
-          (ap (λ (n : ℕ). fates_by now firsts d ++ n ∷ []) told ∙ sym (ap (λ (cs : List CPacket). fates_by now cs d) more ∙ fates-more now firsts c d)) next);
+          (ap (λ (n : ℕ). fates_by now firsts d ++ n ∷ []) told ∙ sym (ap (λ (cs : List StoredPacket). fates_by now cs d) more ∙ fates-more now firsts c d)) next);
       in_range = All-same IsPacket (take (i + 1) packets) (firsts ++ c ∷ []) more
           (All-append IsPacket firsts (c ∷ []) inv.in_range (All-cons IsPacket c [] (did.in_range (λ e. absurd (omega (arith, few, e)))) (All-nil IsPacket)));
       places = keeps-then d d' d'' inv.places did.places;
@@ -68,7 +69,7 @@ arriving-more i now code packets before after d d' d'' c inv lt room more did fe
     }
 
 -- all of them arrived
-pub arriving-ends : (i now : ℕ) (packets : List CPacket) (before after : List ℕ) (d d' : DeviceSeen)
+pub arriving-ends : (i now : ℕ) (packets : List StoredPacket) (before after : List ℕ) (d d' : DeviceSeen)
     → IsArriving i now packets before after d d' → i ≡ length packets → IsArrivals now packets 0 i before after d d'
 arriving-ends i now packets before after d d' inv end = record {
   arrived = inv.arrived;
@@ -85,7 +86,7 @@ arriving-ends i now packets before after d d' inv end = record {
 }
 
 -- the next one did not
-pub arriving-stops : (i now code : ℕ) (packets : List CPacket) (before after : List ℕ) (d d' d'' : DeviceSeen) (c : CPacket)
+pub arriving-stops : (i now code : ℕ) (packets : List StoredPacket) (before after : List ℕ) (d d' d'' : DeviceSeen) (c : StoredPacket)
     → IsArriving i now packets before after d d' → i < length packets → slice_index_or packets i zero_packet ≡ c
     → IsArrival c now code d' d'' → 6 < code → (code ≡ 90 → HasItsMemory d' × StaysButForPlaces d' d'') → (code ≡ 90 → HasRoomFor (descriptor c) d' → ⊥)
     → IsArrivals now packets code i before after d d''
@@ -97,15 +98,15 @@ arriving-stops i now code packets before after d d' d'' c inv lt is did many ref
   all = λ e. absurd (omega (arith, many, e));
   stopped = λ _. lt;
   out_of_range = λ _ ne. did.memory many ne;
-  next = λ e fits. did.out_of_range (subst (λ (x : CPacket). IsPacket x) is fits) e;
-  next_in_range = λ e. subst (λ (x : CPacket). IsPacket x) (sym is) (did.in_range (λ e'. absurd (omega (arith, e, e'))));
+  next = λ e fits. did.out_of_range (subst (λ (x : StoredPacket). IsPacket x) is fits) e;
+  next_in_range = λ e. subst (λ (x : StoredPacket). IsPacket x) (sym is) (did.in_range (λ e'. absurd (omega (arith, e, e'))));
   full = λ e. record {
     full = d';
     made = inv.arrived;
     places = inv.places;
     first = λ none'. inv.first (omega (arith, none', length-front i packets (omega (arith, lt))));
     memory = (refused e).0;
-    room = λ h. none e (subst (λ (x : CPacket). HasRoomFor (descriptor x) d') is h);
+    room = λ h. none e (subst (λ (x : StoredPacket). HasRoomFor (descriptor x) d') is h);
     stays = (refused e).1;
   };
   places = keeps-then d d' d'' inv.places did.places;

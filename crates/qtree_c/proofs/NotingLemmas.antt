@@ -12,8 +12,8 @@ use Rattle.q_packet.specs.Descriptor.{Descriptor}
 use Rattle.q_ports.proofs.NotedLemmas.{all_noted-push}
 use Rattle.qtree_c.specs.Folds.{arrival}
 use Rattle.qtree_c.specs.Noting.{arrival_events, noting, one_event, poll_events}
-use Rattle.qtree_c.specs.Structs.{descriptor}
-use Rattle.qtree_c.specs.declared.c_packet.CPacket.{CPacket}
+use Rattle.q_packet.specs.Stored.{descriptor}
+use Rattle.q_packet.specs.declared.stored_packet.StoredPacket.{StoredPacket}
 
 -- ---- in any ring
 
@@ -28,7 +28,7 @@ noting-push es e (Some l) = ap Some (sym (all_noted-push es e l))
 
 -- ---- arrivals
 
-pub noted-arrival : (i now : ℕ) (packets : List CPacket) (c : CPacket) (d d' : DeviceSeen) (l l' l'' : Option LastNoted)
+pub noted-arrival : (i now : ℕ) (packets : List StoredPacket) (c : StoredPacket) (d d' : DeviceSeen) (l l' l'' : Option LastNoted)
     → l' ≡ noting (arrival_events now (map descriptor (take i packets)) d) l → counts_at now d'.device ≡ counts_at now d.device
     → take (i + 1) packets ≡ take i packets ++ c ∷ [] → l'' ≡ noting (one_event (arrival now c) d') l'
     → l'' ≡ noting (arrival_events now (map descriptor (take (i + 1) packets)) d) l

@@ -14,10 +14,11 @@ use Rattle.q_device.specs.Events.{after_event, reply_to, with_memory}
 use Rattle.q_device.specs.Polls.{after_poll, given_at}
 use Rattle.qtree_c.specs.Codes.{reply_number}
 use Rattle.q_ports.specs.Room.{KeepsPlaces}
-use Rattle.qtree_c.specs.Structs.{IsPacket, descriptor, event_of, loss_of, row_of, told_or}
+use Rattle.qtree_c.specs.Structs.{IsPacket, event_of, loss_of, row_of, told_or}
+use Rattle.q_packet.specs.Stored.{descriptor}
 use Rattle.qtree_c.specs.declared.c_event.CEvent.{CEvent}
 use Rattle.qtree_c.specs.declared.c_loss.CLoss.{CLoss}
-use Rattle.qtree_c.specs.declared.c_packet.CPacket.{CPacket}
+use Rattle.q_packet.specs.declared.stored_packet.StoredPacket.{StoredPacket}
 use Rattle.qtree_c.specs.declared.c_row.CRow.{CRow}
 
 -- A call on a place. A closed one stays closed, and 50 is answered; an open one stays open, and the call does this to its device.
@@ -28,7 +29,7 @@ Calls does code (Some d) (Some n) = does d n
 
 -- A packet arrived, and its fate is answered; or a field is out of its range, or an allocation fails, and nothing happened but that there
 -- may be more places.
-pub record IsArrival (c : CPacket) (now : ℕ) (code : ℕ) (d n : DeviceSeen) : Type 0 where
+pub record IsArrival (c : StoredPacket) (now : ℕ) (code : ℕ) (d n : DeviceSeen) : Type 0 where
   pub arrived : code ≤ 6 → n ≡ with_memory n.memory (after_event (event.Arrive (descriptor c) now) d)
   pub fate : code ≤ 6 → code ≡ reply_number (reply_to (event.Arrive (descriptor c) now) d)
   pub nothing : 6 < code → n ≡ with_memory n.memory d

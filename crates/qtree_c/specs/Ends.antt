@@ -8,9 +8,10 @@ use Rattle.q_ports.specs.Offered.{MayBeFull}
 use Rattle.q_ports.specs.Placed.{PortSeen, bytes_in, placing, port_seen, ring_length}
 use Rattle.q_ports.specs.Rings.{RingSeen}
 use Rattle.q_ports.specs.TakenIn.{StopsAtFirst, TakesIn}
-use Rattle.qtree_c.specs.Structs.{IsPacket, count_of, descriptor, zero_packet}
+use Rattle.qtree_c.specs.Structs.{IsPacket, count_of, zero_packet}
+use Rattle.q_packet.specs.Stored.{descriptor}
 use Rattle.qtree_c.specs.declared.c_count.CCount.{CCount}
-use Rattle.qtree_c.specs.declared.c_packet.CPacket.{CPacket}
+use Rattle.q_packet.specs.declared.stored_packet.StoredPacket.{StoredPacket}
 
 -- A call on the place of one end. A closed one stays closed, and 50 is answered; an open one stays open, and the call does this to it.
 abbrev pub CallsEnd : {A : Type 0} → (A → A → Type 0) → ℕ → Option A → Option A → Type 0
@@ -40,7 +41,7 @@ AreOpened index places (Some p) (Some o) = IsNewRing index places p o
 
 -- The packet was placed, with the port's index and its number there; or the ring is full (33), or a field is out of its range (42),
 -- and nothing happened.
-pub record IsOffer (c : CPacket) (code : ℕ) (p n : PortSeen) : Type 0 where
+pub record IsOffer (c : StoredPacket) (code : ℕ) (p n : PortSeen) : Type 0 where
   pub placed : code ≡ 0 → n ≡ placing p (descriptor c)
   pub same : code ≢ 0 → n ≡ p
   pub in_range : code ≢ 42 → IsPacket c
@@ -49,7 +50,7 @@ pub record IsOffer (c : CPacket) (code : ℕ) (p n : PortSeen) : Type 0 where
 
 -- The first packets were placed in order, each as by one offer, to the end, or to one of which a field is out of its range (42), or which
 -- finds the ring full (33).
-pub record IsOffers (packets : List CPacket) (code count : ℕ) (p n : PortSeen) : Type 0 where
+pub record IsOffers (packets : List StoredPacket) (code count : ℕ) (p n : PortSeen) : Type 0 where
   pub placed : n ≡ fold placing p (map descriptor (take count packets))
   pub in_range : All IsPacket (take count packets)
   pub most : count ≤ length packets

@@ -10,9 +10,10 @@ use Rattle.q_device.specs.Events.{after_event, reply_to, with_memory}
 use Rattle.q_device.specs.Polls.{after_poll, given_at, given_by, or_last, polled_by}
 use Rattle.qtree_c.specs.Codes.{reply_number}
 use Rattle.q_ports.specs.Room.{KeepsPlaces, StaysButForPlaces}
-use Rattle.qtree_c.specs.Structs.{IsPacket, descriptor, loss_of, zero_packet}
+use Rattle.qtree_c.specs.Structs.{IsPacket, loss_of, zero_packet}
+use Rattle.q_packet.specs.Stored.{descriptor}
 use Rattle.qtree_c.specs.declared.c_loss.CLoss.{CLoss}
-use Rattle.qtree_c.specs.declared.c_packet.CPacket.{CPacket}
+use Rattle.q_packet.specs.declared.stored_packet.StoredPacket.{StoredPacket}
 
 -- ---- polls
 
@@ -31,22 +32,22 @@ pub record IsPolls {A : Type 0} (told : Descriptor → A) (now code count : ℕ)
 
 -- ---- arrivals
 
-abbrev pub arrival : ℕ → CPacket → Event
+abbrev pub arrival : ℕ → StoredPacket → Event
 arrival now c = Arrive (descriptor c) now
 
 -- the device after packets arrived in order, and the number of the fate of each
-abbrev pub arrived_by : ℕ → List CPacket → DeviceSeen → DeviceSeen
+abbrev pub arrived_by : ℕ → List StoredPacket → DeviceSeen → DeviceSeen
 arrived_by now [] d = d
 arrived_by now (c ∷ cs) d = arrived_by now cs (after_event (arrival now c) d)
 
-abbrev pub fates_by : ℕ → List CPacket → DeviceSeen → List ℕ
+abbrev pub fates_by : ℕ → List StoredPacket → DeviceSeen → List ℕ
 fates_by now [] d = []
 fates_by now (c ∷ cs) d = reply_number (reply_to (arrival now c) d) ∷ fates_by now cs (after_event (arrival now c) d)
 
 -- These packets arrived, for which no place was lost. The device then had no room for the next one, and but for more places it has stayed
 -- as it was. Where no packet had arrived it was the very device of before. So a caller who gave the device room for all gets no allocation
 -- failure.
-pub record StopsAtNext (now : ℕ) (arrived : List CPacket) (next : CPacket) (d n : DeviceSeen) : Type 0 where
+pub record StopsAtNext (now : ℕ) (arrived : List StoredPacket) (next : StoredPacket) (d n : DeviceSeen) : Type 0 where
   pub full : DeviceSeen
   pub made : full ≡ with_memory full.memory (arrived_by now arrived d)
   pub places : KeepsPlaces d full
@@ -57,7 +58,7 @@ pub record StopsAtNext (now : ℕ) (arrived : List CPacket) (next : CPacket) (d 
 
 -- The first packets arrived, to the end, or to one that is out of its range (42) or for which an allocation fails (90). What
 -- is behind the numbers of their fates stays as it was.
-pub record IsArrivals (now : ℕ) (packets : List CPacket) (code done : ℕ) (before after : List ℕ) (d n : DeviceSeen) : Type 0 where
+pub record IsArrivals (now : ℕ) (packets : List StoredPacket) (code done : ℕ) (before after : List ℕ) (d n : DeviceSeen) : Type 0 where
   pub arrived : n ≡ with_memory n.memory (arrived_by now (take done packets) d)
   pub fates : after ≡ fates_by now (take done packets) d ++ drop done before
   pub in_range : All IsPacket (take done packets)

@@ -1,10 +1,10 @@
 -- Structs whose fields are 1, 2, 3 .. in the order of their declarations, and how many bytes each struct has.
 -- Nothing here is of a standard.
 use Rattle.std.specs.Prelude.{ℕ, ◌==◌, if◌then◌else◌}
-use Rattle.qtree_c.specs.declared.c_packet.CPacket.{CPacket}
+use Rattle.q_packet.specs.declared.stored_packet.StoredPacket.{StoredPacket}
 use Rattle.qtree_c.specs.declared.c_row.CRow.{CRow}
 
-abbrev pub sample_packet : CPacket
+abbrev pub sample_packet : StoredPacket
 sample_packet = record {
   src_high = 1;
   src_low = 2;

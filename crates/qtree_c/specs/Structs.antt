@@ -3,10 +3,12 @@
 use Rattle.std.specs.Prelude.{◌≡◌, ℕ, ◌*◌, ◌+◌, ◌/◌, ◌%◌, ◌^◌, ◌≤◌, ◌==◌, if◌then◌else◌, Option, Some, None}
 use Rattle.q_packet.specs.Cause.{cause_number}
 use Rattle.q_packet.specs.Descriptor.{Descriptor}
-use Rattle.q_packet.specs.Ecn.{codepoint, ecn_of}
+use Rattle.q_packet.specs.Ecn.{codepoint}
 use Rattle.q_packet.specs.declared.head.Head.{Head}
+use Rattle.q_packet.specs.declared.stored_packet.StoredPacket.{StoredPacket}
 use Rattle.q_packet.specs.Key.{Key, IsKey, key_bytes}
 use Rattle.q_packet.specs.OneAtATime.{one_at_a_time}
+use Rattle.q_packet.specs.Stored.{key_of, stored_of}
 use Rattle.q_codel.specs.declared.loss.Loss.{Loss}
 use Rattle.q_model.specs.Numbers.{IsHandle, IsMinor}
 use Rattle.q_model.specs.Settings.{DeviceSettings}
@@ -19,52 +21,16 @@ use Rattle.q_model.specs.declared.totals.Totals.{Totals}
 use Rattle.qtree_c.specs.declared.c_count.CCount.{CCount}
 use Rattle.qtree_c.specs.declared.c_event.CEvent.{CEvent}
 use Rattle.qtree_c.specs.declared.c_loss.CLoss.{CLoss}
-use Rattle.qtree_c.specs.declared.c_packet.CPacket.{CPacket}
 use Rattle.qtree_c.specs.declared.c_row.CRow.{CRow}
 use Rattle.qtree_c.specs.declared.c_sent.CSent.{CSent}
 use Rattle.qtree_c.specs.declared.c_settings.CSettings.{CSettings}
 
--- the flow key that C's fields say
-abbrev pub key_of : CPacket → Key
-key_of c = record {
-  family = c.family;
-  proto = c.proto;
-  src = c.src_high * 2 ^ 64 + c.src_low;
-  dst = c.dst_high * 2 ^ 64 + c.dst_low;
-  sport = c.sport;
-  dport = c.dport;
-}
-
--- the descriptor that they say
-abbrev pub descriptor : CPacket → Descriptor
-descriptor c = record { port = c.port; number = c.number; buf = c.buf; len = c.len; key = key_of c; hash = c.hash; prio = c.prio; ecn = ecn_of c.ecn }
-
 -- each field is within its range
-pub record IsPacket (c : CPacket) : Type 0 where
+pub record IsPacket (c : StoredPacket) : Type 0 where
   pub key : IsKey (key_of c)
   pub len : 1 ≤ c.len
   pub prio : c.prio ≤ 15
   pub ecn : c.ecn ≤ 3
-
--- a descriptor as C has it
-abbrev pub packet_of : Descriptor → CPacket
-packet_of p = record {
-  src_high = p.key.src / 2 ^ 64;
-  src_low = p.key.src % 2 ^ 64;
-  dst_high = p.key.dst / 2 ^ 64;
-  dst_low = p.key.dst % 2 ^ 64;
-  number = p.number;
-  port = p.port;
-  buf = p.buf;
-  hash = p.hash;
-  len = p.len;
-  sport = p.key.sport;
-  dport = p.key.dport;
-  proto = p.key.proto;
-  family = p.key.family;
-  prio = p.prio;
-  ecn = codepoint p.ecn;
-}
 
 -- what is reported of the packet that a poll gives; what was in its place where it gives none
 abbrev pub told_or : {A : Type 0} → (Descriptor → A) → A → Option Descriptor → A
@@ -72,7 +38,7 @@ told_or told before None = before
 told_or told before (Some p) = told p
 
 abbrev pub loss_of : Loss → CLoss
-loss_of l = record { packet = packet_of l.packet; cause = cause_number l.cause }
+loss_of l = record { packet = stored_of l.packet; cause = cause_number l.cause }
 
 abbrev pub count_of : Totals → CCount
 count_of t = record { packets = t.packets; bytes = t.bytes }
@@ -94,7 +60,7 @@ pub record IsPlaceOf (place major minor : ℕ) : Type 0 where
   pub handle : place ≡ 2 → IsHandle major
   pub class : place ≡ 2 → IsMinor minor
 
-abbrev pub zero_packet : CPacket
+abbrev pub zero_packet : StoredPacket
 zero_packet = record {
   src_high = 0;
   src_low = 0;
@@ -115,12 +81,12 @@ zero_packet = record {
 
 -- an event as C has it: 0 for an arrival, 1 for a poll, 2 for a command
 abbrev pub event_of : Event → CEvent
-event_of (event.Arrive p moment) = record { packet = packet_of p; moment = moment; kind = 0 }
+event_of (event.Arrive p moment) = record { packet = stored_of p; moment = moment; kind = 0 }
 event_of (event.Poll moment) = record { packet = zero_packet; moment = moment; kind = 1 }
 event_of (event.Command c moment) = record { packet = zero_packet; moment = moment; kind = 2 }
 
 -- a packet of which the head was read, with this hash
-abbrev pub with_fields : ℕ → Head → CPacket → CPacket
+abbrev pub with_fields : ℕ → Head → StoredPacket → StoredPacket
 with_fields hash h c = record c {
   src_high = h.key.src / 2 ^ 64;
   src_low = h.key.src % 2 ^ 64;
@@ -136,11 +102,11 @@ with_fields hash h c = record c {
 }
 
 -- a packet of which the head was read, and whose flow has the hash with this seed
-abbrev pub with_head : ℕ → Head → CPacket → CPacket
+abbrev pub with_head : ℕ → Head → StoredPacket → StoredPacket
 with_head seed h c = with_fields (one_at_a_time seed (key_bytes h.key)) h c
 
 -- a packet of this length in this buffer, of which the head was read, with this number and this hash; its port is 0
-abbrev pub framed : ℕ → ℕ → ℕ → ℕ → Head → CPacket
+abbrev pub framed : ℕ → ℕ → ℕ → ℕ → Head → StoredPacket
 framed len buf number hash h = with_fields hash h (record zero_packet { len = len; buf = buf; number = number })
 
 -- what a program needs to send a packet on

@@ -8,19 +8,19 @@ ghost use Rattle.qtree_c.specs.Calls.{Calls, IsArrival};
 ghost use Rattle.qtree_c.specs.Codes.{fate_number};
 ghost use Rattle.qtree_c.specs.Folds.{arrival, IsArrivals};
 ghost use Rattle.qtree_c.specs.Noting.{arrival_events, noting, one_event, Notes};
-ghost use Rattle.qtree_c.specs.Structs.{descriptor};
+ghost use Rattle.q_packet.specs.Stored.{descriptor};
 
 use crate::c_device::CDevice;
-use crate::c_packet::CPacket;
+use crate::c_packet::is_packet;
 use crate::codes::{DONE, IS_CLOSED, MEMORY, OUT_OF_RANGE, ROOM};
 use crate::opened::Opened;
 use crate::steps;
 use q_device::Fate;
-use q_packet::Moment;
+use q_packet::{Moment, StoredPacket};
 
 /// A packet arrives.
 #[unsafe(no_mangle)]
-pub extern "C" fn qtree_arrive(device: &mut CDevice, packet: &CPacket, now: u64) -> u32
+pub extern "C" fn qtree_arrive(device: &mut CDevice, packet: &StoredPacket, now: u64) -> u32
     ensures arrival { now ≤ 2 ^ 62 → Calls (IsArrival packet.now now result) result device.old.held.device device.new.held.device }
     ensures moment { 2 ^ 62 < now → (result ≡ 42) × (device.new.held.device ≡ device.old.held.device) }
     ensures noted { result ≤ 6 → Notes (one_event (arrival now packet.now)) device.old.held.device device.old.held.last device.new.held.last }
@@ -39,7 +39,7 @@ pub extern "C" fn qtree_arrive(device: &mut CDevice, packet: &CPacket, now: u64)
 #[unsafe(no_mangle)]
 pub extern "C" fn qtree_arrive_many(
     device: &mut CDevice,
-    packets: &[CPacket],
+    packets: &[StoredPacket],
     codes: &mut [u8],
     done: &mut usize,
     now: u64,
@@ -71,7 +71,7 @@ pub extern "C" fn qtree_arrive_many(
 
 /// A packet arrives at an open device.
 #[inline(always)]
-fn arrive(opened: &mut Opened, packet: &CPacket, now: Moment) -> u32
+fn arrive(opened: &mut Opened, packet: &StoredPacket, now: Moment) -> u32
     ensures arrival { IsArrival packet.now now result opened.old.device opened.new.device }
     ensures full { result ≡ 90 → HasItsMemory opened.old.device × StaysButForPlaces opened.old.device opened.new.device }
     ensures no_room { result ≡ 90 → HasRoomFor (descriptor packet.now) opened.old.device → ⊥ }
@@ -81,10 +81,10 @@ fn arrive(opened: &mut Opened, packet: &CPacket, now: Moment) -> u32
     ensures unnoted { 6 < result → opened.new.last ≡ opened.old.last }
     ensures clock { result ≤ 6 → opened.new.device.device.clock ≡ counts_at now opened.old.device.device }
 {
-    let Some(packet) = packet.packet() else {
+    if !is_packet(packet) {
         return OUT_OF_RANGE;
-    };
-    match steps::arrive(opened, &packet, now) {
+    }
+    match steps::arrive(opened, packet, now) {
         Ok(fate) => fate_number(fate),
         Err(_) => MEMORY,
     }
@@ -93,7 +93,7 @@ fn arrive(opened: &mut Opened, packet: &CPacket, now: Moment) -> u32
 /// Packets arrive at an open device.
 fn arrive_many(
     opened: &mut Opened,
-    packets: &[CPacket],
+    packets: &[StoredPacket],
     codes: &mut [u8],
     now: Moment,
 ) -> (usize, u32)

@@ -1,15 +1,16 @@
 ghost use Rattle.std.specs.Prelude.{◌≡◌};
 ghost use Rattle.qtree_c.specs.Structs.{event_of};
 
-use crate::c_packet::CPacket;
+use crate::c_packet::no_packet;
 use q_device::Event;
+use q_packet::StoredPacket;
 
 /// An event of a device, as C has it.
 #[repr(C)]
 #[derive(Clone, Copy, Drop)]
 pub struct CEvent {
     /// That of an arrival, else all 0.
-    pub packet: CPacket,
+    pub packet: StoredPacket,
     /// Nanoseconds.
     pub moment: u64,
     /// 0 for an arrival, 1 for a poll, 2 for a command.
@@ -23,17 +24,17 @@ impl CEvent {
     {
         match event {
             Event::Arrive(packet, moment) => CEvent {
-                packet: CPacket::of(packet),
+                packet: StoredPacket::of(packet),
                 moment: moment.ns(),
                 kind: 0,
             },
             Event::Poll(moment) => CEvent {
-                packet: CPacket::zero(),
+                packet: no_packet(),
                 moment: moment.ns(),
                 kind: 1,
             },
             Event::Command(_, moment) => CEvent {
-                packet: CPacket::zero(),
+                packet: no_packet(),
                 moment: moment.ns(),
                 kind: 2,
             },

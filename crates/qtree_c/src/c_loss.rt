@@ -1,14 +1,14 @@
 ghost use Rattle.std.specs.Prelude.{◌≡◌};
 ghost use Rattle.qtree_c.specs.Structs.{loss_of};
 
-use crate::c_packet::CPacket;
 use q_device::Lost;
+use q_packet::StoredPacket;
 
 /// A packet that was lost, and the number of the cause, as C has them.
 #[repr(C)]
 #[derive(Clone, Copy, Drop)]
 pub struct CLoss {
-    pub packet: CPacket,
+    pub packet: StoredPacket,
     pub cause: u32,
 }
 
@@ -18,7 +18,7 @@ impl CLoss {
         ensures { result ≡ loss_of lost.now }
     {
         CLoss {
-            packet: CPacket::of(&lost.packet),
+            packet: StoredPacket::of(&lost.packet),
             cause: lost.cause.number() as u32,
         }
     }

@@ -1,7 +1,6 @@
 ghost use Rattle.std.specs.Prelude.{◌≡◌};
-ghost use Rattle.qtree_c.specs.Structs.{sent_of};
 
-use q_packet::Packet;
+use q_packet::StoredPacket;
 
 /// What a program needs of a packet that was sent: which bytes to send on, and with which ECN codepoint.
 #[repr(C)]
@@ -17,15 +16,15 @@ pub struct CSent {
 impl CSent {
     /// What is reported of this packet.
     #[inline(always)]
-    pub fn of(packet: &Packet) -> CSent
-        ensures { result ≡ sent_of packet.now }
+    pub fn of(packet: &StoredPacket) -> CSent
+        ensures { result ≡ record { number = packet.now.number; port = packet.now.port; buf = packet.now.buf; len = packet.now.len; ecn = packet.now.ecn } }
     {
         CSent {
             number: packet.number,
             port: packet.port,
             buf: packet.buf,
             len: packet.len,
-            ecn: packet.ecn.bits(),
+            ecn: packet.ecn,
         }
     }
 }

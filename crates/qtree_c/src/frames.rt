@@ -14,7 +14,7 @@ use crate::c_device::CDevice;
 use crate::codes::{IS_CLOSED, MEMORY, OUT_OF_RANGE};
 use crate::opened::Opened;
 use crate::steps;
-use q_packet::{FlowHash, Head, Moment, OneAtATime, Packet, read_head};
+use q_packet::{FlowHash, Head, Moment, OneAtATime, Packet, StoredPacket, read_head};
 
 /// A packet arrives that has these first bytes, and this hash of its flow.
 #[unsafe(no_mangle)]
@@ -120,7 +120,7 @@ fn arrive(
     let Some(packet) = Packet::new(0, number, buf, len, head.key, hash, head.prio, head.ecn) else {
         return OUT_OF_RANGE;
     };
-    match steps::arrive(opened, &packet, now) {
+    match steps::arrive(opened, &StoredPacket::of(&packet), now) {
         Ok(fate) => fate_number(fate),
         Err(_) => MEMORY,
     }

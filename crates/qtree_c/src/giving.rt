@@ -1,5 +1,5 @@
 //! An open device is polled, and each packet that it gives is reported to C.
-ghost use Rattle.std.specs.Prelude.{◌≡◌, ◌≤◌, Some, None, OnErr, OnOk, IfOk, IfErr, option_map};
+ghost use Rattle.std.specs.Prelude.{◌≡◌, ◌≤◌, Some, None, OnErr, OnOk, IfErr, option_map};
 ghost use Rattle.q_model.specs.declared.event.Event.TheVariants as event;
 ghost use Rattle.q_model.specs.Step.{counts_at};
 ghost use Rattle.q_device.specs.Events.{reply_to};
@@ -13,8 +13,8 @@ use crate::codes::{DONE, IDLE, LATER};
 use crate::opened::Opened;
 use crate::steps;
 use crate::told::Told;
-use q_device::{Given, SOME_PACKET};
-use q_packet::{Moment, Packet};
+use q_device::Given;
+use q_packet::Moment;
 
 /// An open device is polled.
 #[inline(always)]
@@ -24,12 +24,8 @@ pub fn poll<T: Told>(opened: &mut Opened, now: Moment, place: &mut T) -> u32
     ensures noted { opened.new.last ≡ noting (one_event (event.Poll now) opened.old.device) opened.old.last }
     ensures kept { 30 ≤ result → place.new ≡ place.old }
 {
-    let mut given = SOME_PACKET;
-    match next(opened, now, &mut given) {
-        Ok(told) => {
-            *place = told;
-            DONE
-        }
+    match next(opened, now, place) {
+        Ok(()) => DONE,
         Err(code) => code,
     }
 }
@@ -41,25 +37,25 @@ pub fn poll_many<T: Told>(opened: &mut Opened, places: &mut [T], now: Moment) ->
     ensures codes { result.1 ≤ 31 }
     ensures noted { opened.new.last ≡ noting (poll_events now result.1 result.0 opened.old.device) opened.old.last }
 {
-    let mut given = SOME_PACKET;
     for i in 0..places.len() {
-        match next(opened, now, &mut given) {
-            Ok(told) => places[i] = told,
+        match next(opened, now, &mut places[i]) {
+            Ok(()) => {}
             Err(code) => return (i, code),
         }
     }
     (places.len(), DONE)
 }
 
-/// What is reported of the packet that a poll gives, by way of a place that the caller has.
+/// The packet that a poll gives is told in this place.
 ///
 /// # Errors
 ///
-/// What the poll is answered where it gives none.
+/// What the poll is answered where it gives none. The place stays as it is.
 #[inline(always)]
-fn next<T: Told>(opened: &mut Opened, now: Moment, given: &mut Packet) -> Result<T, u32>
+fn next<T: Told>(opened: &mut Opened, now: Moment, place: &mut T) -> Result<(), u32>
     ensures polled { opened.new.device ≡ after_poll now opened.old.device }
-    ensures given { IfOk result (λ told. option_map T.told (given_at now opened.old.device) ≡ Some told) }
+    ensures given { OnOk result (option_map T.told (given_at now opened.old.device) ≡ Some place.new) }
+    ensures kept { OnErr result (place.new ≡ place.old) }
     ensures done { OnOk result (reply_number (reply_to (event.Poll now) opened.old.device) ≡ 0) }
     ensures none { OnErr result (given_at now opened.old.device ≡ None) }
     ensures answer { IfErr result (λ code. code ≡ reply_number (reply_to (event.Poll now) opened.old.device)) }
@@ -68,8 +64,8 @@ fn next<T: Told>(opened: &mut Opened, now: Moment, given: &mut Packet) -> Result
     ensures noted { opened.new.last ≡ noting (one_event (event.Poll now) opened.old.device) opened.old.last }
     ensures clock { opened.new.device.device.clock ≡ counts_at now opened.old.device.device }
 {
-    match steps::poll(opened, now, given) {
-        Given::Packet => Ok(T::told(given)),
+    match steps::poll(opened, now, place) {
+        Given::Packet => Ok(()),
         Given::Idle => Err(IDLE),
         Given::Later => Err(LATER),
     }

@@ -3,15 +3,16 @@ ghost use Rattle.std.specs.Prelude.{◌≡◌, ◌≢◌};
 ghost use Rattle.q_packet.specs.Head.{head};
 ghost use Rattle.q_packet.specs.Key.{IsKey, key_bytes};
 ghost use Rattle.q_packet.specs.OneAtATime.{one_at_a_time};
-ghost use Rattle.qtree_c.specs.Structs.{key_of, with_fields, with_head};
+ghost use Rattle.q_packet.specs.Stored.{key_of};
+ghost use Rattle.qtree_c.specs.Structs.{with_fields, with_head};
 
-use crate::c_packet::{CPacket, high, low};
+use crate::c_packet::{high, low};
 use crate::codes::{DONE, OUT_OF_RANGE};
-use q_packet::{FlowHash, Head, OneAtATime, read_head};
+use q_packet::{FlowHash, Head, OneAtATime, StoredPacket, read_head};
 
 /// Fills in what the first bytes of a packet say of it, and the hash of its flow.
 #[unsafe(no_mangle)]
-pub extern "C" fn qtree_read_head(bytes: &[u8], seed: u32, packet: &mut CPacket)
+pub extern "C" fn qtree_read_head(bytes: &[u8], seed: u32, packet: &mut StoredPacket)
     ensures { packet.new ≡ with_head seed (head bytes.now) packet.old }
 {
     let head = read_head(bytes);
@@ -20,7 +21,7 @@ pub extern "C" fn qtree_read_head(bytes: &[u8], seed: u32, packet: &mut CPacket)
 
 /// Fills in what the first bytes of a packet say of it, with the hash 0.
 #[unsafe(no_mangle)]
-pub extern "C" fn qtree_read_fields(bytes: &[u8], packet: &mut CPacket)
+pub extern "C" fn qtree_read_fields(bytes: &[u8], packet: &mut StoredPacket)
     ensures { packet.new ≡ with_fields 0 (head bytes.now) packet.old }
 {
     fill(&read_head(bytes), 0, packet);
@@ -28,7 +29,7 @@ pub extern "C" fn qtree_read_fields(bytes: &[u8], packet: &mut CPacket)
 
 /// Fills in what the first bytes of a packet say of it, with the hash that the caller has.
 #[unsafe(no_mangle)]
-pub extern "C" fn qtree_read_fields_hashed(bytes: &[u8], hash: u32, packet: &mut CPacket)
+pub extern "C" fn qtree_read_fields_hashed(bytes: &[u8], hash: u32, packet: &mut StoredPacket)
     ensures { packet.new ≡ with_fields hash (head bytes.now) packet.old }
 {
     fill(&read_head(bytes), hash, packet);
@@ -36,7 +37,7 @@ pub extern "C" fn qtree_read_fields_hashed(bytes: &[u8], hash: u32, packet: &mut
 
 /// Fills in a head and a hash.
 #[inline(always)]
-fn fill(head: &Head, hash: u32, packet: &mut CPacket)
+fn fill(head: &Head, hash: u32, packet: &mut StoredPacket)
     ensures { packet.new ≡ with_fields hash head.now packet.old }
 {
     packet.src_high = high(head.key.src);
@@ -54,13 +55,13 @@ fn fill(head: &Head, hash: u32, packet: &mut CPacket)
 
 /// Fills in the hash of a packet's flow.
 #[unsafe(no_mangle)]
-pub extern "C" fn qtree_hash(seed: u32, packet: &mut CPacket) -> u32
+pub extern "C" fn qtree_hash(seed: u32, packet: &mut StoredPacket) -> u32
     ensures hash { result ≡ 0 → packet.new ≡ record packet.old { hash = one_at_a_time seed (key_bytes (key_of packet.old)) } }
     ensures in_range { IsKey (key_of packet.old) → result ≡ 0 }
     ensures out_of_range { result ≢ 0 → (result ≡ 42) × (packet.new ≡ packet.old) }
     ensures key { result ≡ 0 → IsKey (key_of packet.old) }
 {
-    let Some(key) = packet.key() else {
+    let Some(key) = packet.flow_key() else {
         return OUT_OF_RANGE;
     };
     packet.hash = OneAtATime { seed }.hash(&key);

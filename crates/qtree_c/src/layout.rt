@@ -11,12 +11,12 @@ use crate::c_layout::CLayout;
 use crate::c_loss::CLoss;
 use crate::c_node_view::CNodeView;
 use crate::c_outlet::COutlet;
-use crate::c_packet::CPacket;
 use crate::c_port::CPort;
 use crate::c_promise::CPromise;
 use crate::c_row::CRow;
 use crate::c_sent::CSent;
 use crate::c_settings::CSettings;
+use q_packet::StoredPacket;
 
 /// The version of these functions: the major number in the high 16 bits, the minor one in the low 16.
 pub const VERSION: u32 = 0x0001_0003;
@@ -37,7 +37,7 @@ pub extern "C" fn qtree_layout_of(layout: &mut CLayout)
     *layout = CLayout {
         device: size_of::<CDevice>(),
         settings: size_of::<CSettings>(),
-        packet: size_of::<CPacket>(),
+        packet: size_of::<StoredPacket>(),
         loss: size_of::<CLoss>(),
         row: size_of::<CRow>(),
         event: size_of::<CEvent>(),
@@ -52,7 +52,7 @@ pub extern "C" fn qtree_size_of(what: u32) -> usize
     match what {
         0 => size_of::<CDevice>(),
         1 => size_of::<CSettings>(),
-        2 => size_of::<CPacket>(),
+        2 => size_of::<StoredPacket>(),
         3 => size_of::<CLoss>(),
         4 => size_of::<CRow>(),
         5 => size_of::<CEvent>(),
@@ -115,10 +115,10 @@ pub extern "C" fn qtree_sample_fault(fault: &mut CFault)
 }
 
 /// A packet whose fields are 1 to 15.
-fn sample_packet() -> CPacket
+fn sample_packet() -> StoredPacket
     ensures { result ≡ sample_packet }
 {
-    CPacket {
+    StoredPacket {
         src_high: 1,
         src_low: 2,
         dst_high: 3,

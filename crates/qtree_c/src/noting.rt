@@ -4,15 +4,17 @@
 ghost use Rattle.std.specs.Prelude.{◌≡◌, ◌∷◌, []};
 ghost use Rattle.q_device.specs.LastNoted.{with_noted};
 ghost use Rattle.q_model.specs.declared.event.Event.TheVariants as event;
+ghost use Rattle.q_packet.specs.Stored.{descriptor, IsStored};
 ghost use Rattle.qtree_c.specs.Noting.{noting};
 
 use q_device::{Command, Device, Event, LastEvents};
-use q_packet::Packet;
+use q_packet::StoredPacket;
 
 /// Notes the arrival of a packet at the device, which has just accepted it.
 #[inline(always)]
-pub fn note_arrival(last: &mut Option<LastEvents>, device: &Device, packet: &Packet)
-    ensures { last.new ≡ noting (event.Arrive packet.now device.now.device.clock ∷ []) last.old }
+pub fn note_arrival(last: &mut Option<LastEvents>, device: &Device, packet: &StoredPacket)
+    requires { IsStored packet.now }
+    ensures { last.new ≡ noting (event.Arrive (descriptor packet.now) device.now.device.clock ∷ []) last.old }
 {
     if let Some(last) = last {
         keep_arrival(last, device, packet);
@@ -30,8 +32,9 @@ pub fn note_command(last: &mut Option<LastEvents>, device: &Device, command: &Co
 
 #[cold]
 #[inline(never)]
-fn keep_arrival(last: &mut LastEvents, device: &Device, packet: &Packet)
-    ensures { last.new ≡ with_noted (event.Arrive packet.now device.now.device.clock) last.old }
+fn keep_arrival(last: &mut LastEvents, device: &Device, packet: &StoredPacket)
+    requires { IsStored packet.now }
+    ensures { last.new ≡ with_noted (event.Arrive (descriptor packet.now) device.now.device.clock) last.old }
 {
-    last.note(Event::Arrive(*packet, device.clock()));
+    last.note(Event::Arrive(packet.packet(), device.clock()));
 }

@@ -1,13 +1,14 @@
 //! Senders offer packets to their rings.
 ghost use Rattle.std.specs.Prelude.{◌≡◌, ◌≢◌, ◌≤◌, ◌<◌, All, length, map, slice_index_or, take};
 ghost use Rattle.qtree_c.specs.Ends.{CallsEnd, IsOffer, IsOffers, IsPlaced};
-ghost use Rattle.qtree_c.specs.Structs.{IsPacket, descriptor, zero_packet};
+ghost use Rattle.q_packet.specs.Stored.{descriptor};
+ghost use Rattle.qtree_c.specs.Structs.{IsPacket, zero_packet};
 
 use crate::c_count::CCount;
-use crate::c_packet::CPacket;
+use crate::c_packet::is_packet;
 use crate::c_port::CPort;
 use crate::codes::{DONE, FULL, IS_CLOSED, OUT_OF_RANGE};
-use q_packet::{Packet, SOME_PACKET};
+use q_packet::{KeptPacket, SOME_KEPT, StoredPacket};
 use q_ports::Port;
 
 /// How many packets are read before they are placed: as many as a port places by one store.
@@ -15,7 +16,7 @@ const BATCH: usize = 16;
 
 /// Places a packet in the ring of a port.
 #[unsafe(no_mangle)]
-pub extern "C" fn qtree_offer(port: &mut CPort, packet: &CPacket) -> u32
+pub extern "C" fn qtree_offer(port: &mut CPort, packet: &StoredPacket) -> u32
     ensures offer { CallsEnd (IsOffer packet.now result) result port.old.held.port port.new.held.port }
 {
     if !port.is_open() {
@@ -26,7 +27,11 @@ pub extern "C" fn qtree_offer(port: &mut CPort, packet: &CPacket) -> u32
 
 /// Places packets in the ring of a port, in order, to the first that is out of its range or for which no place is free.
 #[unsafe(no_mangle)]
-pub extern "C" fn qtree_offer_many(port: &mut CPort, packets: &[CPacket], placed: &mut usize) -> u32
+pub extern "C" fn qtree_offer_many(
+    port: &mut CPort,
+    packets: &[StoredPacket],
+    placed: &mut usize,
+) -> u32
     ensures offers { CallsEnd (IsOffers packets.now result placed.new) result port.old.held.port port.new.held.port }
     ensures closed { result ≡ 50 → placed.new ≡ 0 }
 {
@@ -54,25 +59,26 @@ pub extern "C" fn qtree_port_share(port: &mut CPort, share: &mut CCount) -> u32
 }
 
 /// Places a packet in the ring of an open port.
-fn offer(port: &mut Port, packet: &CPacket) -> u32
+fn offer(port: &mut Port, packet: &StoredPacket) -> u32
     ensures offer { IsOffer packet.now result port.old port.new }
     ensures codes { result ≢ 50 }
 {
-    let Some(packet) = packet.packet() else {
+    if !is_packet(packet) {
         return OUT_OF_RANGE;
-    };
-    match port.offer(packet) {
-        Ok(()) => DONE,
-        Err(_) => FULL,
+    }
+    if port.offer_kept(&KeptPacket::kept(packet)) {
+        DONE
+    } else {
+        FULL
     }
 }
 
 /// Places packets in the ring of an open port, a batch at a time.
-fn offer_many(port: &mut Port, packets: &[CPacket]) -> (usize, u32)
+fn offer_many(port: &mut Port, packets: &[StoredPacket]) -> (usize, u32)
     ensures offers { IsOffers packets.now result.1 result.0 port.old port.new }
     ensures codes { result.1 ≢ 50 }
 {
-    let mut batch = [SOME_PACKET; BATCH];
+    let mut batch = [SOME_KEPT; BATCH];
     let mut placed = 0;
     while placed < packets.len() {
         let wanted = BATCH.min(packets.len() - placed);
@@ -86,13 +92,13 @@ fn offer_many(port: &mut Port, packets: &[CPacket]) -> (usize, u32)
 }
 
 /// Places packets in the ring of an open port, by way of places that the caller has.
-fn offer_batch(port: &mut Port, packets: &[CPacket], batch: &mut [Packet]) -> (usize, u32)
+fn offer_batch(port: &mut Port, packets: &[StoredPacket], batch: &mut [KeptPacket]) -> (usize, u32)
     requires { length packets.now ≤ length batch.old }
     ensures offers { IsOffers packets.now result.1 result.0 port.old port.new }
     ensures codes { result.1 ≢ 50 }
 {
     let read = read_packets(packets, batch);
-    let placed = port.offer_many(&batch[..read]);
+    let placed = port.offer_many_kept(&batch[..read]);
     if placed < read {
         return (placed, FULL);
     }
@@ -103,7 +109,7 @@ fn offer_batch(port: &mut Port, packets: &[CPacket], batch: &mut [Packet]) -> (u
 }
 
 /// Writes what the packets describe into the first places, to the first packet that is out of its range, and answers how many.
-fn read_packets(packets: &[CPacket], batch: &mut [Packet]) -> usize
+fn read_packets(packets: &[StoredPacket], batch: &mut [KeptPacket]) -> usize
     requires { length packets.now ≤ length batch.old }
     ensures most { result ≤ length packets.now }
     ensures length { length batch.new ≡ length batch.old }
@@ -112,10 +118,10 @@ fn read_packets(packets: &[CPacket], batch: &mut [Packet]) -> usize
     ensures next { result < length packets.now → IsPacket (slice_index_or packets.now result zero_packet) → ⊥ }
 {
     for at in 0..packets.len() {
-        let Some(packet) = packets[at].packet() else {
+        if !is_packet(&packets[at]) {
             return at;
-        };
-        batch[at] = packet;
+        }
+        batch[at] = KeptPacket::kept(&packets[at]);
     }
     packets.len()
 }

@@ -4,18 +4,17 @@ ghost use Rattle.q_model.specs.declared.event.Event.TheVariants as event;
 ghost use Rattle.qtree_c.specs.Calls.{Calls, IsPoll};
 ghost use Rattle.qtree_c.specs.Folds.{IsPolls};
 ghost use Rattle.qtree_c.specs.Noting.{one_event, poll_events, Notes};
-ghost use Rattle.qtree_c.specs.Structs.{packet_of};
+ghost use Rattle.q_packet.specs.Stored.{stored_of};
 
 use crate::c_device::CDevice;
-use crate::c_packet::CPacket;
 use crate::codes::{IS_CLOSED, OUT_OF_RANGE};
 use crate::giving::{poll, poll_many};
-use q_packet::Moment;
+use q_packet::{Moment, StoredPacket};
 
 /// Takes the packet whose turn it is.
 #[unsafe(no_mangle)]
-pub extern "C" fn qtree_poll(device: &mut CDevice, now: u64, packet: &mut CPacket) -> u32
-    ensures poll { now ≤ 2 ^ 62 → Calls (IsPoll packet_of now result packet.old packet.new) result device.old.held.device device.new.held.device }
+pub extern "C" fn qtree_poll(device: &mut CDevice, now: u64, packet: &mut StoredPacket) -> u32
+    ensures poll { now ≤ 2 ^ 62 → Calls (IsPoll stored_of now result packet.old packet.new) result device.old.held.device device.new.held.device }
     ensures moment { 2 ^ 62 < now → (result ≡ 42) × (device.new.held.device ≡ device.old.held.device) }
     ensures kept { 42 ≤ result → packet.new ≡ packet.old }
     ensures noted { result ≤ 31 → Notes (one_event (event.Poll now)) device.old.held.device device.old.held.last device.new.held.last }
@@ -35,10 +34,10 @@ pub extern "C" fn qtree_poll(device: &mut CDevice, now: u64, packet: &mut CPacke
 pub extern "C" fn qtree_poll_many(
     device: &mut CDevice,
     now: u64,
-    packets: &mut [CPacket],
+    packets: &mut [StoredPacket],
     count: &mut usize,
 ) -> u32
-    ensures polls { now ≤ 2 ^ 62 → Calls (IsPolls packet_of now result count.new packets.old packets.new) result device.old.held.device device.new.held.device }
+    ensures polls { now ≤ 2 ^ 62 → Calls (IsPolls stored_of now result count.new packets.old packets.new) result device.old.held.device device.new.held.device }
     ensures moment { 2 ^ 62 < now → (result ≡ 42) × (device.new.held.device ≡ device.old.held.device) }
     ensures kept { 42 ≤ result → (packets.new ≡ packets.old) × (count.new ≡ 0) }
     ensures noted { result ≤ 31 → Notes (poll_events now result count.new) device.old.held.device device.old.held.last device.new.held.last }

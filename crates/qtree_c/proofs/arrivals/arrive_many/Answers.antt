@@ -2,7 +2,8 @@ use Rattle.std.proofs.Common.{◌≡◌, ◌∙◌, ℕ, arith, length, map, ref
 use Rattle.std.proofs.lemmas.List.{take_more}
 use Rattle.qtree_c.specs.Folds.{IsArrivals}
 use Rattle.qtree_c.specs.Noting.{arrival_events, noting}
-use Rattle.qtree_c.specs.Structs.{descriptor, zero_packet}
+use Rattle.qtree_c.specs.Structs.{zero_packet}
+use Rattle.q_packet.specs.Stored.{descriptor}
 use Rattle.q_ports.proofs.NotedLemmas.{counts_again}
 use Rattle.qtree_c.proofs.Arriving.{arriving-begins, arriving-ends, arriving-more, arriving-stops}
 use Rattle.qtree_c.proofs.NotingLemmas.{noted-arrival, noting-none}

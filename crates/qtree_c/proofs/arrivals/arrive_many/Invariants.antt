@@ -1,7 +1,7 @@
 use Rattle.std.specs.Prelude.{◌≡◌, map, take}
 use Rattle.q_model.specs.Step.{counts_at}
 use Rattle.qtree_c.specs.Noting.{arrival_events, noting}
-use Rattle.qtree_c.specs.Structs.{descriptor}
+use Rattle.q_packet.specs.Stored.{descriptor}
 use Rattle.qtree_c.proofs.Arriving.{IsArriving}
 use Rattle.qtree_c.proofs.arrivals.arrive_many.Given as goal
 

@@ -20,7 +20,7 @@ pub loop-i-preserved : goal.loop-i-preserved
 loop-i-preserved g c = record {
   polling =
       polling-more g.T.Told.told c.loop-i.i (length c.args.places.now) c.args.now c.args.places.now c.loop-i.places c.args.opened.now.device c.loop-i.opened.device c.next.new.opened.device
-      c.in-Ok.told c.loop-i.invariant.polling c.loop-i-test.true refl c.in-Ok.ensures.given c.next.ensures.polled;
+      c.next.new.place c.loop-i.invariant.polling c.loop-i-test.true refl c.in-Ok.ensures.given c.next.ensures.polled;
   noted = polls-more c.loop-i.i c.args.now c.args.opened.now.device c.loop-i.opened.device c.next.new.opened.device c.args.opened.now.last c.loop-i.opened.last c.next.new.opened.last
       c.loop-i.invariant.noted c.next.ensures.noted c.next.ensures.clock;
 }

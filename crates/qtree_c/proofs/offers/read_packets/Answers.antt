@@ -8,7 +8,7 @@ loop-at-preserved c =
     let at = c.loop-at.at in
     let packets = c.args.packets.now in
     record {
-      long = length-set c.loop-at.batch at c.in-Some.packet ∙ c.loop-at.invariant.long;
-      read = read-more at packets c.loop-at.batch c.in-Some.packet c.loop-at.invariant.read c.loop-at-test.true (omega (arith, c.requires, c.loop-at.invariant.long)) c.in-Some.ensures.value;
-      in_range = in-range-more at packets c.loop-at.invariant.in_range c.loop-at-test.true (c.in-Some.ensures.in_range.0 refl);
+      long = length-set c.loop-at.batch at c.kept.result ∙ c.loop-at.invariant.long;
+      read = read-more at packets c.loop-at.batch c.kept.result c.loop-at.invariant.read c.loop-at-test.true (omega (arith, c.requires, c.loop-at.invariant.long)) c.in-Some.ensures.value;
+      in_range = in-range-more at packets c.loop-at.invariant.in_range c.loop-at-test.true (c.is_packet.ensures.value.0 refl);
     }

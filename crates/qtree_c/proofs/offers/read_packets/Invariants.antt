@@ -1,6 +1,7 @@
 use Rattle.std.proofs.Common.{◌≡◌, length, map, take}
 use Rattle.std.specs.Prelude.{All}
-use Rattle.qtree_c.specs.Structs.{IsPacket, descriptor}
+use Rattle.qtree_c.specs.Structs.{IsPacket}
+use Rattle.q_packet.specs.Stored.{descriptor}
 use Rattle.qtree_c.proofs.offers.read_packets.Given as goal
 
 abbrev pub invariant-loop-at : goal.invariant-loop-at

@@ -10,4 +10,4 @@ unfolding reply_to
 returns-in-Ok-clause-fate c = c.in-Ok.ensures.fate
 
 pub returns-in-Ok-clause-places : goal.returns-in-Ok-clause-places
-returns-in-Ok-clause-places c = record { queues = c.arrive_at.ensures.queues; losses = c.arrive_at.ensures.places; events = c.arrive_at.ensures.recorder }
+returns-in-Ok-clause-places c = record { queues = c.arrive_stored.ensures.queues; losses = c.arrive_stored.ensures.places; events = c.arrive_stored.ensures.recorder }
