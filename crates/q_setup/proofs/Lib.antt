@@ -1,0 +1,5 @@
+pub mod AlikeLemmas
+pub mod CountLemmas
+pub mod DoneLemmas
+pub mod EntryLemmas
+pub mod TriedLemmas
