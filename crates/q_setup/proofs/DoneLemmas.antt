@@ -1,6 +1,6 @@
 -- One command more.
-use Rattle.std.proofs.Common.{◌≡◌, ◌∙◌, ℕ, suc, ◌<◌, List, [], ◌∷◌, ◌++◌, length, take, refl, sym, ap, subst}
-use Rattle.std.proofs.Math.Seq.{get_or, take-suc}
+use Rattle.std.proofs.Common.{◌≡◌, ◌∙◌, ℕ, suc, ◌+◌, ◌<◌, List, [], ◌∷◌, ◌++◌, length, get_or, take, refl, sym, ap, arith, subst}
+use Rattle.std.proofs.Math.Seq.{take-suc}
 use Rattle.q_model.specs.declared.command.Command.{Command}
 use Rattle.q_model.specs.declared.event.Event.TheVariants as event
 use Rattle.q_device.specs.DeviceSeen.{DeviceSeen, with_event}
@@ -30,12 +30,19 @@ next : (now : ℕ) (c : Command) (mid old : DeviceSeen) → mid ≡ record old {
     → new ≡ record (with_event (event.Command c now) old) { memory = new.memory }
 next now c mid old is new h = h ∙ ap (λ (d : DeviceSeen). record (with_event (event.Command c now) d) { memory = new.memory }) is
 
-pub done_next : (now : ℕ) (all : List Command) (i : ℕ) (c : Command) → i < length all → c ≡ get_or all i c → (old mid new : DeviceSeen) → IsDone now (take i all) old mid
+next_done : (now : ℕ) (all : List Command) (i : ℕ) (c : Command) → i < length all → c ≡ get_or all i c → (old mid new : DeviceSeen) → IsDone now (take i all) old mid
     → IsAccepted now c mid → new ≡ record (with_event (event.Command c now) mid) { memory = new.memory } → IsDone now (take (suc i) all) old new
-done_next now all i c within is old mid new so_far accepted after =
+next_done now all i c within is old mid new so_far accepted after =
     let front = take-suc all i c within ∙ ap (λ (x : Command). take i all ++ x ∷ []) (sym is) in
     subst (λ (cs : List Command). IsDone now cs old new) (sym front) (record {
       after = next now c mid (after_commands now (take i all) old) so_far.after new after
           ∙ ap (λ (d : DeviceSeen). record d { memory = new.memory }) (sym (after-snoc now (take i all) c old));
       accepted = accepted_snoc now (take i all) c old so_far.accepted (accepted_with now c mid (after_commands now (take i all) old) so_far.after accepted);
     })
+
+-- the command in the next place is done
+pub done_next : (now : ℕ) (all : List Command) (i : ℕ) (c : Command) → i < length all → c ≡ get_or all i c → (old mid new : DeviceSeen) → IsDone now (take i all) old mid
+    → IsAccepted now c mid → new ≡ record (with_event (event.Command c now) mid) { memory = new.memory } → IsDone now (take (i + 1) all) old new
+done_next now all i c within is old mid new so_far accepted after =
+    let more : suc i ≡ i + 1 = omega arith in
+    subst (λ k. IsDone now (take k all) old new) more (next_done now all i c within is old mid new so_far accepted after)

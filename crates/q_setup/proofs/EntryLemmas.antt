@@ -1,5 +1,5 @@
 -- The entries of a tree are the same whatever its nodes remember.
-use Rattle.std.proofs.Common.{◌≡◌, ◌∙◌, ℕ, suc, List, [], ◌∷◌, ◌++◌, map, length, refl, sym, ap, ap₂}
+use Rattle.std.proofs.Common.{◌≡◌, ◌∙◌, ℕ, suc, List, ◌∷◌, ◌++◌, map, length, refl, sym, ap, ap₂}
 use Rattle.std.specs.Prelude.{drop, slice_get, unwrap_or}
 use Rattle.std.proofs.lemmas.List.{map-append}
 use Rattle.q_model.specs.declared.class_id.ClassId.{ClassId}
@@ -9,7 +9,7 @@ use Rattle.q_model.specs.Node.{Own, Forest, none, more, Node, nodes_in, each_mem
 use Rattle.q_model.specs.Shrink.{remembering}
 use Rattle.q_model.specs.TreeState.{TreeState}
 use Rattle.q_model.specs.Views.{class_kind, filter_views, ids_of, places_below, qdisc_view}
-use Rattle.q_tree.specs.Showing.{standing, standing_in}
+use Rattle.q_tree.specs.Showing.{standing_in}
 use Rattle.q_setup.specs.Alike.{Entry, entries, entry}
 
 module _ {M N : Type 0} (f : M → N) where

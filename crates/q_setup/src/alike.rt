@@ -109,11 +109,11 @@ fn same_filters(wanted: &NodeRef<'_>, node: &NodeRef<'_>) -> bool
 {
     for j in 0..MOST_LISTED {
         let (wanted, filter) = (wanted.filter(j), node.filter(j));
-        if wanted.is_none() && filter.is_none() {
-            return true;
-        }
         if !same_filter_if_any(&wanted, &filter) {
             return false;
+        }
+        if wanted.is_none() {
+            return true;
         }
     }
     false

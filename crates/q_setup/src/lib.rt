@@ -18,6 +18,7 @@
 //! that the lines say is compared afterwards.
 #![tactic(auto)]
 
+mod adding;
 mod alike;
 mod counting;
 mod doing;

@@ -1,6 +1,7 @@
 //! Which commands make the tree that a file wants of the tree that a device has.
 //!
 //! What goes is deleted first and what grows comes last, so that no tree on the way has more nodes or levels than one of the two.
+use crate::adding::add;
 use crate::alike::{are_alike, quantum_of};
 use crate::kinds::kind_of;
 use crate::naming::is_chosen;
@@ -49,7 +50,7 @@ fn delete_filters(pair: &Pair<'_>, commands: &mut Vec<Command>) -> Result<(), Al
         }
         last = Some((parent, prio));
         if pair.handle_stays(parent) && !pair.filters_stay(parent, prio) {
-            commands.push(Command::FilterDel { parent, prio })?;
+            add(commands, Command::FilterDel { parent, prio })?;
         }
     }
     Ok(())
@@ -58,18 +59,21 @@ fn delete_filters(pair: &Pair<'_>, commands: &mut Vec<Command>) -> Result<(), Al
 // The classes of a drr that stays which the file does not have.
 fn delete_classes(pair: &Pair<'_>, commands: &mut Vec<Command>) -> Result<(), AllocError> {
     for view in &pair.seen.classes {
-        if quantum_of(&view.kind).is_some() && is_gone(pair, view.class) {
-            commands.push(Command::ClassDel {
-                parent: None,
-                class: view.class,
-            })?;
+        if quantum_of(&view.kind).is_some() && is_gone(pair, &view.class) {
+            add(
+                commands,
+                Command::ClassDel {
+                    parent: None,
+                    class: view.class,
+                },
+            )?;
         }
     }
     Ok(())
 }
 
-fn is_gone(pair: &Pair<'_>, class: ClassId) -> bool {
-    pair.handle_stays(class.major) && pair.wanted.quantum(class).is_none()
+fn is_gone(pair: &Pair<'_>, class: &ClassId) -> bool {
+    pair.handle_stays(class.major) && !is_of_drr(pair.wanted, class)
 }
 
 // The qdiscs that do not stay in a place that does.
@@ -77,27 +81,37 @@ fn delete_qdiscs(pair: &Pair<'_>, commands: &mut Vec<Command>) -> Result<(), All
     for node in &pair.seen.nodes {
         if node.handle.is_some()
             && pair.wanted_for(node).is_none()
-            && place_stays(pair, node.place)
+            && place_stays(pair, &node.place)
         {
-            commands.push(Command::QdiscDel {
-                place: None,
-                handle: node.handle,
-            })?;
+            add(
+                commands,
+                Command::QdiscDel {
+                    place: None,
+                    handle: node.handle,
+                },
+            )?;
         }
     }
     Ok(())
 }
 
-fn place_stays(pair: &Pair<'_>, place: Place) -> bool {
+fn place_stays(pair: &Pair<'_>, place: &Place) -> bool {
     match place {
         Place::Class(class) => return class_stays(pair, class),
         _ => return true,
     }
 }
 
-fn class_stays(pair: &Pair<'_>, class: ClassId) -> bool {
-    pair.handle_stays(class.major)
-        && (pair.seen.quantum(class).is_none() || pair.wanted.quantum(class).is_some())
+// The classes of a prio and of a tbf go with their qdisc alone.
+fn class_stays(pair: &Pair<'_>, class: &ClassId) -> bool {
+    if !pair.handle_stays(class.major) {
+        return false;
+    }
+    is_of_drr(pair.wanted, class) || !is_of_drr(pair.seen, class)
+}
+
+fn is_of_drr(seen: &Seen, class: &ClassId) -> bool {
+    seen.quantum(class).is_some()
 }
 
 // The prios that lose bands.
@@ -125,11 +139,14 @@ fn change(
     commands: &mut Vec<Command>,
 ) -> Result<(), AllocError> {
     if let Some(kind) = kind_of(&wanted.qdisc) {
-        commands.push(Command::QdiscChange {
-            place: None,
-            handle: node.handle,
-            kind,
-        })?;
+        add(
+            commands,
+            Command::QdiscChange {
+                place: None,
+                handle: node.handle,
+                kind,
+            },
+        )?;
     }
     Ok(())
 }
@@ -151,7 +168,7 @@ fn make_qdisc(
 ) -> Result<(), AllocError> {
     let staying = pair.staying(wanted);
     match &staying {
-        None => add(pair, wanted, commands)?,
+        None => add_qdisc(pair, wanted, commands)?,
         Some(node) => {
             if node.qdisc != wanted.qdisc && !shrinks(&node.qdisc, &wanted.qdisc) {
                 change(node, wanted, commands)?;
@@ -166,17 +183,24 @@ fn make_qdisc(
     Ok(())
 }
 
-fn add(pair: &Pair<'_>, wanted: &NodeView, commands: &mut Vec<Command>) -> Result<(), AllocError> {
+fn add_qdisc(
+    pair: &Pair<'_>,
+    wanted: &NodeView,
+    commands: &mut Vec<Command>,
+) -> Result<(), AllocError> {
     let handle = match wanted.handle {
         Some(handle) if pair.keep && is_chosen(handle) => None,
         named => named,
     };
     if let Some(kind) = kind_of(&wanted.qdisc) {
-        commands.push(Command::QdiscAdd {
-            place: wanted.place,
-            handle,
-            kind,
-        })?;
+        add(
+            commands,
+            Command::QdiscAdd {
+                place: wanted.place,
+                handle,
+                kind,
+            },
+        )?;
     }
     Ok(())
 }
@@ -189,15 +213,15 @@ fn make_class(
     commands: &mut Vec<Command>,
 ) -> Result<(), AllocError> {
     if let Some(bytes) = quantum_of(&view.kind) {
-        let old = old_quantum(pair, stays, view.class);
+        let old = old_quantum(pair, stays, &view.class);
         if let Some(command) = class_command(view.class, old, bytes) {
-            commands.push(command)?;
+            add(commands, command)?;
         }
     }
     Ok(())
 }
 
-fn old_quantum(pair: &Pair<'_>, stays: bool, class: ClassId) -> Option<u32> {
+fn old_quantum(pair: &Pair<'_>, stays: bool, class: &ClassId) -> Option<u32> {
     if stays {
         return pair.seen.quantum(class);
     }
@@ -231,11 +255,14 @@ fn class_command(class: ClassId, old: Option<u32>, bytes: u32) -> Option<Command
 fn add_filters(pair: &Pair<'_>, commands: &mut Vec<Command>) -> Result<(), AllocError> {
     for view in &pair.wanted.filters {
         if !pair.filters_stay(view.parent, view.filter.prio) {
-            commands.push(Command::FilterAdd {
-                parent: view.parent,
-                major: view.parent,
-                filter: view.filter,
-            })?;
+            add(
+                commands,
+                Command::FilterAdd {
+                    parent: view.parent,
+                    major: view.parent,
+                    filter: view.filter,
+                },
+            )?;
         }
     }
     Ok(())

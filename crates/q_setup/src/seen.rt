@@ -1,4 +1,5 @@
 //! What a tree has, read from it once.
+use crate::adding::add;
 use crate::alike::quantum_of;
 use q_model::{ClassId, ClassView, FilterPrio, FilterView, Handle, NodeView};
 use q_tree::{NodeRef, Tree};
@@ -25,7 +26,7 @@ impl Seen {
         };
         let mut nodes = tree.nodes();
         while let Some(node) = nodes.next() {
-            seen.nodes.push(node.view())?;
+            add(&mut seen.nodes, node.view())?;
             add_classes(&mut seen.classes, &node)?;
             add_filters(&mut seen.filters, &node)?;
         }
@@ -43,9 +44,9 @@ impl Seen {
     }
 
     /// The quantum of a class of a drr; `None` where there is no such class.
-    pub(crate) fn quantum(&self, class: ClassId) -> Option<u32> {
+    pub(crate) fn quantum(&self, class: &ClassId) -> Option<u32> {
         for view in &self.classes {
-            if view.class == class {
+            if view.class == *class {
                 return quantum_of(&view.kind);
             }
         }
@@ -54,14 +55,13 @@ impl Seen {
 
     /// The place among all filters of the first of a qdisc's filters with this priority.
     pub(crate) fn group(&self, parent: Handle, prio: FilterPrio) -> usize {
-        let mut place = 0;
-        for filter in &self.filters {
+        for place in 0..self.filters.len() {
+            let filter = &self.filters[place];
             if filter.parent == parent && filter.filter.prio == prio {
-                break;
+                return place;
             }
-            place += 1;
         }
-        place
+        self.filters.len()
     }
 
     /// The filter in this place, if it is one of a qdisc's filters with this priority.
@@ -85,7 +85,7 @@ fn add_classes(classes: &mut Vec<ClassView>, node: &NodeRef<'_>) -> Result<(), A
         let Some(class) = node.class(j) else {
             return Ok(());
         };
-        classes.push(class)?;
+        add(classes, class)?;
     }
     Ok(())
 }
@@ -95,7 +95,7 @@ fn add_filters(filters: &mut Vec<FilterView>, node: &NodeRef<'_>) -> Result<(), 
         let Some(filter) = node.filter(j) else {
             return Ok(());
         };
-        filters.push(filter)?;
+        add(filters, filter)?;
     }
     Ok(())
 }
