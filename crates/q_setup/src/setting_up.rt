@@ -20,7 +20,22 @@ use q_model::{Command, Refusal};
 use q_packet::Moment;
 use std::alloc::{AllocError, Global};
 
-/// Makes the tree of a device what a file of tc lines says.
+/// Makes the tree of a device what a file of tc lines says: what is there already with the same words is left, what differs is changed,
+/// what is gone is deleted, and packets stay where they can. It can be called again while the device runs, with a file that has changed.
+///
+/// `text` has the lines that [`q_line::read_line`] reads, each of which ends with byte 10 or with the text; blank lines and comments are
+/// skipped. All of them are tried first, at `now`, on a new device with the same settings. If one is not done there, nothing is done to the
+/// device, and the report has the reason of each such line. Else commands are done to the device, each as an event at `now`; a time before the
+/// device's clock counts as the clock. What the commands remove is lost, and waits for [`Device::reap`].
+///
+/// A qdisc stays if the file has one of the same kind with the same handle in the same place, and if all above it stay; one without a
+/// handle keeps its number, unless a line names a number from 8001 (hexadecimal) up. An fq_codel with another number of flows, and a tbf whose
+/// burst falls below both what it was and the mtu, are replaced. The report says `is_set_up` where the trees were compared and agree.
+///
+/// # Errors
+///
+/// `AllocError` if an allocation fails before the first command. The device is then as it was. One that fails at a command is a refusal of the
+/// report: what was done before it stays, and the same call does the rest.
 pub fn set_up(
     alloc: Global,
     device: &mut Device,
@@ -30,6 +45,7 @@ pub fn set_up(
     ensures number { IfOk result (λ r. r.lines ≡ length (lines_of text.now)) }
     ensures lines { IfOk result (λ r. r.undone.items ≡ (tried device.old.settings text.now now).undone) }
     ensures untouched { IfOk result (λ r. 0 < length r.undone.items → device.new ≡ device.old) }
+    ensures nothing_done { IfOk result (λ r. 0 < length r.undone.items → r.commands.items ≡ []) }
     ensures commands { IfOk result (λ r. device.new ≡ record (after_commands now r.commands.items device.old) { memory = device.new.memory }) }
     ensures accepted { IfOk result (λ r. AreAccepted now r.commands.items device.old) }
     ensures refused { IfOk result (λ r. IfSome r.refusal (λ refusal. IsRefusedBy now device.new refusal)) }

@@ -11,5 +11,5 @@ returns-then-not-is_empty-clause-number c =
 pub returns-clause-number : goal.returns-clause-number
 returns-clause-number c =
     let all : c.in_ok-trial.trial.lines ≡ length (lines_of c.args.text.now) =
-        ap (λ (t : Tried). t.lines) c.in_ok-trial.ensures ∙ lines-all c.settings.result c.args.text.now c.args.now in
+    ap (λ (t : Tried). t.lines) c.in_ok-trial.ensures ∙ lines-all c.settings.result c.args.text.now c.args.now in
     subst (λ (k : ℕ). IfOk c.made.result (λ r. r.lines ≡ k)) all c.made.ensures.lines
