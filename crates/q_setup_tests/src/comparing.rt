@@ -2,10 +2,16 @@
 use q_device::{ClassKind, ClassView, NodeView, Place, Tree};
 use q_tree::NodeRef;
 
+/// The most nodes of a tree.
+pub const MOST_NODES: usize = 256;
+
 /// Whether each node of a tree is in the other, with the number that its line names; `exact` where each line names one.
 pub fn has_all(tree: &Tree, other: &Tree, exact: bool) -> bool {
     let mut nodes = tree.nodes();
-    while let Some(node) = nodes.next() {
+    for _node in 0..MOST_NODES {
+        let Some(node) = nodes.next() else {
+            return true;
+        };
         if !is_in(&node, other, exact) {
             return false;
         }
@@ -15,7 +21,10 @@ pub fn has_all(tree: &Tree, other: &Tree, exact: bool) -> bool {
 
 fn is_in(node: &NodeRef<'_>, tree: &Tree, exact: bool) -> bool {
     let mut others = tree.nodes();
-    while let Some(other) = others.next() {
+    for _other in 0..MOST_NODES {
+        let Some(other) = others.next() else {
+            return false;
+        };
         if is_same(node, &other, exact) {
             return true;
         }

@@ -1,12 +1,10 @@
 //! Random files in turn on a device whose packets go on, against a new device after the last one.
 use crate::chance::Chance;
-use crate::comparing::has_all;
+use crate::comparing::{MOST_NODES, has_all};
 use crate::files::{device, file};
-use q_device::{
-    ClassId, Device, Ecn, FlowKey, Handle, Moment, NodeView, Packet, Place, QdiscView, Tree,
-};
+use q_device::{Device, Ecn, FlowKey, Handle, Moment, NodeView, Packet, Place, QdiscView, Tree};
 use q_setup::{Report, set_up};
-use std::alloc::Global;
+use std::alloc::{AllocError, Global};
 use std::test::Fail;
 
 #[test]
@@ -70,28 +68,35 @@ fn expect_done(text: &str, report: &Report) -> Result<(), Fail> {
 fn views(alloc: Global, tree: &Tree) -> Result<Vec<NodeView>, Fail> {
     let mut views = Vec::new(alloc);
     let mut nodes = tree.nodes();
-    while let Some(node) = nodes.next() {
-        add(&mut views, node.view())?;
+    for _node in 0..MOST_NODES {
+        if let Some(node) = nodes.next() {
+            add(&mut views, node.view())?;
+        }
     }
     Ok(views)
 }
 
-fn add(views: &mut Vec<NodeView>, view: NodeView) -> Result<(), Fail> {
-    views.push(view)?;
+// Adds an item, of which it reads nothing.
+fn add<E: Copy>(items: &mut Vec<E>, item: E) -> Result<(), AllocError> {
+    items.push(item)?;
     Ok(())
 }
 
 // A leaf whose line, and each above it, says what it said has the packets that it had.
 fn expect_kept(before: &[NodeView], new: &Tree, after: &Tree, text: &str) -> Result<(), Fail> {
     for view in before {
-        if is_leaf(view) && is_same_way(before, view, new) {
-            let now = find(after, view);
-            if now.map(|now| now.row.queued) != Some(view.row.queued) {
-                return Err(Fail::new(format_args!("packets of {view:?} after {text}")));
-            }
+        if is_leaf(view) && is_same_way(before, view, new) && !is_kept(view, after) {
+            return Err(Fail::new(format_args!("other packets after {text}")));
         }
     }
     Ok(())
+}
+
+fn is_kept(view: &NodeView, after: &Tree) -> bool {
+    match find(after, view) {
+        Some(now) => now.row.queued == view.row.queued,
+        None => false,
+    }
 }
 
 fn is_leaf(view: &NodeView) -> bool {
@@ -134,7 +139,10 @@ fn with_handle(views: &[NodeView], handle: Handle) -> Option<NodeView> {
 
 fn find(tree: &Tree, view: &NodeView) -> Option<NodeView> {
     let mut nodes = tree.nodes();
-    while let Some(node) = nodes.next() {
+    for _node in 0..MOST_NODES {
+        let Some(node) = nodes.next() else {
+            return None;
+        };
         let other = node.view();
         if other.handle == view.handle && other.place == view.place {
             return Some(other);
@@ -155,8 +163,8 @@ fn traffic(device: &mut Device, chance: &mut Chance, now: Moment) -> Result<(), 
 }
 
 fn packet(chance: &mut Chance, number: u64) -> Result<Packet, Fail> {
-    let len = chance.upto(1500) as u16;
-    let prio = chance.below(2) as u8;
-    let hash = chance.below(1 << 32) as u32;
+    let len = u16::try_from(chance.upto(1500)).unwrap_or(1);
+    let prio = u8::try_from(chance.below(2)).unwrap_or(0);
+    let hash = u32::try_from(chance.below(1 << 32)).unwrap_or(0);
     Ok(Packet::new(0, number, 0, len, FlowKey::zero(), hash, prio, Ecn::NotEct).ok_or("a packet")?)
 }
