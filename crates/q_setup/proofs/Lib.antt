@@ -1,0 +1,4 @@
+pub mod AlikeLemmas
+pub mod DoneLemmas
+pub mod EntryLemmas
+pub mod TriedLemmas

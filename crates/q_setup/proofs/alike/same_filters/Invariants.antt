@@ -1,0 +1,7 @@
+use Rattle.std.proofs.Common.{◌≡◌, drop}
+use Rattle.q_model.specs.Views.{filter_views}
+use Rattle.q_setup.proofs.alike.same_filters.Given as goal
+
+-- where they go on alike, all are alike
+abbrev pub invariant-loop-j : goal.invariant-loop-j
+invariant-loop-j l = drop l.j (filter_views l.wanted.1) ≡ drop l.j (filter_views l.node.1) → filter_views l.wanted.1 ≡ filter_views l.node.1

@@ -1,0 +1,29 @@
+-- What commands in turn make of a device, each at the same time.
+use Rattle.std.specs.Prelude.{◌≡◌, ℕ, List, [], ◌∷◌, Ok}
+use Rattle.q_model.specs.declared.command.Command.{Command}
+use Rattle.q_model.specs.declared.event.Event.TheVariants as event
+use Rattle.q_model.specs.declared.refusal.Refusal.{Refusal}
+use Rattle.q_model.specs.declared.reply.Reply.TheVariants as reply
+use Rattle.q_model.specs.Step.{step}
+use Rattle.q_model.specs.Tally.{totals}
+use Rattle.q_tree.specs.Commanding.{MayTakeMemory}
+use Rattle.q_device.specs.DeviceSeen.{DeviceSeen, IsRefusal, with_event}
+
+-- the device after events that are commands: its tree and losses as the model's step leaves them, recorded and counted
+abbrev pub after_commands : ℕ → List Command → DeviceSeen → DeviceSeen
+after_commands now [] d = d
+after_commands now (c ∷ commands) d = after_commands now commands (with_event (event.Command c now) d)
+
+-- the model does the command
+abbrev pub IsAccepted : ℕ → Command → DeviceSeen → Type 0
+IsAccepted now c d = reply.Done (Ok (record {})) ≡ (step totals d.device (event.Command c now)).reply
+
+-- each of them is done by the device that those before it have left
+abbrev pub AreAccepted : ℕ → List Command → DeviceSeen → Type 0
+AreAccepted now [] d = Unit {0}
+AreAccepted now (c ∷ commands) d =
+    IsAccepted now c d × AreAccepted now commands (with_event (event.Command c now) d)
+
+-- some command is refused so by this device: for the model's reason, or since an allocation failed
+abbrev pub IsRefusedBy : ℕ → DeviceSeen → Refusal → Type 0
+IsRefusedBy now d refusal = (c : Command) × IsRefusal (MayTakeMemory c) (step totals d.device (event.Command c now)).reply refusal

@@ -1,0 +1,40 @@
+//! Sets up a device by a file of tc lines, also while it runs: what is there already with the same words is left, what differs is changed,
+//! what is gone is deleted, and packets stay where they can.
+//!
+//! - [`set_up`] reads the file, tries its lines on a new device, and does to the device the commands that make its tree the same. Its
+//!   contract says which lines are not done, and that the device is then as it was; that else the device is what the commands of the
+//!   report make of it by the model, each of which was accepted; and what a report that says `is_set_up` means.
+//! - A [`Report`] has the lines that are not done, each an [`Undone`] with the reason [`Why`], and the commands that were done.
+//!
+//! ```
+//! let report = set_up(alloc, &mut device, &text, now)?;
+//! for undone in &report.undone {
+//!     tell(undone.line, undone.why);           // nothing was done
+//! }
+//! ```
+//!
+//! `specs/Tried.antt` says what the lines make of a new device, `specs/Done.antt` what commands in turn make of a device, and
+//! `specs/Alike.antt` when two trees are the same. Which commands are planned is no part of the contract: whether they came to the tree
+//! that the lines say is compared afterwards.
+#![tactic(auto)]
+
+mod adding;
+mod alike;
+mod counting;
+mod doing;
+mod effect;
+mod kinds;
+mod naming;
+mod pair;
+mod planning;
+mod report;
+mod seen;
+mod setting_up;
+mod trial;
+mod undone;
+mod why;
+
+pub use report::Report;
+pub use setting_up::set_up;
+pub use undone::Undone;
+pub use why::Why;
