@@ -72,7 +72,8 @@ impl<P: Ledger, B: Ledger> Booked<P, B> {
         (booked, seat)
     }
 
-    /// A packet arrives, as at [`Device::arrive`], and is booked with the permit. It, [`Booked::arrive_at`] and [`Booked::arrive_kept`] are the only ways in.
+    /// A packet arrives, as at [`Device::arrive`], and is booked with the permit. It, [`Booked::arrive_at`] and [`Booked::arrive_kept`] are the
+    /// only ways in.
     ///
     /// # Errors
     ///
@@ -145,7 +146,9 @@ impl<P: Ledger, B: Ledger> Booked<P, B> {
         now: Moment,
     ) -> Result<Fate, AllocError>
         ensures event { OnOk result (self.new ≡ with_memory self.new.memory (after_event (event.Arrive packet.now now) self.old)) }
+        ensures moment { OnOk result (as_counted self.old.device (event.Arrive packet.now now) ≡ event.Arrive packet.now self.new.device.clock) }
         ensures fate { IfOk result (λ fate. reply.Fate fate ≡ reply_to (event.Arrive packet.now now) self.old) }
+        ensures arrived { OnOk result (self.new.device.tree.top.arrived ≡ with_packet self.old.device.tree.top.arrived packet.now) }
         ensures seat { OnOk result (seat.new ≡ booking seat.old packet.now) }
         ensures same { OnErr result (self.new ≡ with_memory self.new.memory self.old) }
         ensures same_seat { OnErr result (seat.new ≡ seat.old) }
@@ -154,6 +157,7 @@ impl<P: Ledger, B: Ledger> Booked<P, B> {
         ensures queues { HasNoFewerPlaces self.old.memory self.new.memory }
         ensures keeps { OnErr result ((other : Descriptor) → HasRoomFor other self.old → HasRoomFor other self.new) }
         ensures recorder { self.new.memory.events ≡ self.old.memory.events }
+        ensures counters { HasNotFallen self.old.device.tree.top self.new.device.tree.top }
     {
         let fate = self.device.arrive_kept(packet, now)?;
         self.packets.add(&mut seat.packets, 1);
