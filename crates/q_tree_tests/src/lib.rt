@@ -9,10 +9,6 @@ mod bench;
 #[cfg(test)]
 mod chance;
 #[cfg(test)]
-mod delay;
-#[cfg(test)]
-mod delay_laws;
-#[cfg(test)]
 mod device;
 #[cfg(test)]
 mod device_bench;
