@@ -43,10 +43,13 @@ impl Told for CSent {
     #[inline(always)]
     fn poll(device: &mut Device, now: Moment, place: &mut CSent) -> Given {
         let mut packet = SOME_STORED;
-        let given = StoredPacket::poll(device, now, &mut packet);
-        if let Given::Packet = given {
-            *place = CSent::of(&packet);
+        match StoredPacket::poll(device, now, &mut packet) {
+            Given::Packet => {
+                *place = CSent::of(&packet);
+                Given::Packet
+            }
+            Given::Idle => Given::Idle,
+            Given::Later => Given::Later,
         }
-        given
     }
 }

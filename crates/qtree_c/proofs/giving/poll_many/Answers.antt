@@ -1,4 +1,5 @@
-use Rattle.std.proofs.Common.{◌≡◌, ℕ, arith, length, refl, subst}
+use Rattle.std.proofs.Common.{◌≡◌, ◌∙◌, ℕ, ap, arith, length, refl, set, subst, sym}
+use Rattle.std.proofs.lemmas.List.{set-get_or}
 use Rattle.qtree_c.specs.Folds.{IsPolls}
 use Rattle.qtree_c.proofs.Polling.{polling-begins, polling-ends, polling-more, polling-stops}
 use Rattle.qtree_c.specs.Noting.{noting, poll_events}
@@ -13,8 +14,10 @@ loop-i-init g c = record {
 
 pub returns-in-Err-clause-polls : goal.returns-in-Err-clause-polls
 returns-in-Err-clause-polls g c =
-    polling-stops g.T.Told.told c.loop-i.i (length c.args.places.now) c.args.now c.in-Err.code c.args.places.now c.loop-i.places c.args.opened.now.device c.loop-i.opened.device
-    c.next.new.opened.device c.loop-i.invariant.polling c.loop-i-test.true refl c.in-Err.ensures.none c.next.ensures.polled c.in-Err.ensures.answer
+    let back = ap (λ x. set c.loop-i.places c.loop-i.i x) c.in-Err.ensures.kept ∙ set-get_or c.loop-i.places c.loop-i.i _ in
+    subst (λ ps. IsPolls g.T.Told.told c.args.now c.in-Err.code c.loop-i.i c.args.places.now ps c.args.opened.now.device c.next.new.opened.device) (sym back)
+    (polling-stops g.T.Told.told c.loop-i.i (length c.args.places.now) c.args.now c.in-Err.code c.args.places.now c.loop-i.places c.args.opened.now.device c.loop-i.opened.device
+    c.next.new.opened.device c.loop-i.invariant.polling c.loop-i-test.true refl c.in-Err.ensures.none c.next.ensures.polled c.in-Err.ensures.answer)
 
 pub loop-i-preserved : goal.loop-i-preserved
 loop-i-preserved g c = record {

@@ -5,7 +5,7 @@ use Rattle.qtree_c.proofs.offers.offer_batch.Goals as goal
 pub returns-then-placed-read-clause-offers : goal.returns-then-placed-read-clause-offers
 returns-then-placed-read-clause-offers c =
     let read = c.read_packets-read in
-    let one = c.offer_many-placed in
+    let one = c.offer_many_kept-placed in
     let packets = c.args.packets.now in
     let batch = take read.result read.new.batch in
     let is : IsRead read.result packets batch = record { most = read.ensures.most; read_as = read.ensures.read; in_range = read.ensures.in_range } in
