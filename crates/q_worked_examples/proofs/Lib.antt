@@ -24,6 +24,7 @@ mod LineUnits
 mod LineValues
 mod MadeValues
 mod MarkingValues
+mod MostPacketsValues
 mod NoteScripts
 mod PacketValues
 mod PeekScripts
