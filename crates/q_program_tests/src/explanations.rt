@@ -310,6 +310,62 @@ fn refusals_are_explained(rt: HostRuntime) -> Result<(), Fail> {
     Ok(())
 }
 
+/// Two names of the device, of which one begins as the other.
+const ALIKE: &[u8] = b"tc qdisc add dev eth10 root pfifo
+tc qdisc change dev eth1 root pfifo limit 5
+";
+
+const ALIKE_EXPLAINED: &str = "line 2: tc qdisc change dev eth1 root pfifo limit 5
+                            ^^^^
+  a line before this one has another name. A script has one device, and each line is for it, whatever name it has.
+";
+
+#[test]
+fn a_name_that_begins_as_another_is_another(rt: HostRuntime) -> Result<(), Fail> {
+    assert_answers(&rt, "qtree play --explain", ALIKE, 0, "", ALIKE_EXPLAINED)?;
+    Ok(())
+}
+
+/// What is explained of a line that names a qdisc that is not there.
+const ABSENT: &str = "^^^^
+  no qdisc that was added has this place and this handle. tc qdisc show lists them; one of handle 0 came by itself, and add replaces it.
+";
+
+// So many lines that are refused, with the report and what is explained of each.
+fn refused_lines(alloc: Global, count: u32) -> Result<(String, String, String), Fail> {
+    let (mut script, mut report, mut told) = (
+        String::new(alloc),
+        String::new(alloc),
+        String::new(alloc),
+    );
+    for number in 1..count.saturating_add(1) {
+        script.push_str("tc qdisc del dev eth0 root\n")?;
+        report.push_str(&format!(in alloc; "line {number}: refused 12 NoQdisc\n")?)?;
+        let place = format!(in alloc; "line {number}: tc qdisc del dev eth0 ")?;
+        told.push_str(&place)?;
+        told.push_str("root\n")?;
+        repeat(&mut told, ' ', place.len())?;
+        told.push_str(ABSENT)?;
+    }
+    Ok((script, report, told))
+}
+
+/// However many lines are refused, each is explained.
+#[test]
+fn each_of_many_refusals_is_explained(rt: HostRuntime) -> Result<(), Fail> {
+    let (script, report, told) = refused_lines(rt.alloc(), 100)?;
+    let line = "qtree play --explain";
+    assert_answers(
+        &rt,
+        line,
+        script.as_bytes(),
+        1,
+        report.as_str(),
+        told.as_str(),
+    )?;
+    Ok(())
+}
+
 #[test]
 fn bytes_that_are_no_text(rt: HostRuntime) -> Result<(), Fail> {
     let line = "qtree play --explain";

@@ -71,6 +71,8 @@ impl Read for Slow<'_> {
 #[derive(Drop)]
 pub struct Narrow {
     pub written: Vec<u8>,
+    /// How many writes there were.
+    writes: usize,
     room: usize,
     fails: bool,
 }
@@ -79,6 +81,7 @@ impl Narrow {
     pub fn new(alloc: Global, room: usize, fails: bool) -> Narrow {
         Narrow {
             written: Vec::new(alloc),
+            writes: 0,
             room,
             fails,
         }
@@ -96,6 +99,7 @@ impl Narrow {
 
 impl Write for Narrow {
     fn write(&mut self, buf: &[u8]) -> IoResult<usize> {
+        self.writes = self.writes.saturating_add(1);
         if self.room == 0 && self.fails {
             return Err(Error::from(ErrorKind::BrokenPipe));
         }
@@ -164,6 +168,18 @@ fn each_read_fails(rt: HostRuntime) {
         assert_eq!(rt; told, want, "failing at read {failing}");
         assert_eq!(rt; written.as_slice(), report.as_bytes());
     }
+}
+
+/// What the polls of a line report is written together, and not line by line.
+#[test]
+fn polls_are_written_together(rt: HostRuntime) {
+    let alloc = rt.alloc();
+    let mut script: &[u8] = b"poll 10000\n";
+    let mut writer = Narrow::new(alloc, usize::MAX, false);
+    let told = run_through(alloc, &mut script, &mut writer, RunSettings::defaults());
+    assert_eq!(rt; told, Ok(Outcome::Clean));
+    assert_eq!(rt; writer.written.len(), 50_000);
+    assert!(rt; writer.writes <= 20, "{} writes", writer.writes);
 }
 
 /// Blanks behind a line of five bytes, each with what a run comes to.
