@@ -1,3 +1,6 @@
+//! The row of counters that each node has, and what an arrival, a departure and a drop change in it.
+//!
+//! Every change here keeps the balance of a row: what arrived is what was sent, refused, dropped and is queued.
 ghost use Rattle.std.specs.Prelude.{◌≡◌, ◌<◌, ◌≤◌, ◌+◌, ◌^◌};
 ghost use Rattle.q_model.specs.Conserved.{IsBalanced};
 ghost use Rattle.q_model.specs.Tally.{no_totals, with_packet};

@@ -1,3 +1,10 @@
+//! A departure: the root is asked for its packet, which is taken in the same walk.
+//!
+//! It comes to the same as a [peek](crate::peek), after which the packet that was shown is popped, but it copies the packet once, from its
+//! queue to the caller's place: what a tbf, a drr or an fq_codel takes from below is handed on and not held. Each node books what CoDel
+//! dropped and marked below it, and then the packet as sent.
+//!
+//! `dequeue` asks, and may find that nothing can go now. `dequeue_at_hand` asks nobody: it takes what a node has already shown.
 ghost use Rattle.std.specs.Prelude.{◌≡◌, ◌≤◌, ◌+◌, ◌++◌, List, None, Option, Some, is_some, length, true, unwrap_or, ℕ};
 ghost use Rattle.std.specs.Option.{option_map_or};
 ghost use Rattle.q_packet.specs.Stored.{stored_of};

@@ -1,3 +1,11 @@
+//! An arrival, in one walk down the packet's route and back.
+//!
+//! On the way down each node either takes the packet, refuses it, or passes it on to one child: a leaf queues it or drops at its limit, a
+//! qdisc with classes goes by its filters, and where none matches by its own rule. The leaf makes the place for it, which is all that can
+//! fail, before anything else has changed. On the way back each node books the outcome in its row: that the packet came, whether it was
+//! kept, and what was lost for it below, as where an fq_codel drops from its fattest flow; a drr also makes the class active.
+//!
+//! A fifo that has a place is met without a call, at the root and wherever the walk comes to one, since most packets end there.
 ghost use Rattle.std.specs.Prelude.{◌≡◌, ◌≤◌, ◌+◌, ◌++◌, IfOk, IsOk, List, None, OnErr, OnOk, length, true, ℕ};
 ghost use Rattle.q_codel.specs.declared.loss.Loss.{Loss};
 ghost use Rattle.q_model.specs.Beneath as beneath;

@@ -1,3 +1,4 @@
+//! How a node is found that a command or a caller names: down a path of places, one at each level, or by the number of a class.
 ghost use Rattle.std.specs.Prelude.{◌≡◌, option_copied};
 ghost use Rattle.q_model.specs.Beneath.{row};
 ghost use Rattle.q_model.specs.Find.{class_place, node_at};

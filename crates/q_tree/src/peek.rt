@@ -1,3 +1,9 @@
+//! A peek: which packet a node would send now.
+//!
+//! A fifo shows its head and a prio what its first ready band shows, and both leave it where it is. A tbf, a drr and an fq_codel have to
+//! dequeue a packet in order to show one, since a bucket pays for it, a deficit is spent on it, or CoDel decides on it. They hold it until
+//! it is taken, and show it again whenever they are asked. What CoDel drops or marks on the way is booked at each node, with the packet or
+//! without one.
 ghost use Rattle.std.specs.Prelude.{◌≡◌, ◌≤◌, List, None, Option, is_some, length, ℕ};
 ghost use Rattle.q_model.specs.Ask.{ask};
 ghost use Rattle.q_model.specs.Beneath.{beneath};

@@ -1,3 +1,4 @@
+//! The place for a packet: memory is made at the end of its route before it arrives, so that the arrival itself takes none.
 ghost use Rattle.std.specs.Prelude.{◌≡◌, ◌≤◌, IsOk, IsSome, List, OnOk, map, ℕ};
 ghost use Rattle.q_model.specs.Find.{node_at};
 ghost use Rattle.q_tree.specs.Arrivals.{HasPlace, HasPlaceIn};
