@@ -11,7 +11,7 @@ use Rattle.q_model.specs.Filters.{matches}
 use Rattle.q_model.specs.declared.filter.Filter.{Filter}
 use Rattle.q_tree.specs.Chains.{IsNext}
 use Rattle.q_tree.specs.FilterShapes.{Parts, bucket, parts_of, parts_wanted, shape_of, spread, with_addresses}
-use Rattle.q_tree.specs.IndexOfFilters.{AreHomes, IsHome, home_of}
+use Rattle.q_tree.specs.IndexOfFilters.{AreHomes, AreShapesIn, IsHome, IsShapeIn, home_of}
 use Rattle.q_tree.specs.declared.filter_shape.FilterShape.{FilterShape}
 use Rattle.q_tree.proofs.ShapeLemmas.{parts-wanted}
 
@@ -46,6 +46,15 @@ push-cases (z ∷ xs) x (suc j) y h = on (push-cases xs x j y h)
     on : (slice_get xs j ≡ Some y) ⊎ ((j ≡ length xs) × (x ≡ y)) → (slice_get (z ∷ xs) (suc j) ≡ Some y) ⊎ ((suc j ≡ length (z ∷ xs)) × (x ≡ y))
     on (inl e) = inl e
     on (inr e) = inr (ap suc e.0, e.1)
+
+-- one shape more is that of a filter
+pub shapes-more : (filters : List Filter) (shapes shapes2 : List FilterShape) (place : ℕ) (f : Filter) (shape : FilterShape) → slice_get filters place ≡ Some f → shape ≡ shape_of f
+    → ((i : ℕ) (s : FilterShape) → slice_get shapes2 i ≡ Some s → (slice_get shapes i ≡ Some s) ⊎ (s ≡ shape)) → AreShapesIn filters shapes → AreShapesIn filters shapes2
+shapes-more filters shapes shapes2 place f shape there of_it added each i s is = by (added i s is)
+  where
+    by : (slice_get shapes i ≡ Some s) ⊎ (s ≡ shape) → IsShapeIn filters s
+    by (inl old) = each i s old
+    by (inr new) = record { place = place; filter = f; there = there; is = new ∙ of_it }
 
 -- one filter more has its home, among shapes of which none is gone
 pub homes-more : (shapes shapes2 : List FilterShape) (filters : List Filter) (homes : List ℕ) (f : Filter) (home : ℕ) → ((i : ℕ) (s : FilterShape) → slice_get shapes i ≡ Some s → slice_get shapes2 i ≡ Some s)

@@ -1,6 +1,6 @@
 -- An index of filters by what they compare: each filter has its group, of those that compare the same, and its bucket there.
 -- Nothing here is of a standard.
-use Rattle.std.specs.Prelude.{◌≡◌, ℕ, ◌+◌, ◌*◌, ◌≤◌, List, length, slice_get, Some}
+use Rattle.std.specs.Prelude.{◌≡◌, ℕ, ◌+◌, ◌*◌, ◌<◌, ◌≤◌, List, length, slice_get, Some}
 use Rattle.q_model.specs.Ranges.{IsFilter}
 use Rattle.q_model.specs.declared.filter.Filter.{Filter}
 use Rattle.q_tree.specs.FilterShapes.{Parts, bucket, parts_wanted, shape_of}
@@ -25,3 +25,25 @@ pub record IsIndexOf (index : FilterIndex) (filters : List Filter) : Type 0 wher
   pub long : length index.chains ≡ length filters
   pub few : length index.shapes.items ≤ 256
   pub each : AreHomes index.shapes.items filters index.chains
+
+-- no two groups compare the same
+abbrev pub AreDistinct : List FilterShape → Type 0
+AreDistinct shapes = (i j : ℕ) (s : FilterShape) → slice_get shapes i ≡ Some s → slice_get shapes j ≡ Some s → i ≡ j
+
+-- one of the filters compares this
+pub record IsShapeIn (filters : List Filter) (s : FilterShape) : Type 0 where
+  pub place : ℕ
+  pub filter : Filter
+  pub there : slice_get filters place ≡ Some filter
+  pub is : s ≡ shape_of filter
+
+abbrev pub AreShapesIn : List Filter → List FilterShape → Type 0
+AreShapesIn filters shapes = (i : ℕ) (s : FilterShape) → slice_get shapes i ≡ Some s → IsShapeIn filters s
+
+-- The filters compare so many different things that a group has fewer than four of them on average: to find the bucket of each group
+-- would take longer than to compare one by one.
+pub record AreOfManyShapes (filters : List Filter) : Type 0 where
+  pub shapes : List FilterShape
+  pub distinct : AreDistinct shapes
+  pub each : AreShapesIn filters shapes
+  pub many : length filters < length shapes * 4

@@ -1,9 +1,10 @@
-ghost use Rattle.std.specs.Prelude.{◌≡◌, ◌<◌, ◌≤◌, ◌+◌, IfOk, Some, false, length, slice_get, true, ℕ};
+ghost use Rattle.std.specs.Prelude.{◌≡◌, ◌<◌, ◌≤◌, ◌+◌, IfOk, None, Some, false, length, slice_get, true, ℕ};
 ghost use Rattle.std.specs.List.{find};
 ghost use Rattle.std.specs.Option.{IfSome};
+ghost use mathlib.Core.Logic.{◌⊎◌};
 ghost use Rattle.q_model.specs.Filters.{matches, named_class};
 ghost use Rattle.q_model.specs.declared.filter.Filter.{Filter};
-ghost use Rattle.q_tree.specs.IndexOfFilters.{AreHomes, IsIndexOf};
+ghost use Rattle.q_tree.specs.IndexOfFilters.{AreDistinct, AreHomes, AreOfManyShapes, AreShapesIn, IsIndexOf};
 ghost use Rattle.q_tree.specs.declared.filter_shape.FilterShape as specs;
 
 use crate::chains::Chains;
@@ -35,7 +36,8 @@ pub(crate) struct FilterIndex {
 }
 
 impl FilterIndex {
-    /// That of these filters, in the order in which they are asked; `None` where they are found faster one by one.
+    /// That of these filters, in the order in which they are asked; `None` where they are found faster one by one: fewer than 9 filters,
+    /// more than 256, or fewer than four on average that compare the same.
     ///
     /// # Errors
     ///
@@ -44,7 +46,8 @@ impl FilterIndex {
         alloc: Global,
         filters: &[MaskedFilter],
     ) -> Result<Option<FilterIndex>, AllocError>
-        ensures { IfOk result (λ made. IfSome made (λ index. IsIndexOf index filters.now)) }
+        ensures index { IfOk result (λ made. IfSome made (λ index. IsIndexOf index filters.now)) }
+        ensures none { IfOk result (λ made. made ≡ None → 9 ≤ length filters.now → length filters.now ≤ 256 → AreOfManyShapes filters.now) }
     {
         if filters.len() < FEWEST || filters.len() > MOST {
             return Ok(None);
@@ -121,6 +124,8 @@ fn homes_of(
     ensures homes { IfOk result (λ homes. AreHomes shapes.new.items filters.now homes.items) }
     ensures long { IfOk result (λ homes. length homes.items ≡ length filters.now) }
     ensures groups { length shapes.new.items ≤ length filters.now }
+    ensures distinct { IfOk result (λ homes. AreDistinct shapes.new.items) }
+    ensures shapes { IfOk result (λ homes. AreShapesIn filters.now shapes.new.items) }
 {
     let mut homes = Vec::with_capacity(alloc, filters.len())?;
     for filter in filters {
@@ -135,6 +140,8 @@ fn group_of(shapes: &mut Vec<FilterShape>, shape: FilterShape) -> Result<usize, 
     ensures there { IfOk result (λ group. slice_get shapes.new.items group ≡ Some shape) }
     ensures kept { (i : ℕ) (other : specs.FilterShape) → slice_get shapes.old.items i ≡ Some other → slice_get shapes.new.items i ≡ Some other }
     ensures few { length shapes.new.items ≤ length shapes.old.items + 1 }
+    ensures distinct { IfOk result (λ group. AreDistinct shapes.old.items → AreDistinct shapes.new.items) }
+    ensures added { IfOk result (λ group. (i : ℕ) (other : specs.FilterShape) → slice_get shapes.new.items i ≡ Some other → (slice_get shapes.old.items i ≡ Some other) ⊎ (other ≡ shape)) }
 {
     for group in 0..shapes.len() {
         if shapes[group] == shape {

@@ -1,5 +1,5 @@
 use Rattle.std.proofs.Common.{◌≡◌, ◌≤◌, length}
-use Rattle.q_tree.specs.IndexOfFilters.{AreHomes}
+use Rattle.q_tree.specs.IndexOfFilters.{AreDistinct, AreHomes, AreShapesIn}
 use Rattle.q_tree.proofs.filter_index.homes_of.Given as goal
 
 -- the filters so far have their homes
@@ -8,4 +8,6 @@ invariant-loop-filter l = record {
   long : length l.homes.items ≡ l.filter-index;
   groups : length l.shapes.items ≤ l.filter-index;
   each : AreHomes l.shapes.items l.filters l.homes.items;
+  distinct : AreDistinct l.shapes.items;
+  shapes : AreShapesIn l.filters l.shapes.items;
 }
