@@ -1,3 +1,4 @@
+//! CoDel over a queue that it is lent, with its settings and its state together, as a caller with one queue uses it.
 ghost use Rattle.std.specs.Prelude.{◌≡◌, ◌≤◌, ◌<◌, ◌+◌, ◌^◌, ◌↔◌, ◌++◌, take, IsSome};
 ghost use Rattle.q_packet.specs.Totals.{count};
 ghost use Rattle.q_codel.specs.Losses.{losses_of};

@@ -1,3 +1,10 @@
+//! CoDel (RFC 8289), as one take goes through it:
+//!
+//! - A packet's sojourn time is the time since it was queued. Once it has been at or above the target for an interval, with more than a
+//!   packet's worth of bytes behind it, CoDel begins to drop, or marks where the packet's transport takes part in ECN.
+//! - While it goes on, the next drop is due after the interval over the square root of how many there were, so that drops come faster
+//!   the longer the queue stays.
+//! - The first sojourn time below the target ends it. If it begins again soon, the count goes on from near where it was.
 ghost use Rattle.std.specs.Prelude.{◌≡◌, ◌≤◌, ◌<◌, ◌+◌, ◌^◌, ◌↔◌, ◌∷◌, ◌++◌, List, Some, true, false, drop, take, option_map, slice_get, IsSome, IfSome, IfNone};
 ghost use Rattle.std.specs.Option.{option_map_or};
 ghost use Rattle.q_packet.specs.Totals.{count, size};

@@ -1,3 +1,4 @@
+//! A fifo with a limit in packets or in bytes, as pfifo, bfifo and the queue of a tbf have it.
 ghost use Rattle.std.specs.Prelude.{◌≡◌, ◌≤◌, ◌<◌, ◌↔◌, ◌+◌, [], ◌∷◌, ◌++◌, drop, nat_lt, slice_get, option_map, IsTrue, OnOk, OnErr};
 ghost use Rattle.q_packet.specs.Stored.{descriptor, stored_of, IsStored};
 ghost use Rattle.q_packet.specs.Totals.{count, size};

@@ -1,3 +1,4 @@
+//! What CoDel asks of a queue that it is lent.
 ghost use Rattle.std.specs.Prelude.{◌≡◌, ◌<◌, ◌≤◌, ◌+◌, ◌++◌, List, Some, option_map, slice_get, drop, take};
 ghost use Rattle.q_packet.specs.Totals.{count, size};
 ghost use Rattle.q_packet.specs.declared.stamped.Stamped.{Stamped};

@@ -1,3 +1,4 @@
+//! The memory of a fifo: cells in a ring, which doubles when it is full and is never copied otherwise.
 ghost use Rattle.std.specs.Prelude.{◌≡◌, ◌≤◌, ◌<◌, ◌%◌, ◌^◌, [], ◌∷◌, ◌++◌, length, drop, slice_get, Some, MatchOption, OnOk, OnErr};
 ghost use Rattle.q_codel.specs.Ring.{IsPower};
 ghost use Rattle.q_packet.specs.Stored.{descriptor, IsStored};

@@ -1,3 +1,4 @@
+//! Which flows have their turn next: the lists of new and of old flows.
 ghost use Rattle.std.specs.Prelude.{◌≡◌, ◌+◌, ◌<◌, ◌≤◌, ◌==◌, not, [], ◌∷◌, ◌++◌, length, set, drop, slice_get, pos, false, if◌then◌else◌, IfSome, IfOk};
 ghost use Rattle.q_fqcodel.specs.Put.{is_listed};
 

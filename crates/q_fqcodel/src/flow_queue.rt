@@ -1,3 +1,4 @@
+//! One flow's queue as CoDel sees it: CoDel is lent a queue, and the packets of all flows are in one pool.
 ghost use Rattle.std.specs.Prelude.{◌≡◌, ◌+◌, ◌≤◌, [], ◌++◌, take, get_or, true, refl};
 ghost use Rattle.std.proofs.Common.{◌∙◌};
 ghost use Rattle.q_packet.specs.Totals.{count};

@@ -1,3 +1,4 @@
+//! All flows by index: where a flow's packets are, what CoDel knows of it, and how its list is told of both.
 ghost use Rattle.std.specs.Prelude.{◌≡◌, ◌+◌, ◌<◌, ◌≤◌, ◌%◌, ◌^◌, [], ◌++◌, ◌&&◌, ◌==◌, not, true, false, nat_le, length, map, replicate, take, drop, set, slice_get, get_or, ◌↔◌, IsSome, IfSome, IsOk, IfOk, OnOk, OnErr};
 ghost use Rattle.q_packet.specs.Totals.{count};
 ghost use Rattle.q_packet.specs.declared.stamped.Stamped.{Stamped};

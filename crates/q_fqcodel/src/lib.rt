@@ -22,6 +22,18 @@
 //! }
 //! ```
 //!
+//! The algorithm, in the order in which a packet meets it (RFC 8290; Linux's sch_fq_codel has the same principles):
+//!
+//! - A packet goes to the flow `hash mod flows`. Flows whose hashes agree share a queue, and within a flow no packet passes another.
+//! - A flow that is in no list when it gets a packet joins the end of the list of *new* flows, with one quantum of credits.
+//! - Past the limit of all flows together, the flow with the most bytes loses a batch of packets from its front.
+//! - A take looks at the first new flow, or where there is none at the first *old* one. If that flow has no credits left, it gets a
+//!   quantum and goes to the end of the old list, and the take looks again.
+//! - The first flow with credits sends. CoDel may drop packets from its front before that, and may mark what is sent. The credits are
+//!   lowered by what is sent, if need be below 0, and the flow keeps its position.
+//! - A flow with credits that has no packets leaves its list: an old one leaves both, and a new one goes to the end of the old list
+//!   first, so that no flow keeps the others waiting by coming back as a new one.
+//!
 //! A contract sees an fq_codel as the record `FqView` (`specs/FqState.antt`): its state, `FqState`, and how many packets there
 //! is memory for. `put` is `after_put` and `lost_by_put` of `specs/Put.antt`: the fat flow and its batch. `take` is `selected`
 //! and what is sent from it (`specs/Take.antt`): for each listed flow the least number of quanta that makes its credits

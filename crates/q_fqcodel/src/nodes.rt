@@ -1,3 +1,4 @@
+//! Nodes that are linked, not freed, when their packet leaves: a packet is written once, and nothing is cleared.
 ghost use Rattle.std.specs.Prelude.{ℕ, ◌≡◌, ◌≢◌, ◌+◌, ◌<◌, ◌≤◌, [], Some, None, IsSome, IfSome, OnOk, OnErr, IsOk};
 ghost use Rattle.slab.specs.Slab.{get, slab_len, HasRoomFor};
 ghost use Rattle.q_fqcodel.specs.Chain.{stamped_of, led_to};

@@ -1,3 +1,5 @@
+//! Which flow has the most bytes, known at all times: a tournament in which each flow plays its neighbour, and winners play winners. A put
+//! or a take changes the games from one leaf up, a step for each doubling of the number of flows.
 ghost use Rattle.std.specs.Prelude.{ℕ, ◌≡◌, ◌+◌, ◌-◌, ◌*◌, ◌/◌, ◌%◌, ◌^◌, ◌<◌, ◌≤◌, max, length, drop, set, replicate, IfOk};
 ghost use Rattle.q_fqcodel.specs.Winners.{rank, rank_at, above, bytes_at, Leads, IsRightBut};
 

@@ -1,9 +1,9 @@
-ghost use Rattle.std.specs.Prelude.{◌≡◌, ◌==◌, [], IfOk, OnErr, OnOk, length, nat_le, not};
+ghost use Rattle.std.specs.Prelude.{◌≡◌, ◌==◌, ◌≤◌, [], IfOk, None, OnErr, OnOk, length, nat_le, not};
 ghost use Rattle.std.specs.List.{filter, take_while};
 ghost use Rattle.std.specs.Option.{IfSome};
 ghost use Rattle.q_model.specs.Filters.{named_class, with_filter};
 ghost use Rattle.q_model.specs.declared.filter.Filter.{Filter};
-ghost use Rattle.q_tree.specs.IndexOfFilters.{IsIndexOf};
+ghost use Rattle.q_tree.specs.IndexOfFilters.{AreOfManyShapes, IsIndexOf};
 
 use crate::filter_index::FilterIndex;
 use crate::masked_filter::MaskedFilter;
@@ -105,7 +105,8 @@ fn new_index(
     alloc: Global,
     filters: &[MaskedFilter],
 ) -> Result<Option<Box<FilterIndex>>, AllocError>
-    ensures { IfOk result (λ made. IfSome made (λ index. IsIndexOf index.value filters.now)) }
+    ensures index { IfOk result (λ made. IfSome made (λ index. IsIndexOf index.value filters.now)) }
+    ensures none { IfOk result (λ made. made ≡ None → 9 ≤ length filters.now → length filters.now ≤ 256 → AreOfManyShapes filters.now) }
 {
     let Some(index) = FilterIndex::new(alloc, filters)? else {
         return Ok(None);

@@ -13,8 +13,8 @@ loop-filter-preserved c =
     let pushed : c.push.new.self.items ≡ c.loop-filter.homes.items ++ home ∷ [] = c.in_ok-push.ensures.items in
     let f : Filter = c.filter-item.result in
     let there : slice_get c.args.filters.now (length c.loop-filter.homes.items) ≡ Some f =
-        slice_get_read c.args.filters.now (length c.args.filters.now) (length c.loop-filter.homes.items) f refl (omega (arith, kept.long, c.loop-filter-test.true))
-        (c.filter-item.is ∙ ap (λ n. get_or c.args.filters.now n f) (sym kept.long)) in
+    slice_get_read c.args.filters.now (length c.args.filters.now) (length c.loop-filter.homes.items) f refl (omega (arith, kept.long, c.loop-filter-test.true))
+    (c.filter-item.is ∙ ap (λ n. get_or c.args.filters.now n f) (sym kept.long)) in
     record {
       long = omega (arith, ap length pushed, length-append c.loop-filter.homes.items (home ∷ []), kept.long);
       groups = omega (arith, kept.groups, c.in_ok-group.ensures.few);
