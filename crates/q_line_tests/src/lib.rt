@@ -1,6 +1,6 @@
 //! Tests of what each line is read as, or is answered: tables of lines, a module for each topic.
 //!
-//! They need nothing private of `q_line`, and are kept apart from `q_tests`, since one check that holds the modules of all
+//! They need nothing private of `q_line`, and are kept apart from `q_discipline_tests`, since one check that holds the modules of all
 //! libraries takes too much memory. The crate exports nothing.
 #![tactic(auto)]
 

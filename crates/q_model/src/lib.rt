@@ -22,8 +22,8 @@
 //! note. So the rules are the same whether a tree keeps totals or whole histories (`proofs/ShrinkSteps.antt`, and the laws of
 //! `q_device`).
 //!
-//! This crate has no tests: `q_tests` has them, and `q_worked_examples` computes the definitions on worked scripts. The code of the tree
-//! is in `q_tree`, that of the device in `q_device`.
+//! This crate has no tests: `q_discipline_tests` has them, and `q_worked_examples` computes the definitions on worked scripts. The
+//! code of the tree is in `q_tree`, that of the device in `q_device`.
 #![tactic(auto)]
 
 mod burst;

@@ -1,6 +1,6 @@
 //! Tests of trees and devices that need nothing private: commands and packets, and what is shown.
 //!
-//! They are kept apart from `q_tests`, since one check that holds the modules of all libraries takes too much memory. The crate
+//! They are kept apart from `q_discipline_tests`, since one check that holds the modules of all libraries takes too much memory. The crate
 //! exports nothing.
 #![tactic(auto)]
 

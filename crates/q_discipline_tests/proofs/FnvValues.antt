@@ -1,6 +1,6 @@
 -- The hash of the tests, computed on the examples of its draft.
 use Rattle.std.proofs.Common.{◌≡◌, [], ◌∷◌, refl}
-use Rattle.q_tests.specs.Fnv.{fnv1a, fnv_mixed}
+use Rattle.q_discipline_tests.specs.Fnv.{fnv1a, fnv_mixed}
 
 fnv_of_a : fnv1a (97 ∷ []) ≡ 0xe40c292c
 unfolding fnv1a fnv_mixed

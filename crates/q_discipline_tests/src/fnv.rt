@@ -1,5 +1,5 @@
 ghost use Rattle.std.specs.Prelude.{◌≡◌};
-ghost use Rattle.q_tests.specs.Fnv.{fnv1a, fnv_mixed};
+ghost use Rattle.q_discipline_tests.specs.Fnv.{fnv1a, fnv_mixed};
 
 use q_packet::{FlowHash, FlowKey};
 
@@ -16,7 +16,7 @@ impl FlowHash for Fnv1a {
     ghost use Rattle.std.specs.Prelude.{◌≡◌};
     ghost use Rattle.std.proofs.Common.{ap};
     ghost use Rattle.q_packet.specs.Key.{Key, key_bytes};
-    ghost use Rattle.q_tests.specs.Fnv.{fnv1a};
+    ghost use Rattle.q_discipline_tests.specs.Fnv.{fnv1a};
 
     ghost hash_of = { λ _ key. fnv1a (key_bytes key) };
 
