@@ -1,3 +1,4 @@
+pub mod BurstLemmas
 pub mod ChooseLemmas
 pub mod Counted
 pub mod FrontLemmas

@@ -1,3 +1,4 @@
+pub mod Bursts
 pub mod Codel
 pub mod FifoState
 pub mod Front

@@ -1,7 +1,10 @@
 //! A fifo with a limit in packets or in bytes, as pfifo, bfifo and the queue of a tbf have it.
-ghost use Rattle.std.specs.Prelude.{◌≡◌, ◌≤◌, ◌<◌, ◌↔◌, ◌+◌, [], ◌∷◌, ◌++◌, drop, nat_lt, slice_get, option_map, IsTrue, OnOk, OnErr};
+ghost use Rattle.std.specs.Prelude.{◌≡◌, ◌≤◌, ◌<◌, ◌↔◌, ◌+◌, [], ◌∷◌, ◌++◌, All, drop, length, map, min, nat_lt, slice_get, sum_by, take, option_map, true, false, IfSome, IsTrue, OnOk, OnErr};
+ghost use Rattle.q_packet.specs.Descriptor.{Descriptor};
 ghost use Rattle.q_packet.specs.Stored.{descriptor, stored_of, IsStored};
 ghost use Rattle.q_packet.specs.Totals.{count, size};
+ghost use Rattle.q_codel.specs.Bursts.{HasWidths, IsShort, room_of, stamped_at};
+ghost use Rattle.q_codel.specs.FifoState.{most_places};
 ghost use Rattle.q_codel.specs.Front.{front_of};
 ghost use Rattle.q_codel.specs.Losses.{losses_of};
 ghost use Rattle.q_packet.specs.declared.stamped.Stamped.{Stamped};
@@ -12,6 +15,7 @@ use crate::limit::Limit;
 use crate::queue::Queue;
 use crate::ring::Ring;
 use crate::sink::Sink;
+use crate::told::Told;
 use q_packet::{Cause, KeptPacket, Moment, Stamped, StoredPacket};
 use std::alloc::{AllocError, Global};
 use std::marker::Model;
@@ -136,6 +140,54 @@ impl Fifo {
         self.bytes += packet.len as u64;
     }
 
+    /// Appends the first of these packets, all queued at the time `now`: as many as there is a place for and the limit in packets allows,
+    /// up to the first that has a field out of its range, or more bytes than `longest`. Returns how many, and their bytes. A queue
+    /// whose limit is in bytes takes none, since each would have to be asked about.
+    #[inline(always)]
+    pub fn put_burst(&mut self, packets: &[StoredPacket], longest: u16, now: Moment) -> (usize, u64)
+        ensures most { result.0 ≤ min (room_of self.old) (length packets.now) }
+        ensures taken { All (IsShort longest) (take result.0 packets.now) }
+        ensures widths { All HasWidths (take result.0 packets.now) }
+        ensures next { result.0 < room_of self.old → IfSome (slice_get packets.now result.0) (λ c. IsShort longest c → ⊥) }
+        ensures bytes { result.1 ≡ sum_by (λ (p : Descriptor). p.len) (map descriptor (take result.0 packets.now)) }
+        ensures after { self.new ≡ record self.old { packets = self.old.packets ++ stamped_at now (map descriptor (take result.0 packets.now)) } }
+    {
+        let most = self.room().min(packets.len());
+        let (taken, bytes) = push_burst(&mut self.packets, &packets[..most], longest, now);
+        self.bytes += bytes;
+        (taken, bytes)
+    }
+
+    // How many packets more it takes with nothing asked.
+    #[inline(always)]
+    fn room(&self) -> usize
+        ensures value { result ≡ room_of self.now }
+        ensures within { count self.now.packets + result ≤ self.now.places }
+    {
+        let queued = self.packets.len();
+        let places = self.packets.places() - queued;
+        match self.limit {
+            Limit::Packets(most) => places.min(most.saturating_sub(queued as u64) as usize),
+            Limit::Bytes(_) => 0,
+        }
+    }
+
+    /// Takes packets from the front into lent places, in each of which it writes what is told there of a packet: as many as there are
+    /// places for, or are queued. Returns how many, and their bytes. What is behind them in the places stays, and the places of the
+    /// queue stay reserved.
+    #[inline(always)]
+    pub fn take_burst<T: Told>(&mut self, places: &mut [T]) -> (usize, u64)
+        ensures count { result.0 ≡ min (length places.old) (count self.old.packets) }
+        ensures bytes { result.1 ≡ size (take result.0 self.old.packets) }
+        ensures told { places.new ≡ map (λ (s : Stamped). T.told s.packet) (take result.0 self.old.packets) ++ drop result.0 places.old }
+        ensures rest { self.new ≡ record self.old { packets = drop result.0 self.old.packets } }
+    {
+        let most = self.packets.len().min(places.len());
+        let bytes = pop_burst(&mut self.packets, places, most);
+        self.bytes -= bytes;
+        (most, bytes)
+    }
+
     /// The packet in front; `None` where the queue is empty.
     pub fn head(&self) -> Option<Stamped>
         ensures { result ≡ slice_get self.now.packets 0 }
@@ -254,6 +306,65 @@ impl Fifo {
             sink.lost(stamped.packet, Cause::Purged);
         }
     }
+}
+
+// Appends the first of these packets, for all of which there is a place, to one that is out of its range or too long.
+#[inline(always)]
+fn push_burst(ring: &mut Ring, packets: &[StoredPacket], longest: u16, now: Moment) -> (usize, u64)
+    requires places { length ring.old.packets + length packets.now ≤ ring.old.places }
+    requires few { length packets.now ≤ most_places }
+    ensures most { result.0 ≤ length packets.now }
+    ensures taken { All (IsShort longest) (take result.0 packets.now) }
+    ensures widths { All HasWidths (take result.0 packets.now) }
+    ensures next { IfSome (slice_get packets.now result.0) (λ c. IsShort longest c → ⊥) }
+    ensures bytes { result.1 ≡ sum_by (λ (p : Descriptor). p.len) (map descriptor (take result.0 packets.now)) }
+    ensures after { ring.new ≡ record ring.old { packets = ring.old.packets ++ stamped_at now (map descriptor (take result.0 packets.now)) } }
+{
+    let mut bytes = 0;
+    for i in 0..packets.len() {
+        let packet = &packets[i];
+        if !is_short(packet, longest) {
+            return (i, bytes);
+        }
+        ring.push_stored(packet, now);
+        bytes += u64::from(packet.len);
+    }
+    (packets.len(), bytes)
+}
+
+// Whether each field of a packet is within its range, and it has no more bytes than `longest`.
+#[inline(always)]
+fn is_short(packet: &StoredPacket, longest: u16) -> bool
+    ensures means { result ≡ true → IsShort longest packet.now }
+    ensures comes { result ≡ false → IsShort longest packet.now → ⊥ }
+    ensures widths { HasWidths packet.now }
+{
+    // That a number fits its field is known where it is read.
+    let _port = packet.port;
+    let _number = packet.number;
+    let _buf = packet.buf;
+    let _hash = packet.hash;
+    let _len = packet.len;
+    packet.in_range() && packet.len <= longest
+}
+
+// Takes so many packets from the front into these places, and returns their bytes.
+#[inline(always)]
+fn pop_burst<T: Told>(ring: &mut Ring, places: &mut [T], most: usize) -> u64
+    requires queued { most ≤ length ring.old.packets }
+    requires places { most ≤ length places.old }
+    requires few { most ≤ most_places }
+    ensures bytes { result ≡ size (take most ring.old.packets) }
+    ensures told { places.new ≡ map (λ (s : Stamped). T.told s.packet) (take most ring.old.packets) ++ drop most places.old }
+    ensures rest { ring.new ≡ record ring.old { packets = drop most ring.old.packets } }
+{
+    let mut bytes = 0;
+    for i in 0..most {
+        let front = ring.pop();
+        bytes += u64::from(front.packet.len());
+        places[i] = T::tell(&front.packet);
+    }
+    bytes
 }
 
 impl Queue for Fifo {

@@ -3,7 +3,8 @@
 //! - [`Fifo`] is a first-in first-out queue under a [`Limit`] in packets or in bytes. Only `reserve` allocates;
 //!   `put`, `take` and `head` are O(1). Each contract says what the call does to the list of packets.
 //!   `put_from` and `take_into` copy a packet once, from and to where the caller has it, in the form in which it is kept;
-//!   `put_stored` and `take_stored` do so where that form is not known to be in range.
+//!   `put_stored` and `take_stored` do so where that form is not known to be in range. `put_burst` and `take_burst` do so for many
+//!   packets, and ask once a burst what each call asks; [`Told`] is what `take_burst` writes of each.
 //! - [`Queue`] is what CoDel takes from. Its ghost members are the list of packets and a frame, `keeps`, which says what a
 //!   take leaves alone: so a queue may be a view of a larger whole. [`Fifo`] is one.
 //! - [`Sink`] is where lost packets go, in order. A caller needs to know nothing of it but its room. [`Losses`] is one that keeps each
@@ -45,6 +46,7 @@ mod queue;
 mod ring;
 mod sink;
 mod taken;
+mod told;
 
 pub use codel::Codel;
 pub use control_law::gap;
@@ -58,3 +60,4 @@ pub use parameters::Parameters;
 pub use queue::Queue;
 pub use sink::Sink;
 pub use taken::Taken;
+pub use told::Told;
