@@ -30,3 +30,4 @@ pub mod StatsStands
 pub mod StepStands
 pub mod ToldLemmas
 pub mod WaitingLemmas
+pub mod WorstStands

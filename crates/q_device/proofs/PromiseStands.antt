@@ -33,7 +33,7 @@ drrs-stand (i ∷ path) n =
     by None rest = refl
     by (Some c) rest = rest c
 
-tbf-stands : (n : Node Kept) → has_tbf (counted n) ≡ has_tbf n
+pub tbf-stands : (n : Node Kept) → has_tbf (counted n) ≡ has_tbf n
 tbf-stands n = ap (tbf_here n.own) (each-each_memory tbf_here (λ (k : Kept). k.counts) n.below)
 
 below-stands : (link : Link) (path : List ℕ) (n : Node Kept) → way_below link path (counted n) ≡ way_below link path n

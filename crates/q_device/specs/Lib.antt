@@ -14,3 +14,4 @@ pub mod Promise
 pub mod Replayed
 pub mod Sharing
 pub mod Waiting
+pub mod Worst

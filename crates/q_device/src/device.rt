@@ -21,10 +21,12 @@ ghost use Rattle.q_device.specs.DeviceSeen.{IsRefusal, as_counted, longest, most
 ghost use Rattle.q_device.specs.Giving.{given_of, polled_in};
 ghost use Rattle.q_device.specs.Laws.{given_in};
 ghost use Rattle.q_device.specs.Promise.{promise_of, promise_seen};
+ghost use Rattle.q_device.specs.Worst.{worst_of};
 
 use crate::given::Given;
 use crate::recording::{has_room, record_arrival, record_command, record_poll};
 use crate::service::{Service, promised};
+use crate::worst::{Worst, worst_in};
 use q_codel::{Loss as Lost, Losses};
 use q_model::{Command, Event, Fate, Place, Polled, Refusal, Row, Settings, stored_ranges};
 use q_packet::{KeptPacket, Moment, StoredPacket};
@@ -246,6 +248,18 @@ impl Device {
             return None;
         };
         promised(self.tree.way_to(class)?, self.settings)
+    }
+
+    /// The longest that a packet waits in the fifo in this place; `None` where nothing is promised: where no pfifo or bfifo is in the place,
+    /// where something other than the first band of a prio is on the path from the root, a tbf at the root apart, where that tbf has no room
+    /// in its burst, as [`Device::service`] needs it, where another tbf is in the tree, or where a number is too large. It takes no memory.
+    pub fn worst(&self, place: Place) -> Option<Worst>
+        ensures { result ≡ worst_of place self.now.settings.mtu self.now.device.tree.root }
+    {
+        let Some(lane) = self.tree.lane_to(place) else {
+            return None;
+        };
+        worst_in(lane, self.settings)
     }
 
     /// Does what a line of tc asks for, or refuses it. What is removed is lost, and waits for [`Device::reap`].

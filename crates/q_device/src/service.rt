@@ -89,8 +89,8 @@ fn rate_of(link: Option<Link>) -> Option<u64>
     Some(link?.rate)
 }
 
-// Whether the burst of a link has room for a longest packet and for what its rate brings in a nanosecond.
-fn has_room(link: Option<Link>, mtu: u16) -> bool
+/// Whether the burst of a link has room for a longest packet and for what its rate brings in a nanosecond.
+pub(crate) fn has_room(link: Option<Link>, mtu: u16) -> bool
     ensures { result ≡ has_room mtu link }
 {
     let Some(link) = link else {
@@ -107,8 +107,8 @@ fn late_of(link: Option<Link>, mtu: u16) -> Option<u64>
     Some(late_on(link?, mtu))
 }
 
-// The same of one link.
-fn late_on(link: Link, mtu: u16) -> u64
+/// How many nanoseconds polls may be late at this link.
+pub(crate) fn late_on(link: Link, mtu: u16) -> u64
     ensures { result ≡ late_on mtu link }
 {
     let rate = u128::from(link.rate);

@@ -1,5 +1,9 @@
 mod DelayRows
 mod FlowService
+mod GivenPaid
+mod HoldsNone
+mod LaneNumbers
+mod LanePuts
 mod LeastShare
 mod LevelsLeft
 mod LineAsks
@@ -39,3 +43,5 @@ mod TurnSums
 mod WayStretches
 mod WorkAsks
 mod WorkTrees
+mod WorstKept
+mod WorstRows

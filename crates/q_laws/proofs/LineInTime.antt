@@ -46,7 +46,7 @@ use Rattle.q_laws.proofs.PassedStretches.{IsQuiet, put-quiet, command-quiet, onl
 use Rattle.q_laws.proofs.WorkTrees.{NoTbfs, no-tbfs, tbfs-memory}
 
 -- the line of a node that is a tbf is what it holds and then the line below it
-below-line : (n : Node (List Note)) (b : TokenBucket) (limit : ℕ) → n.own.discipline ≡ Tbf b limit → line n ≡ option_to_list n.own.held ++ unwrap_or (option_map line (slice_get (children n) 0)) []
+pub below-line : (n : Node (List Note)) (b : TokenBucket) (limit : ℕ) → n.own.discipline ≡ Tbf b limit → line n ≡ option_to_list n.own.held ++ unwrap_or (option_map line (slice_get (children n) 0)) []
 below-line n b limit is =
     ap (λ (d : Discipline). option_to_list n.own.held ++ line_in d (each line_own n.below)) is
     ∙ ap (λ ls. option_to_list n.own.held ++ unwrap_or (slice_get ls 0) []) (each-nodes line_own n.below)
@@ -60,13 +60,13 @@ module _ (link rate burst : ℕ) where
   Stays d = IsLink link rate burst d
 
   -- what the tbf is, at the root
-  record RootIs (d : DeviceState (List Note)) : Type 0 where
-    bucket : TokenBucket
-    limit : ℕ
-    is : d.tree.root.own.discipline ≡ Tbf bucket limit
-    paid : paid_so_far link d ≡ bytes_spent d.tree.root.memory
+  pub record RootIs (d : DeviceState (List Note)) : Type 0 where
+    pub bucket : TokenBucket
+    pub limit : ℕ
+    pub is : d.tree.root.own.discipline ≡ Tbf bucket limit
+    pub paid : paid_so_far link d ≡ bytes_spent d.tree.root.memory
 
-  root-is : (d : DeviceState (List Note)) → Stays d → RootIs d
+  pub root-is : (d : DeviceState (List Note)) → Stays d → RootIs d
   root-is d h =
       let x : TbfAt = h.tbf.tbf in
       let t = tbf-node link d x h.tbf.there in

@@ -91,7 +91,7 @@ module _ (d : DeviceState (List Note)) (now : ℕ) (kept : IsKept d) (later : d.
       let put = along-put d.tree.device.mtu now kept.least_mtu p (byte, ltb-false d.tree.device.mtu p.len e) r.path r.refusal bare refl lawful in
       booked-line [] (put_on now p (Some r) bare).node put.told (along-line now p r.path r.refusal bare)
 
-given-is : (o : Option Descriptor) (empty : Bool) (rest : List Reply) → filter_map given_in (reply.Polled (polled_of o empty) ∷ rest) ≡ option_to_list o ++ filter_map given_in rest
+pub given-is : (o : Option Descriptor) (empty : Bool) (rest : List Reply) → filter_map given_in (reply.Polled (polled_of o empty) ∷ rest) ≡ option_to_list o ++ filter_map given_in rest
 given-is (Some p) empty rest = refl
 given-is None true rest = refl
 given-is None false rest = refl

@@ -52,7 +52,7 @@ none-beneath (more own m below others) e =
     All-cons IsOther (record { own = own; memory = m; below = below }) (nodes_of below ++ nodes_of others) here.0
     (All-append IsOther (nodes_of below) (nodes_of others) (none-beneath below here.1) (none-beneath others both.1))
 
-one-child : {X : Type 0} (xs : List X) (i : ℕ) (c : X) → length xs ≡ 1 → slice_get xs i ≡ Some c → xs ≡ c ∷ []
+pub one-child : {X : Type 0} (xs : List X) (i : ℕ) (c : X) → length xs ≡ 1 → slice_get xs i ≡ Some c → xs ≡ c ∷ []
 one-child [] i c one e = absurd (none-some c e)
 one-child (x ∷ y ∷ xs) i c one e = absurd (omega (arith, one))
 one-child (x ∷ []) zero c one e = ap (λ k. k ∷ []) (same_Some x c e)

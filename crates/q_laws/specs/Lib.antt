@@ -9,3 +9,4 @@ pub mod Rest
 pub mod Service
 pub mod Turn
 pub mod Work
+pub mod Worst

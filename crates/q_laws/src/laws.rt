@@ -10,6 +10,7 @@ ghost use Rattle.q_laws.specs.Rest.{JoiningFlowsAreSpared};
 ghost use Rattle.q_laws.specs.Service.{ClassAgainstAny, ClassesGetTheirParts, FlowAgainstAny, NoFlowStarves, NewFlowFirst};
 ghost use Rattle.q_laws.specs.Turn.{ClassesWaitTheirTurn};
 ghost use Rattle.q_laws.specs.Work.{BandsAreStrict, WorkIsConserved};
+ghost use Rattle.q_laws.specs.Worst.{LinesKeepLimits, WorstIsEnough, WorstIsInTime};
 
 use q_model::Settings;
 
@@ -217,6 +218,25 @@ pub fn lines_leave_first(settings: Settings)
 pub fn lines_leave_in_time(settings: Settings)
     ensures from_any_state { LinesLeaveInTime settings }
     ensures within_a_limit { LimitsAreDelays settings }
+{
+    settings.ranges();
+}
+
+/// What `Device::worst` of `q_device` answers of a fifo in line is true of each packet that the fifo keeps. It is last in line then, and the
+/// line has no more bytes than the fifo's limit, where a limit of so many packets counts as so many longest ones (`limit`). So the
+/// device sends no more than these bytes until the packet has left, itself among them (`enough`).
+///
+/// Where a tbf is at the root, the next event comes within the nanoseconds that were answered from the packet's arrival, or `late` after
+/// that, as long as polls have given fewer bytes than were in line with the packet; and a poll that gives nothing was before that. So the
+/// packet has left by then (`in_time`). The device is polled as [`rate_is_delivered`] says, and no later than was answered. The level of the
+/// bucket does not matter, nor does what was queued before the packet came, in its place and elsewhere.
+///
+/// No tbf is added below the root, the one at the root stays as it is, and a command leaves the line as it was, or longer at its end. For
+/// all settings and every list of events whose fields are in their ranges.
+pub fn worst_is_enough(settings: Settings)
+    ensures limit { LinesKeepLimits settings }
+    ensures enough { WorstIsEnough settings }
+    ensures in_time { WorstIsInTime settings }
 {
     settings.ranges();
 }

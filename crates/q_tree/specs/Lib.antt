@@ -18,6 +18,7 @@ pub mod Index
 pub mod IndexOfFilters
 pub mod IndexSeen
 pub mod Kept
+pub mod Lanes
 pub mod Laws
 pub mod Making
 pub mod Matching

@@ -4,7 +4,7 @@
 //!   one call, [`Tree::send`] takes one into the caller's place, and [`Tree::ready_at`] is when the next take may give one.
 //!   [`Tree::most_packets`] is how many it can hold.
 //! - [`Route`] is the way of a packet down from the root, and [`Way`] that of a class: [`Link`] is the tbf at its root, and
-//!   [`Share`] a class of a drr on it, in numbers.
+//!   [`Share`] a class of a drr on it, in numbers. A [`Lane`] is a fifo whose packets no other packet passes.
 //! - [`Command`] is a change of the tree, [`Kind`] a qdisc with its options, [`Place`] where it goes.
 //! - [`Refusal`] is why a change was not made, [`Row`] what a node counted, [`NodeView`], [`ClassView`] and
 //!   [`FilterView`] are what `show` prints, and [`ListedFlows`] how many flows an fq_codel has listed. [`Nodes`] goes over all
@@ -29,6 +29,7 @@ mod filter_shape;
 mod filters;
 mod find;
 mod held;
+mod lanes;
 pub mod laws;
 mod listed_flows;
 mod masked_filter;
@@ -49,6 +50,7 @@ mod tree;
 mod views;
 mod ways;
 
+pub use crate::lanes::Lane;
 pub use crate::listed_flows::ListedFlows;
 pub use crate::node_ref::NodeRef;
 pub use crate::nodes::Nodes;

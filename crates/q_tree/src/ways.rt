@@ -130,8 +130,8 @@ impl Node {
         }
     }
 
-    // Whether a tbf is here or below.
-    fn has_tbf(&self) -> bool
+    /// Whether a tbf is here or below.
+    pub(crate) fn has_tbf(&self) -> bool
         ensures { result ≡ has_tbf self.now }
     {
         if self.is_tbf() {

@@ -23,6 +23,8 @@ mod device_scripts;
 #[cfg(test)]
 mod device_service;
 #[cfg(test)]
+mod device_worst;
+#[cfg(test)]
 mod lines;
 #[cfg(test)]
 mod many_packets;

@@ -79,8 +79,8 @@ impl<'a> Qdiscs<'a> {
         node.handle.is_some()
     }
 
-    // The path to a place below the device.
-    fn place_path(&self, place: Place) -> Option<Path>
+    /// The path to a place below the device.
+    pub(crate) fn place_path(&self, place: Place) -> Option<Path>
         ensures { option_map (λ p. p.items) result ≡ place_path place self.now.root.now }
     {
         match place {
