@@ -7,6 +7,8 @@ pub mod AskRows
 pub mod Asking
 pub mod AtHandLemmas
 pub mod BandsLemmas
+pub mod BurstArrivals
+pub mod BurstSends
 pub mod ChainsLemmas
 pub mod ChangeLemmas
 pub mod ClassAdding

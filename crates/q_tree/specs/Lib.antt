@@ -2,6 +2,7 @@ pub mod Ahead
 pub mod Arrivals
 pub mod ArriveSteps
 pub mod AskSteps
+pub mod Bursts
 pub mod Chains
 pub mod ChainsSeen
 pub mod Changing

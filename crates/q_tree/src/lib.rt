@@ -18,6 +18,7 @@
 
 mod arrived;
 mod booking;
+mod bursts;
 mod chains;
 mod commands;
 mod counters;

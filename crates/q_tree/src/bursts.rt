@@ -1,0 +1,158 @@
+//! Packets that come to a fifo at the root, or leave it, in a burst. What each single call asks is asked once, and both rows, of the root
+//! and of the device above it, are counted once.
+ghost use Rattle.std.specs.Prelude.{◌≡◌, ◌≤◌, ◌<◌, ◌+◌, ◌*◌, ◌^◌, ◌++◌, All, IfSome, drop, length, map, slice_get, take};
+ghost use Rattle.q_packet.specs.Stored.{descriptor};
+ghost use Rattle.q_codel.specs.Bursts.{HasWidths, IsShort};
+ghost use Rattle.q_model.specs.Beneath.{packets_in, totals_in};
+ghost use Rattle.q_model.specs.Conserved.{IsBalanced};
+ghost use Rattle.q_model.specs.Node as spec;
+ghost use Rattle.q_tree.specs.Bursts.{AreKept, IsGivenOut, arrived_each, room_at, with_arrivals, with_queued, with_sends, with_taken};
+ghost use Rattle.q_tree.specs.Kept.{kept};
+ghost use Rattle.q_tree.specs.PopSteps.{HasHead};
+
+use crate::booking::NOTHING;
+use crate::counters::Counters;
+use crate::node::{Discipline, Node};
+use crate::tree::Tree;
+use q_codel::Told;
+use q_model::Totals;
+use q_packet::{Moment, StoredPacket};
+
+impl Tree {
+    /// The first of these packets arrive one after another, all at the time `now`, which is at or after the latest time that the tree was
+    /// given: as many as a fifo at the root keeps with nothing more asked, whose limit is in packets. Returns how many.
+    ///
+    /// It ends before a packet that has a field out of its range ([`StoredPacket::in_range`]) or is longer than the mtu, where the fifo is
+    /// full or has no place more, and at once where the root is something else: [`Tree::arrive_stored`] is for what follows. It takes no memory,
+    /// and loses nothing.
+    #[inline(always)]
+    pub fn arrive_burst(&mut self, packets: &[StoredPacket], now: Moment) -> usize
+        requires order { self.old.clock ≤ now }
+        requires packets { self.old.tree.top.counts.arrived.packets + length packets.now < 2 ^ 64 }
+        requires bytes { self.old.tree.top.counts.arrived.bytes + length packets.now * 65535 < 2 ^ 64 }
+        ensures most { result ≤ length packets.now }
+        ensures taken { All (IsShort self.old.tree.device.mtu) (take result packets.now) }
+        ensures widths { All HasWidths (take result packets.now) }
+        ensures next { result < room_at self.old.tree.root → IfSome (slice_get packets.now result) (λ c. IsShort self.old.tree.device.mtu c → ⊥) }
+        ensures after { self.new ≡ arrived_each kept now (map descriptor (take result packets.now)) self.old }
+        ensures kept { AreKept kept now (map descriptor (take result packets.now)) self.old }
+    {
+        // A time is at most 2^62 nanoseconds.
+        let _ = now.ns();
+        let kept = self.root.keep_burst(packets, self.mtu, now);
+        if kept.packets == 0 {
+            return 0;
+        }
+        book_arrivals(&mut self.top, &kept);
+        self.clock = now;
+        kept.packets as usize
+    }
+
+    /// The first packets are sent one after another, all at the time `now`, which is at or after the latest time that the tree was given:
+    /// as many as there are places for, or as a fifo at the root has, and what is told of each is written into the places. Returns how many.
+    ///
+    /// It sends none where the root is something else, and [`Tree::send`] is for what follows. It takes no memory, and loses nothing.
+    #[inline(always)]
+    pub fn send_burst<T: Told>(&mut self, now: Moment, places: &mut [T]) -> usize
+        requires order { self.old.clock ≤ now }
+        ensures given { IsGivenOut T.told now result places.old places.new self.old self.new }
+        ensures most { result ≤ length places.old }
+        ensures next { result < length places.old → HasHead self.new.tree.root → ⊥ }
+    {
+        // A time is at most 2^62 nanoseconds.
+        let _ = now.ns();
+        self.top.fit();
+        let sent = self.root.send_heads(places);
+        if sent.packets == 0 {
+            return 0;
+        }
+        book_sends(&mut self.top, &sent);
+        self.clock = now;
+        sent.packets as usize
+    }
+}
+
+impl Node {
+    /// Keeps the first of these packets at a fifo whose limit is in packets, as many as it keeps with nothing asked, and counts them.
+    #[inline(always)]
+    fn keep_burst(&mut self, packets: &[StoredPacket], mtu: u16, now: Moment) -> Totals
+        requires packets { self.old.memory.counts.arrived.packets + length packets.now < 2 ^ 64 }
+        requires bytes { self.old.memory.counts.arrived.bytes + length packets.now * 65535 < 2 ^ 64 }
+        ensures most { result.packets ≤ length packets.now }
+        ensures room { result.packets ≤ room_at self.old }
+        ensures alone { 1 ≤ result.packets → self.old.below ≡ spec.none }
+        ensures taken { All (IsShort mtu) (take result.packets packets.now) }
+        ensures widths { All HasWidths (take result.packets packets.now) }
+        ensures next { result.packets < room_at self.old → IfSome (slice_get packets.now result.packets) (λ c. IsShort mtu c → ⊥) }
+        ensures totals { result ≡ totals_in (map descriptor (take result.packets packets.now)) }
+        ensures after { self.new ≡ with_queued now (map descriptor (take result.packets packets.now)) self.old }
+    {
+        let Discipline::Fifo(fifo) = &mut self.discipline else {
+            return NOTHING;
+        };
+        let (count, bytes) = fifo.put_burst(packets, mtu, now);
+        let kept = Totals {
+            packets: count as u64,
+            bytes,
+        };
+        book_arrivals(&mut self.row, &kept);
+        kept
+    }
+
+    /// Hands out the first packets of a fifo that holds none, as many as there are places for or as it has, and counts them.
+    #[inline(always)]
+    fn send_heads<T: Told>(&mut self, places: &mut [T]) -> Totals
+        ensures most { result.packets ≤ length places.old }
+        ensures queued { result.packets ≤ length (packets_in self.old.own.discipline) }
+        ensures head { 1 ≤ result.packets → HasHead self.old }
+        ensures next { result.packets < length places.old → HasHead self.new → ⊥ }
+        ensures totals { result ≡ totals_in (take result.packets (packets_in self.old.own.discipline)) }
+        ensures told { places.new ≡ map T.told (take result.packets (packets_in self.old.own.discipline)) ++ drop result.packets places.old }
+        ensures after { self.new ≡ with_taken (take result.packets (packets_in self.old.own.discipline)) self.old }
+    {
+        if self.held.is_some() {
+            return NOTHING;
+        }
+        self.row.fit();
+        let Discipline::Fifo(fifo) = &mut self.discipline else {
+            return NOTHING;
+        };
+        let (count, bytes) = fifo.take_burst(places);
+        let sent = Totals {
+            packets: count as u64,
+            bytes,
+        };
+        book_sends(&mut self.row, &sent);
+        sent
+    }
+}
+
+/// Books packets that have arrived and are queued.
+#[inline(always)]
+fn book_arrivals(row: &mut Counters, kept: &Totals)
+    requires balanced { IsBalanced row.old }
+    requires packets { row.old.arrived.packets + kept.now.packets < 2 ^ 64 }
+    requires bytes { row.old.arrived.bytes + kept.now.bytes < 2 ^ 64 }
+    ensures { row.new ≡ with_arrivals kept.now row.old }
+{
+    row.arrived_packets += kept.packets;
+    row.arrived_bytes += kept.bytes;
+    row.queued_packets += kept.packets;
+    row.queued_bytes += kept.bytes;
+}
+
+/// Books packets that were queued and are handed out.
+#[inline(always)]
+fn book_sends(row: &mut Counters, sent: &Totals)
+    requires balanced { IsBalanced row.old }
+    requires packets { sent.now.packets ≤ row.old.queued.packets }
+    requires bytes { sent.now.bytes ≤ row.old.queued.bytes }
+    requires sent_packets { row.old.sent.packets + sent.now.packets < 2 ^ 64 }
+    requires sent_bytes { row.old.sent.bytes + sent.now.bytes < 2 ^ 64 }
+    ensures { row.new ≡ with_sends sent.now row.old }
+{
+    row.sent_packets += sent.packets;
+    row.sent_bytes += sent.bytes;
+    row.queued_packets -= sent.packets;
+    row.queued_bytes -= sent.bytes;
+}
