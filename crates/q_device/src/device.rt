@@ -22,6 +22,8 @@ ghost use Rattle.q_device.specs.Giving.{given_of, polled_in};
 ghost use Rattle.q_device.specs.Laws.{given_in};
 ghost use Rattle.q_device.specs.Promise.{promise_of, promise_seen};
 
+mod bursts;
+
 use crate::given::Given;
 use crate::recording::{has_room, record_arrival, record_command, record_poll};
 use crate::service::{Service, promised};
