@@ -1,5 +1,8 @@
 mod BucketStretches
 mod BufferLemmas
+pub mod Arriving
+pub mod BurstEvents
+pub mod Polling
 pub mod ClassStretches
 pub mod CountLemmas
 pub mod DeviceLaws
@@ -14,6 +17,7 @@ pub mod Moved
 pub mod MovedAsks
 pub mod MovedTrees
 pub mod PlayLemmas
+pub mod PlaceLemmas
 pub mod PollLemmas
 mod PromiseStands
 pub mod ReadyNumbers
@@ -25,6 +29,7 @@ pub mod RenewedTrees
 pub mod ReplayLemmas
 pub mod ReplayedLemmas
 pub mod ShrinkLemmas
+pub mod RoomLemmas
 pub mod SilentDrrs
 pub mod StatsStands
 pub mod StepStands

@@ -1,6 +1,6 @@
 -- Lent places that are filled from the first on.
-use Rattle.std.proofs.Common.{◌≡◌, ℕ, zero, suc, ◌<◌, ◌≤◌, List, [], ◌∷◌, ◌++◌, refl, sym, ap, arith, true≢false, Bool, true, false, Option, Some, None}
-use Rattle.std.specs.Prelude.{drop, length, map, set, slice_get, take}
+use Rattle.std.proofs.Common.{◌≡◌, ℕ, zero, suc, ◌+◌, ◌<◌, ◌≤◌, List, [], ◌∷◌, ◌++◌, refl, sym, ap, arith, ◌∙◌, true≢false, Bool, true, false, Option, Some, None}
+use Rattle.std.specs.Prelude.{drop, length, map, replicate, set, slice_get, take}
 
 abbrev is_there : {A : Type 0} → Option A → Bool
 is_there None = false
@@ -9,8 +9,8 @@ is_there (Some x) = true
 pub none-is-none : {A : Type 0} {x : A} → None ≡ Some x → ⊥
 none-is-none e = true≢false (sym (ap is_there e))
 
-some-is-some : {A : Type 0} {x : A} → Some x ≡ None → ⊥
-some-is-some e = true≢false (ap is_there e)
+pub some-is-none : {A : Type 0} {x : A} → Some x ≡ None → ⊥
+some-is-none e = true≢false (ap is_there e)
 
 abbrev item_or : {A : Type 0} → A → Option A → A
 item_or x None = x
@@ -57,7 +57,7 @@ some-left (suc i) (w ∷ xs) x e = let ih = some-left i xs x e in omega (arith, 
 
 pub none-left : {A : Type 0} (i : ℕ) (xs : List A) → slice_get (drop i xs) 0 ≡ None → length xs ≤ i
 none-left zero [] e = omega arith
-none-left zero (w ∷ xs) e = absurd (some-is-some e)
+none-left zero (w ∷ xs) e = absurd (some-is-none e)
 none-left (suc i) [] e = omega arith
 none-left (suc i) (w ∷ xs) e = let ih = none-left i xs e in omega (arith, ih)
 
@@ -80,3 +80,15 @@ pub length-front : {A : Type 0} (i : ℕ) (xs : List A) → i ≤ length xs → 
 length-front zero xs le = refl
 length-front (suc i) [] le = absurd (omega (arith, le))
 length-front (suc i) (w ∷ xs) le = ap suc (length-front i xs (omega (arith, le)))
+
+-- the first ones are all the same, and so is the next
+pub same-more : {A : Type 0} (i : ℕ) (x y : A) (ys : List A) → i < length ys → y ≡ x → set (replicate i x ++ drop i ys) i y ≡ replicate (i + 1) x ++ drop (i + 1) ys
+same-more {A = A} i x y ys lt is =
+    let next : suc i ≡ i + 1 = omega arith in
+    ap (λ (z : A). set (replicate i x ++ drop i ys) i z) is ∙ (by i ys lt ∙ ap (λ (k : ℕ). replicate k x ++ drop k ys) next)
+  where
+    by : (n : ℕ) (zs : List A) → n < length zs → set (replicate n x ++ drop n zs) n x ≡ replicate (suc n) x ++ drop (suc n) zs
+    by zero [] l = absurd (omega (arith, l))
+    by zero (z ∷ zs) l = refl
+    by (suc n) [] l = absurd (omega (arith, l))
+    by (suc n) (z ∷ zs) l = ap (λ ws. x ∷ ws) (by n zs (omega (arith, l)))

@@ -1,7 +1,7 @@
 -- Places that stay.
 use Rattle.std.proofs.Common.{◌∙◌, refl, arith}
 use Rattle.q_device.specs.DeviceSeen.{DeviceSeen}
-use Rattle.q_ports.specs.Room.{KeepsPlaces}
+use Rattle.q_device.specs.Room.{KeepsPlaces}
 
 pub keeps-same : (d : DeviceSeen) → KeepsPlaces d d
 keeps-same d = record { queues = λ path. omega arith; losses = omega arith; events = refl }

@@ -1,4 +1,6 @@
+pub mod Answers
 pub mod Buffers
+pub mod Bursts
 pub mod Counters
 pub mod DeviceCode
 pub mod DeviceLaws
@@ -12,6 +14,7 @@ pub mod Laws
 pub mod Polls
 pub mod Promise
 pub mod Replayed
+pub mod Room
 pub mod Sharing
 pub mod Waiting
 pub mod Worst

@@ -23,6 +23,8 @@ ghost use Rattle.q_device.specs.Laws.{given_in};
 ghost use Rattle.q_device.specs.Promise.{promise_of, promise_seen};
 ghost use Rattle.q_device.specs.Worst.{worst_of};
 
+mod bursts;
+
 use crate::given::Given;
 use crate::recording::{has_room, record_arrival, record_command, record_poll};
 use crate::service::{Service, promised};

@@ -38,7 +38,9 @@
 //! these definitions from commands, arrivals and polls to replies, losses and rows.
 #![tactic(auto)]
 
+mod answer;
 mod buffers;
+mod bursts;
 mod device;
 mod given;
 pub mod last_events;
@@ -47,15 +49,18 @@ mod packets;
 mod playing;
 mod recording;
 mod service;
+mod stopped;
 mod worst;
 
+pub use crate::answer::Answer;
 pub use crate::device::Device;
 pub use crate::given::Given;
 pub use crate::last_events::LastEvents;
 pub use crate::service::Service;
+pub use crate::stopped::Stopped;
 pub use crate::worst::Worst;
 pub use playing::{Replies, play};
-pub use q_codel::Loss as Lost;
+pub use q_codel::{Loss as Lost, Told};
 pub use q_model::{Event, Fate, Polled, Reply, Settings};
 pub use q_packet::{
     Cause, Ecn, FlowHash, FlowKey, Head, KeptPacket, Moment, OneAtATime, Packet, SOME_KEPT,

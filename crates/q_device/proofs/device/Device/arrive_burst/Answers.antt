@@ -1,0 +1,60 @@
+use Rattle.std.proofs.Common.{◌≡◌, ◌+◌, ◌-◌, ◌≤◌, ◌∙◌, ℕ, List, length, refl, sym, ap, subst, arith}
+use Rattle.std.specs.Prelude.{replicate, take}
+use Rattle.std.proofs.lemmas.List.{length-take, length-take-le, take-take}
+use Rattle.q_packet.specs.declared.stored_packet.StoredPacket.{StoredPacket}
+use Rattle.q_model.specs.declared.fate.Fate.TheVariants.{Kept}
+use Rattle.q_model.specs.Step.{DeviceState}
+use Rattle.q_tree.specs.Kept as code
+use Rattle.q_tree.specs.Places.{places_at}
+use Rattle.q_device.specs.declared.device.Device.TheInside.{Inside}
+use Rattle.q_device.specs.Bursts.{arrived_by, fates_by}
+use Rattle.q_device.specs.DeviceSeen.{DeviceSeen}
+use Rattle.q_device.specs.Events.{with_memory}
+use Rattle.q_device.specs.Keeping.{device_seen}
+use Rattle.q_device.specs.Room.{KeepsPlaces}
+use Rattle.q_device.proofs.BurstEvents.{ArriveHere, arrive-here, burst-fields}
+use Rattle.q_device.proofs.device.Device.arrive_burst.Goals.{After-arrive_burst-kept}
+use Rattle.q_device.proofs.device.Device.arrive_burst.Goals as goal
+
+-- the packets that came, which are the first ones
+abbrev came : After-arrive_burst-kept → List StoredPacket
+came c = take c.arrive_burst-kept.result c.args.packets.now
+
+abbrev after : After-arrive_burst-kept → Inside
+after c = record c.self.inside { tree = c.arrive_burst-kept.new.self; spare = c.self.inside.spare - c.arrive_burst-kept.result }
+
+few : (c : After-arrive_burst-kept) → c.arrive_burst-kept.result ≤ c.min-most.result
+few c = omega (arith, c.arrive_burst-kept.ensures.most, length-take c.min-most.result c.args.packets.now)
+
+counted : (c : After-arrive_burst-kept) → length (came c) ≡ c.arrive_burst-kept.result
+counted c = length-take-le c.arrive_burst-kept.result c.args.packets.now (omega (arith, few c, c.min-most.ensures))
+
+here : (c : After-arrive_burst-kept) → ArriveHere c.args.now (came c) c.self.inside (after c)
+here c =
+    let a : Inside = c.self.inside in
+    let k = c.arrive_burst-kept.result in
+    let cs : List StoredPacket = take k (take c.min-most.result c.args.packets.now) in
+    let same : cs ≡ came c = take-take k c.min-most.result c.args.packets.now (few c) in
+    let made = c.arrive_burst-kept.ensures in
+    let all : (a.spare - k) + length cs ≡ a.spare = omega (arith, counted c, ap (λ (xs : List StoredPacket). length xs) same, few c, c.min-most.ensures) in
+    let each = arrive-here c.args.now c.later-at.result cs a (a.spare - k) c.self.invariant c.later-at.ensures c.moment_range.ensures all (burst-fields a.tree.tree.device.mtu cs made.taken made.widths) made.kept in
+    subst (λ (xs : List StoredPacket). ArriveHere c.args.now xs a (after c)) same
+    (subst (λ (x : DeviceState code.Kept). ArriveHere c.args.now cs a (record a { tree = x; spare = a.spare - k })) (sym made.after) each)
+
+pub invariant_of-self : goal.invariant_of-self
+invariant_of-self c = (here (goal.at.invariant_of-self c).After-arrive_burst-kept).keeps
+
+pub returns-clause-arrived : goal.returns-clause-arrived
+returns-clause-arrived c =
+    let d = (goal.at.returns-clause-arrived c).After-arrive_burst-kept in
+    (here d).seen ∙ ap (λ (x : DeviceSeen). with_memory (device_seen (after d)).memory (arrived_by c.args.now (came d) x)) c.self.view_is
+
+pub returns-clause-fates : goal.returns-clause-fates
+returns-clause-fates c =
+    let d = (goal.at.returns-clause-fates c).After-arrive_burst-kept in
+    sym (ap (λ (x : DeviceSeen). fates_by c.args.now (came d) x) c.self.view_is) ∙ (here d).fates ∙ ap (λ (n : ℕ). replicate n Kept) (counted d)
+
+pub returns-clause-places : goal.returns-clause-places
+returns-clause-places c =
+    let d = (goal.at.returns-clause-places c).After-arrive_burst-kept in
+    subst (λ (x : DeviceSeen). KeepsPlaces x (device_seen (after d))) c.self.view_is (record { queues = (here d).places; losses = omega arith; events = refl })

@@ -1,0 +1,27 @@
+use Rattle.std.proofs.Common.{◌≡◌, ◌≤◌, ℕ, None, length, refl, subst, arith}
+use Rattle.std.proofs.lemmas.List.{take_more}
+use Rattle.q_device.specs.Bursts.{IsArrivals}
+use Rattle.q_device.proofs.Arriving.{arriving-begins, arriving-ends, arriving-more, arriving-stops}
+use Rattle.q_device.proofs.device.Device.arrive_many.Goals as goal
+
+pub loop-i-init : goal.loop-i-init
+loop-i-init g c =
+    arriving-begins g.A.Answer.answer c.arrive_burst-kept.result c.args.now c.args.packets.now c.args.fates.now c.all_kept.new.fates c.args.self.now c.arrive_burst-kept.new.self
+    c.arrive_burst-kept.ensures.arrived c.arrive_burst-kept.ensures.fates c.all_kept.ensures c.arrive_burst-kept.ensures.in_range c.arrive_burst-kept.ensures.places c.arrive_burst-kept.ensures.none
+
+pub returns-in-Err : goal.returns-in-Err
+returns-in-Err g c =
+    arriving-stops g.A.Answer.answer c.loop-i.i c.args.now c.in-Err.why c.args.packets.now c.args.fates.now c.loop-i.fates c.args.self.now c.loop-i.self c.arrive_next.new.self _
+    c.loop-i.invariant c.loop-i-test.true c.in-Err.ensures.stops c.arrive_next.ensures.places
+
+pub loop-i-preserved : goal.loop-i-preserved
+loop-i-preserved g c =
+    arriving-more g.A.Answer.answer c.loop-i.i c.args.now c.args.packets.now c.args.fates.now c.loop-i.fates c.args.self.now c.loop-i.self c.arrive_next.new.self _ c.in-Ok.fate c.of.result
+    c.loop-i.invariant c.loop-i-test.true c.requires (take_more c.args.packets.now c.loop-i.i _ c.loop-i-test.true) c.in-Ok.ensures.event c.in-Ok.ensures.fate c.in-Ok.ensures.in_range
+    c.arrive_next.ensures.places c.of.ensures
+
+pub returns : goal.returns
+returns g c =
+    let end : c.loop-i.i ≡ length c.args.packets.now = omega (arith, c.loop-i-test.false, c.loop-i.auto.i-end) in
+    subst (λ (k : ℕ). IsArrivals g.A.Answer.answer c.args.now c.args.packets.now None k c.args.fates.now c.loop-i.fates c.args.self.now c.loop-i.self) end
+    (arriving-ends g.A.Answer.answer c.loop-i.i c.args.now c.args.packets.now c.args.fates.now c.loop-i.fates c.args.self.now c.loop-i.self c.loop-i.invariant end)

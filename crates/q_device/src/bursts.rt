@@ -1,0 +1,118 @@
+//! Calls for many packets, all at the same time. Each does what so many single calls do; at a fifo at the root it asks once what each of them
+//! asks, and counts all packets at once.
+ghost use Rattle.std.specs.Prelude.{◌≡◌, ◌≢◌, ◌≤◌, ◌++◌, IfErr, IfOk, OnErr, OnOk, None, Some, drop, length, option_map, replicate};
+ghost use Rattle.q_model.specs.declared.event.Event.TheVariants.{Poll};
+ghost use Rattle.q_model.specs.declared.fate.Fate.TheVariants.{Kept};
+ghost use Rattle.q_packet.specs.Stored.{IsStored, descriptor};
+ghost use Rattle.q_device.specs.Bursts.{IsArrivals, IsNotNext, IsPolls, arrival, fate_in, given_as};
+ghost use Rattle.q_device.specs.DeviceLaws.{HasItsMemory};
+ghost use Rattle.q_device.specs.Events.{after_event, reply_to, with_memory};
+ghost use Rattle.q_device.specs.Polls.{after_poll, given_at};
+ghost use Rattle.q_device.specs.Room.{KeepsPlaces};
+ghost use Rattle.q_device.specs.declared.given.Given.TheVariants as given;
+
+use crate::answer::Answer;
+use crate::device::Device;
+use crate::given::Given;
+use crate::stopped::Stopped;
+use q_codel::Told;
+use q_model::Fate;
+use q_packet::{Moment, SOME_KEPT, StoredPacket};
+
+impl Device {
+    /// These packets arrive in order, as at [`Device::arrive_stored`], all at the time `now`, to the first that has a field out of its range or
+    /// for which an allocation fails. What became of each is written into the places, of which there are as many as packets at least.
+    ///
+    /// Returns how many arrived, and why the next did not; `None` where all did. For that one nothing has changed but for places: what there was
+    /// room for there is room for still.
+    ///
+    /// ```
+    /// let mut fates = [Fate::Kept; 32];
+    /// let (arrived, stopped) = device.arrive_many(&packets, &mut fates, now);
+    /// ```
+    pub fn arrive_many<A: Answer>(
+        &mut self,
+        packets: &[StoredPacket],
+        fates: &mut [A],
+        now: Moment,
+    ) -> (usize, Option<Stopped>)
+        requires { length packets.now ≤ length fates.old }
+        ensures { IsArrivals A.answer now packets.now result.1 result.0 fates.old fates.new self.old self.new }
+    {
+        let kept = self.arrive_burst(packets, now);
+        all_kept(fates, kept);
+        for i in kept..packets.len() {
+            match self.arrive_next(&packets[i], now) {
+                Ok(fate) => fates[i] = A::of(fate),
+                Err(why) => return (i, Some(why)),
+            }
+        }
+        (packets.len(), None)
+    }
+
+    /// Polls, all at the time `now`, until there are as many packets as places, or to the first poll that gives none. What the type of the places
+    /// tells of a packet, as a [`StoredPacket`] all of it, is written into the first of them. Returns how many were given, and the answer to the
+    /// last poll. It takes no memory.
+    pub fn poll_many<T: Told>(&mut self, now: Moment, places: &mut [T]) -> (usize, Given)
+        ensures { IsPolls T.told now result.1 result.0 places.old places.new self.old self.new }
+    {
+        let given = self.poll_burst(now, places);
+        for i in given..places.len() {
+            match self.poll_next(now, &mut places[i]) {
+                Given::Packet => {}
+                Given::Idle => return (i, Given::Idle),
+                Given::Later => return (i, Given::Later),
+            }
+        }
+        (places.len(), Given::Packet)
+    }
+
+    // One of them arrives.
+    #[inline(always)]
+    fn arrive_next(&mut self, packet: &StoredPacket, now: Moment) -> Result<Fate, Stopped>
+        ensures event { OnOk result (self.new ≡ with_memory self.new.memory (after_event (arrival now packet.now) self.old)) }
+        ensures fate { IfOk result (λ fate. fate ≡ fate_in (reply_to (arrival now packet.now) self.old)) }
+        ensures in_range { OnOk result (IsStored packet.now) }
+        ensures stops { IfErr result (λ why. IsNotNext packet.now why self.old self.new) }
+        ensures places { KeepsPlaces self.old self.new }
+    {
+        self.kept();
+        if !packet.in_range() {
+            return Err(Stopped::OutOfRange);
+        }
+        match self.arrive_stored(packet, now) {
+            Ok(fate) => Ok(fate),
+            Err(_) => Err(Stopped::Memory),
+        }
+    }
+
+    // One of the polls.
+    #[inline(always)]
+    fn poll_next<T: Told>(&mut self, now: Moment, place: &mut T) -> Given
+        ensures polled { self.new ≡ after_poll now self.old }
+        ensures answer { result ≡ given_as (reply_to (Poll now) self.old) }
+        ensures given { result ≡ given.Packet → option_map T.told (given_at now self.old) ≡ Some place.new }
+        ensures none { result ≢ given.Packet → (given_at now self.old ≡ None) × (place.new ≡ place.old) }
+    {
+        let mut packet = SOME_KEPT;
+        match self.poll_kept(now, &mut packet) {
+            Given::Packet => {
+                *place = T::tell(&packet);
+                Given::Packet
+            }
+            Given::Idle => Given::Idle,
+            Given::Later => Given::Later,
+        }
+    }
+}
+
+// So many packets were kept.
+#[inline(always)]
+fn all_kept<A: Answer>(fates: &mut [A], kept: usize)
+    requires { kept ≤ length fates.old }
+    ensures { fates.new ≡ replicate kept (A.answer Kept) ++ drop kept fates.old }
+{
+    for i in 0..kept {
+        fates[i] = A::of(Fate::Kept);
+    }
+}

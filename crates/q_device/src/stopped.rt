@@ -1,0 +1,8 @@
+/// Why no more packets of a burst arrived.
+#[derive(Clone, Copy, PartialEq, Eq, Debug)]
+pub enum Stopped {
+    /// The next packet has a field out of its range.
+    OutOfRange,
+    /// An allocation failed for the next packet.
+    Memory,
+}
