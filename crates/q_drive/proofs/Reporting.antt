@@ -1,14 +1,14 @@
 -- What is written before the senders run, and behind it what they came to.
-use Rattle.std.proofs.Common.{◌≡◌, ◌∙◌, ℕ, Bool, List, ◌++◌, Option, Some, None, Ok, Err, IfSome, if◌then◌else◌, refl, ap, subst, arith, ⊎_elim}
+use Rattle.std.proofs.Common.{◌≡◌, ◌∙◌, ℕ, List, ◌++◌, Option, Some, None, Result, Ok, Err, IfOk, IfSome, refl, ap, subst, arith, ⊎_elim}
 use Rattle.std.proofs.KnownBytes.{Appends-trans}
 use Rattle.std.proofs.lemmas.List.{append_assoc}
 use Rattle.std.specs.Io.KnownBytes.{Appends}
 use Rattle.std.specs.declared.io.ErrorKind.{ErrorKind}
 use Rattle.q_script.specs.Ended.{Ended}
-use Rattle.q_script.specs.Step.{IsPartlyRun, IsRun}
+use Rattle.q_script.specs.Step.{IsPartlyRun, IsRun, outcome_of}
 use Rattle.q_script.specs.declared.outcome.Outcome.{Outcome}
-use Rattle.q_script.specs.declared.outcome.Outcome.TheVariants.{Clean, Refused}
 use Rattle.q_script.specs.declared.reads.Reads.{Reads}
+use Rattle.q_script.specs.declared.run_fault.RunFault.{RunFault}
 use Rattle.q_script.specs.declared.run_fault.RunFault.TheVariants as fault
 use Rattle.q_script.proofs.WrittenLemmas.{front-longer, front-of}
 use Rattle.q_session.specs.Session.{SessionSeen, opened}
@@ -17,7 +17,7 @@ use Rattle.q_show.specs.Written.{AppendsFront}
 use Rattle.q_show.specs.declared.writes.Writes.{Writes}
 use Rattle.q_drive.specs.Drive.{Drive}
 use Rattle.q_drive.specs.Driven.{HasDriven}
-use Rattle.q_drive.specs.Reported.{IsDriven, IsPartlyDriven, outcome, outcome_with, set_up}
+use Rattle.q_drive.specs.Reported.{IsDriven, IsDrivenOf, IsPartlyDriven, not_done, outcome, outcome_with, set_up}
 use Rattle.q_drive.specs.SetUp.{effect_of}
 use Rattle.q_drive.specs.Texts.{ending_text}
 use Rattle.q_drive.specs.declared.driven.Driven.{Driven}
@@ -26,30 +26,33 @@ use Rattle.q_drive.specs.declared.driven.Driven.{Driven}
 pub in-turn : (o₀ o₁ o₂ a b : List ℕ) → o₁ ≡ o₀ ++ a → o₂ ≡ o₁ ++ b → o₂ ≡ o₀ ++ (a ++ b)
 in-turn o₀ o₁ o₂ a b first second = second ∙ (ap (λ (o : List ℕ). o ++ b) first ∙ append_assoc o₀ a b)
 
-abbrev pub is_refused : SessionSeen → Bool
-is_refused s = s.state.refused
+abbrev pub missed : SessionSeen → ℕ
+missed s = s.state.not_done
 
-told_is : (s : Drive) (script starved : List ℕ) (told : Outcome) (driven : Option Driven) → told ≡ (if (set_up s script starved).session.state.refused then Refused else Clean) → outcome_with driven told ≡ outcome s script starved driven
+told_is : (s : Drive) (script starved : List ℕ) (told : Outcome) (driven : Option Driven) → told ≡ outcome_of (not_done s script starved) → outcome_with driven told ≡ outcome s script starved driven
 told_is s script starved told None e = refl
 told_is s script starved told (Some d) e = e
 
-both : (s : Drive) (script : List ℕ) (driven : Option Driven) (told : Outcome) (old mid new : Option (List ℕ)) (first : SessionSeen) → first ≡ opened s.device → IfSome driven (HasDriven s)
-    → Appends mid new (ending_text s.show driven) → IsRun effect_of is_refused script first told old mid → IsDriven s script (outcome_with driven told) old new
-both s script driven told old mid new first is has ending h =
-    let r = subst (λ x. IsRun effect_of is_refused script x told old mid) is h in
-    record {
-      starved = r.starved;
-      driven = driven;
-      has_driven = has;
-      text = Appends-trans old mid new (set_up s script r.starved).text (ending_text s.show driven) r.text ending;
-      outcome_is = told_is s script r.starved told driven r.outcome_is;
-    }
+both : (s : Drive) (script : List ℕ) (driven : Option Driven) (told : Outcome) (old mid new : Option (List ℕ)) (first last : SessionSeen) → first ≡ opened s.device → IfSome driven (HasDriven s)
+    → Appends mid new (ending_text s.show driven) → IsRun effect_of missed script first last told old mid → IsDrivenOf s script (outcome_with driven told) (missed last) old new
+both s script driven told old mid new first last is has ending h =
+    let r = subst (λ x. IsRun effect_of missed script x last told old mid) is h in
+    let lines = ap missed r.session in (
+      record {
+        starved = r.starved;
+        driven = driven;
+        has_driven = has;
+        text = Appends-trans old mid new (set_up s script r.starved).text (ending_text s.show driven) r.text ending;
+        outcome_is = told_is s script r.starved told driven (r.outcome_is ∙ ap outcome_of lines);
+      },
+      lines,
+    )
 
 -- the senders' text was not written whole
-ending_failed : (s : Drive) (script : List ℕ) (driven : Option Driven) (told : Outcome) (old mid new : Option (List ℕ)) (first : SessionSeen) → first ≡ opened s.device → IfSome driven (HasDriven s)
-    → AppendsFront mid new (ending_text s.show driven) → IsRun effect_of is_refused script first told old mid → IsPartlyDriven s script old new
-ending_failed s script driven told old mid new first is has ending h =
-    let r = subst (λ x. IsRun effect_of is_refused script x told old mid) is h in
+ending_failed : (s : Drive) (script : List ℕ) (driven : Option Driven) (told : Outcome) (old mid new : Option (List ℕ)) (first last : SessionSeen) → first ≡ opened s.device → IfSome driven (HasDriven s)
+    → AppendsFront mid new (ending_text s.show driven) → IsRun effect_of missed script first last told old mid → IsPartlyDriven s script old new
+ending_failed s script driven told old mid new first last is has ending h =
+    let r = subst (λ x. IsRun effect_of missed script x last told old mid) is h in
     let ahead = (set_up s script r.starved).text in
     record {
       starved = r.starved;
@@ -74,15 +77,21 @@ known : (P Q : List ℕ → Type 0) → ((all : List ℕ) → P all → Q all) �
 known P Q f None h = tt
 known P Q f (Some all) h = f all h
 
-pub told-whole : (had : Option (List ℕ)) (s : Drive) (driven : Option Driven) (told : Outcome) (old mid new : Option (List ℕ)) (first : SessionSeen) → first ≡ opened s.device → IfSome driven (HasDriven s)
-    → Appends mid new (ending_text s.show driven) → IfSome had (λ all. IsRun effect_of is_refused all first told old mid) → IfSome had (λ all. IsDriven s all (outcome_with driven told) old new)
-told-whole had s driven told old mid new first is has ending =
-    known (λ all. IsRun effect_of is_refused all first told old mid) (λ all. IsDriven s all (outcome_with driven told) old new) (λ all. both s all driven told old mid new first is has ending) had
+pub told-whole : (had : Option (List ℕ)) (s : Drive) (driven : Option Driven) (told : Outcome) (old mid new : Option (List ℕ)) (first last : SessionSeen) → first ≡ opened s.device → IfSome driven (HasDriven s)
+    → Appends mid new (ending_text s.show driven) → IfSome had (λ all. IsRun effect_of missed all first last told old mid) → IfSome had (λ all. IsDrivenOf s all (outcome_with driven told) (missed last) old new)
+told-whole had s driven told old mid new first last is has ending =
+    known (λ all. IsRun effect_of missed all first last told old mid) (λ all. IsDrivenOf s all (outcome_with driven told) (missed last) old new) (λ all. both s all driven told old mid new first last is has ending) had
 
-pub told-ending : (had : Option (List ℕ)) (s : Drive) (driven : Option Driven) (told : Outcome) (old mid new : Option (List ℕ)) (first : SessionSeen) → first ≡ opened s.device → IfSome driven (HasDriven s)
-    → AppendsFront mid new (ending_text s.show driven) → IfSome had (λ all. IsRun effect_of is_refused all first told old mid) → IfSome had (λ all. IsPartlyDriven s all old new)
-told-ending had s driven told old mid new first is has ending =
-    known (λ all. IsRun effect_of is_refused all first told old mid) (λ all. IsPartlyDriven s all old new) (λ all. ending_failed s all driven told old mid new first is has ending) had
+-- without the number of lines
+pub told-report : (had old new : Option (List ℕ)) (s : Drive) (lines : ℕ) (result : Result Outcome RunFault)
+    → IfOk result (λ told. IfSome had (λ all. IsDrivenOf s all told lines old new)) → IfOk result (λ told. IfSome had (λ all. IsDriven s all told old new))
+told-report had old new s lines (Ok told) h = known (λ all. IsDrivenOf s all told lines old new) (λ all. IsDriven s all told old new) (λ all r. r.0) had h
+told-report had old new s lines (Err fault) h = tt
+
+pub told-ending : (had : Option (List ℕ)) (s : Drive) (driven : Option Driven) (told : Outcome) (old mid new : Option (List ℕ)) (first last : SessionSeen) → first ≡ opened s.device → IfSome driven (HasDriven s)
+    → AppendsFront mid new (ending_text s.show driven) → IfSome had (λ all. IsRun effect_of missed all first last told old mid) → IfSome had (λ all. IsPartlyDriven s all old new)
+told-ending had s driven told old mid new first last is has ending =
+    known (λ all. IsRun effect_of missed all first last told old mid) (λ all. IsPartlyDriven s all old new) (λ all. ending_failed s all driven told old mid new first last is has ending) had
 
 pub told-lines : (had : Option (List ℕ)) (s : Drive) (old new : Option (List ℕ)) (first : SessionSeen) → first ≡ opened s.device
     → IfSome had (λ all. IsPartlyRun effect_of all first old new) → IfSome had (λ all. IsPartlyDriven s all old new)

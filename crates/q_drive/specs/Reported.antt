@@ -1,9 +1,9 @@
 -- What a whole drive writes: what standard input came to, and then what the senders did.
-use Rattle.std.specs.Prelude.{◌≡◌, List, ℕ, ◌++◌, if◌then◌else◌, Option, None, Some, IfSome}
+use Rattle.std.specs.Prelude.{◌≡◌, List, ℕ, ◌++◌, Option, None, Some, IfSome}
 use Rattle.std.specs.Io.KnownBytes.{Appends}
-use Rattle.q_script.specs.Step.{Effect, run_of}
+use Rattle.q_script.specs.Step.{Effect, outcome_of, run_of}
 use Rattle.q_script.specs.declared.outcome.Outcome.{Outcome}
-use Rattle.q_script.specs.declared.outcome.Outcome.TheVariants.{Clean, Refused}
+use Rattle.q_script.specs.declared.outcome.Outcome.TheVariants.{Refused}
 use Rattle.q_session.specs.Session.{SessionSeen, opened}
 use Rattle.q_show.specs.Written.{AppendsFront}
 use Rattle.q_drive.specs.Drive.{Drive}
@@ -20,10 +20,14 @@ set_up s script starved = run_of effect_of starved script (opened s.device)
 abbrev pub report : Drive → List ℕ → List ℕ → Option Driven → List ℕ
 report s script starved driven = (set_up s script starved).text ++ ending_text s.show driven
 
+-- how many lines were faulty or turned down
+abbrev pub not_done : Drive → List ℕ → List ℕ → ℕ
+not_done s script starved = (set_up s script starved).session.state.not_done
+
 -- Refused where a line was faulty or turned down, or an allocation failed for the senders
 abbrev pub outcome : Drive → List ℕ → List ℕ → Option Driven → Outcome
 outcome s script starved None = Refused
-outcome s script starved (Some d) = if (set_up s script starved).session.state.refused then Refused else Clean
+outcome s script starved (Some d) = outcome_of (not_done s script starved)
 
 -- The writer has the report and nothing else, with an allocation failure at some lines or none, and the outcome is the report's.
 pub record IsDriven (s : Drive) (script : List ℕ) (told : Outcome) (old new : Option (List ℕ)) : Type 0 where
@@ -32,6 +36,10 @@ pub record IsDriven (s : Drive) (script : List ℕ) (told : Outcome) (old new : 
   pub has_driven : IfSome driven (HasDriven s)
   pub text : Appends old new (report s script starved driven)
   pub outcome_is : told ≡ outcome s script starved driven
+
+-- and so many of its lines were not done
+abbrev pub IsDrivenOf : Drive → List ℕ → Outcome → ℕ → Option (List ℕ) → Option (List ℕ) → Type 0
+IsDrivenOf s script told lines old new = (r : IsDriven s script told old new) × (lines ≡ not_done s script r.starved)
 
 -- the writer has a front of such a report, and some of the report is not written
 pub record IsPartlyDriven (s : Drive) (script : List ℕ) (old new : Option (List ℕ)) : Type 0 where

@@ -1,6 +1,6 @@
 ghost use Rattle.std.specs.Prelude.{◌≡◌, ◌≤◌, ◌<◌, [], length, IfErr, IfOk, IfSome, OnErr, OnOk, Err};
 ghost use Rattle.std.specs.Io.KnownBytes.{Appends, Keeps};
-ghost use Rattle.q_drive.specs.Reported.{IsDriven, IsEnded, IsPartlyDriven, IsPartlyEnded, outcome_with};
+ghost use Rattle.q_drive.specs.Reported.{IsDriven, IsDrivenOf, IsEnded, IsPartlyDriven, IsPartlyEnded, outcome_with};
 ghost use Rattle.q_drive.specs.Texts.{ending_text};
 ghost use Rattle.q_model.specs.Tally.{no_totals};
 ghost use Rattle.q_script.specs.Ended.{Ended};
@@ -52,7 +52,7 @@ pub fn run_drive_between<H: Threads + Wait + Sync, R: Read, W: Write>(
     run_drive_noting(rt, alloc, source, target, settings, &mut notes)
 }
 
-/// The same. If it returns an outcome, the notes that were handed over are then those of its lines.
+/// The same. If it returns an outcome, the notes that were handed over are then those of its lines, and say how many were not done.
 pub fn run_drive_noting<H: Threads + Wait + Sync, R: Read, W: Write>(
     rt: &H,
     alloc: Global,
@@ -66,7 +66,7 @@ pub fn run_drive_noting<H: Threads + Wait + Sync, R: Read, W: Write>(
     ensures same_reader { source.new.reader.ghost_name ≡ source.old.reader.ghost_name }
     ensures same_writer { target.new.writer.ghost_name ≡ target.old.writer.ghost_name }
     ensures report { IfOk result (λ outcome. IfSome (R.remaining source.old.reader.now) (λ script.
-        IsDriven settings script outcome (W.contents target.old.writer.now) (W.contents target.new.writer.now))) }
+        IsDrivenOf settings script outcome notes.new (W.contents target.old.writer.now) (W.contents target.new.writer.now))) }
     ensures short { OnOk result (IfSome (R.remaining source.old.reader.now) (λ script. length script ≤ 16777216)) }
     ensures too_long_only { result ≡ Err RunFault.TooLong → IfSome (R.remaining source.old.reader.now) (λ script. 16777216 < length script) }
     ensures partly { (kind : ErrorKind) → result ≡ Err (RunFault.Write kind) → IfSome (R.remaining source.old.reader.now) (λ script.

@@ -46,9 +46,10 @@ impl SetUp {
         })
     }
 
-    /// Takes what was noted of the lines, and begins these notes. The session stays as it is.
+    /// Takes what was noted of the lines, with how many were not done, and begins these notes. The session stays as it is.
     pub fn exchange_notes(&mut self, notes: &mut Notes)
-        ensures { self.new ≡ self.old }
+        ensures same { self.new ≡ self.old }
+        ensures not_done { notes.new ≡ self.old.state.not_done }
     {
         self.session.exchange_notes(notes);
     }
@@ -69,7 +70,7 @@ impl Session for SetUp {
 
     ghost packets = { λ s. 0 };
 
-    ghost refused = { λ s. s.state.refused };
+    ghost not_done = { λ s. s.state.not_done };
 
     fn run_line<W: Write>(
         &mut self,
@@ -94,7 +95,7 @@ impl Session for SetUp {
         }
     }
 
-    fn is_refused(&self) -> bool {
-        self.session.is_refused()
+    fn not_done(&self) -> u64 {
+        self.session.not_done()
     }
 }

@@ -4,7 +4,7 @@ use Rattle.std.specs.Prelude.{◌≡◌, ℕ, ◌<◌, Bool, false, ◌⊎◌, L
 use Rattle.std.specs.Io.KnownBytes.{Appends, Keeps}
 use Rattle.std.specs.declared.io.ErrorKind.{ErrorKind}
 use Rattle.q_drive.specs.Drive.{Drive}
-use Rattle.q_drive.specs.Reported.{IsDriven, IsPartlyDriven}
+use Rattle.q_drive.specs.Reported.{IsDrivenOf, IsPartlyDriven}
 use Rattle.q_options.specs.declared.fault.Fault.{Fault}
 use Rattle.q_options.specs.declared.fault.Fault.TheVariants.{Argument, Help, Run}
 use Rattle.q_options.specs.declared.play_options.PlayOptions.{PlayOptions}
@@ -20,7 +20,7 @@ use Rattle.q_script.specs.RunFault.{fault_kind, fault_text}
 use Rattle.q_script.specs.Settings.{Settings}
 use Rattle.q_script.specs.declared.outcome.Outcome.{Outcome}
 use Rattle.q_script.specs.declared.outcome.Outcome.TheVariants.{Clean, Refused}
-use Rattle.q_session.specs.Reported.{IsPartlyReported, IsReported}
+use Rattle.q_session.specs.Reported.{IsPartlyReported, IsReportedOf}
 use Rattle.q_show.specs.Writes.{WriteFailed}
 use Rattle.q_show.specs.Written.{AppendsFront}
 use Rattle.q_show.specs.declared.writes.Writes.{Writes}
@@ -75,23 +75,27 @@ pub record IsCounted (lines : ℕ) (old new : Option (List ℕ)) : Type 0 where
   pub some : 0 < lines → Appends old new (counted_line lines) ⊎ AppendsFront old new (counted_line lines)
 
 -- Standard input or a file was read: what the output and the error output had before and have now, what the reads and writes came
--- to, and the status. What is reported whole of a script, with its outcome, and what in part, is the command's own. Where lines that
--- were not done are explained, the error output says of them what it will.
-pub record IsAnswered (explained : Bool) (file : Option Text) (whole : Outcome → List ℕ → Type 0) (partly : List ℕ → Type 0) (script old new errors_old errors_new : Option (List ℕ)) (reads : Reads) (writes : Writes) (status : ℕ) : Type 0 where
+-- to, and the status. So many lines had a fault or were refused. What is reported whole of a script, with its outcome and that number,
+-- and what in part, is the command's own. Where these lines are explained, the error output says of them what it will.
+pub record IsAnswered (explained : Bool) (lines : ℕ) (file : Option Text) (whole : Outcome → ℕ → List ℕ → Type 0) (partly : List ℕ → Type 0) (script old new errors_old errors_new : Option (List ℕ)) (reads : Reads) (writes : Writes) (status : ℕ) : Type 0 where
   -- the whole report, in which nothing had a fault or was refused
-  pub clean : status ≡ 0 → IfSome script (whole Clean) × Ended (Ok Clean) reads writes
+  pub clean : status ≡ 0 → IfSome script (whole Clean lines) × Ended (Ok Clean) reads writes
   -- the whole report, in which something had a fault or was refused
-  pub refused : status ≡ 1 → IfSome script (whole Refused) × Ended (Ok Refused) reads writes
-  -- without explanations nothing is reported of lines that were done, and how many were not
+  pub refused : status ≡ 1 → IfSome script (whole Refused lines) × Ended (Ok Refused) reads writes
+  -- without explanations nothing is reported of lines that were done, and the number of those that were not
   pub silent : explained ≡ false → status ≡ 0 → Keeps errors_old errors_new
-  pub counted : explained ≡ false → status ≡ 1 → (lines : ℕ) × IsCounted lines errors_old errors_new
+  pub counted : explained ≡ false → status ≡ 1 → IsCounted lines errors_old errors_new
   -- not the whole report, and a line that says why
   pub fault : status ≡ 2 → (fault : RunFault) × IsToldOf file (Run fault) errors_old errors_new × Leaves partly fault script old new × Ended (Err fault) reads writes
 
--- a script of a file or of standard input was played
+-- a script of a file or of standard input was played, of which so many lines were not done
+abbrev pub IsPlayedWith : Bool → ℕ → Option Text → Settings → Option (List ℕ) → Option (List ℕ) → Option (List ℕ) → Option (List ℕ) → Option (List ℕ) → Reads → Writes → ℕ → Type 0
+IsPlayedWith explained lines file settings script old new errors_old errors_new reads writes status =
+    IsAnswered explained lines file (λ told lines all. IsReportedOf settings all told lines old new) (λ all. IsPartlyReported settings all old new) script old new errors_old errors_new reads writes status
+
 abbrev pub IsPlayedOf : Bool → Option Text → Settings → Option (List ℕ) → Option (List ℕ) → Option (List ℕ) → Option (List ℕ) → Option (List ℕ) → Reads → Writes → ℕ → Type 0
 IsPlayedOf explained file settings script old new errors_old errors_new reads writes status =
-    IsAnswered explained file (λ told all. IsReported settings all told old new) (λ all. IsPartlyReported settings all old new) script old new errors_old errors_new reads writes status
+    (lines : ℕ) × IsPlayedWith explained lines file settings script old new errors_old errors_new reads writes status
 
 abbrev pub IsPlayed : Settings → Option (List ℕ) → Option (List ℕ) → Option (List ℕ) → Option (List ℕ) → Option (List ℕ) → Reads → Writes → ℕ → Type 0
 IsPlayed settings script old new errors_old errors_new reads writes status = IsPlayedOf false None settings script old new errors_old errors_new reads writes status
@@ -111,10 +115,14 @@ pub record IsPlayedFrom {F S T : Type 0} (remaining : F → Option (List ℕ)) (
       → IsUnopened path target target_new errors_old errors_new status
       ⊎ ((file : F) × (file_reads : Reads) × IsPlayedOf options.explain (Some path) options.settings (remaining file) old new errors_old errors_new file_reads writes status)
 
--- a device was set up and driven
+-- a device was set up by lines, of which so many were not done, and driven
+abbrev pub IsDriveAnsweredWith : Bool → ℕ → Drive → Option (List ℕ) → Option (List ℕ) → Option (List ℕ) → Option (List ℕ) → Option (List ℕ) → Reads → Writes → ℕ → Type 0
+IsDriveAnsweredWith explained lines settings script old new errors_old errors_new reads writes status =
+    IsAnswered explained lines None (λ told lines all. IsDrivenOf settings all told lines old new) (λ all. IsPartlyDriven settings all old new) script old new errors_old errors_new reads writes status
+
 abbrev pub IsDriveAnsweredOf : Bool → Drive → Option (List ℕ) → Option (List ℕ) → Option (List ℕ) → Option (List ℕ) → Option (List ℕ) → Reads → Writes → ℕ → Type 0
 IsDriveAnsweredOf explained settings script old new errors_old errors_new reads writes status =
-    IsAnswered explained None (λ told all. IsDriven settings all told old new) (λ all. IsPartlyDriven settings all old new) script old new errors_old errors_new reads writes status
+    (lines : ℕ) × IsDriveAnsweredWith explained lines settings script old new errors_old errors_new reads writes status
 
 abbrev pub IsDriveAnswered : Drive → Option (List ℕ) → Option (List ℕ) → Option (List ℕ) → Option (List ℕ) → Option (List ℕ) → Reads → Writes → ℕ → Type 0
 IsDriveAnswered settings script old new errors_old errors_new reads writes status = IsDriveAnsweredOf false settings script old new errors_old errors_new reads writes status

@@ -1,5 +1,5 @@
 ghost use Rattle.std.specs.Prelude.{◌≡◌, ◌≢◌, ◌≤◌, true};
-ghost use Rattle.q_options.specs.Answer.{IsDriveAnswered, IsDriveAnsweredOf};
+ghost use Rattle.q_options.specs.Answer.{IsDriveAnswered, IsDriveAnsweredOf, IsDriveAnsweredWith};
 ghost use Rattle.q_script.specs.Reads.{no_reads};
 ghost use Rattle.q_show.specs.Writes.{no_writes};
 
@@ -80,7 +80,7 @@ fn drive_noting<H: Threads + Wait + Sync, R: Read, W: Write, E: Write>(
     ensures same_reader { source.new.reader.ghost_name ≡ source.old.reader.ghost_name }
     ensures same_writer { target.new.writer.ghost_name ≡ target.old.writer.ghost_name }
     ensures statuses { result ≤ 2 }
-    ensures driven { IsDriveAnsweredOf true settings (R.remaining source.old.reader.now)
+    ensures driven { IsDriveAnsweredWith true notes.new settings (R.remaining source.old.reader.now)
         (W.contents target.old.writer.now) (W.contents target.new.writer.now)
         (E.contents errors.old) (E.contents errors.new) source.new.reads target.new.writes result }
     ensures silent { result ≢ 2 → E.contents errors.new ≡ E.contents errors.old }

@@ -1,5 +1,5 @@
 ghost use Rattle.std.specs.Prelude.{◌≡◌, ◌≢◌, ◌≤◌, option_map, true};
-ghost use Rattle.q_options.specs.Answer.{IsPlayed, IsPlayedOf};
+ghost use Rattle.q_options.specs.Answer.{IsPlayed, IsPlayedOf, IsPlayedWith};
 ghost use Rattle.q_script.specs.Reads.{no_reads};
 ghost use Rattle.q_session.specs.Session.{opened};
 ghost use Rattle.q_show.specs.Writes.{no_writes};
@@ -86,7 +86,7 @@ fn play_in<R: Read, W: Write, E: Write>(
     ensures same_reader { source.new.reader.ghost_name ≡ source.old.reader.ghost_name }
     ensures same_writer { target.new.writer.ghost_name ≡ target.old.writer.ghost_name }
     ensures statuses { result ≤ 2 }
-    ensures played { IsPlayedOf true (option_map (λ path. path.now) file.entry) settings (R.remaining source.old.reader.now)
+    ensures played { IsPlayedWith true session.new.state.not_done (option_map (λ path. path.now) file.entry) settings (R.remaining source.old.reader.now)
         (W.contents target.old.writer.now) (W.contents target.new.writer.now)
         (E.contents errors.old) (E.contents errors.new) source.new.reads target.new.writes result }
     ensures silent { result ≢ 2 → E.contents errors.new ≡ E.contents errors.old }

@@ -34,7 +34,7 @@ pub fn tell_lines<E: Write>(
 )
     ensures fault { status ≡ 2 → E.contents errors.new ≡ E.contents errors.old }
     ensures clean { explains ≡ false → status ≡ 0 → E.contents errors.new ≡ E.contents errors.old }
-    ensures counted { explains ≡ false → status ≡ 1 → (lines : ℕ) × IsCounted lines (E.contents errors.old) (E.contents errors.new) }
+    ensures counted { explains ≡ false → status ≡ 1 → IsCounted notes.now (E.contents errors.old) (E.contents errors.new) }
 {
     match (explains, status) {
         (true, CLEAN | REFUSED) => explain(alloc, notes, errors),

@@ -1,6 +1,6 @@
 -- What a script makes of a session, and what it writes: line by line, whatever the lines mean.
 -- A session says itself what a line does; here is what follows for a whole script, and for a run that fails on the way.
-use Rattle.std.specs.Prelude.{◌≡◌, ℕ, suc, Bool, if◌then◌else◌, List, [], ◌∷◌, ◌++◌, Option}
+use Rattle.std.specs.Prelude.{◌≡◌, ◌==◌, ℕ, suc, Bool, if◌then◌else◌, List, [], ◌∷◌, ◌++◌, Option}
 use Rattle.std.specs.Io.KnownBytes.{Appends}
 use Rattle.q_show.specs.Written.{AppendsFront, IsBuffered}
 use Rattle.q_script.specs.Script.{lines_of, is_starved}
@@ -40,12 +40,17 @@ pub record IsWholeRun {S : Type 0} (effect : Bool → ℕ → List ℕ → S →
   pub text : Appends old new (run_of effect starved script first).text
   pub session : last ≡ (run_of effect starved script first).session
 
--- The writer has the report of the script and nothing else, with an allocation failure at some lines or none; the outcome is
--- Refused exactly where the session is refused at the end.
-pub record IsRun {S : Type 0} (effect : Bool → ℕ → List ℕ → S → Effect S) (refused : S → Bool) (script : List ℕ) (first : S) (told : Outcome) (old new : Option (List ℕ)) : Type 0 where
+-- how a script went of which so many lines were not done
+abbrev pub outcome_of : ℕ → Outcome
+outcome_of lines = if lines == 0 then Clean else Refused
+
+-- The writer has the report of the script and nothing else, with an allocation failure at some lines or none; the session is as its
+-- replay leaves it, and the outcome is that of the lines that were not done.
+pub record IsRun {S : Type 0} (effect : Bool → ℕ → List ℕ → S → Effect S) (not_done : S → ℕ) (script : List ℕ) (first last : S) (told : Outcome) (old new : Option (List ℕ)) : Type 0 where
   pub starved : List ℕ
   pub text : Appends old new (run_of effect starved script first).text
-  pub outcome_is : told ≡ (if refused (run_of effect starved script first).session then Refused else Clean)
+  pub session : last ≡ (run_of effect starved script first).session
+  pub outcome_is : told ≡ outcome_of (not_done last)
 
 -- the writer has a front of such a report, and some of the report is not written
 abbrev pub IsPartlyRun : {S : Type 0} → (Bool → ℕ → List ℕ → S → Effect S) → List ℕ → S → Option (List ℕ) → Option (List ℕ) → Type 0

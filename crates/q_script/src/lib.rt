@@ -3,7 +3,7 @@
 //! - [`run`] reads a script from any reader, cuts it into lines, lets a [`Session`] run each of them in turn and writes
 //!   what they report to any writer. Its contract says what was written, for every script and every session: the report
 //!   `run_of` of `specs/Step.antt`, for some list of lines at which an allocation failed, and nothing else; that the outcome is
-//!   `Refused` if and only if the session is refused at the end; and what each `RunFault` leaves.
+//!   `Refused` if and only if a line had a fault or was refused, as the session says at the end; and what each `RunFault` leaves.
 //! - [`Session`] is what runs a line. It says by its `effect` what a line writes and what it leaves, and writes through an
 //!   [`Output`], which buffers the report's text.
 //! - [`run_between`] does the same from a [`Source`] to a `Target` of `q_show`, which are a reader and a writer that keep

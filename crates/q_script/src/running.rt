@@ -25,6 +25,7 @@ fn run_lines<W: Write, S: Session>(
 ) -> Result<(), WriteFault>
     requires short { length script.now ≤ 16777216 }
     requires new { S.packets session.old ≡ 0 }
+    requires clean { S.not_done session.old ≡ 0 }
     requires empty { output.old ≡ [] }
     requires going { MayWrite target.old.writes }
     ensures same_writer { target.new.writer.ghost_name ≡ target.old.writer.ghost_name }
@@ -61,12 +62,13 @@ pub fn run_between<R: Read, W: Write, S: Session>(
     session: &mut S,
 ) -> Result<Outcome, RunFault>
     requires new { S.packets session.old ≡ 0 }
+    requires clean { S.not_done session.old ≡ 0 }
     requires unread { source.old.reads ≡ no_reads }
     requires unwritten { target.old.writes ≡ no_writes }
     ensures same_reader { source.new.reader.ghost_name ≡ source.old.reader.ghost_name }
     ensures same_writer { target.new.writer.ghost_name ≡ target.old.writer.ghost_name }
     ensures report { IfOk result (λ outcome. IfSome (R.remaining source.old.reader.now) (λ script.
-        IsRun S.effect S.refused script session.old outcome (W.contents target.old.writer.now) (W.contents target.new.writer.now))) }
+        IsRun S.effect S.not_done script session.old session.new outcome (W.contents target.old.writer.now) (W.contents target.new.writer.now))) }
     ensures short { OnOk result (IfSome (R.remaining source.old.reader.now) (λ script. length script ≤ 16777216)) }
     ensures too_long_only { result ≡ Err RunFault.TooLong → IfSome (R.remaining source.old.reader.now) (λ script. 16777216 < length script) }
     ensures partly { (kind : ErrorKind) → result ≡ Err (RunFault.Write kind) → IfSome (R.remaining source.old.reader.now) (λ script.
@@ -84,13 +86,13 @@ pub fn run_between<R: Read, W: Write, S: Session>(
     };
     let mut output = Output::new(alloc).map_err(|_| RunFault::Memory)?;
     match run_lines(session, &script, &mut output, target) {
-        Ok(()) if session.is_refused() => Ok(Outcome::Refused),
-        Ok(()) => Ok(Outcome::Clean),
+        Ok(()) if session.not_done() == 0 => Ok(Outcome::Clean),
+        Ok(()) => Ok(Outcome::Refused),
         Err(fault) => Err(RunFault::Write(fault.kind)),
     }
 }
 
-/// Reads a script of at most 16,777,216 bytes, runs its lines in a session that has numbered no packet, and writes the report.
+/// Reads a script of at most 16,777,216 bytes, runs its lines in a session that has run none, and writes the report.
 /// No line is run before the whole script was read. The reader is asked 16,777,218 times at most; a read that was interrupted
 /// counts as one.
 ///
@@ -102,10 +104,11 @@ pub fn run<R: Read, W: Write, S: Session>(
     writer: &mut W,
     session: &mut S,
 ) -> Result<Outcome, RunFault>
-    requires { S.packets session.old ≡ 0 }
+    requires new { S.packets session.old ≡ 0 }
+    requires clean { S.not_done session.old ≡ 0 }
     // What was written is the report of what the reader had, and nothing else.
     ensures report { IfOk result (λ outcome. IfSome (R.remaining reader.old) (λ script.
-        IsRun S.effect S.refused script session.old outcome (W.contents writer.old) (W.contents writer.new))) }
+        IsRun S.effect S.not_done script session.old session.new outcome (W.contents writer.old) (W.contents writer.new))) }
     ensures short { OnOk result (IfSome (R.remaining reader.old) (λ script. length script ≤ 16777216)) }
 
     ensures read { (kind : ErrorKind) → result ≡ Err (RunFault.Read kind) → Keeps (W.contents writer.old) (W.contents writer.new) }

@@ -35,7 +35,7 @@ same_shape d = shape-with_memory counts_in d.tree.root
 -- an event that happens to a session
 after-shrunk : (a : Step (List Note)) (b : Step Counts) → IsShrunkStep a b → (s : SessionState (List Note)) → shrunk_session (after a s) ≡ after b (shrunk_session s)
 after-shrunk a b h s =
-    ap₂ (λ (d : DeviceState Counts) (losses : List Loss). record { device = d; waiting = s.waiting ++ losses; moment = s.moment; packets = s.packets; refused = s.refused }) h.device h.losses
+    ap₂ (λ (d : DeviceState Counts) (losses : List Loss). record { device = d; waiting = s.waiting ++ losses; moment = s.moment; packets = s.packets; not_done = s.not_done }) h.device h.losses
 
 done-shrunk : (edit : Edit) (now : ℕ) (d : DeviceState (List Note)) → IsShrunkStep (done history edit now d) (done totals edit now (shrunk d))
 done-shrunk edit now d = record {
@@ -112,7 +112,7 @@ replayed-shrunk seed starved k (l ∷ lines) s =
 
 new_session-shrunk : (settings : DeviceSettings) → shrunk_session (new_session history settings) ≡ new_session totals settings
 new_session-shrunk settings =
-    ap (λ (t : TreeState Counts). record { device = record { clock = 0; tree = t }; waiting = []; moment = 0; packets = 0; refused = false })
+    ap (λ (t : TreeState Counts). record { device = record { clock = 0; tree = t }; waiting = []; moment = 0; packets = 0; not_done = 0 })
     (new_tree-stands history totals counts_in totals_for_history (record { mtu = settings.mtu; txqueuelen = settings.txqueuelen }))
 
 pub replay-shrunk : TotalsAreEnough

@@ -8,7 +8,7 @@ use Rattle.q_script_semantics.specs.Report.{SessionState, Effect, replay_with}
 
 -- the same session, where each node keeps totals in place of its history
 abbrev pub shrunk_session : SessionState (List Note) → SessionState Counts
-shrunk_session s = record { device = shrunk s.device; waiting = s.waiting; moment = s.moment; packets = s.packets; refused = s.refused }
+shrunk_session s = record { device = shrunk s.device; waiting = s.waiting; moment = s.moment; packets = s.packets; not_done = s.not_done }
 
 pub record IsShrunkEffect (e : Effect (List Note)) (f : Effect Counts) : Type 0 where
   pub text : e.text ≡ f.text

@@ -30,13 +30,13 @@ use Rattle.q_line.specs.declared.object.Object.TheVariants as object
 use Rattle.q_script_semantics.specs.Text.{refused_line, poll_line, lost_line, device_line, qdisc_text, class_line, filter_line}
 
 -- What a script's lines have made so far: the device, the losses that wait to be reaped, the time of the lines that
--- follow, how many packets were numbered, and whether a line had a fault or was refused.
+-- follow, how many packets were numbered, and how many lines had a fault or were refused.
 pub record SessionState (M : Type 0) : Type 0 where
   pub device : DeviceState M
   pub waiting : List Loss
   pub moment : ℕ
   pub packets : ℕ
-  pub refused : Bool
+  pub not_done : ℕ
 
 -- what a line writes, and what it leaves
 pub record Effect (M : Type 0) : Type 0 where
@@ -44,14 +44,14 @@ pub record Effect (M : Type 0) : Type 0 where
   pub session : SessionState M
 
 abbrev pub new_session : {M : Type 0} → Tally M → DeviceSettings → SessionState M
-new_session t settings = record { device = new_device t settings; waiting = []; moment = 0; packets = 0; refused = false }
+new_session t settings = record { device = new_device t settings; waiting = []; moment = 0; packets = 0; not_done = 0 }
 
 abbrev pub silent : {M : Type 0} → SessionState M → Effect M
 silent s = record { text = []; session = s }
 
 -- a line is refused, and changes nothing else
 abbrev pub refusing : {M : Type 0} → List ℕ → SessionState M → Effect M
-refusing text s = record { text = text; session = record s { refused = true } }
+refusing text s = record { text = text; session = record s { not_done = suc s.not_done } }
 
 -- an event happens: what it loses waits from then on
 abbrev pub after : {M : Type 0} → Step M → SessionState M → SessionState M

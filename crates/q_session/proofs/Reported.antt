@@ -1,5 +1,5 @@
 -- What a session over totals writes is the report over whole histories.
-use Rattle.std.proofs.Common.{◌≡◌, ◌∙◌, ℕ, suc, Bool, List, [], ◌∷◌, ◌++◌, Option, Some, None, Result, Ok, Err, IfOk, IfSome, if◌then◌else◌, refl, sym, ap, subst}
+use Rattle.std.proofs.Common.{◌≡◌, ◌∙◌, ℕ, suc, Bool, List, [], ◌∷◌, ◌++◌, Option, Some, None, Result, Ok, Err, IfOk, IfSome, refl, sym, ap, subst}
 use Rattle.std.specs.Io.KnownBytes.{Appends}
 use Rattle.q_line.specs.Grammar.{line_of}
 use Rattle.q_model.specs.Tally.{totals}
@@ -7,17 +7,16 @@ use Rattle.q_script_semantics.specs.Report as report
 use Rattle.q_script_semantics.specs.Report.{SessionState}
 use Rattle.q_script_semantics.proofs.ReportLemmas.{replay-shrunk}
 use Rattle.q_script.specs.declared.outcome.Outcome.{Outcome}
-use Rattle.q_script.specs.declared.outcome.Outcome.TheVariants.{Clean, Refused}
 use Rattle.q_script.specs.declared.run_fault.RunFault.{RunFault}
 use Rattle.q_script.specs.Script.{is_starved, lines_of}
 use Rattle.q_script.specs.Settings.{Settings}
-use Rattle.q_script.specs.Step.{Effect, IsPartlyRun, IsRun, replayed, run_of}
+use Rattle.q_script.specs.Step.{Effect, IsPartlyRun, IsRun, outcome_of, replayed, run_of}
 use Rattle.q_show.specs.Written.{AppendsFront}
-use Rattle.q_session.specs.Reported.{IsPartlyReported, IsReported, replay, report as text_of}
+use Rattle.q_session.specs.Reported.{IsPartlyReported, IsReported, IsReportedOf, not_done, report as text_of}
 use Rattle.q_session.specs.Session.{SessionSeen, device_settings, effect_of, opened, seen}
 
-abbrev pub is_refused : SessionSeen → Bool
-is_refused s = s.state.refused
+abbrev pub missed : SessionSeen → ℕ
+missed s = s.state.not_done
 
 -- line by line
 lines-are : (starved : ℕ → Bool) (k : ℕ) (lines : List (List ℕ)) (s : SessionSeen) → replayed effect_of starved k lines s ≡ seen s (report.replayed totals s.seed starved k lines s.state)
@@ -34,20 +33,23 @@ text-is : (settings : Settings) (script starved : List ℕ) → (run_of effect_o
 text-is settings script starved =
     ap (λ (e : Effect SessionSeen). e.text) (script-is settings script starved) ∙ sym (replay-shrunk (device_settings settings) settings.seed script starved).text
 
-refused-is : (settings : Settings) (script starved : List ℕ) → is_refused (run_of effect_of starved script (opened settings)).session ≡ (replay settings script starved).session.refused
-refused-is settings script starved =
-    ap (λ (e : Effect SessionSeen). is_refused e.session) (script-is settings script starved)
-    ∙ sym (ap (λ s. s.refused) (replay-shrunk (device_settings settings) settings.seed script starved).session)
+missed-is : (settings : Settings) (script starved : List ℕ) → missed (run_of effect_of starved script (opened settings)).session ≡ not_done settings script starved
+missed-is settings script starved =
+    ap (λ (e : Effect SessionSeen). missed e.session) (script-is settings script starved)
+    ∙ sym (ap (λ s. s.not_done) (replay-shrunk (device_settings settings) settings.seed script starved).session)
 
-whole : (settings : Settings) (script : List ℕ) (told : Outcome) (old new : Option (List ℕ)) (first : SessionSeen) → first ≡ opened settings
-    → IsRun effect_of is_refused script first told old new → IsReported settings script told old new
-whole settings script told old new first is h =
-    let r = subst (λ s. IsRun effect_of is_refused script s told old new) is h in
-    record {
-      starved = r.starved;
-      text = subst (Appends old new) (text-is settings script r.starved) r.text;
-      outcome_is = r.outcome_is ∙ ap (λ (b : Bool). if b then Refused else Clean) (refused-is settings script r.starved);
-    }
+whole : (settings : Settings) (script : List ℕ) (told : Outcome) (old new : Option (List ℕ)) (first last : SessionSeen) → first ≡ opened settings
+    → IsRun effect_of missed script first last told old new → IsReportedOf settings script told (missed last) old new
+whole settings script told old new first last is h =
+    let r = subst (λ s. IsRun effect_of missed script s last told old new) is h in
+    let lines = ap missed r.session ∙ missed-is settings script r.starved in (
+      record {
+        starved = r.starved;
+        text = subst (Appends old new) (text-is settings script r.starved) r.text;
+        outcome_is = r.outcome_is ∙ ap outcome_of lines;
+      },
+      lines,
+    )
 
 partly : (settings : Settings) (script : List ℕ) (old new : Option (List ℕ)) (first : SessionSeen) → first ≡ opened settings → IsPartlyRun effect_of script first old new → IsPartlyReported settings script old new
 partly settings script old new first is h =
@@ -59,10 +61,17 @@ known : (P Q : List ℕ → Type 0) → ((all : List ℕ) → P all → Q all) �
 known P Q f None h = tt
 known P Q f (Some all) h = f all h
 
-pub told-whole : (had old new : Option (List ℕ)) (settings : Settings) (first : SessionSeen) (result : Result Outcome RunFault) → first ≡ opened settings
-    → IfOk result (λ told. IfSome had (λ all. IsRun effect_of is_refused all first told old new)) → IfOk result (λ told. IfSome had (λ all. IsReported settings all told old new))
-told-whole had old new settings first (Ok told) is h = known (λ all. IsRun effect_of is_refused all first told old new) (λ all. IsReported settings all told old new) (λ all. whole settings all told old new first is) had h
-told-whole had old new settings first (Err fault) is h = tt
+pub told-whole : (had old new : Option (List ℕ)) (settings : Settings) (first last : SessionSeen) (result : Result Outcome RunFault) → first ≡ opened settings
+    → IfOk result (λ told. IfSome had (λ all. IsRun effect_of missed all first last told old new)) → IfOk result (λ told. IfSome had (λ all. IsReportedOf settings all told (missed last) old new))
+told-whole had old new settings first last (Ok told) is h =
+    known (λ all. IsRun effect_of missed all first last told old new) (λ all. IsReportedOf settings all told (missed last) old new) (λ all. whole settings all told old new first last is) had h
+told-whole had old new settings first last (Err fault) is h = tt
+
+-- without the number of lines
+pub told-report : (had old new : Option (List ℕ)) (settings : Settings) (lines : ℕ) (result : Result Outcome RunFault)
+    → IfOk result (λ told. IfSome had (λ all. IsReportedOf settings all told lines old new)) → IfOk result (λ told. IfSome had (λ all. IsReported settings all told old new))
+told-report had old new settings lines (Ok told) h = known (λ all. IsReportedOf settings all told lines old new) (λ all. IsReported settings all told old new) (λ all r. r.0) had h
+told-report had old new settings lines (Err fault) h = tt
 
 pub told-partly : (had old new : Option (List ℕ)) (settings : Settings) (first : SessionSeen) → first ≡ opened settings
     → IfSome had (λ all. IsPartlyRun effect_of all first old new) → IfSome had (λ all. IsPartlyReported settings all old new)

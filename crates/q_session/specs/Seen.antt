@@ -6,5 +6,5 @@ abbrev pub session_seen : Inside → SessionSeen
 session_seen a = record {
   seed = a.seed;
   settings = a.device.settings;
-  state = record { device = a.device.device; waiting = a.device.waiting; moment = a.moment; packets = a.packets; refused = a.refused };
+  state = record { device = a.device.device; waiting = a.device.waiting; moment = a.moment; packets = a.packets; not_done = a.not_done };
 }

@@ -1,4 +1,4 @@
-ghost use Rattle.std.specs.Prelude.{◌≡◌, ◌≤◌, ◌<◌, ◌+◌, ◌++◌, ◌^◌, Bool, true, [], IfOk, IfErr, IsOk, OnOk, OnErr};
+ghost use Rattle.std.specs.Prelude.{◌≡◌, ◌≤◌, ◌<◌, ◌+◌, ◌++◌, ◌^◌, Bool, suc, [], IfOk, IfErr, IsOk, OnOk, OnErr};
 ghost use Rattle.std.specs.List.{flat_map};
 ghost use Rattle.q_line.specs.Ranges.{IsSendable};
 ghost use Rattle.q_model.specs.Tally.{totals};
@@ -35,8 +35,8 @@ pub struct DeviceSession {
     moment: Moment,
     /// How many packets were numbered.
     packets: u32,
-    /// Whether a line had a fault or was refused.
-    refused: bool,
+    /// How many lines had a fault or were refused.
+    not_done: u64,
     /// What the hash of a packet's key begins with, where its line gives none.
     seed: u32,
     /// What is noted of the lines.
@@ -76,24 +76,26 @@ impl DeviceSession {
             mtu: settings.mtu(),
             moment: Moment::zero(),
             packets: 0,
-            refused: false,
+            not_done: 0,
             seed: settings.seed(),
             notes: Notes::counting(alloc),
         })
     }
 
-    /// Takes what was noted of the lines, and begins these notes. The session stays as it is.
+    /// Takes what was noted of the lines, with how many were not done, and begins these notes. The session stays as it is.
     pub fn exchange_notes(&mut self, notes: &mut Notes)
-        ensures { self.new ≡ self.old }
+        ensures same { self.new ≡ self.old }
+        ensures not_done { notes.new ≡ self.old.state.not_done }
     {
         std::mem::swap(&mut self.notes, notes);
+        notes.set_not_done(self.not_done);
     }
 
     /// Notes a line that was not done.
     fn note(&mut self, number: u64, line: &[u8], note: LineNote)
         ensures { self.new ≡ self.old }
     {
-        self.notes.add_not_done(number, line, note);
+        self.notes.add(number, line, note);
     }
 
     /// Checks a line that was done, and gives a tbf this burst if it gives any, for what its writer may not want: a burst below the
@@ -118,6 +120,7 @@ impl DeviceSession {
     /// A packet arrives. It takes its number also if its allocation fails, which is returned.
     fn arrive(&mut self, number: u64, arrival: Arrival, output: &mut Output) -> Option<Refusal>
         requires few { self.old.state.packets + 1 < 2 ^ 32 }
+        requires fewer { self.old.state.not_done < number }
         requires room { HasRoom output.old most_step }
         requires len { 1 ≤ arrival.len }
         requires prio { arrival.prio ≤ 15 }
@@ -128,7 +131,7 @@ impl DeviceSession {
         self.packets += 1;
         let packet = self.numbered(arrival);
         if self.device.arrive(packet, self.moment).is_err() {
-            self.refused = true;
+            self.not_done += 1;
             put_refusal(output, number, Refusal::Memory);
             return Some(Refusal::Memory);
         }
@@ -167,6 +170,7 @@ impl DeviceSession {
         requires { MayWrite target.old.writes }
         ensures same_writer { target.new.writer.ghost_name ≡ target.old.writer.ghost_name }
         ensures packets { self.new.state.packets ≡ self.old.state.packets }
+        ensures not_done { self.new.state.not_done ≡ self.old.state.not_done }
         ensures after { OnOk result (self.new ≡ (seen self.old (polls totals count self.old.state)).session) }
         ensures text { OnOk result (IsBuffered (W.contents target.old.writer.now) (W.contents target.new.writer.now) output.new
             (output.old ++ (polls totals count self.old.state).text)) }
@@ -184,7 +188,8 @@ impl DeviceSession {
 
     /// The command of a line, which the device does or refuses.
     pub fn command(&mut self, number: u64, line: &[u8], command: Command, output: &mut Output)
-        requires { HasRoom output.old most_step }
+        requires fewer { self.old.state.not_done < number }
+        requires room { HasRoom output.old most_step }
         ensures { (starved : Bool)
             × (self.new ≡ (seen self.old (commanded totals starved number command self.old.state)).session)
             × (output.new ≡ output.old ++ (commanded totals starved number command self.old.state).text) }
@@ -198,13 +203,14 @@ impl DeviceSession {
 
     /// The same; the refusal is returned.
     fn run_command(&mut self, number: u64, command: Command, output: &mut Output) -> Option<Refusal>
-        requires { HasRoom output.old most_step }
+        requires fewer { self.old.state.not_done < number }
+        requires room { HasRoom output.old most_step }
         ensures { (starved : Bool)
             × (self.new ≡ (seen self.old (commanded totals starved number command self.old.state)).session)
             × (output.new ≡ output.old ++ (commanded totals starved number command self.old.state).text) }
     {
         if let Err(refusal) = self.device.command(command, self.moment) {
-            self.refused = true;
+            self.not_done += 1;
             put_refusal(output, number, refusal);
             return Some(refusal);
         }
@@ -220,6 +226,7 @@ impl DeviceSession {
         requires { MayWrite target.old.writes }
         ensures same_writer { target.new.writer.ghost_name ≡ target.old.writer.ghost_name }
         ensures packets { self.new.state.packets ≡ self.old.state.packets }
+        ensures not_done { self.new.state.not_done ≡ self.old.state.not_done }
         ensures after { OnOk result (self.new ≡ record self.old { state = record self.old.state { waiting = [] } }) }
         ensures text { OnOk result (IsBuffered (W.contents target.old.writer.now) (W.contents target.new.writer.now) output.new
             (output.old ++ flat_map lost_line self.old.state.waiting)) }
@@ -256,11 +263,12 @@ impl DeviceSession {
 
     /// A line with a fault.
     pub fn fault(&mut self, number: u64, line: &[u8], fault: LineFault, output: &mut Output)
-        requires { HasRoom output.old most_step }
-        ensures after { self.new ≡ record self.old { state = record self.old.state { refused = true } } }
+        requires fewer { self.old.state.not_done < number }
+        requires room { HasRoom output.old most_step }
+        ensures after { self.new ≡ record self.old { state = record self.old.state { not_done = suc self.old.state.not_done } } }
         ensures text { output.new ≡ output.old ++ fault_line number fault }
     {
-        self.refused = true;
+        self.not_done += 1;
         put_fault(output, number, fault);
         self.note(number, line, LineNote::Fault(fault));
     }
@@ -268,6 +276,7 @@ impl DeviceSession {
     /// A line that writes one line at most. Its refusal is returned.
     fn answer(&mut self, number: u64, line: Line, output: &mut Output) -> Option<Refusal>
         requires few { self.old.state.packets + 1 < 2 ^ 32 }
+        requires fewer { self.old.state.not_done < number }
         requires room { HasRoom output.old most_step }
         requires sendable { IsSendable line }
         requires short { IsShort line }
@@ -326,7 +335,7 @@ impl Session for DeviceSession {
 
     ghost packets = { λ s. s.state.packets };
 
-    ghost refused = { λ s. s.state.refused };
+    ghost not_done = { λ s. s.state.not_done };
 
     #[inline(always)]
     fn run_line<W: Write>(
@@ -357,7 +366,7 @@ impl Session for DeviceSession {
         }
     }
 
-    fn is_refused(&self) -> bool {
-        self.refused
+    fn not_done(&self) -> u64 {
+        self.not_done
     }
 }

@@ -1,10 +1,13 @@
+ghost use Rattle.std.specs.Prelude.{◌≡◌};
+
 use crate::line_note::LineNote;
 use crate::noted_line::NotedLine;
 use q_words::{cut_word, skip_blanks};
 use std::alloc::{AllocError, Global};
+use std::marker::Model;
 
 /// What is noted of the lines of a script, in their order: how many were not done, and, where lines are kept, each of these and each
-/// that does what its writer may not want. No contract sees them: they are for people.
+/// that does what its writer may not want. A contract sees that number alone: the lines are for people.
 #[derive(Drop)]
 pub struct Notes {
     alloc: Global,
@@ -12,14 +15,28 @@ pub struct Notes {
     keeps: bool,
     lines: Vec<NotedLine>,
     missed: u64,
+    /// How many lines were not done, as the session says that hands the notes over.
     not_done: u64,
     /// The name of the device in the first line that was read and has one.
     device: Vec<u8>,
 }
 
+impl Model for Notes {
+    ghost use Rattle.std.specs.Prelude.{ℕ};
+    ghost use Rattle.std.specs.Coded.{coded_ℕ};
+
+    ghost Value = { ℕ };
+
+    ghost coded = { coded_ℕ };
+
+    ghost view = { λ notes. notes.not_done };
+}
+
 impl Notes {
-    /// Notes that count the lines that were not done, and keep none.
-    pub fn counting(alloc: Global) -> Notes {
+    /// Notes that have the number of the lines that were not done, and keep none.
+    pub fn counting(alloc: Global) -> Notes
+        ensures { result ≡ 0 }
+    {
         Notes {
             alloc,
             keeps: false,
@@ -31,7 +48,9 @@ impl Notes {
     }
 
     /// Notes that keep lines too.
-    pub fn keeping(alloc: Global) -> Notes {
+    pub fn keeping(alloc: Global) -> Notes
+        ensures { result ≡ 0 }
+    {
         let mut notes = Notes::counting(alloc);
         notes.keeps = true;
         notes
@@ -53,18 +72,23 @@ impl Notes {
     }
 
     /// How many lines were not done.
-    pub fn not_done(&self) -> u64 {
+    pub fn not_done(&self) -> u64
+        ensures { result ≡ self.now }
+    {
         self.not_done
     }
 
-    /// Counts a line that was not done, and keeps it where lines are kept.
-    pub fn add_not_done(&mut self, number: u64, line: &[u8], note: LineNote) {
-        self.not_done = self.not_done.saturating_add(1);
-        self.add(number, line, note);
+    /// Takes down how many lines were not done.
+    pub fn set_not_done(&mut self, lines: u64)
+        ensures { self.new ≡ lines }
+    {
+        self.not_done = lines;
     }
 
     /// Keeps a line, where lines are kept and there is memory.
-    pub fn add(&mut self, number: u64, line: &[u8], note: LineNote) {
+    pub fn add(&mut self, number: u64, line: &[u8], note: LineNote)
+        ensures { self.new ≡ self.old }
+    {
         if self.keeps && self.keep(number, line, note).is_err() {
             self.missed = self.missed.saturating_add(1);
         }
@@ -72,7 +96,9 @@ impl Notes {
 
     /// Checks the name of the device in a line that was done, where lines are kept, and keeps a line that has another one than the
     /// first.
-    pub fn look_at_device(&mut self, number: u64, line: &[u8]) {
+    pub fn look_at_device(&mut self, number: u64, line: &[u8])
+        ensures { self.new ≡ self.old }
+    {
         if !self.keeps {
             return;
         }
@@ -92,7 +118,9 @@ impl Notes {
     }
 
     /// Keeps a line.
-    fn keep(&mut self, number: u64, line: &[u8], note: LineNote) -> Result<(), AllocError> {
+    fn keep(&mut self, number: u64, line: &[u8], note: LineNote) -> Result<(), AllocError>
+        ensures { self.new ≡ self.old }
+    {
         let text = Vec::from_slice(self.alloc, line)?;
         self.lines.push(NotedLine { number, text, note })?;
         Ok(())

@@ -3,7 +3,7 @@ ghost use Rattle.std.specs.Io.KnownBytes.{Keeps};
 ghost use Rattle.q_show.specs.Writes.{no_writes};
 ghost use Rattle.q_script.specs.Ended.{Ended};
 ghost use Rattle.q_script.specs.Reads.{no_reads};
-ghost use Rattle.q_session.specs.Reported.{IsReported, IsPartlyReported};
+ghost use Rattle.q_session.specs.Reported.{IsReported, IsReportedOf, IsPartlyReported};
 ghost use Rattle.q_session.specs.Session.{opened};
 
 use crate::device_session::DeviceSession;
@@ -49,7 +49,8 @@ pub fn run_between<R: Read, W: Write>(
     run_session(alloc, source, target, settings, &mut session)
 }
 
-/// Runs a script as [`run_between`] does, in a session that was opened with these settings and has run no line.
+/// Runs a script as [`run_between`] does, in a session that was opened with these settings and has run no line. The session then says how
+/// many lines were not done.
 pub fn run_session<R: Read, W: Write>(
     alloc: Global,
     source: &mut Source<'_, R>,
@@ -63,7 +64,7 @@ pub fn run_session<R: Read, W: Write>(
     ensures same_reader { source.new.reader.ghost_name ≡ source.old.reader.ghost_name }
     ensures same_writer { target.new.writer.ghost_name ≡ target.old.writer.ghost_name }
     ensures report { IfOk result (λ outcome. IfSome (R.remaining source.old.reader.now) (λ script.
-        IsReported settings script outcome (W.contents target.old.writer.now) (W.contents target.new.writer.now))) }
+        IsReportedOf settings script outcome session.new.state.not_done (W.contents target.old.writer.now) (W.contents target.new.writer.now))) }
     ensures short { OnOk result (IfSome (R.remaining source.old.reader.now) (λ script. length script ≤ 16777216)) }
     ensures too_long_only { result ≡ Err RunFault.TooLong → IfSome (R.remaining source.old.reader.now) (λ script. 16777216 < length script) }
     ensures partly { (kind : ErrorKind) → result ≡ Err (RunFault.Write kind) → IfSome (R.remaining source.old.reader.now) (λ script.

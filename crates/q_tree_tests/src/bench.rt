@@ -11,7 +11,7 @@ use std::alloc::Global;
 use std::test::Fail;
 
 /// A call, and what it has to answer.
-#[derive(Clone, Copy, Debug)]
+#[derive(Clone, Copy)]
 pub enum Call {
     // Where, the handle (with 0 the tree chooses), what, and the refusal.
     Graft(Spot, u16, New, Option<Refusal>),
@@ -392,12 +392,14 @@ impl Bench {
         }
     }
 
-    /// FFails at the first call that does not answer as it has to.
+    /// Fails at the first call that does not answer as it has to, with its place among them.
     pub fn play(&mut self, alloc: Global, calls: &[Call]) -> Result<(), Fail> {
+        let mut place = 0u64;
         for call in calls {
             if !self.answers(alloc, *call)? {
-                return Err(Fail::new(format_args!("{call:?}")));
+                return Err(Fail::new(format_args!("call {place}")));
             }
+            place = place.saturating_add(1);
         }
         Ok(())
     }

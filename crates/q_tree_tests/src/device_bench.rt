@@ -13,7 +13,7 @@ use std::alloc::{AllocError, Global};
 use std::test::Fail;
 
 /// What a line of tc asks for.
-#[derive(Clone, Copy, Debug)]
+#[derive(Clone, Copy)]
 pub enum Ask {
     // Where, the handle (with 0 the device chooses), and what.
     Graft(Spot, u16, New),
@@ -71,7 +71,7 @@ pub fn poll_at(ns: u64) -> Result<Event, Fail> {
 }
 
 /// A call, and what it has to answer.
-#[derive(Clone, Copy, Debug)]
+#[derive(Clone, Copy)]
 pub enum Call {
     // The line, its time, and the refusal.
     Do(Ask, u64, Option<Refusal>),
@@ -355,12 +355,14 @@ impl Bench {
         }
     }
 
-    // Fails at the first call that does not answer as it has to.
+    // Fails at the first call that does not answer as it has to, with its place among them.
     fn play(&mut self, calls: &[Call]) -> Result<(), Fail> {
+        let mut place = 0u64;
         for call in calls {
             if !self.answers(*call)? {
-                return Err(Fail::new(format_args!("{call:?}")));
+                return Err(Fail::new(format_args!("call {place}")));
             }
+            place = place.saturating_add(1);
         }
         Ok(())
     }

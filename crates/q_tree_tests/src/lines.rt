@@ -9,7 +9,7 @@ use q_packet::{Ecn, FlowKey, Moment, Packet};
 use std::test::Fail;
 
 /// A place of the tree: the class by its major and minor number.
-#[derive(Clone, Copy, Debug)]
+#[derive(Clone, Copy)]
 pub enum Spot {
     Top,
     Root,
@@ -27,7 +27,7 @@ impl Spot {
 }
 
 /// A qdisc to make.
-#[derive(Clone, Copy, Debug)]
+#[derive(Clone, Copy)]
 pub enum New {
     Pfifo,
     // The limit in packets.

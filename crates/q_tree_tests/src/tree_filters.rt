@@ -7,7 +7,7 @@ use std::alloc::Global;
 use std::test::Fail;
 
 // What a filter compares.
-#[derive(Clone, Copy, Debug)]
+#[derive(Clone, Copy)]
 enum Key {
     Any,
     Ipv4,
@@ -102,11 +102,13 @@ fn band_by_key(alloc: Global, key: Key, flow: Flow) -> Result<u16, Fail> {
 }
 
 fn go(alloc: Global, rows: &[(Key, Flow, u16)]) -> Result<(), Fail> {
+    let mut place = 0u64;
     for (key, flow, minor) in rows {
         let answer = band_by_key(alloc, *key, *flow)?;
         if answer != *minor {
-            return Err(Fail::new(format_args!("{key:?} {flow:?}: {answer}")));
+            return Err(Fail::new(format_args!("{place}: {flow:?}: {answer}")));
         }
+        place = place.saturating_add(1);
     }
     Ok(())
 }
@@ -204,31 +206,51 @@ fn a_prefix_of_version_6_compares_so_many_bits(rt: HostRuntime) -> Result<(), Fa
     )
 }
 
+// One of many filters of a priority: of the first 40 numbers a filter of a port, of the others one of an address.
+fn one_of_many(number: u16, prio: u16, band: u16) -> Result<Filter, Fail> {
+    let mut filter = every_packet(band)?;
+    filter.prio = filter_prio(prio)?;
+    if number < 40 {
+        filter.keys.dst_port = Some(number.saturating_add(1000));
+    } else {
+        filter.keys.dst_ip = prefix(IpVersion::V4, u128::from(number), 32);
+    }
+    Ok(filter)
+}
+
+fn add_one_of_many(bench: &mut Bench, number: u16, prio: u16, band: u16) -> Result<(), Fail> {
+    match one_of_many(number, prio, band) {
+        Ok(filter) => add_filter(bench, filter),
+        Err(failed) => Err(failed),
+    }
+}
+
 // A prio of two bands with 60 filters, which are found by a hash: 40 ports and 20 addresses, those of odd numbers into the second
 // band, and behind them a filter into the second for each port and address.
-fn many(alloc: Global) -> Result<Bench, Fail> {
-    let mut bench = Bench::new(alloc, 100);
+fn add_many(bench: &mut Bench, alloc: Global) -> Result<(), Fail> {
     bench.play(alloc, &[Call::Graft(Spot::Root, 1, New::Prio(2), None)])?;
     for number in 0..60u16 {
-        let first = Some(1 + number % 2);
-        for (prio, band) in [(1u16, first), (2, Some(2))] {
-            let mut filter = every_packet(band.ok_or("band")?)?;
-            filter.prio = filter_prio(prio)?;
-            if number < 40 {
-                filter.keys.dst_port = Some(1000 + number);
-            } else {
-                filter.keys.dst_ip = prefix(IpVersion::V4, u128::from(number), 32);
-            }
-            add_filter(&mut bench, filter)?;
-        }
+        add_one_of_many(bench, number, 1, 1 + number % 2)?;
+        add_one_of_many(bench, number, 2, 2)?;
     }
-    Ok(bench)
+    Ok(())
+}
+
+fn put_flow(bench: &mut Bench, flow: Flow) -> Result<u16, Fail> {
+    match packet(flow) {
+        Ok(packet) => bench.put(packet)?,
+        Err(failed) => return Err(failed),
+    };
+    band_with_packet(bench)
+}
+
+fn put_among_many(bench: &mut Bench, alloc: Global, flow: Flow) -> Result<u16, Fail> {
+    add_many(bench, alloc)?;
+    put_flow(bench, flow)
 }
 
 fn band_among_many(alloc: Global, flow: Flow) -> Result<u16, Fail> {
-    let mut bench = many(alloc)?;
-    bench.put(packet(flow)?)?;
-    band_with_packet(&bench)
+    put_among_many(&mut Bench::new(alloc, 100), alloc, flow)
 }
 
 #[test]
@@ -252,16 +274,28 @@ fn the_first_of_many_filters_decides(rt: HostRuntime) -> Result<(), Fail> {
     Ok(())
 }
 
+// The filters of the first priority go.
+fn remove_first(bench: &mut Bench) -> Result<(), Fail> {
+    let one = Handle::new(1).ok_or("handle")?;
+    match bench.del_filters(one, filter_prio(1)?) {
+        None => Ok(()),
+        Some(_) => Err(Fail::from("filter_del")),
+    }
+}
+
+fn put_among_rest(bench: &mut Bench, alloc: Global, flow: Flow) -> Result<u16, Fail> {
+    add_many(bench, alloc)?;
+    remove_first(bench)?;
+    put_flow(bench, flow)
+}
+
+fn band_among_rest(alloc: Global, flow: Flow) -> Result<u16, Fail> {
+    put_among_rest(&mut Bench::new(alloc, 100), alloc, flow)
+}
+
 #[test]
 fn filters_that_are_removed_decide_no_more(rt: HostRuntime) -> Result<(), Fail> {
-    let mut bench = many(rt.alloc())?;
-    let one = Handle::new(1).ok_or("handle")?;
-    if bench.del_filters(one, filter_prio(1)?).is_some() {
-        return Err(Fail::from("filter_del"));
-    }
-    bench.put(packet((4, 17, 1, 2, 5, 1000))?)?;
-    if band_with_packet(&bench)? != 2 {
-        return Err(Fail::from("band"));
-    }
+    let band = band_among_rest(rt.alloc(), (4, 17, 1, 2, 5, 1000))?;
+    assert_eq!(rt; band, 2);
     Ok(())
 }

@@ -8,7 +8,7 @@ use std::alloc::Global;
 use std::test::Fail;
 
 // A command, by the numbers of `lines`.
-#[derive(Clone, Copy, Debug)]
+#[derive(Clone, Copy)]
 enum Ask {
     Graft(Spot, u16, New),
     // The qdisc by its place, its handle or both.
@@ -56,12 +56,14 @@ fn is_refused(bench: &mut Bench, alloc: Global, ask: Ask, refusal: Refusal) -> R
     }
 }
 
-// Fails at the first command that is not refused so by both calls.
+// Fails at the first command that is not refused so by both calls, with its place among them.
 fn expect(bench: &mut Bench, alloc: Global, rows: &[(Ask, Refusal)]) -> Result<(), Fail> {
+    let mut place = 0u64;
     for (ask, refusal) in rows {
         if !is_refused(bench, alloc, *ask, *refusal)? {
-            return Err(Fail::new(format_args!("{ask:?}: {refusal:?}")));
+            return Err(Fail::new(format_args!("{place}: {refusal:?}")));
         }
+        place = place.saturating_add(1);
     }
     Ok(())
 }

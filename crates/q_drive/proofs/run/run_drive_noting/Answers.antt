@@ -1,4 +1,4 @@
-use Rattle.std.proofs.Common.{◌≡◌, ◌∙◌, IfSome, Result, Ok, Err, sym, ap, subst}
+use Rattle.std.proofs.Common.{◌≡◌, ◌∙◌, ℕ, IfSome, Result, Ok, Err, sym, ap, subst}
 use Rattle.std.specs.Result.{IsErrAnd}
 use Rattle.std.specs.declared.io.ErrorKind.{ErrorKind}
 use Rattle.q_script.specs.Ended.{Ended}
@@ -8,7 +8,7 @@ use Rattle.q_script.specs.declared.run_fault.RunFault.{RunFault}
 use Rattle.q_script.specs.declared.run_fault.RunFault.TheVariants.{Write}
 use Rattle.q_session.specs.Session.{opened}
 use Rattle.q_show.specs.declared.writes.Writes.{Writes}
-use Rattle.q_drive.specs.Reported.{IsDriven}
+use Rattle.q_drive.specs.Reported.{IsDrivenOf}
 use Rattle.q_drive.proofs.Reporting.{ended-failed, ended-ok, told-ending, told-lines, told-whole}
 use Rattle.q_drive.proofs.run.run_drive_noting.Goals as goal
 
@@ -34,7 +34,7 @@ returns-in-Ok-drive_and_write-clause-ended g c =
 pub returns-in_err-outcome-clause-partly : goal.returns-in_err-outcome-clause-partly
 returns-in_err-outcome-clause-partly g c = λ kind told.
     told-lines (g.R.Read.remaining c.args.source.now.reader.now) c.args.settings (g.W.Write.contents c.args.target.now.writer.now) (g.W.Write.contents c.run_between.new.target.writer.now)
-    c.exchange_notes.new.self (c.exchange_notes.ensures ∙ c.in-Ok-open.ensures.new ∙ ap opened c.device.ensures)
+    c.exchange_notes.new.self (c.exchange_notes.ensures.same ∙ c.in-Ok-open.ensures.new ∙ ap opened c.device.ensures)
     (c.in_err-outcome.ensures.partly kind (ap Err (passed_on c.from_residual.result c.in_err-outcome.field-0.0 kind c.from_residual.ensures.1 told)))
 
 pub returns-clause-partly : goal.returns-clause-partly
@@ -42,7 +42,7 @@ returns-clause-partly g c = λ kind told.
     let ended = c.in-Err.ensures.err in
     told-ending (g.R.Read.remaining c.args.source.now.reader.now) c.args.settings ended.driven c.in_ok-outcome.outcome (g.W.Write.contents c.args.target.now.writer.now)
     (g.W.Write.contents c.run_between.new.target.writer.now) (g.W.Write.contents c.drive_and_write.new.target.writer.now)
-    c.exchange_notes.new.self (c.exchange_notes.ensures ∙ c.in-Ok-open.ensures.new ∙ ap opened c.device.ensures) ended.has_driven ended.text c.in_ok-outcome.ensures.report
+    c.exchange_notes.new.self c.run_between.new.session (c.exchange_notes.ensures.same ∙ c.in-Ok-open.ensures.new ∙ ap opened c.device.ensures) ended.has_driven ended.text c.in_ok-outcome.ensures.report
 
 pub returns-in-Ok-drive_and_write-clause-report : goal.returns-in-Ok-drive_and_write-clause-report
 returns-in-Ok-drive_and_write-clause-report g c =
@@ -50,6 +50,8 @@ returns-in-Ok-drive_and_write-clause-report g c =
     let old = g.W.Write.contents c.args.target.now.writer.now in
     let new = g.W.Write.contents c.drive_and_write.new.target.writer.now in
     let ended = c.in-Ok-drive_and_write.ensures.ok in
-    subst (λ (told : Outcome). IfSome had (λ all. IsDriven c.args.settings all told old new)) (sym ended.outcome_is)
-    (told-whole had c.args.settings ended.driven c.in_ok-outcome.outcome old (g.W.Write.contents c.run_between.new.target.writer.now) new
-    c.exchange_notes.new.self (c.exchange_notes.ensures ∙ c.in-Ok-open.ensures.new ∙ ap opened c.device.ensures) ended.has_driven ended.text c.in_ok-outcome.ensures.report)
+    let last = c.run_between.new.session in
+    let whole = told-whole had c.args.settings ended.driven c.in_ok-outcome.outcome old (g.W.Write.contents c.run_between.new.target.writer.now) new
+    c.exchange_notes.new.self last (c.exchange_notes.ensures.same ∙ c.in-Ok-open.ensures.new ∙ ap opened c.device.ensures) ended.has_driven ended.text c.in_ok-outcome.ensures.report in
+    subst (λ (lines : ℕ). IfSome had (λ all. IsDrivenOf c.args.settings all c.in-Ok-drive_and_write.outcome lines old new)) (sym c.exchange_notes-2.ensures.not_done)
+    (subst (λ (told : Outcome). IfSome had (λ all. IsDrivenOf c.args.settings all told last.state.not_done old new)) (sym ended.outcome_is) whole)

@@ -13,6 +13,7 @@ loop-rest-init g c = record {
   going = c.requires.going;
   playing = rw c.requires.empty (playing-start g.S.Session.effect _ (lines_of c.args.script.now) c.args.session.now);
   numbered = omega arith;
+  missed = omega arith;
   few = omega arith;
 }
 
@@ -31,6 +32,7 @@ loop-rest-preserved g c =
       going = c.in_ok-run_line.ensures.going;
       playing = rw add-one (playing-next g.S.Session.effect _ _ _ _ _ _ _ _ _ _ _ _ cut c.in_ok-run_line.ensures.effect);
       numbered = omega (arith, c.in_ok-run_line.ensures.few);
+      missed = omega (arith, c.in_ok-run_line.ensures.fewer);
       few = omega arith;
     }
 

@@ -11,6 +11,7 @@ invariant-loop-rest g l =
       same_writer : l.target.writer.ghost_name ≡ l.fn.target.writer.ghost_name;
       playing : Playing g.S.Session.effect (contents l.fn.target.writer.now) (contents l.target.writer.now) l.output (lines_of l.script) (lines_of l.rest) l.number l.fn.session l.session;
       numbered : g.S.Session.packets l.session < l.number;
+      missed : g.S.Session.not_done l.session < l.number;
       few : l.number + length l.rest ≤ 16777217;
       going : MayWrite l.target.writes;
     }

@@ -25,10 +25,14 @@ loop-init g c =
       settings = ap (λ (x : SessionSeen). x.settings) c.self.view_is;
       seed = ap (λ (x : SessionSeen). x.seed) c.self.view_is;
       packets = ap (λ (x : SessionSeen). x.state.packets) c.self.view_is;
+      not_done = ap (λ (x : SessionSeen). x.state.not_done) c.self.view_is;
     }
 
 pub returns-in_err-make_room-clause-packets : goal.returns-in_err-make_room-clause-packets
 returns-in_err-make_room-clause-packets g c = c.loop.invariant.packets
+
+pub returns-in_err-make_room-clause-not_done : goal.returns-in_err-make_room-clause-not_done
+returns-in_err-make_room-clause-not_done g c = c.loop.invariant.not_done
 
 pub returns-in_err-make_room-clause-err : goal.returns-in_err-make_room-clause-err
 returns-in_err-make_room-clause-err g c =
@@ -52,4 +56,5 @@ loop-preserved g c =
       settings = ap (λ (d : DeviceSeen). d.settings) c.poll.ensures.event ∙ c.loop.invariant.settings;
       seed = c.loop.invariant.seed;
       packets = c.loop.invariant.packets;
+      not_done = c.loop.invariant.not_done;
     }

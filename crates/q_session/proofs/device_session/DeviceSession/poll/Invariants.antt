@@ -19,5 +19,6 @@ invariant-loop g l =
       settings : l.self-inside.device.settings ≡ l.fn.self.settings;
       seed : l.self-inside.seed ≡ l.fn.self.seed;
       packets : l.self-inside.packets ≡ l.fn.self.state.packets;
+      not_done : l.self-inside.not_done ≡ l.fn.self.state.not_done;
       going : MayWrite l.target.writes;
     }

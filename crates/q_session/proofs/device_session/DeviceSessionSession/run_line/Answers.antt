@@ -18,6 +18,7 @@ returns-in_err-make_room-in-Ok-clause-err g c =
 pub answer-requires : goal.answer-requires
 answer-requires g c = record {
   few = c.requires.few;
+  fewer = c.requires.fewer;
   room = c.in_ok-make_room-in-Ok.ensures.room;
   sendable = read-sendable c.args.line.now c.in-Ok.read (sym c.read_line.ensures ∙ c.in-Ok.is);
   short = search rules;
