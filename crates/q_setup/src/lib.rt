@@ -20,6 +20,7 @@
 
 mod adding;
 mod alike;
+mod carrying_out;
 mod counting;
 mod doing;
 mod effect;
@@ -27,6 +28,7 @@ mod kinds;
 mod naming;
 mod pair;
 mod planning;
+mod rebuilding;
 mod report;
 mod seen;
 mod setting_up;
