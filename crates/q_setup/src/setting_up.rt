@@ -2,11 +2,10 @@ ghost use Rattle.std.specs.Prelude.{◌≡◌, ◌<◌, [], false, true, not, is
 ghost use Rattle.q_model.specs.declared.refusal.Refusal.TheVariants as refusals;
 ghost use Rattle.q_model.specs.Step.{counts_at};
 ghost use Rattle.q_script.specs.Script.{lines_of};
-ghost use Rattle.q_setup.specs.declared.effect.Effect.TheVariants.{Adds, Changes, Deletes};
 ghost use Rattle.q_setup.specs.Alike.{AreAlike, entries};
 ghost use Rattle.q_setup.specs.Anew.{IsTrial};
 ghost use Rattle.q_setup.specs.Done.{AreAccepted, IsRefusedBy, after_commands};
-ghost use Rattle.q_setup.specs.Effects.{count};
+ghost use Rattle.q_setup.specs.Effects.{additions, changes, deletions};
 ghost use Rattle.q_setup.specs.SetUp.{HasAlready, IsSetUp, wanted};
 ghost use Rattle.q_setup.specs.Tried.{tried};
 ghost use Rattle.q_setup.specs.Trying.{seen};
@@ -61,9 +60,9 @@ pub fn set_up(
     ensures refused { IfOk result (λ r. IfSome r.refusal (λ refusal. IsRefusedBy now device.new refusal)) }
     ensures memory_alone { IfOk result (λ r. IfSome r.refusal (λ refusal. refusal ≡ refusals.Memory)) }
     ensures memory { OnErr result (device.new ≡ device.old) }
-    ensures added { IfOk result (λ r. r.added ≡ count Adds r.commands.items) }
-    ensures changed { IfOk result (λ r. r.changed ≡ count Changes r.commands.items) }
-    ensures deleted { IfOk result (λ r. r.deleted ≡ count Deletes r.commands.items) }
+    ensures added { IfOk result (λ r. r.added ≡ additions r.commands.items) }
+    ensures changed { IfOk result (λ r. r.changed ≡ changes r.commands.items) }
+    ensures deleted { IfOk result (λ r. r.deleted ≡ deletions r.commands.items) }
 {
     let trial = tried(alloc, device.settings(), text, counted_at(device, now))?;
     if !trial.undone.as_slice().is_empty() {
@@ -116,9 +115,9 @@ fn made(alloc: Global, device: &mut Device, trial: Trial, now: Moment) -> Result
     ensures memory_alone { IfOk result (λ r. IfSome r.refusal (λ refusal. refusal ≡ refusals.Memory)) }
     ensures told { IfOk result (λ r. r.is_set_up ≡ is_none r.refusal) }
     ensures memory { OnErr result (device.new ≡ device.old) }
-    ensures added { IfOk result (λ r. r.added ≡ count Adds r.commands.items) }
-    ensures changed { IfOk result (λ r. r.changed ≡ count Changes r.commands.items) }
-    ensures deleted { IfOk result (λ r. r.deleted ≡ count Deletes r.commands.items) }
+    ensures added { IfOk result (λ r. r.added ≡ additions r.commands.items) }
+    ensures changed { IfOk result (λ r. r.changed ≡ changes r.commands.items) }
+    ensures deleted { IfOk result (λ r. r.deleted ≡ deletions r.commands.items) }
 {
     let mut commands = plan(alloc, &trial, device)?;
     let anew = anew(alloc, &trial)?;
@@ -134,9 +133,9 @@ fn report(trial: Trial, commands: Vec<Command>, refusal: Option<Refusal>) -> Rep
     ensures commands { result.commands ≡ commands }
     ensures refusal { result.refusal ≡ refusal }
     ensures set_up { result.is_set_up ≡ is_none refusal }
-    ensures added { result.added ≡ count Adds commands.items }
-    ensures changed { result.changed ≡ count Changes commands.items }
-    ensures deleted { result.deleted ≡ count Deletes commands.items }
+    ensures added { result.added ≡ additions commands.items }
+    ensures changed { result.changed ≡ changes commands.items }
+    ensures deleted { result.deleted ≡ deletions commands.items }
 {
     Report {
         added: count(Effect::Adds, &commands),
