@@ -87,6 +87,7 @@ static void sentences(void) {
         { QTREE_NO_COMMAND, "The line changes no tree: qtree_explain says which call does what it asks for." },
         { QTREE_OUT_OF_RANGE, "An argument is out of its range: qtree_out_of_range checks a packet and the time." },
         { QTREE_ROOM, "The memory that was lent is too small: call again with as much as is needed." },
+        { QTREE_UNDONE, "A line of the file is not done, and so none is: mend each line that is told, and call again." },
         { QTREE_IS_CLOSED, "The device, the port or the outlet is closed: open it first." },
         { QTREE_IS_OPEN, "The device, the port or the outlet is open already: close it first." },
         { QTREE_MEMORY, "An allocation failed: free memory, and call again for what was not done." },

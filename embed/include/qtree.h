@@ -99,6 +99,8 @@ enum {
     /* An argument is out of its range; the memory that the program lends is too small. */
     QTREE_OUT_OF_RANGE = 42,
     QTREE_ROOM = 43,
+    /* A line of a file is not done, and so none is. */
+    QTREE_UNDONE = 44,
     /* A device, a port or an outlet is closed; it is open already. */
     QTREE_IS_CLOSED = 50,
     QTREE_IS_OPEN = 51,
@@ -216,6 +218,35 @@ static inline qtree_code qtree_run(qtree_device *device, const char *line, uint6
 #endif
     return qtree_command(device, text, strlen(line), now, fault ? fault : &unread);
 }
+
+/* What qtree_set_up came to. */
+typedef struct qtree_report {
+    uint64_t lines;   /* of the file, blank ones and comments too */
+    uint64_t added;   /* qdiscs, classes and filters */
+    uint64_t changed; /* qdiscs and classes */
+    uint64_t deleted; /* qdiscs, classes, and priorities of filters */
+    size_t undone;    /* how many lines are not done */
+} qtree_report;
+
+/* A line of a file that is not done: what qtree_command would answer on it, with the fault of QTREE_FAULTY. */
+typedef struct qtree_undone {
+    qtree_fault fault;
+    uint64_t line; /* its number, from 1 */
+    qtree_code code;
+} qtree_undone;
+
+/* Makes the tree what a whole file of such lines says, with blank lines and comments, also while packets wait: what is there already
+ * with the same words is left with its packets, what differs is changed, what is gone is deleted, and what is new is added. So a program
+ * calls this when it begins, and again whenever its file has changed. docs/EMBEDDING.md says what stays.
+ * All lines are tried first, on a new device with the same settings. If one is not done there, nothing is done to the device
+ * (QTREE_UNDONE); the first of those lines are written to undone, which has room for so many, and report->undone counts all of them.
+ * qtree_explain has a sentence on each. After QTREE_DONE the tree is what the lines make of a new device, packets and counters aside.
+ * QTREE_MEMORY: what was done before the allocation failed is counted in the report and stays, and the same call does the rest. Otherwise
+ * the report is all 0. The commands that are done are recorded and noted as those of qtree_command; none is if the file says what the
+ * device has already.
+ * QTREE_DONE, QTREE_UNDONE, QTREE_OUT_OF_RANGE, QTREE_IS_CLOSED, QTREE_MEMORY. */
+qtree_code qtree_set_up(qtree_device *device, const uint8_t *text, size_t text_len, uint64_t now, qtree_report *report,
+                        qtree_undone *undone, size_t room);
 
 /* Fills in family, proto, addresses, ports, prio and ecn from the first bytes of a packet that begins with its IP header, and
  * hash, which has this seed. number, port, buf and len stay. */
@@ -515,6 +546,7 @@ static inline const char *qtree_code_name(qtree_code code) {
     case QTREE_REFUSED_NO_FILTER: return "NoFilter"; case QTREE_IDLE: return "Idle"; case QTREE_LATER: return "Later";
     case QTREE_NOTHING: return "Nothing"; case QTREE_FULL: return "Full"; case QTREE_FAULTY: return "Faulty";
     case QTREE_NO_COMMAND: return "NoCommand"; case QTREE_OUT_OF_RANGE: return "OutOfRange"; case QTREE_ROOM: return "Room";
+    case QTREE_UNDONE: return "Undone";
     case QTREE_IS_CLOSED: return "IsClosed"; case QTREE_IS_OPEN: return "IsOpen"; case QTREE_MEMORY: return "Memory";
     default: return "Unknown";
     }
@@ -567,6 +599,7 @@ static inline const char *qtree_code_sentence(qtree_code code) {
     case QTREE_NO_COMMAND: return "The line changes no tree: qtree_explain says which call does what it asks for.";
     case QTREE_OUT_OF_RANGE: return "An argument is out of its range: qtree_out_of_range checks a packet and the time.";
     case QTREE_ROOM: return "The memory that was lent is too small: call again with as much as is needed.";
+    case QTREE_UNDONE: return "A line of the file is not done, and so none is: mend each line that is told, and call again.";
     case QTREE_IS_CLOSED: return "The device, the port or the outlet is closed: open it first.";
     case QTREE_IS_OPEN: return "The device, the port or the outlet is open already: close it first.";
     case QTREE_MEMORY: return "An allocation failed: free memory, and call again for what was not done.";
@@ -620,7 +653,9 @@ enum {
     QTREE_TYPE_PROMISE = 12,
     QTREE_TYPE_NODE_VIEW = 13,
     QTREE_TYPE_CLASS_VIEW = 14,
-    QTREE_TYPE_DELAY = 15
+    QTREE_TYPE_DELAY = 15,
+    QTREE_TYPE_REPORT = 16,
+    QTREE_TYPE_UNDONE = 17
 };
 size_t qtree_size_of(uint32_t what);
 

@@ -1,6 +1,7 @@
 -- Lists that are compared place by place.
-use Rattle.std.proofs.Common.{◌≡◌, ◌∙◌, ℕ, zero, suc, ◌+◌, Bool, true, false, ◌&&◌, ◌||◌, List, [], ◌∷◌, Option, Some, None, refl, sym, ap, ap₂, subst, arith}
-use Rattle.std.specs.Prelude.{drop, slice_get}
+use Rattle.std.proofs.Common.{◌≡◌, ◌≤◌, ◌∙◌, ℕ, zero, suc, ◌+◌, Bool, true, false, ◌&&◌, ◌||◌, List, [], ◌∷◌, Option, Some, None, refl, sym, ap, ap₂, subst, arith}
+use Rattle.std.specs.Prelude.{drop, is_some, length, slice_get}
+use Rattle.std.proofs.lemmas.Bool.{false≢true}
 use Rattle.std.specs.List.{AllByRecursion, list_all, list_any}
 use Rattle.std.proofs.lemmas.Option.{none-some, same_Some}
 use mathlib.Core.Logic.{inl, inr}
@@ -59,3 +60,24 @@ all_none P left is = subst (AllByRecursion P) (sym is) tt
 -- the same of equal lists
 pub alike_with : (keep : Bool) (w v a b : List Entry) → AreAlike keep w a → v ≡ w → b ≡ a → AreAlike keep v b
 alike_with keep w v a b h is that = subst (λ x. AreAlike keep x b) (sym is) (subst (AreAlike keep w) (sym that) h)
+
+-- any that is left passes just where one behind the next does, if that one does not
+pub any_from : {A : Type 0} (p : A → Bool) (xs : List A) (i : ℕ) (x : A) → slice_get xs i ≡ Some x → p x ≡ false → list_any p (drop (i + 1) xs) ≡ list_any p (drop i xs)
+any_from p xs i x e here = sym (ap (λ zs. list_any p zs) (drop-at xs i x e) ∙ ap (λ b. b || list_any p (drop (i + 1) xs)) here)
+
+-- all that are left pass just where all behind the next do, if that one does; else not all do
+pub all_behind : {A : Type 0} (p : A → Bool) (xs : List A) (i : ℕ) (x : A) → slice_get xs i ≡ Some x → p x ≡ true → list_all p (drop (i + 1) xs) ≡ list_all p (drop i xs)
+all_behind p xs i x e here = sym (ap (λ zs. list_all p zs) (drop-at xs i x e) ∙ ap (λ b. b && list_all p (drop (i + 1) xs)) here)
+
+pub not_all : {A : Type 0} (p : A → Bool) (xs : List A) (i : ℕ) (x : A) → slice_get xs i ≡ Some x → p x ≡ false → list_all p (drop i xs) ≡ false
+not_all p xs i x e here = ap (λ zs. list_all p zs) (drop-at xs i x e) ∙ ap (λ b. b && list_all p (drop (i + 1) xs)) here
+
+-- a place in which there is something
+pub within : {A : Type 0} (xs : List A) (i : ℕ) (x : A) → slice_get xs i ≡ Some x → i + 1 ≤ length xs
+within [] i x e = absurd (none-some x e)
+within (y ∷ xs) zero x e = omega arith
+within (y ∷ xs) (suc i) x e = let rest = within xs i x e in omega (arith, rest)
+
+pub within_if : {A : Type 0} (xs : List A) (i : ℕ) (o : Option A) → slice_get xs i ≡ o → is_some o ≡ true → i + 1 ≤ length xs
+within_if xs i None e h = absurd (false≢true h)
+within_if xs i (Some x) e h = within xs i x e

@@ -1,4 +1,10 @@
 pub mod AlikeLemmas
 pub mod DoneLemmas
+pub mod EmptiedTrees
 pub mod EntryLemmas
+pub mod RebuiltLemmas
+pub mod ReportLemmas
+pub mod SameTrees
+pub mod SelfLemmas
+pub mod ShortLemmas
 pub mod TriedLemmas

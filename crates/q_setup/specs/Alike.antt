@@ -1,6 +1,6 @@
 -- Whether two trees are the same, but for what they hold and counted, for the order of a drr's classes, and for numbers that a file
 -- leaves to the device. Nodes are compared by what `tc qdisc show`, `tc class show` and `tc filter show` print of them (tc(8)).
-use Rattle.std.specs.Prelude.{◌≡◌, ℕ, Bool, true, ◌&&◌, ◌==◌, List, [], ◌∷◌, map, length, Option, Some, None}
+use Rattle.std.specs.Prelude.{◌≡◌, ◌≤◌, ◌^◌, ℕ, Bool, true, ◌&&◌, ◌==◌, List, [], ◌∷◌, map, length, Option, Some, None}
 use Rattle.std.specs.List.{AllByRecursion, list_all, list_any}
 use Rattle.std.specs.Option.{option_eq}
 use mathlib.Core.Logic.{◌⊎◌}
@@ -59,6 +59,11 @@ pub record IsLike (keep : Bool) (wanted node : Entry) : Type 0 where
   pub filters : wanted.filters ≡ node.filters
   pub classes : has_classes wanted.classes node.classes ≡ true
   pub no_others : has_classes node.classes wanted.classes ≡ true
+
+-- few enough classes and filters to be gone over; those of a lawful tree are
+pub record IsShort (e : Entry) : Type 0 where
+  pub classes : length e.classes ≤ 2 ^ 16
+  pub filters : length e.filters ≤ 2 ^ 16
 
 -- some of a list is so
 abbrev pub IsAmong : {A : Type 0} → (A → Type 0) → List A → Type 0

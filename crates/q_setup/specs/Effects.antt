@@ -31,3 +31,13 @@ has_effect Deletes c = is_deletion c
 abbrev pub count : Effect → List Command → ℕ
 count effect [] = zero
 count effect (c ∷ commands) = if has_effect effect c then suc (count effect commands) else count effect commands
+
+-- the same of each effect
+abbrev pub additions : List Command → ℕ
+additions commands = count Adds commands
+
+abbrev pub changes : List Command → ℕ
+changes commands = count Changes commands
+
+abbrev pub deletions : List Command → ℕ
+deletions commands = count Deletes commands

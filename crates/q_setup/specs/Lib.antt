@@ -1,4 +1,5 @@
 pub mod Alike
+pub mod Anew
 pub mod Done
 pub mod Effects
 pub mod Naming

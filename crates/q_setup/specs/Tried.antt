@@ -3,6 +3,7 @@ use Rattle.std.specs.Prelude.{ℕ, ◌+◌, Bool, false, ◌||◌, List, [], ◌
 use Rattle.q_line.specs.Grammar.{line_of}
 use Rattle.q_line.specs.declared.line.Line.{Line}
 use Rattle.q_line.specs.declared.line.Line.TheVariants as line
+use Rattle.q_model.specs.declared.command.Command.{Command}
 use Rattle.q_model.specs.declared.event.Event.TheVariants as event
 use Rattle.q_model.specs.declared.reply.Reply.{Reply}
 use Rattle.q_model.specs.declared.reply.Reply.TheVariants as reply
@@ -16,12 +17,13 @@ use Rattle.q_setup.specs.declared.undone.Undone.{Undone}
 use Rattle.q_setup.specs.declared.why.Why.{Why}
 use Rattle.q_setup.specs.declared.why.Why.TheVariants as why
 
--- what the lines so far have made of the device, how many they were, which of them it did not do, and whether one of them names a
--- number that a device chooses
+-- what the lines so far have made of the device, how many they were, which of them it did not do, the commands of those that it
+-- did, and whether one of them names a number that a device chooses
 pub record Tried : Type 0 where
   pub device : DeviceState Counts
   pub lines : ℕ
   pub undone : List Undone
+  pub commands : List Command
   pub names_chosen : Bool
 
 -- why a command is not done
@@ -49,6 +51,13 @@ line_names (Ok (line.Tc c)) = names_chosen c
 line_names (Ok other) = false
 line_names (Err fault) = false
 
+-- the command of a line that is done
+abbrev pub done_by : Result Line LineFault → Option Why → List Command
+done_by (Ok (line.Tc c)) None = c ∷ []
+done_by (Ok (line.Tc c)) (Some w) = []
+done_by (Ok other) w = []
+done_by (Err fault) w = []
+
 -- a line that was not done is noted by its number, from 1
 abbrev pub noted : ℕ → Option Why → List Undone
 noted number None = []
@@ -59,6 +68,7 @@ with_read now t read = record {
   device = after_line now read t.device;
   lines = t.lines + 1;
   undone = t.undone ++ noted (t.lines + 1) (why_undone now read t.device);
+  commands = t.commands ++ done_by read (why_undone now read t.device);
   names_chosen = t.names_chosen || line_names read;
 }
 
@@ -72,7 +82,7 @@ with_lines now t (l ∷ lines) = with_lines now (with_line now t l) lines
 
 -- on a new device
 abbrev pub nothing_tried : DeviceSettings → Tried
-nothing_tried settings = record { device = new_device totals settings; lines = 0; undone = []; names_chosen = false }
+nothing_tried settings = record { device = new_device totals settings; lines = 0; undone = []; commands = []; names_chosen = false }
 
 abbrev pub tried : DeviceSettings → List ℕ → ℕ → Tried
 tried settings text now = with_lines now (nothing_tried settings) (lines_of text)

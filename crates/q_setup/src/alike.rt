@@ -1,31 +1,45 @@
 //! Whether two trees are the same, but for what they hold and counted, and for numbers that a file leaves to the device.
-ghost use Rattle.std.specs.Prelude.{◌≡◌, true, map};
+ghost use Rattle.std.specs.Prelude.{◌≡◌, ◌≤◌, ◌^◌, true, length, map};
 ghost use Rattle.std.specs.List.{AllByRecursion, list_any};
 ghost use Rattle.q_model.specs.Views.{class_views, filter_views};
 ghost use Rattle.q_model.specs.declared.place.Place.TheVariants as place;
 ghost use Rattle.q_tree.specs.Showing.{standing};
 ghost use Rattle.q_setup.specs.Naming.{same_handle, same_place};
-ghost use Rattle.q_setup.specs.Alike.{AreAlike, IsAmong, IsLike, entries, entry, has_classes, quantum_of, same_share};
+ghost use Rattle.q_setup.specs.Alike.{AreAlike, IsAmong, IsLike, IsShort, entries, entry, has_classes, quantum_of, same_share};
 
 use crate::naming::{same_handle, same_place};
 use q_model::{
     ClassKind, ClassView, FilterKeys, FilterView, IpPrefix, NodeView, Protocol, QdiscView,
 };
+use q_tree::laws::tree_is_lawful;
 use q_tree::{NodeRef, Tree};
 
 /// The most classes and filters of a node, with one more.
-const MOST_LISTED: usize = 257;
+const MOST_LISTED: usize = 0x1_0001;
 
 /// Whether each node of one tree has its like in the other, both ways.
 pub(crate) fn are_alike(keep: bool, wanted: &Tree, tree: &Tree) -> bool
-    ensures { result ≡ true → AreAlike keep (entries wanted.now.tree) (entries tree.now.tree) }
+    ensures alike { result ≡ true → AreAlike keep (entries wanted.now.tree) (entries tree.now.tree) }
+    ensures told { AreAlike keep (entries wanted.now.tree) (entries tree.now.tree) → result ≡ true }
 {
+    all_are_short(wanted);
+    all_are_short(tree);
     all_are_there(keep, wanted, tree) && none_is_besides(keep, wanted, tree)
+}
+
+// No node of a tree has more classes or filters than are gone over, since a tree is lawful. It does nothing.
+fn all_are_short(tree: &Tree)
+    ensures { AllByRecursion IsShort (entries tree.now.tree) }
+{
+    tree_is_lawful(tree);
 }
 
 /// Whether each node of the wanted tree is in the other.
 fn all_are_there(keep: bool, wanted: &Tree, tree: &Tree) -> bool
-    ensures { result ≡ true → AllByRecursion (λ x. IsAmong (IsLike keep x) (entries tree.now.tree)) (entries wanted.now.tree) }
+    requires wanted { AllByRecursion IsShort (entries wanted.now.tree) }
+    requires tree { AllByRecursion IsShort (entries tree.now.tree) }
+    ensures alike { result ≡ true → AllByRecursion (λ x. IsAmong (IsLike keep x) (entries tree.now.tree)) (entries wanted.now.tree) }
+    ensures told { AllByRecursion (λ x. IsAmong (IsLike keep x) (entries tree.now.tree)) (entries wanted.now.tree) → result ≡ true }
 {
     let mut nodes = wanted.nodes();
     while let Some(node) = nodes.next() {
@@ -37,7 +51,10 @@ fn all_are_there(keep: bool, wanted: &Tree, tree: &Tree) -> bool
 }
 
 fn is_there(keep: bool, wanted: &NodeRef<'_>, tree: &Tree) -> bool
-    ensures { result ≡ true → IsAmong (IsLike keep (entry wanted.now)) (entries tree.now.tree) }
+    requires wanted { IsShort (entry wanted.now) }
+    requires tree { AllByRecursion IsShort (entries tree.now.tree) }
+    ensures alike { result ≡ true → IsAmong (IsLike keep (entry wanted.now)) (entries tree.now.tree) }
+    ensures told { IsAmong (IsLike keep (entry wanted.now)) (entries tree.now.tree) → result ≡ true }
 {
     let mut nodes = tree.nodes();
     while let Some(node) = nodes.next() {
@@ -50,7 +67,10 @@ fn is_there(keep: bool, wanted: &NodeRef<'_>, tree: &Tree) -> bool
 
 /// Whether each node of a tree is in the wanted one.
 fn none_is_besides(keep: bool, wanted: &Tree, tree: &Tree) -> bool
-    ensures { result ≡ true → AllByRecursion (λ y. IsAmong (λ x. IsLike keep x y) (entries wanted.now.tree)) (entries tree.now.tree) }
+    requires wanted { AllByRecursion IsShort (entries wanted.now.tree) }
+    requires tree { AllByRecursion IsShort (entries tree.now.tree) }
+    ensures alike { result ≡ true → AllByRecursion (λ y. IsAmong (λ x. IsLike keep x y) (entries wanted.now.tree)) (entries tree.now.tree) }
+    ensures told { AllByRecursion (λ y. IsAmong (λ x. IsLike keep x y) (entries wanted.now.tree)) (entries tree.now.tree) → result ≡ true }
 {
     let mut nodes = tree.nodes();
     while let Some(node) = nodes.next() {
@@ -62,7 +82,10 @@ fn none_is_besides(keep: bool, wanted: &Tree, tree: &Tree) -> bool
 }
 
 fn is_wanted(keep: bool, wanted: &Tree, node: &NodeRef<'_>) -> bool
-    ensures { result ≡ true → IsAmong (λ x. IsLike keep x (entry node.now)) (entries wanted.now.tree) }
+    requires wanted { AllByRecursion IsShort (entries wanted.now.tree) }
+    requires node { IsShort (entry node.now) }
+    ensures alike { result ≡ true → IsAmong (λ x. IsLike keep x (entry node.now)) (entries wanted.now.tree) }
+    ensures told { IsAmong (λ x. IsLike keep x (entry node.now)) (entries wanted.now.tree) → result ≡ true }
 {
     let mut nodes = wanted.nodes();
     while let Some(other) = nodes.next() {
@@ -75,7 +98,10 @@ fn is_wanted(keep: bool, wanted: &Tree, node: &NodeRef<'_>) -> bool
 
 /// Whether two nodes are the same: their handles and places, their kinds with all settings, their classes and their filters.
 fn same_node(keep: bool, wanted: &NodeRef<'_>, node: &NodeRef<'_>) -> bool
-    ensures { result ≡ true → IsLike keep (entry wanted.now) (entry node.now) }
+    requires wanted { IsShort (entry wanted.now) }
+    requires node { IsShort (entry node.now) }
+    ensures alike { result ≡ true → IsLike keep (entry wanted.now) (entry node.now) }
+    ensures told { IsLike keep (entry wanted.now) (entry node.now) → result ≡ true }
 {
     if !same_view(keep, &wanted.view(), &node.view()) {
         return false;
@@ -87,6 +113,7 @@ fn same_view(keep: bool, wanted: &NodeView, node: &NodeView) -> bool
     ensures handle { result ≡ true → same_handle keep wanted.now.handle node.now.handle ≡ true }
     ensures place { result ≡ true → same_place keep wanted.now.place node.now.place ≡ true }
     ensures qdisc { result ≡ true → wanted.now.qdisc ≡ node.now.qdisc }
+    ensures told { same_handle keep wanted.now.handle node.now.handle ≡ true → same_place keep wanted.now.place node.now.place ≡ true → wanted.now.qdisc ≡ node.now.qdisc → result ≡ true }
 {
     if !same_handle(keep, wanted.handle, node.handle) {
         return false;
@@ -98,14 +125,17 @@ fn same_view(keep: bool, wanted: &NodeView, node: &NodeView) -> bool
 }
 
 fn same_qdisc(wanted: &QdiscView, qdisc: &QdiscView) -> bool
-    ensures { result ≡ true → wanted.now ≡ qdisc.now }
+    ensures alike { result ≡ true → wanted.now ≡ qdisc.now }
+    ensures told { wanted.now ≡ qdisc.now → result ≡ true }
 {
     *wanted == *qdisc
 }
 
 /// Whether they have the same filters in the same order.
 fn same_filters(wanted: &NodeRef<'_>, node: &NodeRef<'_>) -> bool
-    ensures { result ≡ true → filter_views wanted.now.1 ≡ filter_views node.now.1 }
+    requires { length (filter_views wanted.now.1) ≤ 2 ^ 16 }
+    ensures alike { result ≡ true → filter_views wanted.now.1 ≡ filter_views node.now.1 }
+    ensures told { filter_views wanted.now.1 ≡ filter_views node.now.1 → result ≡ true }
 {
     for j in 0..MOST_LISTED {
         let (wanted, filter) = (wanted.filter(j), node.filter(j));
@@ -120,7 +150,8 @@ fn same_filters(wanted: &NodeRef<'_>, node: &NodeRef<'_>) -> bool
 }
 
 fn same_filter_if_any(wanted: &Option<FilterView>, filter: &Option<FilterView>) -> bool
-    ensures { result ≡ true → wanted.now ≡ filter.now }
+    ensures alike { result ≡ true → wanted.now ≡ filter.now }
+    ensures told { wanted.now ≡ filter.now → result ≡ true }
 {
     match (wanted, filter) {
         (Some(wanted), Some(filter)) => return same_filter(wanted, filter),
@@ -130,7 +161,8 @@ fn same_filter_if_any(wanted: &Option<FilterView>, filter: &Option<FilterView>) 
 }
 
 fn same_filter(wanted: &FilterView, filter: &FilterView) -> bool
-    ensures { result ≡ true → wanted.now ≡ filter.now }
+    ensures alike { result ≡ true → wanted.now ≡ filter.now }
+    ensures told { wanted.now ≡ filter.now → result ≡ true }
 {
     let (a, b) = (&wanted.filter, &filter.filter);
     if wanted.parent != filter.parent || a.prio != b.prio || a.minor != b.minor {
@@ -140,13 +172,15 @@ fn same_filter(wanted: &FilterView, filter: &FilterView) -> bool
 }
 
 fn same_protocol(wanted: Protocol, protocol: Protocol) -> bool
-    ensures { result ≡ true → wanted ≡ protocol }
+    ensures alike { result ≡ true → wanted ≡ protocol }
+    ensures told { wanted ≡ protocol → result ≡ true }
 {
     wanted == protocol
 }
 
 fn same_keys(wanted: &FilterKeys, keys: &FilterKeys) -> bool
-    ensures { result ≡ true → wanted.now ≡ keys.now }
+    ensures alike { result ≡ true → wanted.now ≡ keys.now }
+    ensures told { wanted.now ≡ keys.now → result ≡ true }
 {
     if !same_prefix(wanted.src_ip, keys.src_ip) {
         return false;
@@ -164,26 +198,31 @@ fn same_keys(wanted: &FilterKeys, keys: &FilterKeys) -> bool
 }
 
 fn same_prefix(wanted: Option<IpPrefix>, prefix: Option<IpPrefix>) -> bool
-    ensures { result ≡ true → wanted ≡ prefix }
+    ensures alike { result ≡ true → wanted ≡ prefix }
+    ensures told { wanted ≡ prefix → result ≡ true }
 {
     wanted == prefix
 }
 
 fn same_port(wanted: Option<u16>, port: Option<u16>) -> bool
-    ensures { result ≡ true → wanted ≡ port }
+    ensures alike { result ≡ true → wanted ≡ port }
+    ensures told { wanted ≡ port → result ≡ true }
 {
     wanted == port
 }
 
 fn same_proto(wanted: Option<u8>, proto: Option<u8>) -> bool
-    ensures { result ≡ true → wanted ≡ proto }
+    ensures alike { result ≡ true → wanted ≡ proto }
+    ensures told { wanted ≡ proto → result ≡ true }
 {
     wanted == proto
 }
 
 /// Whether one has all classes of the other, with their quanta.
 fn has_classes(of: &NodeRef<'_>, node: &NodeRef<'_>) -> bool
-    ensures { result ≡ true → has_classes (class_views of.now.1) (class_views node.now.1) ≡ true }
+    requires of { length (class_views of.now.1) ≤ 2 ^ 16 }
+    requires node { length (class_views node.now.1) ≤ 2 ^ 16 }
+    ensures { result ≡ has_classes (class_views of.now.1) (class_views node.now.1) }
 {
     for j in 0..MOST_LISTED {
         let Some(class) = of.class(j) else {
@@ -197,7 +236,8 @@ fn has_classes(of: &NodeRef<'_>, node: &NodeRef<'_>) -> bool
 }
 
 fn has_class(class: &ClassView, node: &NodeRef<'_>) -> bool
-    ensures { result ≡ true → list_any (same_share class.now) (class_views node.now.1) ≡ true }
+    requires { length (class_views node.now.1) ≤ 2 ^ 16 }
+    ensures { result ≡ list_any (same_share class.now) (class_views node.now.1) }
 {
     for j in 0..MOST_LISTED {
         let Some(other) = node.class(j) else {

@@ -1,11 +1,11 @@
 //! Commands are done in turn, up to the first that is refused.
-ghost use Rattle.std.specs.Prelude.{◌≡◌, ◌≤◌, IfSome, IsSome, None, length, take};
+ghost use Rattle.std.specs.Prelude.{◌≡◌, ◌≤◌, IfSome, IsSome, None, length, slice_get, take};
 ghost use Rattle.q_model.specs.Step.{step};
 ghost use Rattle.q_model.specs.Tally.{totals};
 ghost use Rattle.q_model.specs.declared.event.Event.TheVariants as event;
 ghost use Rattle.q_tree.specs.Commanding.{MayTakeMemory};
 ghost use Rattle.q_device.specs.DeviceSeen.{IsRefusal, with_event};
-ghost use Rattle.q_setup.specs.Done.{AreAccepted, IsAccepted, IsRefusedBy, after_commands};
+ghost use Rattle.q_setup.specs.Done.{AreAccepted, IsAccepted, IsRefusedAs, after_commands};
 
 use q_device::Device;
 use q_model::{Command, Refusal};
@@ -20,7 +20,7 @@ pub(crate) fn do_commands(
     ensures number { result.0 ≤ length commands.now }
     ensures after { device.new ≡ record (after_commands now (take result.0 commands.now) device.old) { memory = device.new.memory } }
     ensures accepted { AreAccepted now (take result.0 commands.now) device.old }
-    ensures refused { IfSome result.1 (λ refusal. IsRefusedBy now device.new refusal) }
+    ensures refused { IfSome result.1 (IsRefusedAs now device.new (slice_get commands.now result.0)) }
     ensures all { result.1 ≡ None → result.0 ≡ length commands.now }
 {
     let mut done = 0;

@@ -1,6 +1,9 @@
 //! Which commands make the tree that a file wants of the tree that a device has.
 //!
 //! What goes is deleted first and what grows comes last, so that no tree on the way has more nodes or levels than one of the two.
+ghost use Rattle.std.specs.Prelude.{◌≡◌, [], IfOk};
+ghost use Rattle.q_setup.specs.Alike.{AreAlike, entries};
+
 use crate::adding::add;
 use crate::alike::{are_alike, quantum_of};
 use crate::kinds::kind_of;
@@ -18,7 +21,9 @@ pub(crate) fn planned(
     mtu: u16,
     wanted: &Tree,
     tree: &Tree,
-) -> Result<Vec<Command>, AllocError> {
+) -> Result<Vec<Command>, AllocError>
+    ensures { IfOk result (λ commands. AreAlike keep (entries wanted.now.tree) (entries tree.now.tree) → commands.items ≡ []) }
+{
     let mut commands = Vec::new(alloc);
     if are_alike(keep, wanted, tree) {
         return Ok(commands);

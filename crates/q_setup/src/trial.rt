@@ -4,9 +4,10 @@ ghost use Rattle.q_model.specs.Step.{step};
 ghost use Rattle.q_model.specs.Tally.{totals};
 ghost use Rattle.q_model.specs.declared.event.Event.TheVariants as event;
 ghost use Rattle.q_script.specs.Script.{lines_of};
-ghost use Rattle.q_setup.specs.Tried.{after_line, line_names, noted, tried, why_refused, why_undone, with_line, with_lines};
+ghost use Rattle.q_setup.specs.Tried.{after_line, done_by, line_names, noted, tried, why_refused, why_undone, with_line, with_lines};
 ghost use Rattle.q_setup.specs.Trying.{seen};
 
+use crate::adding::add;
 use crate::naming::names_chosen;
 use crate::undone::Undone;
 use crate::why::Why;
@@ -26,6 +27,8 @@ pub(crate) struct Trial {
     pub(crate) lines: u64,
     /// Those that were not done.
     pub(crate) undone: Vec<Undone>,
+    /// The commands of those that were.
+    pub(crate) commands: Vec<Command>,
     /// Whether a line names a number that a device chooses.
     pub(crate) names_chosen: bool,
 }
@@ -43,6 +46,7 @@ pub(crate) fn tried(
         device: Device::open(alloc, without_recorder(settings))?,
         lines: 0,
         undone: Vec::new(alloc),
+        commands: Vec::new(alloc),
         names_chosen: false,
     };
     try_lines(&mut trial, text, now)?;
@@ -80,6 +84,7 @@ fn try_line(trial: &mut Trial, line: &[u8], now: Moment) -> Result<(), AllocErro
     let number = trial.lines + 1;
     let names = line_names(&read);
     let why = do_line(&mut trial.device, &read, now)?;
+    note_done(&mut trial.commands, &read, &why)?;
     note(&mut trial.undone, number, why)?;
     trial.lines = number;
     trial.names_chosen = trial.names_chosen || names;
@@ -122,6 +127,19 @@ fn do_command(device: &mut Device, command: Command, now: Moment) -> Result<Opti
         Ok(()) => return Ok(None),
         Err(Refusal::Memory) => return Err(AllocError),
         Err(refusal) => return Ok(Some(Why::Refusal(refusal))),
+    }
+}
+
+fn note_done(
+    commands: &mut Vec<Command>,
+    read: &Result<Line, LineFault>,
+    why: &Option<Why>,
+) -> Result<(), AllocError>
+    ensures { OnOk result (commands.new.items ≡ commands.old.items ++ done_by read.now why.now) }
+{
+    match (read, why) {
+        (Ok(Line::Tc(command)), None) => add(commands, *command),
+        _ => Ok(()),
     }
 }
 

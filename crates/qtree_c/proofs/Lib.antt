@@ -9,4 +9,6 @@ pub mod Polling
 pub mod RawBoxValues
 pub mod Readying
 pub mod Reaping
+pub mod SettingUpLemmas
 pub mod Telling
+pub mod UndoneLemmas

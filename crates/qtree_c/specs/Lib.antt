@@ -17,5 +17,6 @@ pub mod Noting
 pub mod Readiness
 pub mod Sample
 pub mod Scripts
+pub mod SettingUp
 pub mod Showing
 pub mod Structs

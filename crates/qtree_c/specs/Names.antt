@@ -14,7 +14,7 @@ code_in_words n =
     if n == 21 then codes "NoFilter" else if n == 30 then codes "Idle" else if n == 31 then codes "Later" else
     if n == 32 then codes "Nothing" else if n == 33 then codes "Full" else if n == 40 then codes "Faulty" else
     if n == 41 then codes "NoCommand" else if n == 42 then codes "OutOfRange" else if n == 43 then codes "Room" else
-    if n == 50 then codes "IsClosed" else if n == 51 then codes "IsOpen" else if n == 90 then codes "Memory" else codes "Unknown"
+    if n == 44 then codes "Undone" else if n == 50 then codes "IsClosed" else if n == 51 then codes "IsOpen" else if n == 90 then codes "Memory" else codes "Unknown"
 
 abbrev pub fault_in_words : ℕ → List ℕ
 fault_in_words n =

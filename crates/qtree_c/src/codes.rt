@@ -27,6 +27,9 @@ pub const OUT_OF_RANGE: u32 = 42;
 /// The memory that the caller lends is too small.
 pub const ROOM: u32 = 43;
 
+/// A line of the file is not done, and so none is.
+pub const UNDONE: u32 = 44;
+
 /// The device, or the end of a ring, is closed.
 pub const IS_CLOSED: u32 = 50;
 

@@ -14,9 +14,11 @@ use crate::c_node_view::CNodeView;
 use crate::c_outlet::COutlet;
 use crate::c_port::CPort;
 use crate::c_promise::CPromise;
+use crate::c_report::CReport;
 use crate::c_row::CRow;
 use crate::c_sent::CSent;
 use crate::c_settings::CSettings;
+use crate::c_undone::CUndone;
 use q_packet::StoredPacket;
 
 /// The version of these functions: the major number in the high 16 bits, the minor one in the low 16.
@@ -45,7 +47,7 @@ pub extern "C" fn qtree_layout_of(layout: &mut CLayout)
     };
 }
 
-/// The bytes of the struct with this number, 0 to 14; 0 for any other.
+/// The bytes of the struct with this number, 0 to 17; 0 for any other.
 #[unsafe(no_mangle)]
 pub extern "C" fn qtree_size_of(what: u32) -> usize
     ensures { result ≡ size_of_struct what }
@@ -67,6 +69,8 @@ pub extern "C" fn qtree_size_of(what: u32) -> usize
         13 => size_of::<CNodeView>(),
         14 => size_of::<CClassView>(),
         15 => size_of::<CDelay>(),
+        16 => size_of::<CReport>(),
+        17 => size_of::<CUndone>(),
         _ => 0,
     }
 }

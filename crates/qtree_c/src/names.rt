@@ -69,6 +69,7 @@ fn listed_name(code: u32) -> &'static str
         41 => "NoCommand",
         42 => "OutOfRange",
         43 => "Room",
+        44 => "Undone",
         50 => "IsClosed",
         51 => "IsOpen",
         90 => "Memory",

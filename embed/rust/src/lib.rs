@@ -54,15 +54,19 @@ mod qdisc;
 #[allow(unsafe_code)]
 mod raw;
 mod refusal;
+mod report;
 mod ring_state;
 mod row;
 mod sent;
 mod service;
+mod set_up;
+mod set_up_error;
 mod settings;
 mod settled;
 mod show;
 mod text;
 mod turn;
+mod undone;
 mod worst;
 
 pub use builder::PacketBuilder;
@@ -88,13 +92,16 @@ pub use polled::Polled;
 pub use port::Port;
 pub use qdisc::{FqCodel, Qdisc};
 pub use refusal::Refusal;
+pub use report::Report;
 pub use row::Row;
 pub use sent::Sent;
 pub use service::Service;
+pub use set_up_error::SetUpError;
 pub use settings::Settings;
 pub use settled::Settled;
 pub use show::Show;
 pub use turn::Turn;
+pub use undone::Undone;
 pub use worst::Worst;
 
 /// The program of the crate's page.

@@ -33,6 +33,22 @@ impl RawDevice {
         (code, fault)
     }
 
+    /// Lines that are not done are written to the first of the places.
+    pub(crate) fn set_up(
+        &mut self,
+        text: &[u8],
+        now: u64,
+        undone: &mut [sys::Undone],
+    ) -> (u32, sys::Report) {
+        let mut report = sys::Report::default();
+        let (at, len) = (text.as_ptr(), text.len());
+        let (places, room) = (undone.as_mut_ptr(), undone.len());
+        // SAFETY: the device is open; pointers and lengths are those of `text` and `undone`, which do not overlap.
+        let code =
+            unsafe { sys::qtree_set_up(&mut self.0, at, len, now, &mut report, places, room) };
+        (code, report)
+    }
+
     pub(crate) fn arrive(&mut self, packet: &sys::Packet, now: u64) -> u32 {
         // SAFETY: the device is open, and `packet` is another place.
         unsafe { sys::qtree_arrive(&mut self.0, packet, now) }

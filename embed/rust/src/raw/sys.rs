@@ -13,6 +13,7 @@ pub const QTREE_FAULTY: u32 = 40;
 pub const QTREE_NO_COMMAND: u32 = 41;
 pub const QTREE_OUT_OF_RANGE: u32 = 42;
 pub const QTREE_ROOM: u32 = 43;
+pub const QTREE_UNDONE: u32 = 44;
 pub const QTREE_ARRIVED: u32 = 0;
 pub const QTREE_POLLED: u32 = 1;
 pub const QTREE_ROOT: u32 = 1;
@@ -172,6 +173,24 @@ pub struct Fault {
 
 #[repr(C)]
 #[derive(Clone, Copy, Default)]
+pub struct Report {
+    pub lines: u64,
+    pub added: u64,
+    pub changed: u64,
+    pub deleted: u64,
+    pub undone: usize,
+}
+
+#[repr(C)]
+#[derive(Clone, Copy, Default)]
+pub struct Undone {
+    pub fault: Fault,
+    pub line: u64,
+    pub code: u32,
+}
+
+#[repr(C)]
+#[derive(Clone, Copy, Default)]
 pub struct Event {
     pub packet: Packet,
     pub moment: u64,
@@ -215,6 +234,8 @@ layout!(NodeView, 192: row 0, limit 96, rate 104, target 112, interval 120, burs
     mtu 166, ecn 168, bands 169, priomap 170);
 layout!(ClassView, 24: deficit 0, quantum 8, kind 12, major 16, minor 18, active 20);
 layout!(Fault, 16: word 0, number 8);
+layout!(Report, 40: lines 0, added 8, changed 16, deleted 24, undone 32);
+layout!(Undone, 32: fault 0, line 16, code 24);
 layout!(Event, 80: packet 0, moment 64, kind 72);
 layout!(Layout, 48: device 0, settings 8, packet 16, loss 24, row 32, event 40);
 
@@ -228,6 +249,15 @@ unsafe extern "C" {
         line_len: usize,
         now: u64,
         fault: *mut Fault,
+    ) -> u32;
+    pub fn qtree_set_up(
+        device: *mut Device,
+        text: *const u8,
+        text_len: usize,
+        now: u64,
+        report: *mut Report,
+        undone: *mut Undone,
+        room: usize,
     ) -> u32;
     pub fn qtree_read_head(bytes: *const u8, count: usize, seed: u32, packet: *mut Packet);
     pub fn qtree_read_fields(bytes: *const u8, count: usize, packet: *mut Packet);
