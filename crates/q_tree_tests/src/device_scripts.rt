@@ -195,11 +195,14 @@ impl Script {
     }
 }
 
-// What came of one script.
-fn played_once(alloc: Global, dice: &mut Dice) -> Result<Told, Fail> {
-    let mut script = Script::new(alloc)?;
+fn run(script: &mut Script, dice: &mut Dice) -> Result<Told, Fail> {
     script.run(dice)?;
     Ok(script.told)
+}
+
+// What came of one script.
+fn played_once(alloc: Global, dice: &mut Dice) -> Result<Told, Fail> {
+    run(&mut Script::new(alloc)?, dice)
 }
 
 // What came of so many scripts, added up.
