@@ -11,9 +11,9 @@ use Rattle.q_device.specs.Events.{with_memory}
 use Rattle.q_device.proofs.EventMemory.{after-memory}
 use Rattle.q_ports.specs.Collected.{Received, received_one, arrived_one, Collects}
 use Rattle.q_ports.specs.Rings.{RingSeen, received_from}
-use Rattle.q_ports.specs.Room.{KeepsPlaces, StaysButForPlaces}
+use Rattle.q_device.specs.Room.{KeepsPlaces, StaysButForPlaces}
 use Rattle.q_ports.specs.Stopped.{HasNoRoomForNext, Stops}
-use Rattle.q_ports.proofs.RoomLemmas.{keeps-same, keeps-then}
+use Rattle.q_device.proofs.RoomLemmas.{keeps-same, keeps-then}
 
 pub length-received : (rs : List (List Descriptor)) (ts : List Received) → length (fold received_one rs ts) ≡ length rs
 length-received rs [] = refl

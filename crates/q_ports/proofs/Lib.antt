@@ -9,7 +9,6 @@ pub mod OfferLemmas
 pub mod Prefixes
 pub mod RingLemmas
 pub mod Rising
-pub mod RoomLemmas
 pub mod SentPlaces
 pub mod SettleLemmas
 pub mod TakeInLemmas

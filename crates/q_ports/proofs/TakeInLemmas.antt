@@ -11,10 +11,10 @@ use Rattle.q_device.specs.DeviceSeen.{DeviceSeen}
 use Rattle.q_device.specs.Events.{with_memory}
 use Rattle.q_device.proofs.EventMemory.{after-memory}
 use Rattle.q_ports.specs.Rings.{RingSeen, with_known}
-use Rattle.q_ports.specs.Room.{StaysButForPlaces}
+use Rattle.q_device.specs.Room.{StaysButForPlaces}
 use Rattle.q_ports.specs.TakenIn.{arrived_at, arriving, TakesFirst, TakesIn}
 use Rattle.q_ports.proofs.Prefixes.{prefix_self, prefix_trans}
-use Rattle.q_ports.proofs.RoomLemmas.{keeps-same, keeps-then}
+use Rattle.q_device.proofs.RoomLemmas.{keeps-same, keeps-then}
 
 pub takes-none : (now : ℕ) (o : RingSeen) (d : DeviceSeen) → TakesIn now o o d d 0
 takes-none now o d = record {

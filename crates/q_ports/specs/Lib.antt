@@ -8,7 +8,6 @@ pub mod Opened
 pub mod Placed
 pub mod PortRanges
 pub mod Rings
-pub mod Room
 pub mod Rows
 pub mod Rules
 pub mod Stopped

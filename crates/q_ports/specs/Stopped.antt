@@ -6,7 +6,7 @@ use Rattle.q_device.specs.DeviceLaws.{HasItsMemory}
 use Rattle.q_device.specs.DeviceSeen.{DeviceSeen, HasRoomFor}
 use Rattle.q_ports.specs.Collected.{Collects}
 use Rattle.q_ports.specs.Rings.{RingSeen, received_from}
-use Rattle.q_ports.specs.Room.{StaysButForPlaces}
+use Rattle.q_device.specs.Room.{StaysButForPlaces}
 
 -- a packet waits first in some ring, and the device, whose memory is that of its own tree, has no room for it
 pub record HasNoRoomForNext (device : DeviceSeen) (rings : List RingSeen) : Type 0 where

@@ -6,7 +6,7 @@ use Rattle.q_device.specs.DeviceSeen.{DeviceSeen}
 use Rattle.q_device.specs.Events.{with_memory}
 use Rattle.q_ports.specs.Collected.{arrived_one, received_one, take}
 use Rattle.q_ports.specs.Rings.{Receives, RingSeen}
-use Rattle.q_ports.specs.Room.{KeepsPlaces}
+use Rattle.q_device.specs.Room.{KeepsPlaces}
 
 -- the first packet that was known to wait in one ring arrived, and was received
 pub record TakesKnown (at now : ℕ) (before after : List RingSeen) (device device' : DeviceSeen) : Type 0 where

@@ -12,7 +12,7 @@ use Rattle.q_device.specs.DeviceSeen.{DeviceSeen, HasRoomFor}
 use Rattle.q_device.specs.Events.{after_event, with_memory}
 use Rattle.q_ports.specs.Placed.{bytes_in}
 use Rattle.q_ports.specs.Rings.{RingSeen, popped}
-use Rattle.q_ports.specs.Room.{KeepsPlaces, StaysButForPlaces}
+use Rattle.q_device.specs.Room.{KeepsPlaces, StaysButForPlaces}
 
 -- the packet arrived at the device
 abbrev pub arriving : ℕ → DeviceSeen → Descriptor → DeviceSeen

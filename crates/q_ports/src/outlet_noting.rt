@@ -3,7 +3,7 @@ ghost use Rattle.std.specs.Prelude.{◌≡◌, ◌≤◌, ◌<◌, [], true, fal
 ghost use Rattle.q_device.specs.LastNoted.{all_noted};
 ghost use Rattle.q_model.specs.Step.{counts_at};
 ghost use Rattle.q_ports.specs.NotedIn.{arrivals_between, NotesFirst};
-ghost use Rattle.q_ports.specs.Room.{StaysButForPlaces};
+ghost use Rattle.q_device.specs.Room.{StaysButForPlaces};
 ghost use Rattle.q_ports.specs.TakenIn.{HasNoRoomForFirst, StopsAtFirst, TakesFirst, TakesIn};
 
 use crate::outlet::Outlet;

@@ -4,7 +4,6 @@ pub mod HeldSteps
 pub mod Naming
 pub mod NotingLemmas
 pub mod Offering
-pub mod PlaceLemmas
 pub mod Polling
 pub mod RawBoxValues
 pub mod Readying

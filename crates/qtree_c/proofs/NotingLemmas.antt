@@ -1,85 +1,54 @@
 -- What is noted in the ring beside a device, where there is one, of calls that make several events.
-use Rattle.std.proofs.Common.{◌≡◌, ◌∙◌, ℕ, zero, suc, ◌+◌, ◌<◌, List, [], ◌∷◌, ◌++◌, map, take, Option, Some, None, false, if◌then◌else◌, ◌==◌, refl, sym, ap, arith}
-use Rattle.std.specs.Prelude.{replicate}
-use Rattle.std.proofs.lemmas.Bool.{ne_eqb}
-use Rattle.std.proofs.lemmas.List.{map-append}
+use Rattle.std.proofs.Common.{◌≡◌, ◌∙◌, ℕ, zero, suc, ◌+◌, ◌≤◌, List, [], ◌∷◌, ◌++◌, map, refl, sym, ap, arith}
+use Rattle.std.specs.Prelude.{Option, replicate}
+use Rattle.q_device.specs.Bursts.{arrived_by}
 use Rattle.q_device.specs.DeviceSeen.{DeviceSeen, as_counted}
-use Rattle.q_device.specs.LastNoted.{LastNoted}
+use Rattle.q_device.specs.Events.{with_memory}
+use Rattle.q_device.specs.LastNoted.{LastNoted, all_noted, with_noted}
 use Rattle.q_model.specs.Step.{counts_at}
 use Rattle.q_model.specs.declared.event.Event.{Event}
 use Rattle.q_model.specs.declared.event.Event.TheVariants.{Arrive, Poll}
 use Rattle.q_packet.specs.Descriptor.{Descriptor}
-use Rattle.q_ports.proofs.NotedLemmas.{all_noted-push}
-use Rattle.qtree_c.specs.Folds.{arrival}
-use Rattle.qtree_c.specs.Noting.{arrival_events, noting, one_event, poll_events}
 use Rattle.q_packet.specs.Stored.{descriptor}
 use Rattle.q_packet.specs.declared.stored_packet.StoredPacket.{StoredPacket}
+use Rattle.q_device.proofs.PlaceLemmas.{map-more}
+use Rattle.q_ports.proofs.NotedLemmas.{all_noted-push}
+use Rattle.qtree_c.specs.Noting.{arrival_events, noting}
+use Rattle.qtree_c.proofs.Arriving.{arrived-clock}
 
--- ---- in any ring
+-- ---- one event more
 
-pub noting-none : (l : Option LastNoted) → l ≡ noting [] l
-noting-none None = refl
-noting-none (Some l) = refl
-
--- one event more
-noting-push : (es : List Event) (e : Event) (l : Option LastNoted) → noting (e ∷ []) (noting es l) ≡ noting (es ++ e ∷ []) l
-noting-push es e None = refl
-noting-push es e (Some l) = ap Some (sym (all_noted-push es e l))
-
--- ---- arrivals
-
-pub noted-arrival : (i now : ℕ) (packets : List StoredPacket) (c : StoredPacket) (d d' : DeviceSeen) (l l' l'' : Option LastNoted)
-    → l' ≡ noting (arrival_events now (map descriptor (take i packets)) d) l → counts_at now d'.device ≡ counts_at now d.device
-    → take (i + 1) packets ≡ take i packets ++ c ∷ [] → l'' ≡ noting (one_event (arrival now c) d') l'
-    → l'' ≡ noting (arrival_events now (map descriptor (take (i + 1) packets)) d) l
-noted-arrival i now packets c d d' l l' l'' noted clock more one =
-    let event : Descriptor → Event = λ p. as_counted d.device (Arrive p now) in
-    let before = map descriptor (take i packets) in
+pub arrival-more : (clock : ℕ) (cs cs2 : List StoredPacket) (c : StoredPacket) (l l1 l2 : LastNoted) → l1 ≡ all_noted (map (λ (p : Descriptor). Arrive p clock) (map descriptor cs)) l
+    → cs2 ≡ cs ++ c ∷ [] → l2 ≡ with_noted (Arrive (descriptor c) clock) l1 → l2 ≡ all_noted (map (λ (p : Descriptor). Arrive p clock) (map descriptor cs2)) l
+arrival-more clock cs cs2 c l l1 l2 had more one =
+    let event : Descriptor → Event = λ p. Arrive p clock in
     one
-    ∙ ap (λ (m : ℕ). noting (Arrive (descriptor c) m ∷ []) l') clock
-    ∙ ap (noting (event (descriptor c) ∷ [])) noted
-    ∙ noting-push (map event before) (event (descriptor c)) l
-    ∙ ap (λ (es : List Event). noting es l) (sym (map-append event before (descriptor c ∷ [])))
-    ∙ ap (λ (ps : List Descriptor). noting (map event ps) l) (sym (ap (map descriptor) more ∙ map-append descriptor (take i packets) (c ∷ [])))
+    ∙ ap (λ (x : LastNoted). with_noted (event (descriptor c)) x) had
+    ∙ sym (all_noted-push (map event (map descriptor cs)) (event (descriptor c)) l)
+    ∙ ap (λ (es : List Event). all_noted es l)
+    (sym (ap (λ (xs : List StoredPacket). map event (map descriptor xs)) more ∙ ap (λ (ps : List Descriptor). map event ps) (map-more descriptor cs c) ∙ map-more event (map descriptor cs) (descriptor c)))
 
--- ---- polls
+replicate-push : {A : Type 0} (i : ℕ) (e : A) → replicate i e ++ e ∷ [] ≡ replicate (i + 1) e
+replicate-push i e = by i ∙ (let next : suc i ≡ i + 1 = omega arith in ap (λ (k : ℕ). replicate k e) next)
+  where
+    by : (n : ℕ) → replicate n e ++ e ∷ [] ≡ replicate (suc n) e
+    by zero = refl
+    by (suc n) = ap (λ es. e ∷ es) (by n)
 
-replicate-push : (i : ℕ) (e : Event) → replicate i e ++ e ∷ [] ≡ e ∷ replicate i e
-replicate-push zero e = refl
-replicate-push (suc i) e = ap (λ (es : List Event). e ∷ es) (replicate-push i e)
+pub poll-more : (i : ℕ) (e : Event) (l l1 l2 : LastNoted) → l1 ≡ all_noted (replicate i e) l → l2 ≡ with_noted e l1 → l2 ≡ all_noted (replicate (i + 1) e) l
+poll-more i e l l1 l2 had one =
+    one ∙ ap (λ (x : LastNoted). with_noted e x) had ∙ sym (all_noted-push (replicate i e) e l) ∙ ap (λ (es : List Event). all_noted es l) (replicate-push i e)
 
--- so many polls were noted, each of which counted at the moment at which the next one counts
-pub record HasNotedPolls (i now : ℕ) (d d' : DeviceSeen) (l l' : Option LastNoted) : Type 0 where
-  pub noted : l' ≡ noting (replicate i (as_counted d.device (Poll now))) l
-  pub clock : counts_at now d'.device ≡ counts_at now d.device
+-- ---- all of them, at the time at which the last one counted
 
-pub polls-begin : (now : ℕ) (d : DeviceSeen) (l : Option LastNoted) → HasNotedPolls 0 now d d l l
-polls-begin now d l = record { noted = noting-none l; clock = refl }
+pub noted-arrivals : (now : ℕ) (cs : List StoredPacket) (d n : DeviceSeen) (l l' : Option LastNoted) → n ≡ with_memory n.memory (arrived_by now cs d)
+    → l' ≡ noting (map (λ (p : Descriptor). Arrive p n.device.clock) (map descriptor cs)) l → l' ≡ noting (arrival_events now (map descriptor cs) d) l
+noted-arrivals now [] d n l l' is noted = noted
+noted-arrivals now (c ∷ cs) d n l l' is noted =
+    let clock : n.device.clock ≡ counts_at now d.device = ap (λ (x : DeviceSeen). x.device.clock) is ∙ arrived-clock now c cs d in
+    noted ∙ ap (λ (m : ℕ). noting (map (λ (p : Descriptor). Arrive p m) (map descriptor (c ∷ cs))) l) clock
 
-pub polls-more : (i now : ℕ) (d d' d'' : DeviceSeen) (l l' l'' : Option LastNoted) → HasNotedPolls i now d d' l l' → l'' ≡ noting (one_event (Poll now) d') l'
-    → d''.device.clock ≡ counts_at now d'.device → HasNotedPolls (i + 1) now d d'' l l''
-polls-more i now d d' d'' l l' l'' had one clock =
-    let e = as_counted d.device (Poll now) in
-    let next : suc i ≡ i + 1 = omega arith in
-    let again : counts_at now d''.device ≡ counts_at now d'.device = omega (arith, clock) in
-    record {
-      noted = one
-          ∙ ap (λ (m : ℕ). noting (Poll m ∷ []) l') had.clock
-          ∙ ap (noting (e ∷ [])) had.noted
-          ∙ noting-push (replicate i e) e l
-          ∙ ap (λ (es : List Event). noting es l) (replicate-push i e)
-          ∙ ap (λ (k : ℕ). noting (replicate k e) l) next;
-      clock = again ∙ had.clock;
-    }
-
--- each gave a packet
-pub polls-end : (i now : ℕ) (d d' : DeviceSeen) (l l' : Option LastNoted) → HasNotedPolls i now d d' l l' → l' ≡ noting (poll_events now 0 i d) l
-polls-end i now d d' l l' had = had.noted
-
--- the last gave none
-pub polls-stop : (i now code : ℕ) (d d' d'' : DeviceSeen) (l l' l'' : Option LastNoted) → HasNotedPolls i now d d' l l' → l'' ≡ noting (one_event (Poll now) d') l'
-    → d''.device.clock ≡ counts_at now d'.device → 0 < code → l'' ≡ noting (poll_events now code i d) l
-polls-stop i now code d d' d'' l l' l'' had one clock some =
-    let e = as_counted d.device (Poll now) in
-    let not_done : (code == 0) ≡ false = ne_eqb code 0 (λ same. absurd (omega (arith, some, same))) in
-    (polls-more i now d d' d'' l l' l'' had one clock).noted ∙ ap (λ b. noting (replicate (if b then i else i + 1) e) l) (sym not_done)
+pub noted-polls : (now k : ℕ) (d n : DeviceSeen) (l l' : Option LastNoted) → (1 ≤ k → n.device.clock ≡ counts_at now d.device) → l' ≡ noting (replicate k (Poll n.device.clock)) l
+    → l' ≡ noting (replicate k (as_counted d.device (Poll now))) l
+noted-polls now zero d n l l' clock noted = noted
+noted-polls now (suc k) d n l l' clock noted = noted ∙ ap (λ (m : ℕ). noting (replicate (suc k) (Poll m)) l) (clock (omega arith))

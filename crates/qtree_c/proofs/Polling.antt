@@ -1,110 +1,95 @@
--- Polls into lent places, in each of which something is told of a packet, after so many of them.
-use Rattle.std.proofs.Common.{◌≡◌, ℕ, suc, ◌+◌, ◌-◌, ◌<◌, List, [], ◌∷◌, ◌++◌, refl, sym, ap, subst, ◌∙◌, append_assoc, arith, Option, Some, None}
-use Rattle.std.specs.Prelude.{drop, length, map, option_map, set}
-use Rattle.std.proofs.lemmas.List.{append-nil, length-map}
+-- Polls into lent places, with the numbers that C has.
+use Rattle.std.proofs.Common.{◌≡◌, ℕ, zero, suc, ◌+◌, ◌<◌, ◌≤◌, List, refl, sym, ap, subst, ◌∙◌, arith, Option, Some, None}
+use Rattle.std.specs.Prelude.{length, max}
 use Rattle.q_packet.specs.Descriptor.{Descriptor}
+use Rattle.q_model.specs.Step.{counts_at}
 use Rattle.q_model.specs.declared.event.Event.TheVariants.{Poll}
+use Rattle.q_model.specs.declared.polled.Polled.{Polled}
+use Rattle.q_model.specs.declared.polled.Polled.TheVariants as polled
+use Rattle.q_device.specs.declared.given.Given.{Given}
+use Rattle.q_device.specs.declared.given.Given.TheVariants as given
+use Rattle.q_device.specs.Bursts as bursts
+use Rattle.q_device.specs.Bursts.{given_as, polled_as}
 use Rattle.q_device.specs.DeviceSeen.{DeviceSeen}
-use Rattle.q_device.specs.Events.{reply_to}
-use Rattle.q_device.specs.Polls.{after_poll, given_at, given_by, or_last, polled_by}
-use Rattle.q_device.proofs.PollLemmas.{given-more, given-none, polled-more, polled-none}
-use Rattle.qtree_c.specs.Codes.{reply_number}
+use Rattle.q_device.specs.Events.{after_event, reply_to}
+use Rattle.q_device.specs.Polls.{after_poll, and_then, given_at, given_by, or_last, polled_by}
+use Rattle.q_device.proofs.Polling.{idle-gives_none, later-gives_none}
+use Rattle.qtree_c.specs.Codes.{polled_number, reply_number}
 use Rattle.qtree_c.specs.Folds.{IsPolls, answer_by}
-use Rattle.qtree_c.proofs.PlaceLemmas.{filled-more, length-more, map-more, none-is-none, some-item}
 
--- ---- a poll more
+-- ---- the numbers
 
--- the packet of which this is told
-record IsOf {A : Type 0} (told : Descriptor → A) (given : Option Descriptor) (t : A) : Type 0 where
-  pub packet : Descriptor
-  pub gives : given ≡ Some packet
-  pub is : told packet ≡ t
+abbrev pub given_number : Given → ℕ
+given_number given.Packet = 0
+given_number given.Idle = 30
+given_number given.Later = 31
 
-told-of : {A : Type 0} (told : Descriptor → A) (given : Option Descriptor) (t : A) → option_map told given ≡ Some t → IsOf told given t
-told-of told None t e = absurd (none-is-none e)
-told-of told (Some p) t e = record { packet = p; gives = refl; is = some-item e }
+polled-numbers : (p : Polled) → given_number (polled_as p) ≡ polled_number p
+polled-numbers (polled.Packet p) = refl
+polled-numbers polled.Idle = refl
+polled-numbers polled.Later = refl
 
--- the answer after a poll that gave a packet, and after one that gave none
-answer-more : (n now : ℕ) (d d' : DeviceSeen) (p : Descriptor) → given_at now d ≡ Some p → d' ≡ after_poll now d → answer_by (suc n) now d ≡ answer_by n now d'
-answer-more n now d d' p gives is =
-    ap (λ (o : Option Descriptor). or_last o (reply_number (reply_to (Poll now) d)) (answer_by n now (after_poll now d))) gives ∙ ap (λ (x : DeviceSeen). answer_by n now x) (sym is)
+reply-numbers : (now : ℕ) (d : DeviceSeen) → given_number (given_as (reply_to (Poll now) d)) ≡ reply_number (reply_to (Poll now) d)
+unfolding reply_to
+reply-numbers now d = polled-numbers _
 
-answer-none : (n now : ℕ) (d : DeviceSeen) → given_at now d ≡ None → answer_by (suc n) now d ≡ reply_number (reply_to (Poll now) d)
-answer-none n now d none = ap (λ (o : Option Descriptor). or_last o (reply_number (reply_to (Poll now) d)) (answer_by n now (after_poll now d))) none
+last-number : (g : Option Descriptor) (a b : Given) (m n : ℕ) → given_number a ≡ m → given_number b ≡ n → given_number (or_last g a b) ≡ or_last g m n
+last-number (Some p) a b m n last rest = rest
+last-number None a b m n last rest = last
 
--- ---- all polls
+answer-numbers : (n now : ℕ) (d : DeviceSeen) → given_number (bursts.answer_by n now d) ≡ answer_by n now d
+answer-numbers zero now d = refl
+answer-numbers (suc n) now d = last-number (given_at now d) _ _ _ _ (reply-numbers now d) (answer-numbers n now (after_poll now d))
 
--- The first `i` of `n` polls gave a packet each, of which the first places tell. What is left of them gives the rest.
-pub record IsPolling {A : Type 0} (told : Descriptor → A) (i n now : ℕ) (before after : List A) (d d' : DeviceSeen) : Type 0 where
-  pub firsts : List Descriptor
-  pub counted : length firsts ≡ i
-  pub places : after ≡ map told firsts ++ drop i before
-  pub given : firsts ++ given_by (n - i) now d' ≡ given_by n now d
-  pub polled : polled_by (n - i) now d' ≡ polled_by n now d
-  pub answer : answer_by (n - i) now d' ≡ answer_by n now d
+pub polls-are : {A : Type 0} (told : Descriptor → A) (now : ℕ) (answer : Given) (count : ℕ) (before after : List A) (d n : DeviceSeen) → bursts.IsPolls told now answer count before after d n
+    → IsPolls told now (given_number answer) count before after d n
+polls-are told now answer count before after d n h = record {
+  polled = h.polled;
+  answer = ap given_number h.answered ∙ answer-numbers (length before) now d;
+  given = h.given;
+  packets = h.packets;
+}
 
-pub polling-begins : {A : Type 0} (told : Descriptor → A) (n now : ℕ) (before : List A) (d : DeviceSeen) → IsPolling told 0 n now before before d d
-polling-begins told n now before d =
-    let whole : n - 0 ≡ n = omega arith in
-    record {
-      firsts = [];
-      counted = refl;
-      places = refl;
-      given = ap (λ (k : ℕ). given_by k now d) whole;
-      polled = ap (λ (k : ℕ). polled_by k now d) whole;
-      answer = ap (λ (k : ℕ). answer_by k now d) whole;
-    }
+-- ---- how many, and when
 
-pub polling-more : {A : Type 0} (told : Descriptor → A) (i n now : ℕ) (before after : List A) (d d' d'' : DeviceSeen) (t : A) → IsPolling told i n now before after d d' → i < n → length before ≡ n
-    → option_map told (given_at now d') ≡ Some t → d'' ≡ after_poll now d' → IsPolling told (i + 1) n now before (set after i t) d d''
-polling-more {A = A} told i n now before after d d' d'' t inv lt len gives is =
-    let it : IsOf told (given_at now d') t = told-of told (given_at now d') t gives in
-    let p : Descriptor = it.packet in
-    let xs : List A = map told inv.firsts in
-    let left : n - i ≡ suc (n - (i + 1)) = omega (arith, lt) in
-    let next : suc i ≡ i + 1 = omega arith in
-    let counted : length xs ≡ i = length-map inv.firsts told ∙ inv.counted in
-    let tells : map told (inv.firsts ++ p ∷ []) ≡ xs ++ t ∷ [] = map-more told inv.firsts p ∙ ap (λ (x : A). xs ++ x ∷ []) it.is in
-    let more : given_by (n - i) now d' ≡ p ∷ given_by (n - (i + 1)) now d'' = ap (λ (k : ℕ). given_by k now d') left ∙ given-more (n - (i + 1)) now d' d'' p it.gives is in
-    record {
-      firsts = inv.firsts ++ p ∷ [];
-      counted = length-more inv.firsts p ∙ (ap suc inv.counted ∙ next);
-      places = ap (λ (ys : List A). set ys i t) inv.places
-          ∙ (subst (λ (k : ℕ). set (xs ++ drop k before) k t ≡ (xs ++ t ∷ []) ++ drop (suc k) before) counted
-          (filled-more xs before t (omega (arith, counted, lt, len)))
-          ∙ (ap (λ (k : ℕ). (xs ++ t ∷ []) ++ drop k before) next ∙ ap (λ (ys : List A). ys ++ drop (i + 1) before) (sym tells)));
-      given = append_assoc inv.firsts (p ∷ []) (given_by (n - (i + 1)) now d'') ∙ (ap (λ (ps : List Descriptor). inv.firsts ++ ps) (sym more) ∙ inv.given);
-      polled = sym (ap (λ (k : ℕ). polled_by k now d') left ∙ polled-more (n - (i + 1)) now d' d'' p it.gives is) ∙ inv.polled;
-      answer = sym (ap (λ (k : ℕ). answer_by k now d') left ∙ answer-more (n - (i + 1)) now d' d'' p it.gives is) ∙ inv.answer;
-    }
+-- where the last gave none, fewer packets were given than there were polls
+less-by : (g : Option Descriptor) (n : ℕ) (a b : Given) (rest : List Descriptor) → (or_last g a b ≡ given.Packet → ⊥) → ((b ≡ given.Packet → ⊥) → length rest < n) → length (and_then g rest) < suc n
+less-by (Some p) n a b rest none more = omega (arith, more none)
+less-by None n a b rest none more = omega arith
 
--- nothing is left of them to give
-polls-of : {A : Type 0} (told : Descriptor → A) (i n now code : ℕ) (before after : List A) (d d' d'' : DeviceSeen) → (inv : IsPolling told i n now before after d d') → length before ≡ n
-    → given_by (n - i) now d' ≡ [] → d'' ≡ polled_by (n - i) now d' → code ≡ answer_by (n - i) now d' → IsPolls told now code i before after d d''
-polls-of {A = A} told i n now code before after d d' d'' inv len rest is answer =
-    let given : inv.firsts ≡ given_by n now d = sym (append-nil inv.firsts) ∙ (ap (λ (ps : List Descriptor). inv.firsts ++ ps) (sym rest) ∙ inv.given) in
-    record {
-      polled = is ∙ (inv.polled ∙ ap (λ (k : ℕ). polled_by k now d) (sym len));
-      answer = answer ∙ (inv.answer ∙ ap (λ (k : ℕ). answer_by k now d) (sym len));
-      given = sym inv.counted ∙ (ap length given ∙ ap (λ (k : ℕ). length (given_by k now d)) (sym len));
-      packets = inv.places
-          ∙ (ap (λ (ps : List Descriptor). map told ps ++ drop i before) given ∙ ap (λ (k : ℕ). map told (given_by k now d) ++ drop i before) (sym len));
-    }
+given-less : (n now : ℕ) (d : DeviceSeen) → (bursts.answer_by n now d ≡ given.Packet → ⊥) → length (given_by n now d) < n
+given-less zero now d none = absurd (none refl)
+given-less (suc n) now d none = less-by (given_at now d) n _ _ (given_by n now (after_poll now d)) none (given-less n now (after_poll now d))
 
--- all of them gave a packet
-pub polling-ends : {A : Type 0} (told : Descriptor → A) (i n now : ℕ) (before after : List A) (d d' : DeviceSeen) → IsPolling told i n now before after d d' → i ≡ n → length before ≡ n
-    → IsPolls told now 0 i before after d d'
-polling-ends told i n now before after d d' inv end len =
-    let none : 0 ≡ n - i = omega (arith, end) in
-    polls-of told i n now 0 before after d d' d' inv len
-    (ap (λ (k : ℕ). given_by k now d') (sym none)) (ap (λ (k : ℕ). polled_by k now d') none) (ap (λ (k : ℕ). answer_by k now d') none)
+once-clock : (now : ℕ) (d : DeviceSeen) → (after_poll now d).device.clock ≡ counts_at now d.device
+unfolding after_poll after_event
+once-clock now d = refl
 
--- the next one gave none
-pub polling-stops : {A : Type 0} (told : Descriptor → A) (i n now code : ℕ) (before after : List A) (d d' d'' : DeviceSeen) → IsPolling told i n now before after d d' → i < n → length before ≡ n
-    → given_at now d' ≡ None → d'' ≡ after_poll now d' → code ≡ reply_number (reply_to (Poll now) d') → IsPolls told now code i before after d d''
-polling-stops told i n now code before after d d' d'' inv lt len gives is answer =
-    let left : n - i ≡ suc (n - (i + 1)) = omega (arith, lt) in
-    polls-of told i n now code before after d d' d'' inv len
-    (ap (λ (k : ℕ). given_by k now d') left ∙ given-none (n - (i + 1)) now d' gives)
-    (is ∙ sym (ap (λ (k : ℕ). polled_by k now d') left ∙ polled-none (n - (i + 1)) now d' gives))
-    (answer ∙ sym (ap (λ (k : ℕ). answer_by k now d') left ∙ answer-none (n - (i + 1)) now d' gives))
+last-clock : (g : Option Descriptor) (a b : DeviceSeen) (t : ℕ) → a.device.clock ≡ t → b.device.clock ≡ t → (or_last g a b).device.clock ≡ t
+last-clock (Some p) a b t last rest = rest
+last-clock None a b t last rest = last
+
+-- the time at which the last of them counted
+polled-clock : (n now : ℕ) (d : DeviceSeen) → (polled_by (suc n) now d).device.clock ≡ counts_at now d.device
+polled-clock zero now d = last-clock (given_at now d) (after_poll now d) (after_poll now d) (counts_at now d.device) (once-clock now d) (once-clock now d)
+polled-clock (suc n) now d =
+    let first : (after_poll now d).device.clock ≡ max d.device.clock now = once-clock now d in
+    last-clock (given_at now d) (after_poll now d) (polled_by (suc n) now (after_poll now d)) (counts_at now d.device) first (polled-clock n now (after_poll now d) ∙ omega (arith, first))
+
+some-polled : (n now : ℕ) (d : DeviceSeen) → 1 ≤ n → (polled_by n now d).device.clock ≡ counts_at now d.device
+some-polled zero now d some = absurd (omega (arith, some))
+some-polled (suc n) now d some = polled-clock n now d
+
+none-given : (n now : ℕ) (d : DeviceSeen) → 1 ≤ length (given_by n now d) → 1 ≤ n
+none-given zero now d some = absurd (omega (arith, some))
+none-given (suc n) now d some = omega arith
+
+module _ {A : Type 0} (told : Descriptor → A) (now : ℕ) (count : ℕ) (before after : List A) (d n : DeviceSeen) where
+  pub packets-clock : bursts.IsPolls told now given.Packet count before after d n → 1 ≤ count → n.device.clock ≡ counts_at now d.device
+  packets-clock h some = ap (λ (x : DeviceSeen). x.device.clock) h.polled ∙ some-polled (length before) now d (none-given (length before) now d (omega (arith, some, h.given)))
+
+  pub none-less : (answer : Given) → (answer ≡ given.Packet → ⊥) → bursts.IsPolls told now answer count before after d n → count < length before
+  none-less answer none h = omega (arith, h.given, given-less (length before) now d (λ e. none (h.answered ∙ e)))
+
+  pub none-clock : (answer : Given) → (answer ≡ given.Packet → ⊥) → bursts.IsPolls told now answer count before after d n → n.device.clock ≡ counts_at now d.device
+  none-clock answer none h = ap (λ (x : DeviceSeen). x.device.clock) h.polled ∙ some-polled (length before) now d (omega (arith, none-less answer none h))

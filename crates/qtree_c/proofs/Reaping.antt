@@ -6,7 +6,7 @@ use Rattle.q_device.specs.DeviceSeen.{DeviceSeen, reaped}
 use Rattle.qtree_c.specs.Folds.{IsReaps}
 use Rattle.qtree_c.specs.Structs.{loss_of}
 use Rattle.qtree_c.specs.declared.c_loss.CLoss.{CLoss}
-use Rattle.qtree_c.proofs.PlaceLemmas.{filled-more, next-taken, next-dropped, next-counted, some-left, none-left, map-more, length-taken, all-dropped}
+use Rattle.q_device.proofs.PlaceLemmas.{filled-more, next-taken, next-dropped, next-counted, some-left, none-left, map-more, length-taken, all-dropped}
 
 -- where none waits nothing is handed out
 nothing-more : (i : ℕ) (d : DeviceSeen) → length d.waiting ≤ i → reaped (record d { waiting = drop i d.waiting; handed_out = d.handed_out + i }) ≡ record d { waiting = drop i d.waiting; handed_out = d.handed_out + i }

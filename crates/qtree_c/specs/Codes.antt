@@ -1,18 +1,12 @@
 -- The number by which an event is answered, of which causes and refusals have their own.
 -- Those of a poll are this project's own.
 use Rattle.std.specs.Prelude.{ℕ, Ok, Err}
-use Rattle.q_packet.specs.Cause.{cause_number}
 use Rattle.q_model.specs.Refusal.{refusal_number}
-use Rattle.q_model.specs.declared.fate.Fate.{Fate}
-use Rattle.q_model.specs.declared.fate.Fate.TheVariants as fate
 use Rattle.q_model.specs.declared.polled.Polled.{Polled}
 use Rattle.q_model.specs.declared.polled.Polled.TheVariants as polled
 use Rattle.q_model.specs.declared.reply.Reply.{Reply}
 use Rattle.q_model.specs.declared.reply.Reply.TheVariants as reply
-
-abbrev pub fate_number : Fate → ℕ
-fate_number fate.Kept = 0
-fate_number (fate.Lost cause) = cause_number cause
+use Rattle.q_device.specs.Answers.{fate_number}
 
 abbrev pub polled_number : Polled → ℕ
 polled_number (polled.Packet p) = 0

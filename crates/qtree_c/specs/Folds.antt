@@ -1,17 +1,15 @@
 -- What calls in a row do: each is the single call, up to the first that stops them.
 -- The calls are this project's own.
 use Rattle.std.specs.Prelude.{◌≡◌, ◌≢◌, ℕ, zero, suc, ◌+◌, ◌<◌, ◌≤◌, List, [], ◌∷◌, ◌++◌, All, map, take, drop, length, slice_index_or}
-use Rattle.q_model.specs.declared.event.Event.{Event}
-use Rattle.q_model.specs.declared.event.Event.TheVariants.{Arrive, Poll}
+use Rattle.q_model.specs.declared.event.Event.TheVariants.{Poll}
 use Rattle.q_packet.specs.Descriptor.{Descriptor}
-use Rattle.q_device.specs.DeviceSeen.{DeviceSeen, HasRoomFor}
-use Rattle.q_device.specs.DeviceLaws.{HasItsMemory}
+use Rattle.q_device.specs.Bursts.{StopsAtNext, arrival, arrived_by}
+use Rattle.q_device.specs.DeviceSeen.{DeviceSeen}
 use Rattle.q_device.specs.Events.{after_event, reply_to, with_memory}
 use Rattle.q_device.specs.Polls.{after_poll, given_at, given_by, or_last, polled_by}
 use Rattle.qtree_c.specs.Codes.{reply_number}
-use Rattle.q_ports.specs.Room.{KeepsPlaces, StaysButForPlaces}
+use Rattle.q_device.specs.Room.{KeepsPlaces}
 use Rattle.qtree_c.specs.Structs.{IsPacket, loss_of, zero_packet}
-use Rattle.q_packet.specs.Stored.{descriptor}
 use Rattle.qtree_c.specs.declared.c_loss.CLoss.{CLoss}
 use Rattle.q_packet.specs.declared.stored_packet.StoredPacket.{StoredPacket}
 
@@ -32,29 +30,10 @@ pub record IsPolls {A : Type 0} (told : Descriptor → A) (now code count : ℕ)
 
 -- ---- arrivals
 
-abbrev pub arrival : ℕ → StoredPacket → Event
-arrival now c = Arrive (descriptor c) now
-
--- the device after packets arrived in order, and the number of the fate of each
-abbrev pub arrived_by : ℕ → List StoredPacket → DeviceSeen → DeviceSeen
-arrived_by now [] d = d
-arrived_by now (c ∷ cs) d = arrived_by now cs (after_event (arrival now c) d)
-
+-- the number of the fate of each of these packets, where they arrive in order
 abbrev pub fates_by : ℕ → List StoredPacket → DeviceSeen → List ℕ
 fates_by now [] d = []
 fates_by now (c ∷ cs) d = reply_number (reply_to (arrival now c) d) ∷ fates_by now cs (after_event (arrival now c) d)
-
--- These packets arrived, for which no place was lost. The device then had no room for the next one, and but for more places it has stayed
--- as it was. Where no packet had arrived it was the very device of before. So a caller who gave the device room for all gets no allocation
--- failure.
-pub record StopsAtNext (now : ℕ) (arrived : List StoredPacket) (next : StoredPacket) (d n : DeviceSeen) : Type 0 where
-  pub full : DeviceSeen
-  pub made : full ≡ with_memory full.memory (arrived_by now arrived d)
-  pub places : KeepsPlaces d full
-  pub first : length arrived ≡ 0 → full ≡ d
-  pub memory : HasItsMemory full
-  pub room : HasRoomFor (descriptor next) full → ⊥
-  pub stays : StaysButForPlaces full n
 
 -- The first packets arrived, to the end, or to one that is out of its range (42) or for which an allocation fails (90). What
 -- is behind the numbers of their fates stays as it was.

@@ -3,19 +3,22 @@ ghost use Rattle.std.specs.Prelude.{◌≡◌, ◌≢◌, ◌≤◌, ◌<◌, �
 ghost use Rattle.q_device.specs.DeviceLaws.{HasItsMemory};
 ghost use Rattle.q_device.specs.DeviceSeen.{HasRoomFor};
 ghost use Rattle.q_model.specs.Step.{counts_at};
-ghost use Rattle.q_ports.specs.Room.{StaysButForPlaces};
+ghost use Rattle.q_device.specs.Room.{StaysButForPlaces};
 ghost use Rattle.qtree_c.specs.Calls.{Calls, IsArrival};
-ghost use Rattle.qtree_c.specs.Codes.{fate_number};
-ghost use Rattle.qtree_c.specs.Folds.{arrival, IsArrivals};
+ghost use Rattle.q_device.specs.Answers.{fate_number};
+ghost use Rattle.q_device.specs.Bursts.{arrival};
+ghost use Rattle.qtree_c.specs.Folds.{IsArrivals};
+ghost use Rattle.qtree_c.specs.Structs.{IsPacket};
 ghost use Rattle.qtree_c.specs.Noting.{arrival_events, noting, one_event, Notes};
-ghost use Rattle.q_packet.specs.Stored.{descriptor};
+ghost use Rattle.q_packet.specs.Stored.{descriptor, IsStored};
 
 use crate::c_device::CDevice;
 use crate::c_packet::is_packet;
 use crate::codes::{DONE, IS_CLOSED, MEMORY, OUT_OF_RANGE, ROOM};
+use crate::noting::note_arrivals;
 use crate::opened::Opened;
 use crate::steps;
-use q_device::Fate;
+use q_device::{Fate, Stopped};
 use q_packet::{Moment, StoredPacket};
 
 /// A packet arrives.
@@ -103,14 +106,24 @@ fn arrive_many(
     ensures room { result.1 ≢ 43 }
     ensures noted { opened.new.last ≡ noting (arrival_events now (map descriptor (take result.0 packets.now)) opened.old.device) opened.old.last }
 {
-    for i in 0..packets.len() {
-        let code = arrive(opened, &packets[i], now);
-        if code > 6 {
-            return (i, code);
-        }
-        codes[i] = code as u8;
+    let (done, stopped) = opened.device.arrive_many(packets, codes, now);
+    note_arrivals(&mut opened.last, &opened.device, &packets[..done]);
+    match stopped {
+        None => (done, DONE),
+        Some(Stopped::OutOfRange) => (done, out_of_range(&packets[done])),
+        Some(Stopped::Memory) => (done, MEMORY),
     }
-    (packets.len(), DONE)
+}
+
+// The number for a packet that has a field out of its range.
+fn out_of_range(packet: &StoredPacket) -> u32
+    requires { IsStored packet.now → ⊥ }
+    ensures code { result ≡ 42 }
+    ensures packet { IsPacket packet.now → ⊥ }
+{
+    // That a half of an address fits its field is known where it is read.
+    let _ = is_packet(packet);
+    OUT_OF_RANGE
 }
 
 /// The number of a fate: 0, or the cause's.

@@ -10,10 +10,11 @@ ghost use Rattle.qtree_c.specs.Folds.{IsPolls};
 ghost use Rattle.qtree_c.specs.Noting.{noting, one_event, poll_events};
 
 use crate::codes::{DONE, IDLE, LATER};
+use crate::noting::note_polls;
 use crate::opened::Opened;
 use crate::steps;
 use crate::told::Told;
-use q_device::Given;
+use q_device::{Given, Told as TellsOf};
 use q_packet::Moment;
 
 /// An open device is polled.
@@ -32,18 +33,26 @@ pub fn poll<T: Told>(opened: &mut Opened, now: Moment, place: &mut T) -> u32
 
 /// An open device is polled until there are as many packets as places, or to the first poll that gives none.
 #[inline(always)]
-pub fn poll_many<T: Told>(opened: &mut Opened, places: &mut [T], now: Moment) -> (usize, u32)
+pub fn poll_many<T: TellsOf>(opened: &mut Opened, places: &mut [T], now: Moment) -> (usize, u32)
     ensures polls { IsPolls T.told now result.1 result.0 places.old places.new opened.old.device opened.new.device }
     ensures codes { result.1 ≤ 31 }
     ensures noted { opened.new.last ≡ noting (poll_events now result.1 result.0 opened.old.device) opened.old.last }
 {
-    for i in 0..places.len() {
-        match next(opened, now, &mut places[i]) {
-            Ok(()) => {}
-            Err(code) => return (i, code),
+    let (given, answer) = opened.device.poll_many(now, places);
+    match answer {
+        Given::Packet => {
+            note_polls(&mut opened.last, &opened.device, given);
+            (given, DONE)
+        }
+        Given::Idle => {
+            note_polls(&mut opened.last, &opened.device, given + 1);
+            (given, IDLE)
+        }
+        Given::Later => {
+            note_polls(&mut opened.last, &opened.device, given + 1);
+            (given, LATER)
         }
     }
-    (places.len(), DONE)
 }
 
 /// The packet that a poll gives is told in this place.

@@ -6,7 +6,7 @@ ghost use Rattle.q_device.specs.Giving.{polled_in};
 ghost use Rattle.q_device.specs.LastNoted.{with_noted};
 ghost use Rattle.q_model.specs.declared.event.Event.TheVariants as event;
 ghost use Rattle.q_model.specs.declared.reply.Reply.TheVariants as reply;
-ghost use Rattle.q_ports.specs.Room.{KeepsPlaces, StaysButForPlaces};
+ghost use Rattle.q_device.specs.Room.{KeepsPlaces, StaysButForPlaces};
 ghost use Rattle.q_tree.specs.Commanding.{MayTakeMemory};
 ghost use Rattle.q_device.specs.Events.{after_event, reply_to, with_memory};
 ghost use Rattle.q_device.specs.Polls.{after_poll, given_at};

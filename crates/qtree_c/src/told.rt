@@ -12,7 +12,7 @@ ghost use Rattle.qtree_c.specs.Structs.{sent_of, told_or};
 
 use crate::c_sent::CSent;
 use q_device::{Device, Given};
-use q_packet::{Moment, SOME_STORED, StoredPacket};
+use q_packet::{KeptPacket, Moment, SOME_STORED, StoredPacket};
 
 /// A struct of C into which a packet is written that the device gives.
 pub trait Told: Copy {
@@ -51,5 +51,14 @@ impl Told for CSent {
             Given::Idle => Given::Idle,
             Given::Later => Given::Later,
         }
+    }
+}
+
+impl q_device::Told for CSent {
+    ghost told = { sent_of };
+
+    #[inline(always)]
+    fn tell(packet: &KeptPacket) -> CSent {
+        CSent::of(&packet.stored)
     }
 }
