@@ -5,7 +5,7 @@ use Rattle.std.proofs.lemmas.List.{length-map, take_all}
 use Rattle.q_setup.specs.declared.undone.Undone.{Undone}
 use Rattle.qtree_c.specs.SettingUp.{told_undone, undone_of}
 use Rattle.qtree_c.specs.declared.c_undone.CUndone.{CUndone}
-use Rattle.qtree_c.proofs.PlaceLemmas.{filled-more, next-taken, some-left, none-left, map-more, length-taken, all-dropped}
+use Rattle.q_device.proofs.PlaceLemmas.{filled-more, next-taken, some-left, none-left, map-more, length-taken, all-dropped}
 
 in-front : {A : Type 0} (xs : List A) (i : ℕ) → slice_get (drop i xs) 0 ≡ slice_get xs i
 in-front [] zero = refl
