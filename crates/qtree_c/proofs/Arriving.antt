@@ -80,10 +80,11 @@ module _ (now : ℕ) (packets : List StoredPacket) (done : ℕ) (before after : 
         places = h.places;
       }
 
--- the time at which the last of them counted
-pub arrived-clock : (now : ℕ) (c : StoredPacket) (cs : List StoredPacket) (d : DeviceSeen) → (arrived_by now (c ∷ cs) d).device.clock ≡ counts_at now d.device
+-- the time at which one counts, and the last of several
+arrival-clock : (now : ℕ) (c : StoredPacket) (d : DeviceSeen) → (after_event (arrival now c) d).device.clock ≡ max d.device.clock now
 unfolding after_event
-arrived-clock now c [] d = refl
-arrived-clock now c (x ∷ cs) d =
-    let first : (after_event (arrival now c) d).device.clock ≡ max d.device.clock now = arrived-clock now c [] d in
-    arrived-clock now x cs (after_event (arrival now c) d) ∙ omega (arith, first)
+arrival-clock now c d = refl
+
+pub arrived-clock : (now : ℕ) (c : StoredPacket) (cs : List StoredPacket) (d : DeviceSeen) → (arrived_by now (c ∷ cs) d).device.clock ≡ counts_at now d.device
+arrived-clock now c [] d = arrival-clock now c d
+arrived-clock now c (x ∷ cs) d = arrived-clock now x cs (after_event (arrival now c) d) ∙ omega (arith, arrival-clock now c d)

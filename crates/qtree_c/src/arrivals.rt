@@ -108,10 +108,12 @@ fn arrive_many(
 {
     let (done, stopped) = opened.device.arrive_many(packets, codes, now);
     note_arrivals(&mut opened.last, &opened.device, &packets[..done]);
-    match stopped {
-        None => (done, DONE),
-        Some(Stopped::OutOfRange) => (done, out_of_range(&packets[done])),
-        Some(Stopped::Memory) => (done, MEMORY),
+    let Some(why) = stopped else {
+        return (done, DONE);
+    };
+    match why {
+        Stopped::OutOfRange => (done, out_of_range(&packets[done])),
+        Stopped::Memory => (done, MEMORY),
     }
 }
 

@@ -8,39 +8,39 @@ use Rattle.qtree_c.proofs.Arriving.{all-arrived, bad-next, no_room-next}
 use Rattle.qtree_c.proofs.NotingLemmas.{noted-arrivals}
 use Rattle.qtree_c.proofs.arrivals.arrive_many.Goals as goal
 
-pub returns-in-None-clause-arrivals : goal.returns-in-None-clause-arrivals
-returns-in-None-clause-arrivals c =
+pub returns-in_default-clause-arrivals : goal.returns-in_default-clause-arrivals
+returns-in_default-clause-arrivals c =
     let done = c.arrive_many-done.result.0 in
     all-arrived c.args.now c.args.packets.now done c.args.codes.now c.arrive_many-done.new.fates c.args.opened.now.device c.arrive_many-done.new.self
-    (subst (λ (o : Option Stopped). bursts.IsArrivals fate_number c.args.now c.args.packets.now o done c.args.codes.now c.arrive_many-done.new.fates c.args.opened.now.device c.arrive_many-done.new.self) c.in-None.is
+    (subst (λ (o : Option Stopped). bursts.IsArrivals fate_number c.args.now c.args.packets.now o done c.args.codes.now c.arrive_many-done.new.fates c.args.opened.now.device c.arrive_many-done.new.self) c.in_default.is
     c.arrive_many-done.ensures)
 
-pub returns-in-None-clause-noted : goal.returns-in-None-clause-noted
-returns-in-None-clause-noted c =
+pub returns-in_default-clause-noted : goal.returns-in_default-clause-noted
+returns-in_default-clause-noted c =
     noted-arrivals c.args.now (take c.arrive_many-done.result.0 c.args.packets.now) c.args.opened.now.device c.arrive_many-done.new.self c.args.opened.now.last c.note_arrivals.new.last
     c.arrive_many-done.ensures.arrived c.note_arrivals.ensures
 
-pub returns-in-Some-OutOfRange-clause-arrivals : goal.returns-in-Some-OutOfRange-clause-arrivals
-returns-in-Some-OutOfRange-clause-arrivals c =
+pub returns-in-OutOfRange-clause-arrivals : goal.returns-in-OutOfRange-clause-arrivals
+returns-in-OutOfRange-clause-arrivals c =
     let done = c.arrive_many-done.result.0 in
     bad-next c.args.now c.args.packets.now done c.args.codes.now c.arrive_many-done.new.fates c.args.opened.now.device c.arrive_many-done.new.self
     (subst (λ (o : Option Stopped). bursts.IsArrivals fate_number c.args.now c.args.packets.now o done c.args.codes.now c.arrive_many-done.new.fates c.args.opened.now.device c.arrive_many-done.new.self)
-    (c.in-Some-OutOfRange.is ∙ ap Some c.in-Some-OutOfRange.field-0-is) c.arrive_many-done.ensures)
+    (c.in-Some.is ∙ ap Some c.in-OutOfRange.is) c.arrive_many-done.ensures)
     c.out_of_range.ensures.packet c.out_of_range.result c.out_of_range.ensures.code
 
-pub returns-in-Some-OutOfRange-clause-noted : goal.returns-in-Some-OutOfRange-clause-noted
-returns-in-Some-OutOfRange-clause-noted c =
+pub returns-in-OutOfRange-clause-noted : goal.returns-in-OutOfRange-clause-noted
+returns-in-OutOfRange-clause-noted c =
     noted-arrivals c.args.now (take c.arrive_many-done.result.0 c.args.packets.now) c.args.opened.now.device c.arrive_many-done.new.self c.args.opened.now.last c.note_arrivals.new.last
     c.arrive_many-done.ensures.arrived c.note_arrivals.ensures
 
-pub returns-in-Some-Memory-clause-arrivals : goal.returns-in-Some-Memory-clause-arrivals
-returns-in-Some-Memory-clause-arrivals c =
+pub returns-in-Memory-clause-arrivals : goal.returns-in-Memory-clause-arrivals
+returns-in-Memory-clause-arrivals c =
     let done = c.arrive_many-done.result.0 in
     no_room-next c.args.now c.args.packets.now done c.args.codes.now c.arrive_many-done.new.fates c.args.opened.now.device c.arrive_many-done.new.self
     (subst (λ (o : Option Stopped). bursts.IsArrivals fate_number c.args.now c.args.packets.now o done c.args.codes.now c.arrive_many-done.new.fates c.args.opened.now.device c.arrive_many-done.new.self)
-    (c.in-Some-Memory.is ∙ ap Some c.in-Some-Memory.field-0-is) c.arrive_many-done.ensures)
+    (c.in-Some.is ∙ ap Some c.in-Memory.is) c.arrive_many-done.ensures)
 
-pub returns-in-Some-Memory-clause-noted : goal.returns-in-Some-Memory-clause-noted
-returns-in-Some-Memory-clause-noted c =
+pub returns-in-Memory-clause-noted : goal.returns-in-Memory-clause-noted
+returns-in-Memory-clause-noted c =
     noted-arrivals c.args.now (take c.arrive_many-done.result.0 c.args.packets.now) c.args.opened.now.device c.arrive_many-done.new.self c.args.opened.now.last c.note_arrivals.new.last
     c.arrive_many-done.ensures.arrived c.note_arrivals.ensures
