@@ -38,6 +38,8 @@ pub fn poll_many<T: TellsOf>(opened: &mut Opened, places: &mut [T], now: Moment)
     ensures codes { result.1 ≤ 31 }
     ensures noted { opened.new.last ≡ noting (poll_events now result.1 result.0 opened.old.device) opened.old.last }
 {
+    // That there are fewer than 2^64 places is known where they are counted.
+    let _ = places.len();
     let (given, answer) = opened.device.poll_many(now, places);
     match answer {
         Given::Packet => {
