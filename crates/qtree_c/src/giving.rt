@@ -10,7 +10,7 @@ ghost use Rattle.qtree_c.specs.Folds.{IsPolls};
 ghost use Rattle.qtree_c.specs.Noting.{noting, one_event, poll_events};
 
 use crate::codes::{DONE, IDLE, LATER};
-use crate::noting::note_polls;
+use crate::noting::{note_polls, note_polls_to_none};
 use crate::opened::Opened;
 use crate::steps;
 use crate::told::Told;
@@ -38,8 +38,6 @@ pub fn poll_many<T: TellsOf>(opened: &mut Opened, places: &mut [T], now: Moment)
     ensures codes { result.1 ≤ 31 }
     ensures noted { opened.new.last ≡ noting (poll_events now result.1 result.0 opened.old.device) opened.old.last }
 {
-    // That there are fewer than 2^64 places is known where they are counted.
-    let _ = places.len();
     let (given, answer) = opened.device.poll_many(now, places);
     match answer {
         Given::Packet => {
@@ -47,11 +45,11 @@ pub fn poll_many<T: TellsOf>(opened: &mut Opened, places: &mut [T], now: Moment)
             (given, DONE)
         }
         Given::Idle => {
-            note_polls(&mut opened.last, &opened.device, given + 1);
+            note_polls_to_none(&mut opened.last, &opened.device, given);
             (given, IDLE)
         }
         Given::Later => {
-            note_polls(&mut opened.last, &opened.device, given + 1);
+            note_polls_to_none(&mut opened.last, &opened.device, given);
             (given, LATER)
         }
     }

@@ -1,7 +1,7 @@
 //! Events are noted in the ring of the last events, where there is one.
 //!
 //! Most devices have none: so an event is made out of the way, as it is where the recorder keeps one.
-ghost use Rattle.std.specs.Prelude.{◌≡◌, ◌∷◌, [], All, map, replicate};
+ghost use Rattle.std.specs.Prelude.{◌≡◌, ◌+◌, ◌∷◌, [], All, map, replicate};
 ghost use Rattle.q_device.specs.LastNoted.{all_noted, with_noted};
 ghost use Rattle.q_model.specs.declared.event.Event.TheVariants as event;
 ghost use Rattle.q_packet.specs.Stored.{descriptor, IsStored};
@@ -60,6 +60,16 @@ pub fn note_polls(last: &mut Option<LastEvents>, device: &Device, polls: usize)
     }
 }
 
+/// Notes so many polls and one more, which the device has just done, and which gave no packet.
+#[inline(always)]
+pub fn note_polls_to_none(last: &mut Option<LastEvents>, device: &Device, given: usize)
+    ensures { last.new ≡ noting (replicate (given + 1) (event.Poll device.now.device.clock)) last.old }
+{
+    if let Some(last) = last {
+        keep_polls_to_none(last, device, given);
+    }
+}
+
 #[cold]
 #[inline(never)]
 fn keep_arrivals(last: &mut LastEvents, device: &Device, packets: &[StoredPacket])
@@ -80,4 +90,13 @@ fn keep_polls(last: &mut LastEvents, device: &Device, polls: usize)
         let _ = i;
         last.note(Event::Poll(device.clock()));
     }
+}
+
+#[cold]
+#[inline(never)]
+fn keep_polls_to_none(last: &mut LastEvents, device: &Device, given: usize)
+    ensures { last.new ≡ all_noted (replicate (given + 1) (event.Poll device.now.device.clock)) last.old }
+{
+    keep_polls(last, device, given);
+    last.note(Event::Poll(device.clock()));
 }
