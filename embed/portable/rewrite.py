@@ -39,6 +39,8 @@ LIKE_REWRITTEN = re.compile(r"= ptrtoint |getelementptr inbounds (?!nuw )|= bitc
 # A flag after these opcodes alone, which older LLVMs know too.
 WRAPS = re.compile(r"= (?:add|sub|mul|shl)(?: nuw)?(?: nsw)? ")
 EXACT = re.compile(r"= (?:udiv|sdiv|lshr|ashr) exact ")
+# A vector all of whose elements are the same number. Older LLVMs read only the list of them.
+SPLAT = re.compile(r"<(\d+) x (i\d+)> splat \(\2 (-?\d+)\)")
 
 
 def attributes(number, words):
@@ -52,11 +54,16 @@ def attributes(number, words):
     return f"attributes {number} = {{ {' '.join(kept)} }}"
 
 
+def spelled_out(line):
+    """A line of code with each element of such a vector."""
+    return SPLAT.sub(lambda it: f"<{it[1]} x {it[2]}> <{', '.join([f'{it[2]} {it[3]}'] * int(it[1]))}>", line)
+
+
 def plain(line):
     """A line of code without what only newer LLVMs know."""
     if LIKE_REWRITTEN.search(line):
         raise Unreadable(f"a line that would not be told from one that was rewritten: {line.strip()}")
-    line = re.sub(r"\bptrtoaddr\b", "ptrtoint", line)
+    line = spelled_out(re.sub(r"\bptrtoaddr\b", "ptrtoint", line))
     line = line.replace("getelementptr inbounds nuw ", "getelementptr inbounds ")
     # No operation has a fast-math flag, so nothing may be moved across; LLVM has no such fence for MIPS.
     return re.sub(r"call double @llvm\.arithmetic\.fence\.f64\(double (\S+)\)", r"bitcast double \1 to double", line)

@@ -8,12 +8,14 @@ import subprocess
 import tempfile
 
 from llvm_text import Module, Unreadable, write
+from rewrite import spelled_out
 
 FENCE = r"call double @llvm\.arithmetic\.fence\.f64\(double (\S+)\)"
 # What rewriting does to a line of code: its kind, and how the line of the text is made of that of the module.
 KINDS = (
     ("ptrtoaddr is written ptrtoint", lambda it: it.replace(" ptrtoaddr ", " ptrtoint ")),
     ("no nuw at getelementptr", lambda it: it.replace(" getelementptr inbounds nuw ", " getelementptr inbounds ")),
+    ("a vector of one number is spelled out", spelled_out),
     ("a fence of floats is a bitcast", lambda it: re.sub(FENCE, r"bitcast double \1 to double", it)),
     ("QTREE_WIDE at an exported function", lambda it: re.sub(r"^(define noundef) (i32 @qtree_\w+\()", r"\1 QTREE_WIDE \2", it)),
     ("a function that is exported no more", lambda it: re.sub(r"^define (?!internal )(?!.*@qtree_)", "define internal ", it)),
