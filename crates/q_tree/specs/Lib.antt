@@ -14,6 +14,7 @@ pub mod FiltersSeen
 pub mod Finding
 pub mod Flows
 pub mod Grafting
+pub mod Holding
 pub mod Index
 pub mod IndexOfFilters
 pub mod IndexSeen
@@ -25,6 +26,7 @@ pub mod MostPackets
 pub mod NodeCode
 pub mod NodeFalls
 pub mod Nodes
+pub mod Oldest
 pub mod NodesCode
 pub mod NodesSeen
 pub mod Places

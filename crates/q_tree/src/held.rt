@@ -1,26 +1,29 @@
-ghost use Rattle.std.specs.Prelude.{◌≡◌, None, is_some};
+ghost use Rattle.std.specs.Prelude.{◌≡◌, None, is_some, option_map};
+ghost use Rattle.q_packet.specs.declared.stamped.Stamped.{Stamped};
 
-use q_packet::{KeptPacket, SOME_KEPT};
+use q_packet::{KeptPacket, Moment, SOME_KEPT};
 use std::marker::Model;
 
-/// The packet that a node has dequeued in order to show it, if it holds one.
+/// The packet that a node has dequeued in order to show it, if it holds one, and when it arrived.
 ///
 /// It is a flag and a place: a packet is written straight into the place, and nothing is cleared when the packet leaves. A contract
-/// sees the packet, or `None`.
+/// sees the packet with the time at which it arrived, or `None`.
 #[derive(Drop)]
 pub(crate) struct Held {
     /// Whether the place has a packet that is held.
     pub(crate) holds: bool,
+    /// When the packet arrived.
+    pub(crate) since: Moment,
     pub(crate) place: KeptPacket,
 }
 
 impl Model for Held {
     ghost use Rattle.std.specs.Prelude.{Option, Some, None, if◌then◌else◌};
-    ghost use Rattle.q_packet.specs.Descriptor.{Descriptor};
+    ghost use Rattle.q_packet.specs.declared.stamped.Stamped.{Stamped};
 
-    ghost Value = { Option Descriptor };
+    ghost Value = { Option Stamped };
 
-    ghost view = { λ h. if h.holds then Some h.place else None };
+    ghost view = { λ h. if h.holds then Some (record { packet = h.place; at = h.since }) else None };
 }
 
 impl Held {
@@ -30,6 +33,7 @@ impl Held {
     {
         Held {
             holds: false,
+            since: Moment::zero(),
             place: SOME_KEPT,
         }
     }
@@ -45,10 +49,21 @@ impl Held {
     /// The packet that is held.
     #[inline(always)]
     pub(crate) fn packet(&self) -> Option<KeptPacket>
-        ensures { result ≡ self.now }
+        ensures { result ≡ option_map (λ (s : Stamped). s.packet) self.now }
     {
         if self.holds {
             return Some(self.place);
+        }
+        None
+    }
+
+    /// When the packet arrived that is held.
+    #[inline(always)]
+    pub(crate) fn arrival(&self) -> Option<Moment>
+        ensures { result ≡ option_map (λ (s : Stamped). s.at) self.now }
+    {
+        if self.holds {
+            return Some(self.since);
         }
         None
     }

@@ -7,9 +7,11 @@ ghost use Rattle.q_model.specs.Filters.{named_class};
 ghost use Rattle.q_model.specs.Node as spec;
 ghost use Rattle.q_model.specs.Node.{Own, shape};
 ghost use Rattle.q_model.specs.Pop.{pop};
+ghost use Rattle.q_model.specs.Since.{at_hand_since};
 ghost use Rattle.q_model.specs.Work.{settled_class};
 ghost use Rattle.q_tree.specs.AskSteps.{AreAsked, CanAskOnce, CanServe, IsAskedOnce, IsGivenBy, IsTold, IsToldOf, answers, no_signals, signals_of};
 ghost use Rattle.q_tree.specs.Changing.{drr_same};
+ghost use Rattle.q_tree.specs.Holding.{held_with, since_of};
 ghost use Rattle.q_tree.specs.Kept.{Kept};
 ghost use Rattle.q_tree.specs.Purging.{purged};
 ghost use Rattle.q_tree.specs.PutSteps.{packets_beneath};
@@ -73,12 +75,13 @@ pub(crate) fn settle(active: &mut Active, place: usize, is_empty: bool)
 }
 
 /// Asks the classes of the active list in turn, and grants to each whose packet is longer than its deficit, until one is met
-/// that can send its packet, which it writes to `out`, or that shows none (tc-drr(8)).
+/// that can send its packet, which it writes to `out`, and when it arrived to `since`, or that shows none (tc-drr(8)).
 #[cycle(peek)]
 pub(crate) fn dequeue_class<S: Sink>(
     active: &mut Active,
     classes: &mut [Node],
     out: &mut KeptPacket,
+    since: &mut Moment,
     now: Moment,
     signals: &mut Signals,
     sink: &mut S,
@@ -89,6 +92,7 @@ pub(crate) fn dequeue_class<S: Sink>(
     ensures active { (own : Own) → spec.Drr active.new ≡ (ask_drr own (answers now classes.old) active.old).peeked.own.discipline }
     ensures after { (own : Own) → AreAsked (ask_drr own (answers now classes.old) active.old) classes.old classes.new result }
     ensures packet { out.new ≡ unwrap_or result.packet out.old }
+    ensures since { (own : Own) → since_of result.packet since.new ≡ (ask_drr own (answers now classes.old) active.old).peeked.own.since }
     ensures told { (own : Own) → IsToldOf (ask_drr own (answers now classes.old) active.old).rises (S.losses sink.old) (S.losses sink.new) (S.room sink.old) (S.room sink.new) }
     ensures signals { signals.new ≡ signals_of result }
     ensures kept { S.keeps sink.old sink.new }
@@ -105,7 +109,7 @@ pub(crate) fn dequeue_class<S: Sink>(
         match active.turn(len) {
             Turn::Send => {
                 // What is handed out is what was shown.
-                dequeue_class_at_hand(active, classes, place, out);
+                *since = dequeue_class_at_hand(active, classes, place, out);
                 return shown;
             }
             Turn::Granted => {}
@@ -116,19 +120,21 @@ pub(crate) fn dequeue_class<S: Sink>(
     Shown::at_hand(&None)
 }
 
-// The class in this place hands out its packet, and becomes inactive where that was its last.
+// The class in this place hands out its packet, and becomes inactive where that was its last. Returns when the packet arrived.
 fn dequeue_class_at_hand(
     active: &mut Active,
     classes: &mut [Node],
     place: usize,
     out: &mut KeptPacket,
-)
+) -> Moment
     requires { place < length classes.old }
     ensures packet { (c : spec.Node Kept) → slice_get classes.old place ≡ Some c → out.new ≡ unwrap_or (pop c).shown out.old }
+    ensures since { (c : spec.Node Kept) → slice_get classes.old place ≡ Some c → result ≡ unwrap_or (at_hand_since c) 0 }
     ensures given { (c : spec.Node Kept) → slice_get classes.old place ≡ Some c → IsGivenBy place c active.old active.new classes.old classes.new }
 {
-    classes[place].dequeue_at_hand(out);
+    let since = classes[place].dequeue_at_hand(out);
     settle(active, place, classes[place].is_empty());
+    since.unwrap_or(Moment::zero())
 }
 
 /// Dequeues the packet that a drr sends, as [`dequeue_class`] does, to hold it (tc-drr(8)).
@@ -148,12 +154,20 @@ pub(crate) fn peek_classes<S: Sink>(
     requires clean { signals.old ≡ no_signals }
     ensures active { (own : Own) → spec.Drr active.new ≡ (ask_drr own (answers now classes.old) active.old).peeked.own.discipline }
     ensures after { (own : Own) → AreAsked (ask_drr own (answers now classes.old) active.old) classes.old classes.new result }
-    ensures held { held.new ≡ result.packet }
+    ensures held { (own : Own) → held.new ≡ held_with result.packet (ask_drr own (answers now classes.old) active.old).peeked.own.since }
     ensures told { (own : Own) → IsToldOf (ask_drr own (answers now classes.old) active.old).rises (S.losses sink.old) (S.losses sink.new) (S.room sink.old) (S.room sink.new) }
     ensures signals { signals.new ≡ signals_of result }
     ensures kept { S.keeps sink.old sink.new }
 {
-    let shown = dequeue_class(active, classes, &mut held.place, now, signals, sink);
+    let shown = dequeue_class(
+        active,
+        classes,
+        &mut held.place,
+        &mut held.since,
+        now,
+        signals,
+        sink,
+    );
     held.holds = shown.has_packet();
     shown
 }

@@ -3,7 +3,8 @@ ghost use Rattle.std.specs.Prelude.{◌≡◌, ◌<◌, ◌≤◌, ◌+◌, IfOk
 ghost use Rattle.q_codel.specs.Losses.{losses_of};
 ghost use Rattle.q_fqcodel.specs.FqState.{first_state, packets_of};
 ghost use Rattle.q_codel.specs.declared.taken.Taken.{Taken};
-ghost use Rattle.q_fqcodel.specs.Take.{IsFrontLate, after_sending, dropped_from, selected, sent_from};
+ghost use Rattle.q_fqcodel.specs.Take.{IsFrontLate, after_sending, dropped_from, head_sent, selected, sent_from};
+ghost use Rattle.q_packet.specs.declared.stamped.Stamped.{Stamped};
 ghost use Rattle.q_fqcodel.specs.Turns.{IsSettled};
 ghost use Rattle.std.specs.Option.{option_map_or};
 ghost use Rattle.q_model.specs.Ask.{Asked, ask_fq_codel};
@@ -15,6 +16,7 @@ ghost use Rattle.q_model.specs.Tally.{no_totals, with_packet};
 ghost use Rattle.q_tree.specs.ArriveSteps.{IsPutInFlow, nothing_lost};
 ghost use Rattle.q_tree.specs.AskSteps.{IsShown, IsTold, no_signals, signals_of};
 ghost use Rattle.q_tree.specs.Changing.{fq_codel_answer};
+ghost use Rattle.q_tree.specs.Holding.{held_with, since_of};
 ghost use Rattle.q_tree.specs.PutSteps.{CanFlow};
 ghost use Rattle.q_tree.specs.ReadyAt.{of_flows};
 ghost use Rattle.q_tree.specs.DisciplineChanges.{IsChangedBy};
@@ -139,10 +141,12 @@ fn put_in_flow<S: Sink>(
     }
 }
 
-/// Writes the packet that the flow in front sends (RFC 8290, section 4.2) to `out`, and counts what CoDel drops and marks.
+/// Writes the packet that the flow in front sends (RFC 8290, section 4.2) to `out`, and when it arrived to `since`, and counts what CoDel
+/// drops and marks.
 pub(crate) fn dequeue_flow<S: Sink>(
     queue: &mut FqCodel,
     out: &mut KeptPacket,
+    since: &mut Moment,
     now: Moment,
     signals: &mut Signals,
     sink: &mut S,
@@ -152,6 +156,7 @@ pub(crate) fn dequeue_flow<S: Sink>(
     ensures after { queue.new.state ≡ after_sending now (selected queue.old.state) }
     ensures places { queue.new.places ≡ queue.old.places }
     ensures shown { (own : Own) (below : List Asked) → IsShown (ask_fq_codel now own below queue.old.state) result }
+    ensures since { since_of result.packet since.new ≡ option_map_or (λ (s : Stamped). s.at) (head_sent now (selected queue.old.state)) 0 }
     ensures packet { out.new ≡ unwrap_or result.packet out.old }
     ensures told { IsTold (losses_of Cause.CoDel (dropped_from now (selected queue.old.state))) (S.losses sink.old) (S.losses sink.new) (S.room sink.old) (S.room sink.new) }
     ensures signals { signals.new ≡ signals_of result }
@@ -160,8 +165,11 @@ pub(crate) fn dequeue_flow<S: Sink>(
     match queue.pass_into(now, out) {
         // CoDel drops none of an empty fq_codel.
         Ok(None) => return Shown::at_hand(&None),
-        Ok(Some(len)) => return Shown::quiet(out, len),
-        Err(_) => return dequeue_late(queue, out, now, signals, sink),
+        Ok(Some(front)) => {
+            *since = front.at;
+            return Shown::quiet(out, front.len);
+        }
+        Err(_) => return dequeue_late(queue, out, since, now, signals, sink),
     }
 }
 
@@ -171,6 +179,7 @@ pub(crate) fn dequeue_flow<S: Sink>(
 fn dequeue_late<S: Sink>(
     queue: &mut FqCodel,
     out: &mut KeptPacket,
+    since: &mut Moment,
     now: Moment,
     signals: &mut Signals,
     sink: &mut S,
@@ -184,6 +193,7 @@ fn dequeue_late<S: Sink>(
     ensures given { result.packet ≡ option_map (λ (t : Taken). t.packet) (sent_from now queue.old.state) }
     ensures dropped { result.dropped ≡ beneath.totals_in (beneath.packets_of (dropped_from now queue.old.state)) }
     ensures marked { result.marked ≡ option_map_or (λ (t : Taken). if t.marked then with_packet no_totals t.packet else no_totals) (sent_from now queue.old.state) no_totals }
+    ensures since { Some since.new ≡ option_map (λ (s : Stamped). s.at) (head_sent now queue.old.state) }
     ensures packet { out.new ≡ unwrap_or result.packet out.old }
     ensures told { IsTold (losses_of Cause.CoDel (dropped_from now queue.old.state)) (S.losses sink.old) (S.losses sink.new) (S.room sink.old) (S.room sink.new) }
     ensures signals { signals.new ≡ signals_of result }
@@ -191,6 +201,7 @@ fn dequeue_late<S: Sink>(
 {
     let (packets, bytes) = queue.queued();
     let sent = queue.take_late_into(now, out, sink);
+    *since = sent.at;
     if !sent.dropped {
         return show_marked(sent.marked, out, signals);
     }
@@ -249,12 +260,19 @@ pub(crate) fn peek_flow<S: Sink>(
     ensures after { queue.new.state ≡ after_sending now (selected queue.old.state) }
     ensures places { queue.new.places ≡ queue.old.places }
     ensures shown { (own : Own) (below : List Asked) → IsShown (ask_fq_codel now own below queue.old.state) result }
-    ensures held { held.new ≡ result.packet }
+    ensures held { held.new ≡ held_with result.packet (option_map_or (λ (s : Stamped). s.at) (head_sent now (selected queue.old.state)) 0) }
     ensures told { IsTold (losses_of Cause.CoDel (dropped_from now (selected queue.old.state))) (S.losses sink.old) (S.losses sink.new) (S.room sink.old) (S.room sink.new) }
     ensures signals { signals.new ≡ signals_of result }
     ensures kept { S.keeps sink.old sink.new }
 {
-    let shown = dequeue_flow(queue, &mut held.place, now, signals, sink);
+    let shown = dequeue_flow(
+        queue,
+        &mut held.place,
+        &mut held.since,
+        now,
+        signals,
+        sink,
+    );
     held.holds = shown.has_packet();
     shown
 }

@@ -7,6 +7,7 @@ ghost use Rattle.q_model.specs.Make.{limit_bytes};
 ghost use Rattle.q_model.specs.Node.{Own, Tbf, shape};
 ghost use Rattle.q_tree.specs.AskSteps.{AreAsked, CanAsk, IsToldOf, answers, no_signals, signals_of};
 ghost use Rattle.q_tree.specs.Changing.{tbf_answer};
+ghost use Rattle.q_tree.specs.Holding.{held_with, since_of};
 ghost use Rattle.q_tree.specs.Making.{IsNewTbf};
 ghost use Rattle.q_tree.specs.ReadyAt.{covers_at, shaped, shaped_after};
 ghost use Rattle.q_tree.specs.DisciplineChanges.{IsChangedBy, leaf_limited};
@@ -55,12 +56,14 @@ pub(crate) fn limit_bytes(rate: Rate, burst: Burst, limit: TbfLimit) -> u64
 /// Units of a bucket's level in a byte: a nanosecond brings as many units as the rate has bits a second.
 const UNITS_IN_BYTE: u128 = 8_000_000_000;
 
-/// Asks the child of a tbf, and writes the packet that it shows to `out` where the bucket allows it (tc-tbf(8)).
+/// Asks the child of a tbf, and writes the packet that it shows to `out` where the bucket allows it, and when it arrived to `since`
+/// (tc-tbf(8)).
 #[cycle(peek)]
 pub(crate) fn dequeue_child<S: Sink>(
     bucket: &mut Bucket,
     child: &mut Node,
     out: &mut KeptPacket,
+    since: &mut Moment,
     now: Moment,
     signals: &mut Signals,
     sink: &mut S,
@@ -73,6 +76,7 @@ pub(crate) fn dequeue_child<S: Sink>(
     ensures after { (own : Own) (limit : ℕ) → AreAsked (ask_tbf now own (answers now (child.old ∷ [])) bucket.old limit) (child.old ∷ []) (child.new ∷ []) result }
     ensures told { (own : Own) (limit : ℕ) → IsToldOf (ask_tbf now own (answers now (child.old ∷ [])) bucket.old limit).rises (S.losses sink.old) (S.losses sink.new) (S.room sink.old) (S.room sink.new) }
     ensures packet { out.new ≡ unwrap_or result.packet out.old }
+    ensures since { (own : Own) (limit : ℕ) → since_of result.packet since.new ≡ (ask_tbf now own (answers now (child.old ∷ [])) bucket.old limit).peeked.own.since }
     ensures signals { signals.new ≡ signals_of result }
     ensures kept { S.keeps sink.old sink.new }
 {
@@ -84,7 +88,7 @@ pub(crate) fn dequeue_child<S: Sink>(
         return shown.showing(&None);
     }
     // What is handed out is what was shown.
-    child.dequeue_at_hand(out);
+    *since = child.dequeue_at_hand(out).unwrap_or(Moment::zero());
     shown
 }
 
@@ -107,11 +111,19 @@ pub(crate) fn peek_child<S: Sink>(
     ensures bucket { (own : Own) (limit : ℕ) → own.discipline ≡ Tbf bucket.old limit → Tbf bucket.new limit ≡ (ask_tbf now own (answers now (child.old ∷ [])) bucket.old limit).peeked.own.discipline }
     ensures after { (own : Own) (limit : ℕ) → AreAsked (ask_tbf now own (answers now (child.old ∷ [])) bucket.old limit) (child.old ∷ []) (child.new ∷ []) result }
     ensures told { (own : Own) (limit : ℕ) → IsToldOf (ask_tbf now own (answers now (child.old ∷ [])) bucket.old limit).rises (S.losses sink.old) (S.losses sink.new) (S.room sink.old) (S.room sink.new) }
-    ensures held { held.new ≡ result.packet }
+    ensures held { (own : Own) (limit : ℕ) → held.new ≡ held_with result.packet (ask_tbf now own (answers now (child.old ∷ [])) bucket.old limit).peeked.own.since }
     ensures signals { signals.new ≡ signals_of result }
     ensures kept { S.keeps sink.old sink.new }
 {
-    let shown = dequeue_child(bucket, child, &mut held.place, now, signals, sink);
+    let shown = dequeue_child(
+        bucket,
+        child,
+        &mut held.place,
+        &mut held.since,
+        now,
+        signals,
+        sink,
+    );
     held.holds = shown.has_packet();
     shown
 }
