@@ -1,5 +1,4 @@
-ghost use Rattle.std.specs.Prelude.{◌≡◌, ◌+◌, ◌<◌, ◌≤◌, ◌%◌, ◌^◌, [], ◌++◌, ◌&&◌, ◌==◌, not, true, false, nat_le, length, map, replicate, take, drop, set, slice_get, get_or, min, ◌↔◌, Some, option_map, IsSome, IfSome, IsOk, IfOk, OnOk, OnErr};
-ghost use Rattle.std.specs.Option.{option_map_or};
+ghost use Rattle.std.specs.Prelude.{◌≡◌, ◌+◌, ◌<◌, ◌≤◌, ◌%◌, ◌^◌, [], ◌++◌, ◌&&◌, ◌==◌, not, true, false, nat_le, length, map, replicate, take, drop, set, slice_get, get_or, ◌↔◌, Some, option_map, IsSome, IfSome, IsOk, IfOk, OnOk, OnErr};
 ghost use Rattle.q_packet.specs.Totals.{count};
 ghost use Rattle.q_packet.specs.declared.stamped.Stamped.{Stamped};
 ghost use Rattle.q_codel.specs.Codel.{is_late, sent};
@@ -10,7 +9,7 @@ ghost use Rattle.q_fqcodel.specs.FqState.{queue_of, is_idle, packets_of, bytes_o
 ghost use Rattle.q_fqcodel.specs.Put.{joined, shortened, fattest, shed_count};
 ghost use Rattle.q_fqcodel.specs.Take.{taken_as, packet_sent, packets_dropped, flow_after};
 ghost use Rattle.q_fqcodel.specs.Pool.{stamp, cleared};
-ghost use Rattle.q_fqcodel.specs.Oldest.{earliest, first_arrivals};
+ghost use Rattle.q_fqcodel.specs.Oldest.{earlier, earliest, first_arrival, first_arrivals};
 
 use crate::course::Course;
 use crate::flow_queue::send_late_from;
@@ -229,11 +228,16 @@ impl Flows {
     {
         let mut oldest = None;
         for flow in 0..self.len() {
-            if let Some(front) = self.pool.front_of(flow) {
-                oldest = Some(earlier(front.at, oldest));
-            }
+            oldest = earlier(oldest, self.first_arrival(flow));
         }
         oldest
+    }
+
+    // When the packet in front of a flow arrived.
+    fn first_arrival(&self, flow: u32) -> Option<Moment>
+        ensures { result ≡ first_arrival (queue_of self.now.flows flow) }
+    {
+        self.pool.arrival_of(flow)
     }
 
     // The fat flow, once a packet with so many bytes has joined a flow.
@@ -471,12 +475,15 @@ fn lose_from<S: Sink>(pool: &mut Pool, flow: u32, lost: u64, cause: Cause, sink:
     }
 }
 
-// The earlier of two times, of which one may not be there.
-fn earlier(at: Moment, other: Option<Moment>) -> Moment
-    ensures { result ≡ option_map_or (min at) other at }
+// The earlier of two times, each of which may not be there.
+fn earlier(a: Option<Moment>, b: Option<Moment>) -> Option<Moment>
+    ensures { result ≡ earlier a b }
 {
-    match other {
-        Some(other) => at.min(other),
-        None => at,
-    }
+    let Some(first) = a else {
+        return b;
+    };
+    let Some(second) = b else {
+        return a;
+    };
+    Some(first.min(second))
 }

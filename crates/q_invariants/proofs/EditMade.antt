@@ -31,8 +31,8 @@ use Rattle.q_invariants.proofs.EditNew.{IsNew, AllIdle, idle_beneath}
 
 module _ (mtu clock : ℕ) where
   -- a node without filters that holds nothing
-  own_made : (handle : Option ℕ) (d : Discipline) (below : List (List Descriptor)) → beneath_own (record { handle = handle; discipline = d; held = None; filters = [] }) below ≡ []
-      → IsLawfulDiscipline mtu clock below d → IsLawfulOwn mtu clock (record { handle = handle; discipline = d; held = None; filters = [] }) below
+  own_made : (handle : Option ℕ) (d : Discipline) (below : List (List Descriptor)) → beneath_own (record { handle = handle; discipline = d; held = None; since = 0; filters = [] }) below ≡ []
+      → IsLawfulDiscipline mtu clock below d → IsLawfulOwn mtu clock (record { handle = handle; discipline = d; held = None; since = 0; filters = [] }) below
   own_made handle d below empty h = record {
     discipline = h;
     lengths = subst (All (λ (p : Descriptor). IsWithin 1 mtu p.len)) (sym empty) (All-nil (λ (p : Descriptor). IsWithin 1 mtu p.len));

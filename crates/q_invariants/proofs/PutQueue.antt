@@ -37,12 +37,12 @@ pub longer-lengths : (mtu : ℕ) (p : Descriptor) (before after : List Descripto
 longer-lengths mtu p before after fits fewer h =
     lengths-among mtu (p ∷ before) after (λ w. omega (arith, fewer w, weigh-cons w p before)) (All-cons (HasLength mtu) p before fits h)
 
-module _ (mtu now : ℕ) (p : Descriptor) (fits : IsWithin 1 mtu p.len) (handle : Option ℕ) (held : Option Descriptor) (filters : List Filter) (below : Forest (Unit {0})) where
+module _ (mtu now : ℕ) (p : Descriptor) (fits : IsWithin 1 mtu p.len) (handle : Option ℕ) (held : Option Descriptor) (filters : List Filter) (since : ℕ) (below : Forest (Unit {0})) where
   abbrev stamped : Stamped
   stamped = record { packet = p; at = now }
 
   abbrev fifo_shape : Limit → List Stamped → Shape
-  fifo_shape limit queue = record { own = record { handle = handle; discipline = Fifo limit queue; held = held; filters = filters }; memory = tt; below = below }
+  fifo_shape limit queue = record { own = record { handle = handle; discipline = Fifo limit queue; held = held; since = since; filters = filters }; memory = tt; below = below }
 
   pub fifo-put : (limit : Limit) (queue : List Stamped) → IsLawfulRoot mtu now (fifo_shape limit queue) → IsPut mtu now p (fifo_shape limit queue) (put_here now p None (fifo_shape limit queue))
   fifo-put limit queue h =
@@ -118,9 +118,9 @@ put-lawful mtu now s p below byte bytes h =
       none = h.none;
     }
 
-module _ (mtu now : ℕ) (p : Descriptor) (fits : IsWithin 1 mtu p.len) (handle : Option ℕ) (held : Option Descriptor) (filters : List Filter) (below : Forest (Unit {0})) where
+module _ (mtu now : ℕ) (p : Descriptor) (fits : IsWithin 1 mtu p.len) (handle : Option ℕ) (held : Option Descriptor) (filters : List Filter) (since : ℕ) (below : Forest (Unit {0})) where
   abbrev fq_shape : FqState → Shape
-  fq_shape q = record { own = record { handle = handle; discipline = FqCodel q; held = held; filters = filters }; memory = tt; below = below }
+  fq_shape q = record { own = record { handle = handle; discipline = FqCodel q; held = held; since = since; filters = filters }; memory = tt; below = below }
 
   pub fq-put : (q : FqState) → IsLawfulRoot mtu now (fq_shape q) → IsPut mtu now p (fq_shape q) (put_here now p None (fq_shape q))
   fq-put q h =

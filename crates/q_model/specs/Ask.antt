@@ -16,7 +16,7 @@ use Rattle.q_drr.specs.Take.{choice_of, met, served}
 use Rattle.q_drr.specs.declared.met.Met.{Met}
 use Rattle.q_model.specs.Tally.{Note, Sent, Marked, Spent}
 use Rattle.q_model.specs.Node.{Discipline, Fifo, Prio, Tbf, Drr, FqCodel, Own, Shape, from_below}
-use Rattle.q_model.specs.Since.{at_hand_since}
+use Rattle.q_model.specs.Since.{at_hand_since, since_of}
 use Rattle.q_model.specs.Beneath.{packets_of, is_empty}
 use Rattle.q_model.specs.Route.{class_at}
 use Rattle.q_model.specs.Work.{Work, Worked, worked, losses_of, settled_class}
@@ -96,7 +96,7 @@ ask_prio own below =
 
 -- A node that has dequeued a packet, or nothing, and holds it until it is taken: what it is then, but for the packet that it
 -- holds; its children; what they and it have to report to the nodes above; what it notes for itself alone; and when the
--- packet arrived, 0 where it has none.
+-- packet arrived, if it has one.
 pub record Dequeue : Type 0 where
   pub after : Own
   pub children : List Worked
@@ -109,7 +109,7 @@ pub record Dequeue : Type 0 where
 abbrev pub dequeued : Own → List Asked → Dequeue → Asked
 dequeued own below d = record {
   before = worked own [] (befores below);
-  peeked = worked (record d.after { held = d.packet; since = d.since }) (d.rises ++ d.mine) d.children;
+  peeked = worked (record d.after { held = d.packet; since = since_of d.packet d.since }) (d.rises ++ d.mine) d.children;
   shown = d.packet;
   taken = worked (record d.after { held = None; since = 0 }) (d.rises ++ d.mine ++ map Sent (option_to_list d.packet)) d.children;
   rises = d.rises;

@@ -7,6 +7,11 @@ use Rattle.q_packet.specs.Descriptor.{Descriptor}
 use Rattle.q_packet.specs.declared.stamped.Stamped.{Stamped}
 use Rattle.q_model.specs.Node.{Discipline, Fifo, Prio, Tbf, Drr, FqCodel, Own, Node, from_below}
 
+-- this time where there is a packet, else 0
+abbrev pub since_of : Option Descriptor → ℕ → ℕ
+since_of None at = 0
+since_of (Some p) at = at
+
 -- where this is so of each child
 abbrev pub since_in : List (Option ℕ) → Discipline → Option ℕ
 since_in below (Fifo limit queue) = option_map (λ (s : Stamped). s.at) (slice_get queue 0)

@@ -5,11 +5,6 @@ use Rattle.std.specs.Option.{option_map_or}
 use Rattle.q_packet.specs.Descriptor.{Descriptor}
 use Rattle.q_packet.specs.declared.stamped.Stamped.{Stamped}
 
--- when a packet arrived that was dequeued at this time; 0 where none was
-abbrev pub since_of : Option Descriptor → ℕ → ℕ
-since_of None at = 0
-since_of (Some p) at = at
-
 -- a packet that arrived at this time, if there is one
 abbrev pub held_with : Option Descriptor → ℕ → Option Stamped
 held_with None at = None
