@@ -25,6 +25,7 @@ pub mod Foreseeing
 pub mod ForeseenAsks
 pub mod Forms
 pub mod GraftLemmas
+pub mod HeldLemmas
 pub mod HereLemmas
 pub mod IndexLemmas
 pub mod IndexOfFilterLemmas

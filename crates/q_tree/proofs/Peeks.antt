@@ -37,6 +37,8 @@ use Rattle.q_tree.proofs.RowsOf.{IsRowOf, row-of, kept-of, can-show, row-shown}
 use Rattle.q_invariants.proofs.Weights.{IsQuiet}
 use Rattle.q_tree.proofs.PopLemmas.{set-within}
 use Rattle.q_tree.proofs.Asking.{asked-told, asked-weighs, all-before, side-all}
+use Rattle.q_tree.specs.Holding.{packet_held, held_with}
+use Rattle.q_packet.specs.declared.stamped.Stamped.{Stamped}
 
 -- one that was asked has at hand what it showed
 pub hand-asked : (now : ℕ) (n m : Node Kept) → CanAsk now n → m ≡ booked kept n (ask now (shape n)).peeked → (pop m).shown ≡ (ask now (shape n)).shown
@@ -153,7 +155,7 @@ pub told-in : (now : ℕ) (handle : Option ℕ) (filters : List Filter) (d : Dis
 told-in now handle filters d k ns l l2 r r2 is kids h = subst (λ (a : Asked). IsToldOf a.rises l l2 r r2) (sym (answer-is now handle filters d k ns is kids)) h
 
 -- a node that holds a packet stays as it is
-pub holding-after : (now : ℕ) (a : Inside) (n : Node Kept) (p : Descriptor) → seen a ≡ n → a.held ≡ Some p → n ≡ booked kept n (ask now (shape n)).peeked
+pub holding-after : (now : ℕ) (a : Inside) (n : Node Kept) (p : Descriptor) → seen a ≡ n → packet_held a.held ≡ Some p → n ≡ booked kept n (ask now (shape n)).peeked
 holding-after now a n p view e =
     let ns : List (Node Kept) = children_seen a.discipline in
     let below : each_booked kept (side_by_side ns) (side_by_side (befores (answers now ns))) ≡ side_by_side ns = sym (side-all ns (befores (answers now ns))) ∙ ap side_by_side (all-before now ns) in
@@ -169,21 +171,21 @@ module _ (now : ℕ) (a : Inside) (n : Node Kept) (k : IsKept a) (view : seen a 
   can-here : CanAsk now (seen a)
   can-here = subst (CanAsk now) (sym view) can
 
-  same-waiting : beneath (seen a) ≡ option_to_list a.held ++ packets_in (discipline_seen a.discipline) ++ packets_beneath (children_seen a.discipline)
-  same-waiting = ap (λ (bs : List (List Descriptor)). option_to_list a.held ++ packets_in (discipline_seen a.discipline) ++ flat_map (λ packets. packets) bs) (each-side beneath_own (children_seen a.discipline))
+  same-waiting : beneath (seen a) ≡ option_to_list (packet_held a.held) ++ packets_in (discipline_seen a.discipline) ++ packets_beneath (children_seen a.discipline)
+  same-waiting = ap (λ (bs : List (List Descriptor)). option_to_list (packet_held a.held) ++ packets_in (discipline_seen a.discipline) ++ flat_map (λ packets. packets) bs) (each-side beneath_own (children_seen a.discipline))
 
   within-packets : length (packets_within a.discipline) ≤ length (beneath (seen a))
   within-packets =
       let own : List Descriptor = packets_in (discipline_seen a.discipline) in
       let deep : List Descriptor = packets_beneath (children_seen a.discipline) in
-      omega (arith, ap (λ (xs : List Descriptor). length xs) same-waiting, length-append (option_to_list a.held ++ own) deep, length-append (option_to_list a.held) own, length-append own deep)
+      omega (arith, ap (λ (xs : List Descriptor). length xs) same-waiting, length-append (option_to_list (packet_held a.held) ++ own) deep, length-append (option_to_list (packet_held a.held)) own, length-append own deep)
 
   within-bytes : (totals_in (packets_within a.discipline)).bytes ≤ (totals_in (beneath (seen a))).bytes
   within-bytes =
       let own : List Descriptor = packets_in (discipline_seen a.discipline) in
       let deep : List Descriptor = packets_beneath (children_seen a.discipline) in
       let len : Descriptor → ℕ = λ p. p.len in
-      omega (arith, ap (λ (xs : List Descriptor). (totals_in xs).bytes) same-waiting, sum_by-append len (option_to_list a.held ++ own) deep, sum_by-append len (option_to_list a.held) own, sum_by-append len own deep)
+      omega (arith, ap (λ (xs : List Descriptor). (totals_in xs).bytes) same-waiting, sum_by-append len (option_to_list (packet_held a.held) ++ own) deep, sum_by-append len (option_to_list (packet_held a.held)) own, sum_by-append len own deep)
 
   pub can-in : a.row.queued.packets < 2 ^ 64 → a.row.queued.bytes < 2 ^ 64 → CanAskIn now a.discipline
   can-in packets_fit bytes_fit =
@@ -205,7 +207,7 @@ module _ (now : ℕ) (a : Inside) (n : Node Kept) (k : IsKept a) (view : seen a 
   pub enough : (room : ℕ) → length (beneath n) ≤ room → length (packets_within a.discipline) ≤ room
   enough room h = omega (arith, h, within-packets, ap (λ (m : Node Kept). length (beneath m)) view)
 
-  module _ (none : a.held ≡ None) where
+  module _ (none : packet_held a.held ≡ None) where
     pub told-here : (l l2 : List Loss) (r r2 : ℕ) → IsToldOf (answer_of now a.handle a.filters a.discipline).rises l l2 r r2 → IsToldOf (ask now (shape n)).rises l l2 r r2
     told-here l l2 r r2 h = subst (λ (m : Node Kept). IsToldOf (ask now (shape m)).rises l l2 r r2) view (subst (λ (x : Asked). IsToldOf x.rises l l2 r r2) (sym (ask-none now a none)) h)
 
@@ -222,7 +224,8 @@ module _ (now : ℕ) (a : Inside) (n : Node Kept) (k : IsKept a) (view : seen a 
           can-show (seen a) a.row (row-of a k) (booked kept (seen a) x.peeked) x.rises s (asked-weighs now (seen a) can-here) shown-inside.dropped shown-inside.marked packets_fit bytes_fit
 
     module _ (d : Discipline) (s : Shown) (q : IsAskedIn (answer_of now a.handle a.filters a.discipline) a.discipline d s) where
-      pub peeked-done : (r : Row) (held : Option Descriptor) → CanShow s a.row → r ≡ with_shown s a.row → held ≡ held_in (discipline_seen d) s.packet → IsPeekedAs now n (record a { held = held; row = r; discipline = d })
+      pub peeked-done : (r : Row) (held : Option Stamped) → CanShow s a.row → r ≡ with_shown s a.row
+          → held ≡ held_with (held_in (discipline_seen d) s.packet) (answer_of now a.handle a.filters a.discipline).peeked.own.since → IsPeekedAs now n (record a { held = held; row = r; discipline = d })
       peeked-done r held fit row holds =
           let x : Asked = ask now (shape (seen a)) in
           let w = asked-weighs now (seen a) can-here in

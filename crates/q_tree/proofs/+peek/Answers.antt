@@ -25,6 +25,7 @@ use Rattle.q_tree.proofs.Quiet.{shown-nothing}
 use Rattle.q_tree.proofs.RouteLemmas.{child-size, children-size}
 use Rattle.q_tree.proofs.TakeCounts.{flow-told}
 use Rattle.q_tree.proofs.+peek.Goals as goal
+use Rattle.q_tree.proofs.HeldLemmas.{none-kept, some-kept}
 
 pub disciplines::drr::peek_class_further-then-requires-clause-dropped_packets : goal.disciplines::drr::peek_class_further-then-requires-clause-dropped_packets
 disciplines::drr::peek_class_further-then-requires-clause-dropped_packets g t c = (fits-beside c.args.now c.args.class.now c.args.so_far c.peek-next.result (g.S.Sink.room c.args.sink.now) c.requires.ready c.peek-next.ensures.peeked.shown).dropped_packets
@@ -284,7 +285,7 @@ node::Discipline::ask-returns-in-FqCodel-clause-told g t c = λ handle filters.
 
 pub node::Node::peek-returns-then-is_some-clause-peeked : goal.node::Node::peek-returns-then-is_some-clause-peeked
 node::Node::peek-returns-then-is_some-clause-peeked g t c = record {
-  after = (let held = some-held c.self.inside.held (c.if-is_some.ensures) in
+  after = (let held = some-kept c.self.inside.held (c.if-is_some.ensures) in
       holding-after c.args.now c.self.inside c.args.self.now held.0 c.self.view_is held.1);
   arrived = search rules;
   shown = search rules;
@@ -293,13 +294,13 @@ node::Node::peek-returns-then-is_some-clause-peeked g t c = record {
 
 pub node::Node::peek-returns-in-Fifo-clause-peeked : goal.node::Node::peek-returns-in-Fifo-clause-peeked
 node::Node::peek-returns-in-Fifo-clause-peeked g t c = record {
-  after = sym c.self.view_is ∙ (peeked-done c.args.now c.self.inside c.args.self.now c.self.invariant c.self.view_is c.requires.ready (none-held c.self.inside.held c.if-is_some.ensures) c.self.inside.discipline c.at_hand-in-Fifo.result (asked-in c.args.now c.self.inside.handle c.self.inside.filters c.self.inside.discipline c.self.inside.discipline (spec.Fifo c.in-Fifo.fifo.limit c.in-Fifo.fifo.packets) (spec.Fifo c.in-Fifo.fifo.limit c.in-Fifo.fifo.packets) [] [] c.at_hand-in-Fifo.result
+  after = sym c.self.view_is ∙ (peeked-done c.args.now c.self.inside c.args.self.now c.self.invariant c.self.view_is c.requires.ready (none-kept c.self.inside.held c.if-is_some.ensures) c.self.inside.discipline c.at_hand-in-Fifo.result (asked-in c.args.now c.self.inside.handle c.self.inside.filters c.self.inside.discipline c.self.inside.discipline (spec.Fifo c.in-Fifo.fifo.limit c.in-Fifo.fifo.packets) (spec.Fifo c.in-Fifo.fifo.limit c.in-Fifo.fifo.packets) [] [] c.at_hand-in-Fifo.result
       (ap discipline_seen c.in-Fifo.is) (ap children_seen c.in-Fifo.is) (ap discipline_seen c.in-Fifo.is) (ap children_seen c.in-Fifo.is) refl refl
-      (record { long = refl; nodes = refl; within = λ t h. h; shown = record { packet = ap (λ (s : Shown). s.packet) c.at_hand-in-Fifo.ensures ∙ c.first_packet.ensures; dropped = ap (λ (s : Shown). s.dropped) c.at_hand-in-Fifo.ensures; marked = ap (λ (s : Shown). s.marked) c.at_hand-in-Fifo.ensures } })) c.self.inside.row c.self.inside.held (can-book c.args.now c.self.inside c.args.self.now c.self.invariant c.self.view_is c.requires.ready (none-held c.self.inside.held c.if-is_some.ensures) c.at_hand-in-Fifo.result (asked-in c.args.now c.self.inside.handle c.self.inside.filters c.self.inside.discipline c.self.inside.discipline (spec.Fifo c.in-Fifo.fifo.limit c.in-Fifo.fifo.packets) (spec.Fifo c.in-Fifo.fifo.limit c.in-Fifo.fifo.packets) [] [] c.at_hand-in-Fifo.result
+      (record { long = refl; nodes = refl; within = λ t h. h; shown = record { packet = ap (λ (s : Shown). s.packet) c.at_hand-in-Fifo.ensures ∙ c.first_packet.ensures; dropped = ap (λ (s : Shown). s.dropped) c.at_hand-in-Fifo.ensures; marked = ap (λ (s : Shown). s.marked) c.at_hand-in-Fifo.ensures } })) c.self.inside.row c.self.inside.held (can-book c.args.now c.self.inside c.args.self.now c.self.invariant c.self.view_is c.requires.ready (none-kept c.self.inside.held c.if-is_some.ensures) c.at_hand-in-Fifo.result (asked-in c.args.now c.self.inside.handle c.self.inside.filters c.self.inside.discipline c.self.inside.discipline (spec.Fifo c.in-Fifo.fifo.limit c.in-Fifo.fifo.packets) (spec.Fifo c.in-Fifo.fifo.limit c.in-Fifo.fifo.packets) [] [] c.at_hand-in-Fifo.result
       (ap discipline_seen c.in-Fifo.is) (ap children_seen c.in-Fifo.is) (ap discipline_seen c.in-Fifo.is) (ap children_seen c.in-Fifo.is) refl refl
-      (record { long = refl; nodes = refl; within = λ t h. h; shown = record { packet = ap (λ (s : Shown). s.packet) c.at_hand-in-Fifo.ensures ∙ c.first_packet.ensures; dropped = ap (λ (s : Shown). s.dropped) c.at_hand-in-Fifo.ensures; marked = ap (λ (s : Shown). s.marked) c.at_hand-in-Fifo.ensures } })).children.shown (omega (arith, c.self.ranges, c.fit.ensures.packets, c.fit.ensures.bytes)) (omega (arith, c.self.ranges, c.fit.ensures.packets, c.fit.ensures.bytes))) (shown-nothing c.at_hand-in-Fifo.result c.self.inside.row (ap (λ (s : Shown). s.dropped) c.at_hand-in-Fifo.ensures) (ap (λ (s : Shown). s.marked) c.at_hand-in-Fifo.ensures)) (none-held c.self.inside.held c.if-is_some.ensures ∙ sym (ap (λ k. held_in k c.at_hand-in-Fifo.result.packet) (ap discipline_seen c.in-Fifo.is)))).after;
+      (record { long = refl; nodes = refl; within = λ t h. h; shown = record { packet = ap (λ (s : Shown). s.packet) c.at_hand-in-Fifo.ensures ∙ c.first_packet.ensures; dropped = ap (λ (s : Shown). s.dropped) c.at_hand-in-Fifo.ensures; marked = ap (λ (s : Shown). s.marked) c.at_hand-in-Fifo.ensures } })).children.shown (omega (arith, c.self.ranges, c.fit.ensures.packets, c.fit.ensures.bytes)) (omega (arith, c.self.ranges, c.fit.ensures.packets, c.fit.ensures.bytes))) (shown-nothing c.at_hand-in-Fifo.result c.self.inside.row (ap (λ (s : Shown). s.dropped) c.at_hand-in-Fifo.ensures) (ap (λ (s : Shown). s.marked) c.at_hand-in-Fifo.ensures)) (none-kept c.self.inside.held c.if-is_some.ensures ∙ sym (ap (λ k. held_in k c.at_hand-in-Fifo.result.packet) (ap discipline_seen c.in-Fifo.is)))).after;
   arrived = search rules;
-  shown = shown-here c.args.now c.self.inside c.args.self.now c.self.invariant c.self.view_is c.requires.ready (none-held c.self.inside.held c.if-is_some.ensures) c.at_hand-in-Fifo.result (asked-in c.args.now c.self.inside.handle c.self.inside.filters c.self.inside.discipline c.self.inside.discipline (spec.Fifo c.in-Fifo.fifo.limit c.in-Fifo.fifo.packets) (spec.Fifo c.in-Fifo.fifo.limit c.in-Fifo.fifo.packets) [] [] c.at_hand-in-Fifo.result
+  shown = shown-here c.args.now c.self.inside c.args.self.now c.self.invariant c.self.view_is c.requires.ready (none-kept c.self.inside.held c.if-is_some.ensures) c.at_hand-in-Fifo.result (asked-in c.args.now c.self.inside.handle c.self.inside.filters c.self.inside.discipline c.self.inside.discipline (spec.Fifo c.in-Fifo.fifo.limit c.in-Fifo.fifo.packets) (spec.Fifo c.in-Fifo.fifo.limit c.in-Fifo.fifo.packets) [] [] c.at_hand-in-Fifo.result
       (ap discipline_seen c.in-Fifo.is) (ap children_seen c.in-Fifo.is) (ap discipline_seen c.in-Fifo.is) (ap children_seen c.in-Fifo.is) refl refl
       (record { long = refl; nodes = refl; within = λ t h. h; shown = record { packet = ap (λ (s : Shown). s.packet) c.at_hand-in-Fifo.ensures ∙ c.first_packet.ensures; dropped = ap (λ (s : Shown). s.dropped) c.at_hand-in-Fifo.ensures; marked = ap (λ (s : Shown). s.marked) c.at_hand-in-Fifo.ensures } })).children.shown;
   signals = c.requires.clean ∙ sym (ap signals_of c.at_hand-in-Fifo.ensures);
@@ -307,7 +308,7 @@ node::Node::peek-returns-in-Fifo-clause-peeked g t c = record {
 
 pub node::Node::peek-returns-in-Fifo-clause-told : goal.node::Node::peek-returns-in-Fifo-clause-told
 node::Node::peek-returns-in-Fifo-clause-told g t c =
-    told-here c.args.now c.self.inside c.args.self.now c.self.invariant c.self.view_is c.requires.ready (none-held c.self.inside.held c.if-is_some.ensures) (g.S.Sink.losses c.args.sink.now) (g.S.Sink.losses c.args.sink.now) (g.S.Sink.room c.args.sink.now) (g.S.Sink.room c.args.sink.now)
+    told-here c.args.now c.self.inside c.args.self.now c.self.invariant c.self.view_is c.requires.ready (none-kept c.self.inside.held c.if-is_some.ensures) (g.S.Sink.losses c.args.sink.now) (g.S.Sink.losses c.args.sink.now) (g.S.Sink.room c.args.sink.now) (g.S.Sink.room c.args.sink.now)
     (told-in c.args.now c.self.inside.handle c.self.inside.filters c.self.inside.discipline (spec.Fifo c.in-Fifo.fifo.limit c.in-Fifo.fifo.packets) [] (g.S.Sink.losses c.args.sink.now) (g.S.Sink.losses c.args.sink.now) (g.S.Sink.room c.args.sink.now) (g.S.Sink.room c.args.sink.now) (ap discipline_seen c.in-Fifo.is) (ap children_seen c.in-Fifo.is) (told-nothing (g.S.Sink.losses c.args.sink.now) (g.S.Sink.room c.args.sink.now)))
 
 pub node::Node::peek_further-ask-shown-requires : goal.node::Node::peek_further-ask-shown-requires

@@ -12,7 +12,7 @@ pub loop-flow-preserved : goal.loop-flow-preserved
 loop-flow-preserved c =
     let flows : List Flow = c.args.self.now.flows in
     let n : ℕ = c.loop-flow.flow in
-    c.earlier.ensures
+    c.earlier-oldest.ensures
     ∙ ap₂ earlier c.loop-flow.invariant c.first_arrival.ensures
     ∙ oldest-next n flows (omega (arith, c.loop-flow-test.true, c.len-flow-end.ensures.value))
     ∙ ap (λ (k : ℕ). earliest (first_arrivals (take k flows))) (sym (add-one n))

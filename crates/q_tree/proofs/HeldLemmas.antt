@@ -1,0 +1,40 @@
+-- What a node holds, and since when, put together and taken apart.
+use Rattle.std.proofs.Common.{◌≡◌, ℕ, refl, Option, Some, None, false≢true}
+use Rattle.std.specs.Prelude.{true, false, is_some}
+use Rattle.q_packet.specs.Descriptor.{Descriptor}
+use Rattle.q_packet.specs.declared.stamped.Stamped.{Stamped}
+use Rattle.q_model.specs.Since.{since_of}
+use Rattle.q_tree.specs.Holding.{held_with, packet_held, since_held}
+
+pub packet-with : (o : Option Descriptor) (at : ℕ) → packet_held (held_with o at) ≡ o
+packet-with None at = refl
+packet-with (Some p) at = refl
+
+pub since-with : (o : Option Descriptor) (at : ℕ) → since_held (held_with o at) ≡ since_of o at
+since-with None at = refl
+since-with (Some p) at = refl
+
+pub since-twice : (o : Option Descriptor) (at : ℕ) → since_of o (since_of o at) ≡ since_of o at
+since-twice None at = refl
+since-twice (Some p) at = refl
+
+-- a packet that was written to its place with the time
+pub held-with : (o : Option Descriptor) (at t : ℕ) → since_of o at ≡ t → held_with o at ≡ held_with o t
+held-with None at t e = refl
+held-with (Some p) at t e = λ i. Some (record { packet = p; at = e i })
+
+-- whether there is one
+pub empty-held : (h : Option Stamped) → packet_held h ≡ None → h ≡ None
+empty-held None e = refl
+empty-held (Some s) e = absurd (none e)
+  where
+    none : Some s.packet ≡ None → ⊥
+    none x = false≢true (λ i. is_some (x (~ i)))
+
+pub none-kept : (h : Option Stamped) → false ≡ is_some h → packet_held h ≡ None
+none-kept None e = refl
+none-kept (Some s) e = absurd (false≢true e)
+
+pub some-kept : (h : Option Stamped) → true ≡ is_some h → (p : Descriptor) × (packet_held h ≡ Some p)
+some-kept None e = absurd (false≢true (λ i. e (~ i)))
+some-kept (Some s) e = (s.packet, refl)
