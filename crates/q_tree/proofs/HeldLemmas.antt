@@ -1,6 +1,11 @@
 -- What a node holds, and since when, put together and taken apart.
-use Rattle.std.proofs.Common.{◌≡◌, ℕ, refl, Option, Some, None, false≢true}
-use Rattle.std.specs.Prelude.{true, false, is_some}
+use Rattle.std.proofs.Common.{◌≡◌, ℕ, refl, sym, Option, Some, None}
+use Rattle.std.proofs.lemmas.Bool.{false≢true}
+use Rattle.std.proofs.lemmas.Option.{none-some}
+use Rattle.std.proofs.Common.{ap}
+use Rattle.std.specs.Prelude.{Bool, true, false, is_some, unwrap_or, if◌then◌else◌, option_map}
+use Rattle.std.proofs.Common.{◌∙◌}
+use Rattle.std.specs.Option.{option_map_or}
 use Rattle.q_packet.specs.Descriptor.{Descriptor}
 use Rattle.q_packet.specs.declared.stamped.Stamped.{Stamped}
 use Rattle.q_model.specs.Since.{since_of}
@@ -26,15 +31,25 @@ held-with (Some p) at t e = λ i. Some (record { packet = p; at = e i })
 -- whether there is one
 pub empty-held : (h : Option Stamped) → packet_held h ≡ None → h ≡ None
 empty-held None e = refl
-empty-held (Some s) e = absurd (none e)
-  where
-    none : Some s.packet ≡ None → ⊥
-    none x = false≢true (λ i. is_some (x (~ i)))
+empty-held (Some s) e = absurd (none-some s.packet (sym e))
 
 pub none-kept : (h : Option Stamped) → false ≡ is_some h → packet_held h ≡ None
 none-kept None e = refl
 none-kept (Some s) e = absurd (false≢true e)
 
 pub some-kept : (h : Option Stamped) → true ≡ is_some h → (p : Descriptor) × (packet_held h ≡ Some p)
-some-kept None e = absurd (false≢true (λ i. e (~ i)))
+some-kept None e = absurd (false≢true (sym e))
 some-kept (Some s) e = (s.packet, refl)
+
+-- a packet that was written to its place, with the time
+pub placed : (o : Option Descriptor) (holds : Bool) (place old : Descriptor) (at t : ℕ) → holds ≡ is_some o → place ≡ unwrap_or o old → since_of o at ≡ t
+    → (if holds then Some (record { packet = place; at = at }) else None) ≡ held_with o t
+placed None holds place old at t e p s = ap (λ (b : Bool). if b then Some (record { packet = place; at = at }) else None) e
+placed (Some q) holds place old at t e p s =
+    ap (λ (b : Bool). if b then Some (record { packet = place; at = at }) else None) e ∙ (λ i. Some (record { packet = p i; at = s i }))
+
+-- since when the packet has been held, where there is one
+pub arrival-held : (h : Option Stamped) (p : Descriptor) (other : Option ℕ) → packet_held h ≡ Some p
+    → option_map (λ (s : Stamped). s.at) h ≡ option_map_or (λ (q : Descriptor). Some (since_held h)) (packet_held h) other
+arrival-held None p other e = absurd (none-some p e)
+arrival-held (Some s) p other e = refl

@@ -56,6 +56,7 @@ pub mod SendForms
 pub mod SendLemmas
 pub mod ServeLemmas
 pub mod ShapeLemmas
+pub mod SinceLemmas
 pub mod ShowLemmas
 pub mod StatsLemmas
 pub mod TakeCounts

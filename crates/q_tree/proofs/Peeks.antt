@@ -1,6 +1,6 @@
 -- A node that is asked: what its discipline can rely on, what is booked, and what the node is then.
 use Rattle.std.proofs.Common.{◌≡◌, ℕ, ◌≤◌, ◌<◌, ◌^◌, ◌∙◌, List, [], ◌∷◌, ◌++◌, map, take, drop, length, refl, sym, ap, ap₂, subst, Option, Some, None, option_to_list, flat_map, arith}
-use Rattle.std.specs.Prelude.{Bool, true, is_some, if◌then◌else◌}
+use Rattle.std.specs.Prelude.{Bool, true, is_some, if◌then◌else◌, unwrap_or}
 use Rattle.std.specs.Option.{option_map_or}
 use Rattle.std.specs.List.{All}
 use Rattle.std.proofs.lemmas.List.{append-nil, drop_all, take_all, length-append, length-map}
@@ -39,12 +39,17 @@ use Rattle.q_tree.proofs.PopLemmas.{set-within}
 use Rattle.q_tree.proofs.Asking.{asked-told, asked-weighs, all-before, side-all}
 use Rattle.q_tree.specs.Holding.{packet_held, held_with}
 use Rattle.q_packet.specs.declared.stamped.Stamped.{Stamped}
+use Rattle.q_model.specs.Since.{at_hand_since, since_own}
 
 -- one that was asked has at hand what it showed
 pub hand-asked : (now : ℕ) (n m : Node Kept) → CanAsk now n → m ≡ booked kept n (ask now (shape n)).peeked → (pop m).shown ≡ (ask now (shape n)).shown
 hand-asked now n m can new =
     let a : Asked = ask now (shape n) in
     ap (λ (x : Node Kept). (pop x).shown) new ∙ ap (λ (b : Popping). b.shown) (root-booked kept pop_own n a.peeked (asked-told now n can)) ∙ (ask-popped now (shape n)).shown
+
+-- and that packet arrived when the model says
+pub since-asked : (now : ℕ) (n m : Node Kept) → CanAsk now n → m ≡ booked kept n (ask now (shape n)).peeked → at_hand_since m ≡ at_hand_since (ask now (shape n)).peeked
+since-asked now n m can new = ap (λ (x : Node Kept). at_hand_since x) new ∙ root-booked kept since_own n (ask now (shape n)).peeked (asked-told now n can)
 
 -- one that was asked, and then gives the packet that it showed
 pub record IsGivenAsked (now : ℕ) (n m : Node Kept) (p : Descriptor) : Type 0 where
@@ -96,6 +101,25 @@ tbf-none now own b limit n m s new arrived shown none =
       within = λ t all. set-within (n ∷ []) 0 n m refl arrived t all;
       shown = record { packet = none; dropped = shown.dropped; marked = shown.marked };
     })
+
+-- when the packet arrived that a tbf then has
+pub tbf-gave-since : (now : ℕ) (own : Own) (b : TokenBucket) (limit : ℕ) (n m : Node Kept) (p : Descriptor) → CanAsk now n → m ≡ booked kept n (ask now (shape n)).peeked → (ask now (shape n)).shown ≡ Some p
+    → allows b now p.len ≡ true → unwrap_or (at_hand_since m) 0 ≡ (ask_child now own (ask now (shape n) ∷ []) b limit (ask now (shape n))).peeked.own.since
+tbf-gave-since now own b limit n m p can new shown may =
+    let a : Asked = ask now (shape n) in
+    let below : List Asked = a ∷ [] in
+    let is : ask_child now own below b limit a ≡ spends own below b limit now a p =
+    ap (λ (o : Option Descriptor). option_map_or (λ (p : Descriptor). if allows b now p.len then spends own below b limit now a p else waits own below a) o (waits own below a)) shown
+    ∙ ap (λ (t : Bool). if t then spends own below b limit now a p else waits own below a) may in
+    ap (λ (o : Option ℕ). unwrap_or o 0) (since-asked now n m can new) ∙ ap (λ (x : Asked). x.peeked.own.since) (sym is)
+
+-- and 0 where its child shows nothing
+pub tbf-none-since : (now : ℕ) (own : Own) (b : TokenBucket) (limit : ℕ) (n : Node Kept) → (ask now (shape n)).shown ≡ None
+    → 0 ≡ (ask_child now own (ask now (shape n) ∷ []) b limit (ask now (shape n))).peeked.own.since
+tbf-none-since now own b limit n silent =
+    let a : Asked = ask now (shape n) in
+    let below : List Asked = a ∷ [] in
+    ap (λ (o : Option Descriptor). (option_map_or (λ (p : Descriptor). if allows b now p.len then spends own below b limit now a p else waits own below a) o (waits own below a)).peeked.own.since) (sym silent)
 
 -- children of a discipline that can be asked
 abbrev each-here : (now : ℕ) (d : Discipline) → CanAskIn now d → CanAskEach now (children_seen d)

@@ -1,6 +1,6 @@
 -- The classes of a drr that are asked in turn, until one is met that can send its packet, or shows none.
 use Rattle.std.proofs.Common.{◌≡◌, ℕ, zero, suc, ◌-◌, ◌≤◌, ◌<◌, ◌∙◌, List, [], ◌∷◌, ◌++◌, take, set, length, refl, sym, ap, ap₂, subst, inl, inr, ◌||◌, eq-eqb, Option, Some, None, option_and_then, option_map, arith}
-use Rattle.std.specs.Prelude.{true, false, is_some, nat_lt, ◌==◌, slice_get, slice_index_or}
+use Rattle.std.specs.Prelude.{true, false, is_some, nat_lt, ◌==◌, slice_get, slice_index_or, unwrap_or}
 use Rattle.std.specs.List.{All, sum_by}
 use Rattle.std.specs.Option.{option_map_or}
 use Rattle.std.proofs.lemmas.Bool.{cases_lt, cases_Bool, eqb-true, ltb-true, ltb-false, false≢true}
@@ -41,7 +41,8 @@ use Rattle.q_tree.proofs.AskBands.{get-there}
 use Rattle.q_tree.proofs.RouteLemmas.{child-size}
 use Rattle.q_tree.proofs.AskOnce.{IsCounted, can-ask, can-ask-once, counted-then, told-nothing, told-then}
 use Rattle.q_tree.proofs.Asking.{IsAsking, answered, taken-told, lawful-at, asking-starts, asking-goes, still-there, booked_all, side-all, all-at, all-set}
-use Rattle.q_tree.proofs.Peeks.{popped-asked, hand-asked}
+use Rattle.q_tree.proofs.Peeks.{popped-asked, hand-asked, since-asked}
+use Rattle.q_model.specs.Since.{at_hand_since, since_of}
 
 -- the head that each class shows, by its name
 abbrev pub heads_of : ℕ → Schedule → List (Node Kept) → ℕ → Option ℕ
@@ -341,6 +342,9 @@ module _ {now : ℕ} {first s : Schedule} {ns ms : List (Node Kept)} {unasked : 
           ap spec.Drr (served_nothing (heads_of now first ns) first s met.class met.front (shown-head None silent) (ready None silent uncovered))
           ∙ ap (λ (x : Asked). x.peeked.own.discipline) (sym (drr-answer None silent uncovered own))
 
+      pub nothing-since : (at : ℕ) (own : Own) → since_of result.packet at ≡ (ask_drr own (answers now ns) first).peeked.own.since
+      nothing-since at own = ap (λ (o : Option Descriptor). since_of o at) empty ∙ ap (λ (x : Asked). x.peeked.own.since) (sym (drr-answer None silent uncovered own))
+
       pub nothing-told : (own : Own) → IsToldOf (ask_drr own (answers now ns) first).rises k.losses l2 k.room r2
       nothing-told own = subst (λ notes. IsToldOf notes k.losses l2 k.room r2) (sym (ap (λ (x : Asked). x.rises) (drr-answer None silent uncovered own) ∙ service-rises None silent uncovered)) shows.told
 
@@ -401,6 +405,12 @@ module _ {now : ℕ} {first s : Schedule} {ns ms : List (Node Kept)} {unasked : 
         given-schedule own =
             ap spec.Drr (gift.schedule ∙ ap₂ (λ b t. settled_class place b t) emptied (served_head (heads_of now first ns) first s met.class len met.front offered-head pays (ready (Some offer.0) offers covered)))
             ∙ ap (λ (y : Asked). y.peeked.own.discipline) (sym (answer own))
+
+        pub given-since : (own : Own) → since_of result.packet (unwrap_or (at_hand_since d) 0) ≡ (ask_drr own (answers now ns) first).peeked.own.since
+        given-since own =
+            ap (λ (o : Option Descriptor). since_of o (unwrap_or (at_hand_since d) 0)) offer.1
+            ∙ ap (λ (o : Option ℕ). unwrap_or o 0) (since-asked now met.at.child d child-can shows.peeked)
+            ∙ ap (λ (y : Asked). y.peeked.own.since) (sym (answer own))
 
         pub given-told : (own : Own) → IsToldOf (ask_drr own (answers now ns) first).rises k.losses l2 k.room r2
         given-told own = subst (λ notes. IsToldOf notes k.losses l2 k.room r2) (sym (ap (λ (y : Asked). y.rises) (answer own) ∙ service-rises (Some offer.0) offers covered)) shows.told
@@ -477,6 +487,9 @@ module _ {now : ℕ} {first s : Schedule} {ns ms : List (Node Kept)} {unasked : 
 
   pub idle-schedule : (own : Own) → spec.Drr s ≡ (ask_drr own (answers now ns) first).peeked.own.discipline
   idle-schedule own = ap spec.Drr (served_nobody (heads_of now first ns) first s nobody no-turn) ∙ ap (λ (x : Asked). x.peeked.own.discipline) (sym (idle-answer own))
+
+  pub idle-since : {result : Shown} → result.packet ≡ None → (at : ℕ) (own : Own) → since_of result.packet at ≡ (ask_drr own (answers now ns) first).peeked.own.since
+  idle-since empty at own = ap (λ (o : Option Descriptor). since_of o at) empty ∙ ap (λ (x : Asked). x.peeked.own.since) (sym (idle-answer own))
 
   pub idle-told : (own : Own) → IsToldOf (ask_drr own (answers now ns) first).rises k.losses k.losses_now k.room k.room_now
   idle-told own = subst (λ notes. IsToldOf notes k.losses k.losses_now k.room k.room_now) (sym (idle-rises own)) h.told

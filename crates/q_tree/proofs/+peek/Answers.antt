@@ -1,4 +1,4 @@
-use Rattle.std.proofs.Common.{◌∙◌, [], ◌∷◌, set, length, add-one, refl, sym, ap, subst, arith, rules}
+use Rattle.std.proofs.Common.{◌∙◌, [], ◌∷◌, set, length, add-one, refl, sym, ap, subst, arith, rules, Option}
 use Rattle.std.specs.Prelude.{slice_index_or, unwrap_or}
 use Rattle.std.proofs.lemmas.List.{length-set}
 use Rattle.std.specs.Box.{with_value}
@@ -9,7 +9,7 @@ use Rattle.q_model.specs.Ask.{ask}
 use Rattle.q_model.specs.Node as spec
 use Rattle.q_model.specs.Node.{Node, shape, side_by_side}
 use Rattle.q_model.specs.Pop.{pop}
-use Rattle.q_tree.specs.AskSteps.{IsToldOf, answers, held_in, own_of, signals_of}
+use Rattle.q_tree.specs.AskSteps.{IsToldOf, answers, held_in, own_of, signals_of, answer_of}
 use Rattle.q_tree.specs.Kept.{Kept}
 use Rattle.q_tree.specs.NodeCode.{forest_size}
 use Rattle.q_tree.specs.Seen.{children_seen, discipline_seen, places_seen}
@@ -19,13 +19,16 @@ use Rattle.q_tree.proofs.AskBands.{AreBandsAsked, told_to, band-at, band-once, b
 use Rattle.q_tree.proofs.AskOnce.{fits-beside, told-nothing, told-then}
 use Rattle.q_tree.proofs.AtHandLemmas.{none-held, some-held, shown-len}
 use Rattle.q_tree.proofs.HereLemmas.{flow-packets}
-use Rattle.q_tree.proofs.Peeks.{asked-in, told-in, each-of, room-of, own-room, items-are, serve-of, holding-after, can-in, enough, can-book, peeked-done, shown-here, told-here, tbf-gave, tbf-none, hand-asked}
-use Rattle.q_tree.proofs.ServeLemmas.{classes-go-on, classes-start, class-once, class-shown, class-size, fewer-grants, front-met, given-asked, given-packet, given-schedule, given-told, idle-asked, idle-schedule, idle-told, nothing-asked, nothing-schedule, nothing-told, place-within, short-enough}
+use Rattle.q_tree.proofs.Peeks.{asked-in, told-in, each-of, room-of, own-room, items-are, serve-of, holding-after, can-in, enough, can-book, peeked-done, shown-here, told-here, tbf-gave, tbf-none, hand-asked, tbf-gave-since, tbf-none-since}
+use Rattle.q_tree.proofs.ServeLemmas.{classes-go-on, classes-start, class-once, class-shown, class-size, fewer-grants, front-met, given-asked, given-packet, given-schedule, given-told, idle-asked, idle-schedule, idle-told, nothing-asked, nothing-schedule, nothing-told, place-within, short-enough, nothing-since, given-since, idle-since}
 use Rattle.q_tree.proofs.Quiet.{shown-nothing}
 use Rattle.q_tree.proofs.RouteLemmas.{child-size, children-size}
 use Rattle.q_tree.proofs.TakeCounts.{flow-told}
 use Rattle.q_tree.proofs.+peek.Goals as goal
-use Rattle.q_tree.proofs.HeldLemmas.{none-kept, some-kept}
+use Rattle.q_tree.proofs.HeldLemmas.{none-kept, some-kept, placed, empty-held}
+use Rattle.q_tree.specs.Holding.{held_with}
+use Rattle.q_model.specs.Since.{at_hand_since, since_of}
+use Rattle.q_packet.specs.Descriptor.{Descriptor}
 
 pub disciplines::drr::peek_class_further-then-requires-clause-dropped_packets : goal.disciplines::drr::peek_class_further-then-requires-clause-dropped_packets
 disciplines::drr::peek_class_further-then-requires-clause-dropped_packets g t c = (fits-beside c.args.now c.args.class.now c.args.so_far c.peek-next.result (g.S.Sink.room c.args.sink.now) c.requires.ready c.peek-next.ensures.peeked.shown).dropped_packets
@@ -199,6 +202,54 @@ disciplines::drr::dequeue_class-returns-clause-kept g t c = c.loop-place.invaria
 pub disciplines::drr::dequeue_class-returns-clause-signals : goal.disciplines::drr::dequeue_class-returns-clause-signals
 disciplines::drr::dequeue_class-returns-clause-signals g t c = sym (ap signals_of c.at_hand.ensures)
 
+pub disciplines::tbf::dequeue_child-returns-in_default-clause-since : goal.disciplines::tbf::dequeue_child-returns-in_default-clause-since
+disciplines::tbf::dequeue_child-returns-in_default-clause-since g t c =
+    λ own limit.
+    let empty = c.packet_len.ensures.none c.in_default.is in
+    ap (λ (o : Option Descriptor). since_of o c.args.since.now) empty
+    ∙ tbf-none-since c.args.now own c.args.bucket.now limit c.args.child.now (sym c.peek-shown.ensures.peeked.shown.packet ∙ empty)
+
+pub disciplines::tbf::dequeue_child-returns-clause-since : goal.disciplines::tbf::dequeue_child-returns-clause-since
+disciplines::tbf::dequeue_child-returns-clause-since g t c =
+    λ own limit.
+    let offer = shown-len c.peek-shown.result.packet c.packet_len.result c.in-Some.len c.packet_len.ensures.some c.in-Some.is in
+    let shown = sym c.peek-shown.ensures.peeked.shown.packet ∙ offer.1 in
+    ap (λ (o : Option Descriptor). since_of o c.unwrap_or.result) offer.1
+    ∙ c.unwrap_or.ensures ∙ ap (λ (o : Option ℕ). unwrap_or o c.zero.result) c.dequeue_at_hand.ensures.since ∙ ap (unwrap_or (at_hand_since c.peek-shown.new.self)) c.zero.ensures
+    ∙ tbf-gave-since c.args.now own c.args.bucket.now limit c.args.child.now c.peek-shown.new.self offer.0 c.requires.ready c.peek-shown.ensures.peeked.after shown
+    (ap (allows c.args.bucket.now c.args.now) offer.2 ∙ sym c.spend.ensures.answer ∙ c.if-not-spend.false)
+
+pub disciplines::tbf::peek_child-returns-clause-held : goal.disciplines::tbf::peek_child-returns-clause-held
+disciplines::tbf::peek_child-returns-clause-held g t c =
+    λ own limit.
+    placed c.dequeue_child-shown.result.packet c.has_packet.result c.dequeue_child-shown.new.out _ c.dequeue_child-shown.new.since _ c.has_packet.ensures c.dequeue_child-shown.ensures.packet
+    (c.dequeue_child-shown.ensures.since own limit)
+
+pub disciplines::drr::dequeue_class-returns-in_default-packet_len-clause-since : goal.disciplines::drr::dequeue_class-returns-in_default-packet_len-clause-since
+disciplines::drr::dequeue_class-returns-in_default-packet_len-clause-since g t c =
+    let met = front-met c.requires.ready c.loop-place.invariant.0 c.front_place.ensures.lawful c.in-Some.place (sym c.in-Some.is ∙ c.front_place.ensures.place) in
+    let shows = class-shown met c.index-classes-place.result c.peek_class-shown.ensures.asked c.peek_class-shown.ensures.told c.peek_class-shown.ensures.at_hand c.peek_class-shown.ensures.not_lost in
+    nothing-since met shows (c.packet_len.ensures.none c.in_default-packet_len.is) _
+
+pub disciplines::drr::dequeue_class-returns-in-Send-clause-since : goal.disciplines::drr::dequeue_class-returns-in-Send-clause-since
+disciplines::drr::dequeue_class-returns-in-Send-clause-since g t c =
+    let met = front-met c.requires.ready c.loop-place.invariant.0 c.front_place.ensures.lawful c.in-Some.place (sym c.in-Some.is ∙ c.front_place.ensures.place) in
+    let shows = class-shown met c.index-classes-place.result c.peek_class-shown.ensures.asked c.peek_class-shown.ensures.told c.peek_class-shown.ensures.at_hand c.peek_class-shown.ensures.not_lost in
+    let offer = shown-len c.peek_class-shown.result.packet c.packet_len.result c.in-Some-packet_len.len c.packet_len.ensures.some c.in-Some-packet_len.is in
+    λ own.
+    ap (since_of c.peek_class-shown.result.packet) (c.dequeue_class_at_hand.ensures.since c.peek_class-shown.new.class shows.stored)
+    ∙ given-since met shows offer (sym c.in-Send.is ∙ c.turn.ensures.answer) c.turn.ensures.after c.dequeue_class_at_hand.ensures.given own
+
+pub disciplines::drr::dequeue_class-returns-clause-since : goal.disciplines::drr::dequeue_class-returns-clause-since
+disciplines::drr::dequeue_class-returns-clause-since g t c =
+    idle-since c.requires.ready c.loop-place.invariant.0 c.front_place.ensures.lawful _ c.in_default.is c.front_place.ensures.found (ap (λ (s : Shown). s.packet) c.at_hand.ensures) _
+
+pub disciplines::drr::peek_classes-returns-clause-held : goal.disciplines::drr::peek_classes-returns-clause-held
+disciplines::drr::peek_classes-returns-clause-held g t c =
+    λ own.
+    placed c.dequeue_class-shown.result.packet c.has_packet.result c.dequeue_class-shown.new.out _ c.dequeue_class-shown.new.since _ c.has_packet.ensures c.dequeue_class-shown.ensures.packet
+    (c.dequeue_class-shown.ensures.since own)
+
 pub node::Discipline::ask-peek_bands-requires : goal.node::Discipline::ask-peek_bands-requires
 node::Discipline::ask-peek_bands-requires g t c κs within =
     let kids = c.deref_mut.ensures.value ∙ sym (ap children_seen c.in-Prio.is) in
@@ -298,7 +349,7 @@ node::Node::peek-returns-in-Fifo-clause-peeked g t c = record {
       (ap discipline_seen c.in-Fifo.is) (ap children_seen c.in-Fifo.is) (ap discipline_seen c.in-Fifo.is) (ap children_seen c.in-Fifo.is) refl refl
       (record { long = refl; nodes = refl; within = λ t h. h; shown = record { packet = ap (λ (s : Shown). s.packet) c.at_hand-in-Fifo.ensures ∙ c.first_packet.ensures; dropped = ap (λ (s : Shown). s.dropped) c.at_hand-in-Fifo.ensures; marked = ap (λ (s : Shown). s.marked) c.at_hand-in-Fifo.ensures } })) c.self.inside.row c.self.inside.held (can-book c.args.now c.self.inside c.args.self.now c.self.invariant c.self.view_is c.requires.ready (none-kept c.self.inside.held c.if-is_some.ensures) c.at_hand-in-Fifo.result (asked-in c.args.now c.self.inside.handle c.self.inside.filters c.self.inside.discipline c.self.inside.discipline (spec.Fifo c.in-Fifo.fifo.limit c.in-Fifo.fifo.packets) (spec.Fifo c.in-Fifo.fifo.limit c.in-Fifo.fifo.packets) [] [] c.at_hand-in-Fifo.result
       (ap discipline_seen c.in-Fifo.is) (ap children_seen c.in-Fifo.is) (ap discipline_seen c.in-Fifo.is) (ap children_seen c.in-Fifo.is) refl refl
-      (record { long = refl; nodes = refl; within = λ t h. h; shown = record { packet = ap (λ (s : Shown). s.packet) c.at_hand-in-Fifo.ensures ∙ c.first_packet.ensures; dropped = ap (λ (s : Shown). s.dropped) c.at_hand-in-Fifo.ensures; marked = ap (λ (s : Shown). s.marked) c.at_hand-in-Fifo.ensures } })).children.shown (omega (arith, c.self.ranges, c.fit.ensures.packets, c.fit.ensures.bytes)) (omega (arith, c.self.ranges, c.fit.ensures.packets, c.fit.ensures.bytes))) (shown-nothing c.at_hand-in-Fifo.result c.self.inside.row (ap (λ (s : Shown). s.dropped) c.at_hand-in-Fifo.ensures) (ap (λ (s : Shown). s.marked) c.at_hand-in-Fifo.ensures)) (none-kept c.self.inside.held c.if-is_some.ensures ∙ sym (ap (λ k. held_in k c.at_hand-in-Fifo.result.packet) (ap discipline_seen c.in-Fifo.is)))).after;
+      (record { long = refl; nodes = refl; within = λ t h. h; shown = record { packet = ap (λ (s : Shown). s.packet) c.at_hand-in-Fifo.ensures ∙ c.first_packet.ensures; dropped = ap (λ (s : Shown). s.dropped) c.at_hand-in-Fifo.ensures; marked = ap (λ (s : Shown). s.marked) c.at_hand-in-Fifo.ensures } })).children.shown (omega (arith, c.self.ranges, c.fit.ensures.packets, c.fit.ensures.bytes)) (omega (arith, c.self.ranges, c.fit.ensures.packets, c.fit.ensures.bytes))) (shown-nothing c.at_hand-in-Fifo.result c.self.inside.row (ap (λ (s : Shown). s.dropped) c.at_hand-in-Fifo.ensures) (ap (λ (s : Shown). s.marked) c.at_hand-in-Fifo.ensures)) (empty-held c.self.inside.held (none-kept c.self.inside.held c.if-is_some.ensures) ∙ sym (ap (λ k. held_with (held_in k c.at_hand-in-Fifo.result.packet) (answer_of c.args.now c.self.inside.handle c.self.inside.filters c.self.inside.discipline).peeked.own.since) (ap discipline_seen c.in-Fifo.is)))).after;
   arrived = search rules;
   shown = shown-here c.args.now c.self.inside c.args.self.now c.self.invariant c.self.view_is c.requires.ready (none-kept c.self.inside.held c.if-is_some.ensures) c.at_hand-in-Fifo.result (asked-in c.args.now c.self.inside.handle c.self.inside.filters c.self.inside.discipline c.self.inside.discipline (spec.Fifo c.in-Fifo.fifo.limit c.in-Fifo.fifo.packets) (spec.Fifo c.in-Fifo.fifo.limit c.in-Fifo.fifo.packets) [] [] c.at_hand-in-Fifo.result
       (ap discipline_seen c.in-Fifo.is) (ap children_seen c.in-Fifo.is) (ap discipline_seen c.in-Fifo.is) (ap children_seen c.in-Fifo.is) refl refl
@@ -317,7 +368,7 @@ node::Node::peek_further-ask-shown-requires g t c κs within = (
   (
     within,
     (
-      ap (λ (n : Node Kept). n.own.held) c.self.view_is ∙ c.requires.none,
+      empty-held c.self.inside.held (ap (λ (n : Node Kept). n.own.held) c.self.view_is ∙ c.requires.none),
       (
         can-in c.args.now c.self.inside c.args.self.now c.self.invariant c.self.view_is c.requires.ready (omega (arith, c.self.ranges, c.fit.ensures.packets, c.fit.ensures.bytes)) (omega (arith, c.self.ranges, c.fit.ensures.packets, c.fit.ensures.bytes)),
         (enough c.args.now c.self.inside c.args.self.now c.self.invariant c.self.view_is c.requires.ready (g.S.Sink.room c.args.sink.now) c.requires.sink, c.requires.clean),
@@ -336,13 +387,13 @@ pub node::Node::peek_further-invariant_of-self :
 node::Node::peek_further-invariant_of-self g t c =
     (peeked-done c.args.now c.self.inside c.args.self.now c.self.invariant c.self.view_is c.requires.ready (ap (λ (n : Node Kept). n.own.held) c.self.view_is ∙ c.requires.none) c.ask-shown.new.self c.ask-shown.result (c.ask-shown.ensures.after c.self.inside.handle c.self.inside.filters) c.book_shown.new.row c.ask-shown.new.held
     (can-book c.args.now c.self.inside c.args.self.now c.self.invariant c.self.view_is c.requires.ready (ap (λ (n : Node Kept). n.own.held) c.self.view_is ∙ c.requires.none) c.ask-shown.result (c.ask-shown.ensures.after c.self.inside.handle c.self.inside.filters).children.shown (omega (arith, c.self.ranges, c.fit.ensures.packets, c.fit.ensures.bytes)) (omega (arith, c.self.ranges, c.fit.ensures.packets, c.fit.ensures.bytes)))
-    c.book_shown.ensures c.ask-shown.ensures.held).stays
+    c.book_shown.ensures (c.ask-shown.ensures.held c.self.inside.handle c.self.inside.filters)).stays
 
 pub node::Node::peek_further-returns-clause-peeked : goal.node::Node::peek_further-returns-clause-peeked
 node::Node::peek_further-returns-clause-peeked g t c = record {
   after = (peeked-done c.args.now c.self.inside c.args.self.now c.self.invariant c.self.view_is c.requires.ready (ap (λ (n : Node Kept). n.own.held) c.self.view_is ∙ c.requires.none) c.ask-shown.new.self c.ask-shown.result (c.ask-shown.ensures.after c.self.inside.handle c.self.inside.filters) c.book_shown.new.row c.ask-shown.new.held
       (can-book c.args.now c.self.inside c.args.self.now c.self.invariant c.self.view_is c.requires.ready (ap (λ (n : Node Kept). n.own.held) c.self.view_is ∙ c.requires.none) c.ask-shown.result (c.ask-shown.ensures.after c.self.inside.handle c.self.inside.filters).children.shown (omega (arith, c.self.ranges, c.fit.ensures.packets, c.fit.ensures.bytes)) (omega (arith, c.self.ranges, c.fit.ensures.packets, c.fit.ensures.bytes)))
-      c.book_shown.ensures c.ask-shown.ensures.held).after;
+      c.book_shown.ensures (c.ask-shown.ensures.held c.self.inside.handle c.self.inside.filters)).after;
   arrived = search rules;
   shown = shown-here c.args.now c.self.inside c.args.self.now c.self.invariant c.self.view_is c.requires.ready (ap (λ (n : Node Kept). n.own.held) c.self.view_is ∙ c.requires.none) c.ask-shown.result (c.ask-shown.ensures.after c.self.inside.handle c.self.inside.filters).children.shown;
   signals = search rules;

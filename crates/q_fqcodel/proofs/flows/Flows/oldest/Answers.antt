@@ -1,7 +1,7 @@
-use Rattle.std.proofs.Common.{◌≡◌, ℕ, suc, ◌+◌, ◌<◌, List, length, take, Option, refl, sym, ap, ap₂, ◌∙◌, arith, add-one}
+use Rattle.std.proofs.Common.{ℕ, List, take, refl, sym, ap, ap₂, ◌∙◌, arith, add-one}
 use Rattle.std.proofs.lemmas.List.{take_all}
-use Rattle.q_fqcodel.specs.FqState.{Flow, queue_of}
-use Rattle.q_fqcodel.specs.Oldest.{earlier, earliest, first_arrival, first_arrivals}
+use Rattle.q_fqcodel.specs.FqState.{Flow}
+use Rattle.q_fqcodel.specs.Oldest.{earlier, earliest, first_arrivals}
 use Rattle.q_fqcodel.proofs.OldestLemmas.{oldest-next}
 use Rattle.q_fqcodel.proofs.flows.Flows.oldest.Goals as goal
 

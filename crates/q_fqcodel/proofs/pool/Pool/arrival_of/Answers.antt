@@ -1,5 +1,5 @@
-use Rattle.std.proofs.Common.{List, Option, Some, sym, ap, ◌∙◌, arith}
-use Rattle.std.specs.Prelude.{option_map, slice_get}
+use Rattle.std.proofs.Common.{Option, sym, ap, arith}
+use Rattle.std.specs.Prelude.{option_map}
 use Rattle.q_packet.specs.declared.stamped.Stamped.{Stamped}
 use Rattle.q_fqcodel.specs.Oldest.{first_arrival}
 use Rattle.q_fqcodel.specs.Pool.{PoolState}

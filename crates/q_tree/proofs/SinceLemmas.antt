@@ -1,0 +1,97 @@
+-- When the packet arrived that a node has at hand, and that an fq_codel sends.
+use Rattle.std.proofs.Common.{◌≡◌, ℕ, suc, ◌+◌, ◌<◌, ◌∙◌, List, [], ◌∷◌, map, length, refl, sym, ap, Option, Some, None, option_map, option_and_then, arith}
+use Rattle.std.specs.Prelude.{Bool, true, false, not, cond, is_some, slice_get}
+use Rattle.std.specs.List.{position_or_len}
+use Rattle.std.specs.Option.{option_map_or}
+use Rattle.std.proofs.lemmas.Option.{none-some, slice_get-map}
+use Rattle.q_packet.specs.Descriptor.{Descriptor}
+use Rattle.q_packet.specs.declared.stamped.Stamped.{Stamped}
+use Rattle.q_model.specs.Node.{Discipline, Fifo, Prio, Tbf, Drr, FqCodel, Own, Forest, none, more, Node, each}
+use Rattle.q_model.specs.Pop.{Popping, first_ready, first_shown, pop_own, pop}
+use Rattle.q_model.specs.Since.{since_of, since_in, since_own, at_hand_since}
+use Rattle.q_tree.specs.Kept.{Kept}
+use Rattle.q_tree.proofs.AtHandLemmas.{first-some, first-none}
+use Rattle.q_tree.proofs.PopLemmas.{none-there}
+
+-- a time for each packet that is at hand
+abbrev pub AreTimed : List (Option ℕ) → List Popping → Type 0
+AreTimed [] [] = Unit {0}
+AreTimed (t ∷ ts) (b ∷ bs) = (is_some t ≡ is_some b.shown) × AreTimed ts bs
+AreTimed ts bs = ⊥
+
+abbrev first_timed : List (Option ℕ) → ℕ
+first_timed ts = position_or_len (λ (o : Option ℕ). is_some o) ts
+
+-- the same place
+first-alike : (ts : List (Option ℕ)) (bs : List Popping) → AreTimed ts bs → first_timed ts ≡ first_ready bs
+first-alike [] [] h = refl
+first-alike (t ∷ ts) (b ∷ bs) h =
+    ap (λ (n : ℕ). cond (not (is_some t)) (1 + n) 0) (first-alike ts bs h.1) ∙ ap (λ (x : Bool). cond (not x) (1 + first_ready bs) 0) h.0
+first-alike [] (b ∷ bs) h = absurd h
+first-alike (t ∷ ts) [] h = absurd h
+
+at-alike : (ts : List (Option ℕ)) (bs : List Popping) (k : ℕ) → AreTimed ts bs
+    → is_some (option_and_then (λ (o : Option ℕ). o) (slice_get ts k)) ≡ is_some (option_and_then (λ (b : Popping). b.shown) (slice_get bs k))
+at-alike [] [] k h = refl
+at-alike (t ∷ ts) (b ∷ bs) 0 h = h.0
+at-alike (t ∷ ts) (b ∷ bs) (suc k) h = at-alike ts bs k h.1
+at-alike [] (b ∷ bs) k h = absurd h
+at-alike (t ∷ ts) [] k h = absurd h
+
+-- a node has a time exactly where it has a packet at hand
+node-alike : (own : Own) (ts : List (Option ℕ)) (bs : List Popping) → AreTimed ts bs → is_some (since_own own ts) ≡ is_some (pop_own own bs).shown
+node-alike own ts bs h = by own.held own.discipline
+  where
+    by : (o : Option Descriptor) (d : Discipline)
+        → is_some (option_map_or (λ (p : Descriptor). Some own.since) o (since_in ts d)) ≡ is_some (pop_own (record own { held = o; discipline = d }) bs).shown
+    by (Some p) d = refl
+    by None (Fifo limit []) = refl
+    by None (Fifo limit (s ∷ queue)) = refl
+    by None (Prio priomap) =
+        ap (λ (k : ℕ). is_some (option_and_then (λ (o : Option ℕ). o) (slice_get ts k))) (first-alike ts bs h) ∙ at-alike ts bs (first_ready bs) h
+    by None (Tbf b limit) = refl
+    by None (Drr s) = refl
+    by None (FqCodel s) = refl
+
+all-alike : {M : Type 0} (x : Forest M) → AreTimed (each since_own x) (each pop_own x)
+all-alike none = tt
+all-alike (more own m below others) = (node-alike own (each since_own below) (each pop_own below) (all-alike below), all-alike others)
+
+pub since-alike : {M : Type 0} (n : Node M) → is_some (at_hand_since n) ≡ is_some (pop n).shown
+since-alike n = node-alike n.own (each since_own n.below) (each pop_own n.below) (all-alike n.below)
+
+sides-alike : (ns : List (Node Kept)) → AreTimed (map at_hand_since ns) (map pop ns)
+sides-alike [] = tt
+sides-alike (n ∷ ns) = (since-alike n, sides-alike ns)
+
+-- the first band that has a packet at hand
+pub prio-since : (ns : List (Node Kept)) (k : ℕ) (c : Node Kept) (priomap : List ℕ) → slice_get ns k ≡ Some c → k ≡ first_ready (map pop ns)
+    → at_hand_since c ≡ since_in (map at_hand_since ns) (Prio priomap)
+prio-since ns k c priomap there first =
+    sym (ap (option_and_then (λ (o : Option ℕ). o)) (slice_get-map at_hand_since ns k ∙ ap (option_map at_hand_since) there))
+    ∙ ap (λ (n : ℕ). option_and_then (λ (o : Option ℕ). o) (slice_get (map at_hand_since ns) n)) (first ∙ sym (first-alike (map at_hand_since ns) (map pop ns) (sides-alike ns)))
+
+-- and none where no band has one
+pub prio-none-since : (ns : List (Node Kept)) (priomap : List ℕ) → first_ready (map pop ns) ≡ length (map pop ns) → None ≡ since_in (map at_hand_since ns) (Prio priomap)
+prio-none-since ns priomap e =
+    let ts : List (Option ℕ) = map at_hand_since ns in
+    sym (ap (option_and_then (λ (o : Option ℕ). o)) (none-there ts))
+    ∙ ap (λ (n : ℕ). option_and_then (λ (o : Option ℕ). o) (slice_get ts n)) (same ns ∙ sym e ∙ sym (first-alike ts (map pop ns) (sides-alike ns)))
+  where
+    same : (ns : List (Node Kept)) → length (map at_hand_since ns) ≡ length (map pop ns)
+    same [] = refl
+    same (n ∷ ns) = ap suc (same ns)
+
+-- what an fq_codel sends
+pub sent-since : (o : Option Descriptor) (head : Option Stamped) (at : ℕ) → (o ≡ None → head ≡ None) → Some at ≡ option_map (λ (s : Stamped). s.at) head
+    → since_of o at ≡ option_map_or (λ (s : Stamped). s.at) head 0
+sent-since o None at none e = absurd (none-some at (sym e))
+sent-since None (Some s) at none e = absurd (none-some s (sym (none refl)))
+sent-since (Some p) (Some s) at none e = time (Some at) (Some s.at) e
+  where
+    or_zero : Option ℕ → ℕ
+    or_zero None = 0
+    or_zero (Some x) = x
+
+    time : (a b : Option ℕ) → a ≡ b → or_zero a ≡ or_zero b
+    time a b e = ap or_zero e
