@@ -12,6 +12,12 @@ use Rattle.q_model.specs.Since.{since_of, since_in, since_own, at_hand_since}
 use Rattle.q_tree.specs.Kept.{Kept}
 use Rattle.q_tree.proofs.AtHandLemmas.{first-some, first-none}
 use Rattle.q_tree.proofs.PopLemmas.{none-there}
+use Rattle.std.proofs.lemmas.Bool.{false≢true}
+use Rattle.q_invariants.proofs.Forests.{each-side}
+use Rattle.q_tree.specs.Holding.{packet_held, since_held}
+use Rattle.q_tree.specs.Seen.{seen, discipline_seen, children_seen}
+use Rattle.q_tree.specs.declared.node.Node.TheInside.{Inside}
+use Rattle.q_tree.proofs.HeldLemmas.{arrival-held}
 
 -- a time for each packet that is at hand
 abbrev pub AreTimed : List (Option ℕ) → List Popping → Type 0
@@ -95,3 +101,20 @@ sent-since (Some p) (Some s) at none e = time (Some at) (Some s.at) e
 
     time : (a b : Option ℕ) → a ≡ b → or_zero a ≡ or_zero b
     time a b e = ap or_zero e
+
+-- a node of the code: one that holds a packet, and one that holds none
+pub held-since : (a : Inside) (p : Descriptor) → packet_held a.held ≡ Some p → option_map (λ (s : Stamped). s.at) a.held ≡ at_hand_since (seen a)
+held-since a p e = arrival-held a.held p (since_in (each since_own (seen a).below) (discipline_seen a.discipline)) e
+
+pub own-since : (a : Inside) → packet_held a.held ≡ None → since_in (map at_hand_since (children_seen a.discipline)) (discipline_seen a.discipline) ≡ at_hand_since (seen a)
+own-since a e =
+    ap (λ (ts : List (Option ℕ)). since_in ts (discipline_seen a.discipline)) (sym (each-side since_own (children_seen a.discipline)))
+    ∙ sym (ap (λ (o : Option Descriptor). option_map_or (λ (p : Descriptor). Some (since_held a.held)) o (since_in (each since_own (seen a).below) (discipline_seen a.discipline))) e)
+
+-- one that has no packet at hand
+pub none-since : (n : Node Kept) → (pop n).shown ≡ None → None ≡ at_hand_since n
+none-since n e = by (at_hand_since n) (since-alike n ∙ ap is_some e)
+  where
+    by : (o : Option ℕ) → is_some o ≡ false → None ≡ o
+    by None h = refl
+    by (Some x) h = absurd (false≢true (sym h))

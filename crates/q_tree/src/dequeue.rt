@@ -286,11 +286,12 @@ impl Node {
             *out = packet;
             return since;
         }
-        let Some(since) = self.discipline.dequeue_at_hand(out) else {
+        let since = self.discipline.dequeue_at_hand(out);
+        if since.is_none() {
             return None;
-        };
+        }
         book_sent(&mut self.row, out);
-        Some(since)
+        since
     }
 }
 
