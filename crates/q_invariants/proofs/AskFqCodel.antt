@@ -29,6 +29,7 @@ use Rattle.q_invariants.proofs.Sums.{in_children, weigh-waiting, weigh-holds, be
 use Rattle.q_invariants.proofs.FlowNotes.{take-weighs, nothing-dropped, marks-weigh, lost-marks, quiet-marks, flow-silent}
 use Rattle.std.specs.Option.{option_map_or}
 use Rattle.q_model.specs.Since.{since_of}
+use Rattle.q_invariants.proofs.Stamps.{stamped-drop}
 
 -- flows that are changed one by one
 pub All-adjust : {F : Type 0} (P : F → Type 0) (r : F → F) → ((f : F) → P f → P (r f)) → (n : ℕ) (fs : List F) → All P fs → All P (adjust r n fs)
@@ -68,7 +69,7 @@ after-lawful now s low f h =
       settings = subst IsCodelParams (sym kept.settings) h.settings;
       state = kept.state;
       agrees = agrees-by s f.codel (flow_after now f).codel kept.settings h.agrees;
-      stamps = All-drop (λ (x : Stamped). x.at ≤ now) (suc (drops f.codel now f.queue)) f.queue h.stamps;
+      stamps = stamped-drop now (suc (drops f.codel now f.queue)) f.queue h.stamps;
     }
 
 sent-lawful : (now : ℕ) (s : FqState) → now ≤ 2 ^ 62 → (es fs : List Entry) → All (IsLawfulFlow now s.settings) s.flows → All (IsLawfulFlow now s.settings) (with_sent now s es fs).flows

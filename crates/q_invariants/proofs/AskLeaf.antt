@@ -17,6 +17,7 @@ use Rattle.q_invariants.proofs.Weights.{weigh, weigh-nil, weigh-cons, weigh-one,
 use Rattle.q_invariants.proofs.Lengths.{HasLength, lengths-among}
 use Rattle.q_invariants.proofs.Answer.{IsAnswer, AreAnswers, IsAsked, waiting, holds, is-shown}
 use Rattle.q_invariants.proofs.Sums.{weigh-waiting, weigh-holds, befores-lawful, befores-told}
+use Rattle.q_invariants.proofs.Stamps.{stamped-drop}
 
 -- a node that shows what it has at hand, and asks no child
 asked_at_hand : (mtu now : ℕ) (own after : Own) (below : List Asked) (packet : Option Descriptor) → after.handle ≡ own.handle → AreAnswers mtu now below
@@ -87,7 +88,7 @@ fifo-answers mtu now handle filters since limit queue below h all =
       notes = [];
       packet = slice_get (packets_of queue) 0;
     }) (asked_at_hand mtu now own after below (slice_get (packets_of queue) 0) refl all h (record {
-      discipline = record { stamps = All-drop (λ (s : Stamped). s.at ≤ now) 1 queue h.discipline.stamps; none = h.discipline.none };
+      discipline = record { stamps = stamped-drop now 1 queue h.discipline.stamps; none = h.discipline.none };
       lengths = lengths-among mtu (waiting own (befores below)) (waiting after (befores below)) (λ w. omega (arith, shorter w)) h.lengths;
       held = λ none. absurd (false≢true none);
       filters = h.filters;

@@ -86,6 +86,7 @@ pub mod SizeChecks
 pub mod SizedChanges
 pub mod SizedPlans
 pub mod Sound
+pub mod Stamps
 pub mod StepNodes
 pub mod Sums
 pub mod TakeAfterPeek

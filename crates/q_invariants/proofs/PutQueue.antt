@@ -31,6 +31,7 @@ use Rattle.q_invariants.proofs.FlowNotes.{stamped_weight, weigh-packets}
 use Rattle.q_invariants.proofs.AskFqCodel.{All-adjust}
 use Rattle.q_invariants.proofs.Quiet.{quiets, waiting-quiet, beneath-quiets, quiets-told, quiets-lawful}
 use Rattle.q_invariants.proofs.PutHere.{IsPut, put-parts}
+use Rattle.q_invariants.proofs.Stamps.{stamped-push, stamped-drop}
 
 -- the lengths of what was there, and of the packet that is put
 pub longer-lengths : (mtu : ℕ) (p : Descriptor) (before after : List Descriptor) → IsWithin 1 mtu p.len → ((w : Descriptor → ℕ) → weigh w after ≤ w (plain p) + weigh w before) → All (HasLength mtu) before → All (HasLength mtu) after
@@ -54,7 +55,7 @@ module _ (mtu now : ℕ) (p : Descriptor) (fits : IsWithin 1 mtu p.len) (handle 
         handle = refl;
         lawful = record {
           discipline = record {
-            stamps = All-push (λ (x : Stamped). x.at ≤ now) queue stamped h.0.discipline.stamps (omega arith);
+            stamps = stamped-push stamped queue h.0.discipline.stamps;
             none = beneath-quiets s ∙ h.0.discipline.none;
           };
           lengths = longer-lengths mtu p (waiting s.own (quiets s)) (waiting own (quiets s)) fits (λ w. omega (arith, more w)) (subst (All (HasLength mtu)) (sym (waiting-quiet s)) h.0.lengths);
@@ -95,11 +96,11 @@ joined-lawful now settings p f h = record {
   settings = h.settings;
   state = h.state;
   agrees = h.agrees;
-  stamps = All-push (λ (x : Stamped). x.at ≤ now) f.queue (record { packet = p; at = now }) h.stamps (omega arith);
+  stamps = stamped-push (record { packet = p; at = now }) f.queue h.stamps;
 }
 
 shortened-lawful : (now : ℕ) (settings : FqSettings) (n : ℕ) (f : Flow) → IsLawfulFlow now settings f → IsLawfulFlow now settings (shortened n f)
-shortened-lawful now settings n f h = record { settings = h.settings; state = h.state; agrees = h.agrees; stamps = All-drop (λ (x : Stamped). x.at ≤ now) n f.queue h.stamps }
+shortened-lawful now settings n f h = record { settings = h.settings; state = h.state; agrees = h.agrees; stamps = stamped-drop now n f.queue h.stamps }
 
 put-flows : (now : ℕ) (settings : FqSettings) (s : FqState) (p : Descriptor) → All (IsLawfulFlow now settings) s.flows → All (IsLawfulFlow now settings) (after_put s p now).flows
 unfolding cut_back appended
