@@ -60,6 +60,7 @@ pub mod Lengths
 pub mod MadeSizes
 pub mod Members
 pub mod NoteSums
+pub mod Oldest
 pub mod PopGives
 pub mod Pops
 pub mod PutBeneath

@@ -37,6 +37,7 @@ pub mod MostPacketsPuts
 pub mod MostPacketsQueues
 pub mod MostPacketsTrees
 pub mod NodesLemmas
+pub mod OldestLemmas
 pub mod OtherSubtrees
 pub mod OutlookLemmas
 pub mod Peeks

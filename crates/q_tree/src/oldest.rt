@@ -1,6 +1,6 @@
 ghost use Rattle.std.specs.Prelude.{◌≡◌, map};
 ghost use Rattle.q_model.specs.Oldest.{oldest, oldest_at};
-ghost use Rattle.q_tree.specs.Oldest.{oldest_of, oldest_within};
+ghost use Rattle.q_tree.specs.Oldest.{AreAllInOrder, IsInOrder, IsInOrderIn, oldest_of, oldest_within};
 
 use crate::disciplines::fifo::first_arrival;
 use crate::node::{Discipline, Node};
@@ -31,6 +31,7 @@ impl Node {
     /// When the packet arrived that has been queued longest at the node or below it.
     #[cycle(oldest)]
     pub(crate) fn oldest(&self) -> Option<Moment>
+        requires { IsInOrder self.now }
         ensures { result ≡ oldest self.now }
     {
         sooner(self.held.arrival(), self.discipline.oldest())
@@ -41,6 +42,7 @@ impl Discipline {
     // The same of its own queues and of its children. The first packet of a queue arrived first.
     #[cycle(oldest)]
     fn oldest(&self) -> Option<Moment>
+        requires { IsInOrderIn self.now }
         ensures { result ≡ oldest_within self.now }
     {
         match self {
@@ -56,6 +58,7 @@ impl Discipline {
 // The same of nodes side by side.
 #[cycle(oldest)]
 fn oldest_of(nodes: &[Node]) -> Option<Moment>
+    requires { AreAllInOrder nodes.now }
     ensures { result ≡ oldest_of (map oldest nodes.now) }
 {
     let mut first = None;
