@@ -37,4 +37,4 @@ oldest n = from_below oldest_own n
 abbrev pub oldest_at : {M : Type 0} → Place → TreeState M → Option ℕ
 oldest_at place.Top s = oldest s.root
 oldest_at place.Root s = oldest s.root
-oldest_at (place.Class class) s = option_and_then (λ (n : Node M). oldest n) (option_and_then (λ path. node_at path s.root) (class_path class s.root))
+oldest_at (place.Class class) s = option_and_then (λ n. oldest n) (option_and_then (λ path. node_at path s.root) (class_path class s.root))

@@ -12,11 +12,15 @@ abbrev pub since_of : Option Descriptor → ℕ → ℕ
 since_of None at = 0
 since_of (Some p) at = at
 
+-- the first of these times that is there
+abbrev pub first_since : List (Option ℕ) → Option ℕ
+first_since times =
+    option_and_then (λ (o : Option ℕ). o) (slice_get times (position_or_len (λ (o : Option ℕ). is_some o) times))
+
 -- where this is so of each child
 abbrev pub since_in : List (Option ℕ) → Discipline → Option ℕ
 since_in below (Fifo limit queue) = option_map (λ (s : Stamped). s.at) (slice_get queue 0)
-since_in below (Prio priomap) =
-    option_and_then (λ (o : Option ℕ). o) (slice_get below (position_or_len (λ (o : Option ℕ). is_some o) below))
+since_in below (Prio priomap) = first_since below
 since_in below (Tbf bucket limit) = None
 since_in below (Drr s) = None
 since_in below (FqCodel s) = None

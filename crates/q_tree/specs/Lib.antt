@@ -22,6 +22,7 @@ pub mod Kept
 pub mod Laws
 pub mod Making
 pub mod Matching
+pub mod Meeting
 pub mod MostPackets
 pub mod NodeCode
 pub mod NodeFalls

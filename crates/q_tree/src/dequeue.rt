@@ -1,4 +1,4 @@
-ghost use Rattle.std.specs.Prelude.{◌≡◌, ◌≤◌, ◌+◌, ◌++◌, List, None, Option, Some, is_some, length, map, true, unwrap_or, ℕ};
+ghost use Rattle.std.specs.Prelude.{◌≡◌, ◌≤◌, ◌+◌, ◌++◌, List, None, Option, Some, is_some, length, true, unwrap_or, ℕ};
 ghost use Rattle.std.specs.Option.{option_map_or};
 ghost use Rattle.q_packet.specs.Stored.{stored_of};
 ghost use Rattle.q_model.specs.Ask.{ask};
@@ -12,13 +12,11 @@ ghost use Rattle.q_model.specs.declared.filter.Filter.{Filter};
 ghost use Rattle.q_tree.specs.AskSteps.{CanAsk, CanAskIn, IsToldOf, answer_of, no_signals, packets_within, signals_of};
 ghost use Rattle.q_tree.specs.Kept.{kept};
 ghost use Rattle.q_tree.specs.PopSteps.{HasHead, IsPoppedIn, popping_of};
-ghost use Rattle.q_model.specs.Since.{at_hand_since, since_in};
-ghost use Rattle.q_tree.specs.Seen.{children_seen, discipline_seen};
 ghost use Rattle.q_tree.specs.SendSteps.{IsDequeued, IsSentIn};
 
 use crate::booking::{book_sent, book_shown};
 use crate::disciplines::drr::dequeue_class;
-use crate::disciplines::fifo::{dequeue_first, dequeue_head};
+use crate::disciplines::fifo::dequeue_head;
 use crate::disciplines::fq_codel::dequeue_flow;
 use crate::disciplines::prio::{dequeue_bands, ready_band};
 use crate::disciplines::tbf::dequeue_child;
@@ -267,31 +265,28 @@ impl Node {
         shown
     }
 
-    /// Dequeues the packet that the node has at hand into `out`, counts it as sent here, and in the bands that it comes from, and returns
-    /// when it arrived. No node is asked: after a peek it is the packet that was shown. `None` where there was none: nothing changes then.
+    /// Dequeues the packet that the node has at hand into `out`, counts it as sent here, and in the bands that it comes from, and says
+    /// whether there was one. No node is asked: after a peek it is the packet that was shown. Where there was none, nothing changes.
     #[cycle(dequeue_at_hand)]
     #[inline(always)]
-    pub(crate) fn dequeue_at_hand(&mut self, out: &mut KeptPacket) -> Option<Moment>
-        ensures given { is_some result ≡ is_some (pop self.old).shown }
-        ensures since { result ≡ at_hand_since self.old }
+    pub(crate) fn dequeue_at_hand(&mut self, out: &mut KeptPacket) -> bool
+        ensures given { result ≡ is_some (pop self.old).shown }
         ensures packet { out.new ≡ unwrap_or (pop self.old).shown out.old }
         ensures after { self.new ≡ booked kept self.old (pop self.old).after }
         ensures arrived { self.new.memory.counts.arrived ≡ self.old.memory.counts.arrived }
     {
         self.row.fit();
         if let Some(packet) = self.held.packet() {
-            let since = self.held.arrival();
             self.held.clear();
             book_sent(&mut self.row, &packet);
             *out = packet;
-            return since;
+            return true;
         }
-        let since = self.discipline.dequeue_at_hand(out);
-        if since.is_none() {
-            return None;
+        if !self.discipline.dequeue_at_hand(out) {
+            return false;
         }
         book_sent(&mut self.row, out);
-        since
+        true
     }
 }
 
@@ -315,35 +310,30 @@ impl Discipline {
         ensures signals { signals.new ≡ signals_of result }
         ensures kept { S.keeps sink.old sink.new }
     {
-        // Nobody holds the packet, so that nobody asks when it arrived.
-        let mut since = Moment::zero();
         match self {
             Discipline::Fifo(fifo) => return dequeue_head(fifo, out),
             Discipline::Prio { bands, .. } => return dequeue_bands(bands, now, out, signals, sink),
             Discipline::Tbf { bucket, child, .. } => {
-                return dequeue_child(bucket, child, out, &mut since, now, signals, sink);
+                return dequeue_child(bucket, child, out, now, signals, sink);
             }
             Discipline::Drr { active, classes } => {
-                return dequeue_class(active, classes, out, &mut since, now, signals, sink);
+                return dequeue_class(active, classes, out, now, signals, sink);
             }
-            Discipline::FqCodel(queue) => {
-                return dequeue_flow(queue, out, &mut since, now, signals, sink);
-            }
+            Discipline::FqCodel(queue) => return dequeue_flow(queue, out, now, signals, sink),
         }
     }
 
     // Dequeues a fifo's head, or the packet of a prio's first band that has one.
     #[cycle(dequeue_at_hand)]
     #[inline(always)]
-    fn dequeue_at_hand(&mut self, out: &mut KeptPacket) -> Option<Moment>
-        ensures given { is_some result ≡ is_some (popping_of self.old).shown }
-        ensures since { result ≡ since_in (map at_hand_since (children_seen self.old)) (discipline_seen self.old) }
+    fn dequeue_at_hand(&mut self, out: &mut KeptPacket) -> bool
+        ensures given { result ≡ is_some (popping_of self.old).shown }
         ensures packet { out.new ≡ unwrap_or (popping_of self.old).shown out.old }
         ensures after { IsPoppedIn self.old self.new }
     {
         // A fifo is met with no call, as where a packet arrives.
         match self {
-            Discipline::Fifo(fifo) => return dequeue_first(fifo, out),
+            Discipline::Fifo(fifo) => return dequeue_head(fifo, out).has_packet(),
             _ => return self.dequeue_at_hand_further(out),
         }
     }
@@ -351,23 +341,22 @@ impl Discipline {
     // The same, by a call.
     #[cycle(dequeue_at_hand)]
     #[inline(never)]
-    fn dequeue_at_hand_further(&mut self, out: &mut KeptPacket) -> Option<Moment>
-        ensures given { is_some result ≡ is_some (popping_of self.old).shown }
-        ensures since { result ≡ since_in (map at_hand_since (children_seen self.old)) (discipline_seen self.old) }
+    fn dequeue_at_hand_further(&mut self, out: &mut KeptPacket) -> bool
+        ensures given { result ≡ is_some (popping_of self.old).shown }
         ensures packet { out.new ≡ unwrap_or (popping_of self.old).shown out.old }
         ensures after { IsPoppedIn self.old self.new }
     {
         match self {
-            Discipline::Fifo(fifo) => return dequeue_first(fifo, out),
+            Discipline::Fifo(fifo) => return dequeue_head(fifo, out).has_packet(),
             Discipline::Prio { bands, .. } => {
                 let Some(place) = ready_band(bands) else {
-                    return None;
+                    return false;
                 };
                 return bands[place].dequeue_at_hand(out);
             }
-            Discipline::Tbf { .. } => return None,
-            Discipline::Drr { .. } => return None,
-            Discipline::FqCodel(_) => return None,
+            Discipline::Tbf { .. } => return false,
+            Discipline::Drr { .. } => return false,
+            Discipline::FqCodel(_) => return false,
         }
     }
 }

@@ -3,6 +3,7 @@ ghost use Rattle.q_model.specs.Ask.{ask};
 ghost use Rattle.q_model.specs.Beneath.{beneath};
 ghost use Rattle.q_model.specs.Node.{shape};
 ghost use Rattle.q_model.specs.Pop.{pop};
+ghost use Rattle.q_model.specs.Since.{at_hand_since};
 ghost use Rattle.q_model.specs.declared.filter.Filter.{Filter};
 ghost use Rattle.q_tree.specs.AskSteps.{CanAsk, CanAskIn, IsAskedIn, IsPeeked, IsToldOf, answer_of, held_in, no_signals, packets_within, signals_of};
 ghost use Rattle.q_tree.specs.Holding.{held_with};
@@ -10,9 +11,9 @@ ghost use Rattle.q_tree.specs.Seen.{discipline_seen};
 
 use crate::booking::book_shown;
 use crate::disciplines::drr::peek_classes;
-use crate::disciplines::fifo::first_packet;
+use crate::disciplines::fifo::{first_arrival, first_packet};
 use crate::disciplines::fq_codel::peek_flow;
-use crate::disciplines::prio::{first_at_hand, peek_bands, ready_band};
+use crate::disciplines::prio::{first_at_hand, first_since, peek_bands, ready_band};
 use crate::disciplines::tbf::peek_child;
 use crate::held::Held;
 use crate::node::{Discipline, Node};
@@ -82,6 +83,23 @@ impl Node {
         match &self.discipline {
             Discipline::Fifo(fifo) => return first_packet(fifo),
             Discipline::Prio { bands, .. } => return first_at_hand(bands),
+            Discipline::Tbf { .. } | Discipline::Drr { .. } | Discipline::FqCodel(_) => {
+                return None;
+            }
+        }
+    }
+
+    /// When the packet arrived that the node has at hand. It is asked for only where another node is to hold that packet.
+    #[cycle(at_hand_since)]
+    pub(crate) fn at_hand_since(&self) -> Option<Moment>
+        ensures { result ≡ at_hand_since self.now }
+    {
+        if self.held.is_some() {
+            return self.held.arrival();
+        }
+        match &self.discipline {
+            Discipline::Fifo(fifo) => return first_arrival(fifo),
+            Discipline::Prio { bands, .. } => return first_since(bands),
             Discipline::Tbf { .. } | Discipline::Drr { .. } | Discipline::FqCodel(_) => {
                 return None;
             }

@@ -1,5 +1,5 @@
 //! drr: how one chooses a class, dequeues, shows its packet, is ready, and changes (tc-drr(8)).
-ghost use Rattle.std.specs.Prelude.{◌≡◌, ◌<◌, ◌≤◌, None, OnErr, OnOk, Some, false, length, map, option_and_then, slice_get, true, unwrap_or};
+ghost use Rattle.std.specs.Prelude.{◌≡◌, ◌<◌, ◌≤◌, IfNone, IfSome, None, OnErr, OnOk, Some, false, length, map, option_and_then, slice_get, true, unwrap_or};
 ghost use Rattle.q_drr.specs.Schedule.{place_of};
 ghost use Rattle.q_model.specs.Ask.{ask, ask_drr};
 ghost use Rattle.q_model.specs.Beneath.{totals_in};
@@ -7,12 +7,12 @@ ghost use Rattle.q_model.specs.Filters.{named_class};
 ghost use Rattle.q_model.specs.Node as spec;
 ghost use Rattle.q_model.specs.Node.{Own, shape};
 ghost use Rattle.q_model.specs.Pop.{pop};
-ghost use Rattle.q_model.specs.Since.{at_hand_since, since_of};
 ghost use Rattle.q_model.specs.Work.{settled_class};
 ghost use Rattle.q_tree.specs.AskSteps.{AreAsked, CanAskOnce, CanServe, IsAskedOnce, IsGivenBy, IsTold, IsToldOf, answers, no_signals, signals_of};
 ghost use Rattle.q_tree.specs.Changing.{drr_same};
 ghost use Rattle.q_tree.specs.Holding.{held_with};
 ghost use Rattle.q_tree.specs.Kept.{Kept};
+ghost use Rattle.q_tree.specs.Meeting.{AreUnserved, IsMet};
 ghost use Rattle.q_tree.specs.Purging.{purged};
 ghost use Rattle.q_tree.specs.PutSteps.{packets_beneath};
 ghost use Rattle.q_tree.specs.ReadyAt.{of_class, outlook, paid};
@@ -75,13 +75,11 @@ pub(crate) fn settle(active: &mut Active, place: usize, is_empty: bool)
 }
 
 /// Asks the classes of the active list in turn, and grants to each whose packet is longer than its deficit, until one is met
-/// that can send its packet, which it writes to `out`, and when it arrived to `since`, or that shows none (tc-drr(8)).
-#[cycle(peek)]
+/// that can send its packet, which it writes to `out`, or that shows none (tc-drr(8)).
 pub(crate) fn dequeue_class<S: Sink>(
     active: &mut Active,
     classes: &mut [Node],
     out: &mut KeptPacket,
-    since: &mut Moment,
     now: Moment,
     signals: &mut Signals,
     sink: &mut S,
@@ -92,9 +90,36 @@ pub(crate) fn dequeue_class<S: Sink>(
     ensures active { (own : Own) → spec.Drr active.new ≡ (ask_drr own (answers now classes.old) active.old).peeked.own.discipline }
     ensures after { (own : Own) → AreAsked (ask_drr own (answers now classes.old) active.old) classes.old classes.new result }
     ensures packet { out.new ≡ unwrap_or result.packet out.old }
-    ensures since { (own : Own) → since_of result.packet since.new ≡ (ask_drr own (answers now classes.old) active.old).peeked.own.since }
     ensures told { (own : Own) → IsToldOf (ask_drr own (answers now classes.old) active.old).rises (S.losses sink.old) (S.losses sink.new) (S.room sink.old) (S.room sink.new) }
     ensures signals { signals.new ≡ signals_of result }
+    ensures kept { S.keeps sink.old sink.new }
+{
+    let (shown, met) = meet_class(active, classes, now, signals, sink);
+    if let Some(place) = met {
+        // What is handed out is what was shown.
+        dequeue_class_at_hand(active, classes, place, out);
+    }
+    shown
+}
+
+// The same up to where the packet is handed out: the place of the class that can send it, which still has it at hand, and what is
+// shown; no place where none is.
+#[cycle(peek)]
+#[inline(always)]
+fn meet_class<S: Sink>(
+    active: &mut Active,
+    classes: &mut [Node],
+    now: Moment,
+    signals: &mut Signals,
+    sink: &mut S,
+) -> (Shown, Option<usize>)
+    requires ready { CanServe now active.old classes.old }
+    requires sink { length (packets_beneath classes.old) ≤ S.room sink.old }
+    requires clean { signals.old ≡ no_signals }
+    ensures met { IfSome result.1 (λ place. IsMet now place active.old active.new classes.old classes.new result.0) }
+    ensures nothing { IfNone result.1 (AreUnserved now active.old active.new classes.old classes.new result.0) }
+    ensures told { (own : Own) → IsToldOf (ask_drr own (answers now classes.old) active.old).rises (S.losses sink.old) (S.losses sink.new) (S.room sink.old) (S.room sink.new) }
+    ensures signals { signals.new ≡ signals_of result.0 }
     ensures kept { S.keeps sink.old sink.new }
 {
     let mut shown = Shown::at_hand(&None);
@@ -104,37 +129,31 @@ pub(crate) fn dequeue_class<S: Sink>(
         shown = peek_class(&mut classes[place], unasked > 0, shown, now, signals, sink);
         unasked = unasked.saturating_sub(1);
         let Some(len) = shown.packet_len() else {
-            return shown;
+            return (shown, None);
         };
         match active.turn(len) {
-            Turn::Send => {
-                // What is handed out is what was shown.
-                *since = dequeue_class_at_hand(active, classes, place, out);
-                return shown;
-            }
+            Turn::Send => return (shown, Some(place)),
             Turn::Granted => {}
         }
     }
     // No class was active, so nobody was asked.
     *signals = NO_SIGNALS;
-    Shown::at_hand(&None)
+    (Shown::at_hand(&None), None)
 }
 
-// The class in this place hands out its packet, and becomes inactive where that was its last. Returns when the packet arrived.
+// The class in this place hands out its packet, and becomes inactive where that was its last.
 fn dequeue_class_at_hand(
     active: &mut Active,
     classes: &mut [Node],
     place: usize,
     out: &mut KeptPacket,
-) -> Moment
+)
     requires { place < length classes.old }
     ensures packet { (c : spec.Node Kept) → slice_get classes.old place ≡ Some c → out.new ≡ unwrap_or (pop c).shown out.old }
-    ensures since { (c : spec.Node Kept) → slice_get classes.old place ≡ Some c → result ≡ unwrap_or (at_hand_since c) 0 }
     ensures given { (c : spec.Node Kept) → slice_get classes.old place ≡ Some c → IsGivenBy place c active.old active.new classes.old classes.new }
 {
-    let since = classes[place].dequeue_at_hand(out);
+    classes[place].dequeue_at_hand(out);
     settle(active, place, classes[place].is_empty());
-    since.unwrap_or(Moment::zero())
 }
 
 /// Dequeues the packet that a drr sends, as [`dequeue_class`] does, to hold it (tc-drr(8)).
@@ -159,16 +178,13 @@ pub(crate) fn peek_classes<S: Sink>(
     ensures signals { signals.new ≡ signals_of result }
     ensures kept { S.keeps sink.old sink.new }
 {
-    let shown = dequeue_class(
-        active,
-        classes,
-        &mut held.place,
-        &mut held.since,
-        now,
-        signals,
-        sink,
-    );
-    held.holds = shown.has_packet();
+    let (shown, met) = meet_class(active, classes, now, signals, sink);
+    if let Some(place) = met {
+        // When it arrived is known as long as the class has it.
+        held.since = classes[place].at_hand_since().unwrap_or(Moment::zero());
+        dequeue_class_at_hand(active, classes, place, &mut held.place);
+        held.holds = true;
+    }
     shown
 }
 

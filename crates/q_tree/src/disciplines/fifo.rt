@@ -1,6 +1,5 @@
 //! pfifo and bfifo: how one is made, enqueues, dequeues, shows its packet, is ready, and changes (tc-pfifo(8), tc-bfifo(8)).
 ghost use Rattle.std.specs.Prelude.{◌≡◌, ◌<◌, ◌≤◌, ◌*◌, [], IfOk, IsOk, List, OnErr, drop, length, option_map, slice_get, true, unwrap_or};
-ghost use Rattle.std.specs.Option.{option_map_or};
 ghost use Rattle.q_codel.specs.FifoState.{takes};
 ghost use Rattle.q_fqcodel.specs.Oldest.{first_arrival};
 ghost use Rattle.q_model.specs.Beneath.{packets_of};
@@ -116,18 +115,6 @@ pub(crate) fn dequeue_head(fifo: &mut Fifo, out: &mut KeptPacket) -> Shown
     Shown::quiet(out, len)
 }
 
-/// The same, and returns when it arrived; `None` where there is none.
-#[inline(always)]
-pub(crate) fn dequeue_first(fifo: &mut Fifo, out: &mut KeptPacket) -> Option<Moment>
-    ensures since { result ≡ first_arrival fifo.old.packets }
-    ensures packet { out.new ≡ option_map_or (λ (s : Stamped). s.packet) (slice_get fifo.old.packets 0) out.old }
-    ensures rest { fifo.new ≡ record fifo.old { packets = drop 1 fifo.old.packets } }
-{
-    let since = first_arrival(fifo);
-    let _ = fifo.take_into(out);
-    since
-}
-
 /// The packet at the head of a fifo.
 pub(crate) fn first_packet(fifo: &Fifo) -> Option<KeptPacket>
     ensures { result ≡ slice_get (packets_of fifo.now.packets) 0 }
@@ -136,7 +123,6 @@ pub(crate) fn first_packet(fifo: &Fifo) -> Option<KeptPacket>
 }
 
 /// When the packet at the head of a fifo arrived.
-#[inline(always)]
 pub(crate) fn first_arrival(fifo: &Fifo) -> Option<Moment>
     ensures { result ≡ first_arrival fifo.now.packets }
 {

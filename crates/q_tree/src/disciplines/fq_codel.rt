@@ -16,7 +16,6 @@ ghost use Rattle.q_model.specs.Tally.{no_totals, with_packet};
 ghost use Rattle.q_tree.specs.ArriveSteps.{IsPutInFlow, nothing_lost};
 ghost use Rattle.q_tree.specs.AskSteps.{IsShown, IsTold, no_signals, signals_of};
 ghost use Rattle.q_tree.specs.Changing.{fq_codel_answer};
-ghost use Rattle.q_model.specs.Since.{since_of};
 ghost use Rattle.q_tree.specs.Holding.{held_with};
 ghost use Rattle.q_tree.specs.PutSteps.{CanFlow};
 ghost use Rattle.q_tree.specs.ReadyAt.{of_flows};
@@ -142,12 +141,10 @@ fn put_in_flow<S: Sink>(
     }
 }
 
-/// Writes the packet that the flow in front sends (RFC 8290, section 4.2) to `out`, and when it arrived to `since`, and counts what CoDel
-/// drops and marks.
+/// Writes the packet that the flow in front sends (RFC 8290, section 4.2) to `out`, and counts what CoDel drops and marks.
 pub(crate) fn dequeue_flow<S: Sink>(
     queue: &mut FqCodel,
     out: &mut KeptPacket,
-    since: &mut Moment,
     now: Moment,
     signals: &mut Signals,
     sink: &mut S,
@@ -157,7 +154,6 @@ pub(crate) fn dequeue_flow<S: Sink>(
     ensures after { queue.new.state ≡ after_sending now (selected queue.old.state) }
     ensures places { queue.new.places ≡ queue.old.places }
     ensures shown { (own : Own) (below : List Asked) → IsShown (ask_fq_codel now own below queue.old.state) result }
-    ensures since { since_of result.packet since.new ≡ option_map_or (λ (s : Stamped). s.at) (head_sent now (selected queue.old.state)) 0 }
     ensures packet { out.new ≡ unwrap_or result.packet out.old }
     ensures told { IsTold (losses_of Cause.CoDel (dropped_from now (selected queue.old.state))) (S.losses sink.old) (S.losses sink.new) (S.room sink.old) (S.room sink.new) }
     ensures signals { signals.new ≡ signals_of result }
@@ -166,15 +162,16 @@ pub(crate) fn dequeue_flow<S: Sink>(
     match queue.pass_into(now, out) {
         // CoDel drops none of an empty fq_codel.
         Ok(None) => return Shown::at_hand(&None),
-        Ok(Some(front)) => {
-            *since = front.at;
-            return Shown::quiet(out, front.len);
+        Ok(Some(front)) => return Shown::quiet(out, front.len),
+        Err(_) => {
+            // Nobody holds the packet, so that nobody asks when it arrived.
+            let mut since = Moment::zero();
+            return dequeue_late(queue, out, &mut since, now, signals, sink);
         }
-        Err(_) => return dequeue_late(queue, out, since, now, signals, sink),
     }
 }
 
-// The same where CoDel found the packet in front late. A call by itself, so that the usual path counts nothing and saves no registers.
+// The same where CoDel found the packet in front late; when the packet arrived goes to `since`. A call by itself, so that the usual path counts nothing and saves no registers.
 #[cold]
 #[inline(never)]
 fn dequeue_late<S: Sink>(
@@ -266,15 +263,16 @@ pub(crate) fn peek_flow<S: Sink>(
     ensures signals { signals.new ≡ signals_of result }
     ensures kept { S.keeps sink.old sink.new }
 {
-    let shown = dequeue_flow(
-        queue,
-        &mut held.place,
-        &mut held.since,
-        now,
-        signals,
-        sink,
-    );
-    held.holds = shown.has_packet();
+    let place = &mut held.place;
+    let shown = match queue.pass_into(now, place) {
+        Ok(None) => return Shown::at_hand(&None),
+        Ok(Some(front)) => {
+            held.since = front.at;
+            Shown::quiet(place, front.len)
+        }
+        Err(_) => dequeue_late(queue, place, &mut held.since, now, signals, sink),
+    };
+    held.holds = true;
     shown
 }
 

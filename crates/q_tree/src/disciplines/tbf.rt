@@ -7,7 +7,6 @@ ghost use Rattle.q_model.specs.Make.{limit_bytes};
 ghost use Rattle.q_model.specs.Node.{Own, Tbf, shape};
 ghost use Rattle.q_tree.specs.AskSteps.{AreAsked, CanAsk, IsToldOf, answers, no_signals, signals_of};
 ghost use Rattle.q_tree.specs.Changing.{tbf_answer};
-ghost use Rattle.q_model.specs.Since.{since_of};
 ghost use Rattle.q_tree.specs.Holding.{held_with};
 ghost use Rattle.q_tree.specs.Making.{IsNewTbf};
 ghost use Rattle.q_tree.specs.ReadyAt.{covers_at, shaped, shaped_after};
@@ -57,14 +56,11 @@ pub(crate) fn limit_bytes(rate: Rate, burst: Burst, limit: TbfLimit) -> u64
 /// Units of a bucket's level in a byte: a nanosecond brings as many units as the rate has bits a second.
 const UNITS_IN_BYTE: u128 = 8_000_000_000;
 
-/// Asks the child of a tbf, and writes the packet that it shows to `out` where the bucket allows it, and when it arrived to `since`
-/// (tc-tbf(8)).
-#[cycle(peek)]
+/// Asks the child of a tbf, and writes the packet that it shows to `out` where the bucket allows it (tc-tbf(8)).
 pub(crate) fn dequeue_child<S: Sink>(
     bucket: &mut Bucket,
     child: &mut Node,
     out: &mut KeptPacket,
-    since: &mut Moment,
     now: Moment,
     signals: &mut Signals,
     sink: &mut S,
@@ -77,7 +73,6 @@ pub(crate) fn dequeue_child<S: Sink>(
     ensures after { (own : Own) (limit : ℕ) → AreAsked (ask_tbf now own (answers now (child.old ∷ [])) bucket.old limit) (child.old ∷ []) (child.new ∷ []) result }
     ensures told { (own : Own) (limit : ℕ) → IsToldOf (ask_tbf now own (answers now (child.old ∷ [])) bucket.old limit).rises (S.losses sink.old) (S.losses sink.new) (S.room sink.old) (S.room sink.new) }
     ensures packet { out.new ≡ unwrap_or result.packet out.old }
-    ensures since { (own : Own) (limit : ℕ) → since_of result.packet since.new ≡ (ask_tbf now own (answers now (child.old ∷ [])) bucket.old limit).peeked.own.since }
     ensures signals { signals.new ≡ signals_of result }
     ensures kept { S.keeps sink.old sink.new }
 {
@@ -89,7 +84,7 @@ pub(crate) fn dequeue_child<S: Sink>(
         return shown.showing(&None);
     }
     // What is handed out is what was shown.
-    *since = child.dequeue_at_hand(out).unwrap_or(Moment::zero());
+    child.dequeue_at_hand(out);
     shown
 }
 
@@ -116,16 +111,17 @@ pub(crate) fn peek_child<S: Sink>(
     ensures signals { signals.new ≡ signals_of result }
     ensures kept { S.keeps sink.old sink.new }
 {
-    let shown = dequeue_child(
-        bucket,
-        child,
-        &mut held.place,
-        &mut held.since,
-        now,
-        signals,
-        sink,
-    );
-    held.holds = shown.has_packet();
+    let shown = child.peek(now, signals, sink);
+    let Some(len) = shown.packet_len() else {
+        return shown;
+    };
+    if !bucket.spend(now, len) {
+        return shown.showing(&None);
+    }
+    // When it arrived is known as long as the child has it.
+    held.since = child.at_hand_since().unwrap_or(Moment::zero());
+    child.dequeue_at_hand(&mut held.place);
+    held.holds = true;
     shown
 }
 

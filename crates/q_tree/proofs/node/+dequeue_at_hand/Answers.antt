@@ -1,5 +1,5 @@
 use Rattle.q_packet.specs.Descriptor.{Descriptor}
-use Rattle.std.proofs.Common.{List, ◌≡◌, ◌<◌, ◌∙◌, map, set, length, refl, sym, ap, subst, arith, Option, ap₂}
+use Rattle.std.proofs.Common.{List, ◌≡◌, ◌<◌, ◌∙◌, map, set, length, refl, sym, ap, subst, arith, Option}
 use Rattle.std.specs.Prelude.{is_some, unwrap_or}
 use Rattle.std.specs.Vec.{with_item}
 use Rattle.std.proofs.lemmas.List.{length-map}
@@ -17,9 +17,6 @@ use Rattle.q_tree.proofs.PopLemmas.{prio-gave, prio-children, prio-kept, none-po
 use Rattle.q_tree.proofs.RowsOf.{row-of, among}
 use Rattle.q_tree.proofs.SendLemmas.{given-some, given-none}
 use Rattle.q_tree.proofs.node.+dequeue_at_hand.Goals as goal
-use Rattle.q_packet.specs.declared.stamped.Stamped.{Stamped}
-use Rattle.q_model.specs.Since.{at_hand_since, since_in}
-use Rattle.q_tree.proofs.SinceLemmas.{held-since, since-alike, none-since, own-since, prio-since, prio-none-since}
 
 pub Discipline::dequeue_at_hand_further-returns-in_default-clause-after : goal.Discipline::dequeue_at_hand_further-returns-in_default-clause-after
 Discipline::dequeue_at_hand_further-returns-in_default-clause-after t c =
@@ -67,80 +64,53 @@ Discipline::dequeue_at_hand_further-returns-in-Drr-clause-after t c =
 
 pub Node::dequeue_at_hand-returns-in-Some-clause-after : goal.Node::dequeue_at_hand-returns-in-Some-clause-after
 Node::dequeue_at_hand-returns-in-Some-clause-after t c =
-    ap (λ (h : Option Stamped). seen (record c.self.inside { held = h; row = c.book_sent.new.row })) c.clear.ensures ∙ held-after c.self.inside c.in-Some.packet (sym c.packet.ensures ∙ c.in-Some.is) c.book_sent.new.row c.book_sent.ensures ∙ ap (λ n. booked kept n (pop n).after) c.self.view_is
+    ap (λ (h : Option Descriptor). seen (record c.self.inside { held = h; row = c.book_sent.new.row })) c.clear.ensures ∙ held-after c.self.inside c.in-Some.packet (sym c.packet.ensures ∙ c.in-Some.is) c.book_sent.new.row c.book_sent.ensures ∙ ap (λ n. booked kept n (pop n).after) c.self.view_is
 
 pub Node::dequeue_at_hand-returns-in-Some-clause-given : goal.Node::dequeue_at_hand-returns-in-Some-clause-given
 Node::dequeue_at_hand-returns-in-Some-clause-given t c =
-    ap is_some (c.arrival-since.ensures ∙ held-since c.self.inside c.in-Some.packet (sym c.packet.ensures ∙ c.in-Some.is)) ∙ since-alike (seen c.self.inside) ∙ ap (λ n. is_some (pop n).shown) c.self.view_is
+    sym (ap is_some (sym (ap (λ n. (pop n).shown) c.self.view_is) ∙ held-shown c.self.inside c.in-Some.packet (sym c.packet.ensures ∙ c.in-Some.is)))
 
 pub Node::dequeue_at_hand-returns-in-Some-clause-packet : goal.Node::dequeue_at_hand-returns-in-Some-clause-packet
 Node::dequeue_at_hand-returns-in-Some-clause-packet t c =
     sym (ap (λ o. unwrap_or o c.args.out.now) (sym (ap (λ n. (pop n).shown) c.self.view_is) ∙ held-shown c.self.inside c.in-Some.packet (sym c.packet.ensures ∙ c.in-Some.is)))
 
-pub Node::dequeue_at_hand-invariant_of-self-then-is_none : goal.Node::dequeue_at_hand-invariant_of-self-then-is_none
-Node::dequeue_at_hand-invariant_of-self-then-is_none t c =
-    (still-kept c.self.inside (sym c.packet.ensures ∙ c.in_default.is) c.dequeue_at_hand-since.new.self (popping_of c.self.inside.discipline).shown refl c.dequeue_at_hand-since.ensures.after c.self.invariant (given-none (popping_of c.self.inside.discipline).shown c.args.out.now c.dequeue_at_hand-since.new.out (sym c.dequeue_at_hand-since.ensures.given ∙ c.if-is_none.ensures) c.dequeue_at_hand-since.ensures.packet).0).stays
+pub Node::dequeue_at_hand-invariant_of-self-then-not-dequeue_at_hand : goal.Node::dequeue_at_hand-invariant_of-self-then-not-dequeue_at_hand
+Node::dequeue_at_hand-invariant_of-self-then-not-dequeue_at_hand t c =
+    (still-kept c.self.inside (sym c.packet.ensures ∙ c.in_default.is) c.dequeue_at_hand.new.self (popping_of c.self.inside.discipline).shown refl c.dequeue_at_hand.ensures.after c.self.invariant (given-none (popping_of c.self.inside.discipline).shown c.args.out.now c.dequeue_at_hand.new.out (sym c.dequeue_at_hand.ensures.given ∙ c.if-not-dequeue_at_hand.true) c.dequeue_at_hand.ensures.packet).0).stays
 
-pub Node::dequeue_at_hand-returns-then-is_none-clause-given : goal.Node::dequeue_at_hand-returns-then-is_none-clause-given
-Node::dequeue_at_hand-returns-then-is_none-clause-given t c =
-    sym (ap is_some (sym ((still-kept c.self.inside (sym c.packet.ensures ∙ c.in_default.is) c.dequeue_at_hand-since.new.self (popping_of c.self.inside.discipline).shown refl c.dequeue_at_hand-since.ensures.after c.self.invariant (given-none (popping_of c.self.inside.discipline).shown c.args.out.now c.dequeue_at_hand-since.new.out (sym c.dequeue_at_hand-since.ensures.given ∙ c.if-is_none.ensures) c.dequeue_at_hand-since.ensures.packet).0).shown ∙ ap (λ n. (pop n).shown) c.self.view_is)))
+pub Node::dequeue_at_hand-returns-then-not-dequeue_at_hand-clause-given : goal.Node::dequeue_at_hand-returns-then-not-dequeue_at_hand-clause-given
+Node::dequeue_at_hand-returns-then-not-dequeue_at_hand-clause-given t c =
+    sym (ap is_some (sym ((still-kept c.self.inside (sym c.packet.ensures ∙ c.in_default.is) c.dequeue_at_hand.new.self (popping_of c.self.inside.discipline).shown refl c.dequeue_at_hand.ensures.after c.self.invariant (given-none (popping_of c.self.inside.discipline).shown c.args.out.now c.dequeue_at_hand.new.out (sym c.dequeue_at_hand.ensures.given ∙ c.if-not-dequeue_at_hand.true) c.dequeue_at_hand.ensures.packet).0).shown ∙ ap (λ n. (pop n).shown) c.self.view_is)))
 
-pub Node::dequeue_at_hand-returns-then-is_none-clause-packet : goal.Node::dequeue_at_hand-returns-then-is_none-clause-packet
-Node::dequeue_at_hand-returns-then-is_none-clause-packet t c =
-    (given-none (popping_of c.self.inside.discipline).shown c.args.out.now c.dequeue_at_hand-since.new.out (sym c.dequeue_at_hand-since.ensures.given ∙ c.if-is_none.ensures) c.dequeue_at_hand-since.ensures.packet).1 ∙ ap (λ o. unwrap_or o c.args.out.now) ((still-kept c.self.inside (sym c.packet.ensures ∙ c.in_default.is) c.dequeue_at_hand-since.new.self (popping_of c.self.inside.discipline).shown refl c.dequeue_at_hand-since.ensures.after c.self.invariant (given-none (popping_of c.self.inside.discipline).shown c.args.out.now c.dequeue_at_hand-since.new.out (sym c.dequeue_at_hand-since.ensures.given ∙ c.if-is_none.ensures) c.dequeue_at_hand-since.ensures.packet).0).shown ∙ ap (λ n. (pop n).shown) c.self.view_is)
+pub Node::dequeue_at_hand-returns-then-not-dequeue_at_hand-clause-packet : goal.Node::dequeue_at_hand-returns-then-not-dequeue_at_hand-clause-packet
+Node::dequeue_at_hand-returns-then-not-dequeue_at_hand-clause-packet t c =
+    (given-none (popping_of c.self.inside.discipline).shown c.args.out.now c.dequeue_at_hand.new.out (sym c.dequeue_at_hand.ensures.given ∙ c.if-not-dequeue_at_hand.true) c.dequeue_at_hand.ensures.packet).1 ∙ ap (λ o. unwrap_or o c.args.out.now) ((still-kept c.self.inside (sym c.packet.ensures ∙ c.in_default.is) c.dequeue_at_hand.new.self (popping_of c.self.inside.discipline).shown refl c.dequeue_at_hand.ensures.after c.self.invariant (given-none (popping_of c.self.inside.discipline).shown c.args.out.now c.dequeue_at_hand.new.out (sym c.dequeue_at_hand.ensures.given ∙ c.if-not-dequeue_at_hand.true) c.dequeue_at_hand.ensures.packet).0).shown ∙ ap (λ n. (pop n).shown) c.self.view_is)
 
-pub Node::dequeue_at_hand-returns-then-is_none-clause-after : goal.Node::dequeue_at_hand-returns-then-is_none-clause-after
-Node::dequeue_at_hand-returns-then-is_none-clause-after t c =
-    (still-kept c.self.inside (sym c.packet.ensures ∙ c.in_default.is) c.dequeue_at_hand-since.new.self (popping_of c.self.inside.discipline).shown refl c.dequeue_at_hand-since.ensures.after c.self.invariant (given-none (popping_of c.self.inside.discipline).shown c.args.out.now c.dequeue_at_hand-since.new.out (sym c.dequeue_at_hand-since.ensures.given ∙ c.if-is_none.ensures) c.dequeue_at_hand-since.ensures.packet).0).after ∙ ap (λ n. booked kept n (pop n).after) c.self.view_is
+pub Node::dequeue_at_hand-returns-then-not-dequeue_at_hand-clause-after : goal.Node::dequeue_at_hand-returns-then-not-dequeue_at_hand-clause-after
+Node::dequeue_at_hand-returns-then-not-dequeue_at_hand-clause-after t c =
+    (still-kept c.self.inside (sym c.packet.ensures ∙ c.in_default.is) c.dequeue_at_hand.new.self (popping_of c.self.inside.discipline).shown refl c.dequeue_at_hand.ensures.after c.self.invariant (given-none (popping_of c.self.inside.discipline).shown c.args.out.now c.dequeue_at_hand.new.out (sym c.dequeue_at_hand.ensures.given ∙ c.if-not-dequeue_at_hand.true) c.dequeue_at_hand.ensures.packet).0).after ∙ ap (λ n. booked kept n (pop n).after) c.self.view_is
 
 pub Node::dequeue_at_hand-book_sent-requires-2-clause-among : goal.Node::dequeue_at_hand-book_sent-requires-2-clause-among
 Node::dequeue_at_hand-book_sent-requires-2-clause-among t c =
-    among (seen c.self.inside) c.self.inside.row (row-of c.self.inside c.self.invariant) c.dequeue_at_hand-since.new.out (own-shown c.self.inside (sym c.packet.ensures ∙ c.in_default.is) c.dequeue_at_hand-since.new.self (popping_of c.self.inside.discipline).shown refl c.dequeue_at_hand-since.ensures.after ∙ (given-some (popping_of c.self.inside.discipline).shown c.args.out.now c.dequeue_at_hand-since.new.out (sym c.dequeue_at_hand-since.ensures.given ∙ c.if-is_none.ensures) c.dequeue_at_hand-since.ensures.packet))
+    among (seen c.self.inside) c.self.inside.row (row-of c.self.inside c.self.invariant) c.dequeue_at_hand.new.out (own-shown c.self.inside (sym c.packet.ensures ∙ c.in_default.is) c.dequeue_at_hand.new.self (popping_of c.self.inside.discipline).shown refl c.dequeue_at_hand.ensures.after ∙ (given-some (popping_of c.self.inside.discipline).shown c.args.out.now c.dequeue_at_hand.new.out (sym c.dequeue_at_hand.ensures.given ∙ c.if-not-dequeue_at_hand.false) c.dequeue_at_hand.ensures.packet))
 
 pub Node::dequeue_at_hand-book_sent-requires-2-clause-room : goal.Node::dequeue_at_hand-book_sent-requires-2-clause-room
 Node::dequeue_at_hand-book_sent-requires-2-clause-room t c =
-    let had = (among (seen c.self.inside) c.self.inside.row (row-of c.self.inside c.self.invariant) c.dequeue_at_hand-since.new.out (own-shown c.self.inside (sym c.packet.ensures ∙ c.in_default.is) c.dequeue_at_hand-since.new.self (popping_of c.self.inside.discipline).shown refl c.dequeue_at_hand-since.ensures.after ∙ (given-some (popping_of c.self.inside.discipline).shown c.args.out.now c.dequeue_at_hand-since.new.out (sym c.dequeue_at_hand-since.ensures.given ∙ c.if-is_none.ensures) c.dequeue_at_hand-since.ensures.packet))) in
+    let had = (among (seen c.self.inside) c.self.inside.row (row-of c.self.inside c.self.invariant) c.dequeue_at_hand.new.out (own-shown c.self.inside (sym c.packet.ensures ∙ c.in_default.is) c.dequeue_at_hand.new.self (popping_of c.self.inside.discipline).shown refl c.dequeue_at_hand.ensures.after ∙ (given-some (popping_of c.self.inside.discipline).shown c.args.out.now c.dequeue_at_hand.new.out (sym c.dequeue_at_hand.ensures.given ∙ c.if-not-dequeue_at_hand.false) c.dequeue_at_hand.ensures.packet))) in
     record { packets = omega (arith, c.self.invariant.balanced.packets, had.packets, c.self.ranges, c.fit.ensures.packets, c.fit.ensures.bytes); bytes = omega (arith, c.self.invariant.balanced.bytes, had.bytes, c.self.ranges, c.fit.ensures.packets, c.fit.ensures.bytes) }
 
 pub Node::dequeue_at_hand-invariant_of-self-2 : goal.Node::dequeue_at_hand-invariant_of-self-2
 Node::dequeue_at_hand-invariant_of-self-2 t c =
-    (gave c.self.inside (sym c.packet.ensures ∙ c.in_default.is) c.dequeue_at_hand-since.new.self (popping_of c.self.inside.discipline).shown refl c.dequeue_at_hand-since.ensures.after c.self.invariant c.dequeue_at_hand-since.new.out (given-some (popping_of c.self.inside.discipline).shown c.args.out.now c.dequeue_at_hand-since.new.out (sym c.dequeue_at_hand-since.ensures.given ∙ c.if-is_none.ensures) c.dequeue_at_hand-since.ensures.packet) c.book_sent-2.new.row c.book_sent-2.ensures).stays
+    (gave c.self.inside (sym c.packet.ensures ∙ c.in_default.is) c.dequeue_at_hand.new.self (popping_of c.self.inside.discipline).shown refl c.dequeue_at_hand.ensures.after c.self.invariant c.dequeue_at_hand.new.out (given-some (popping_of c.self.inside.discipline).shown c.args.out.now c.dequeue_at_hand.new.out (sym c.dequeue_at_hand.ensures.given ∙ c.if-not-dequeue_at_hand.false) c.dequeue_at_hand.ensures.packet) c.book_sent-2.new.row c.book_sent-2.ensures).stays
 
 pub Node::dequeue_at_hand-returns-clause-given : goal.Node::dequeue_at_hand-returns-clause-given
 Node::dequeue_at_hand-returns-clause-given t c =
-    c.if-is_none.ensures ∙ sym (ap is_some (sym ((gave c.self.inside (sym c.packet.ensures ∙ c.in_default.is) c.dequeue_at_hand-since.new.self (popping_of c.self.inside.discipline).shown refl c.dequeue_at_hand-since.ensures.after c.self.invariant c.dequeue_at_hand-since.new.out (given-some (popping_of c.self.inside.discipline).shown c.args.out.now c.dequeue_at_hand-since.new.out (sym c.dequeue_at_hand-since.ensures.given ∙ c.if-is_none.ensures) c.dequeue_at_hand-since.ensures.packet) c.book_sent-2.new.row c.book_sent-2.ensures).shown ∙ ap (λ n. (pop n).shown) c.self.view_is)))
+    sym (ap is_some (sym ((gave c.self.inside (sym c.packet.ensures ∙ c.in_default.is) c.dequeue_at_hand.new.self (popping_of c.self.inside.discipline).shown refl c.dequeue_at_hand.ensures.after c.self.invariant c.dequeue_at_hand.new.out (given-some (popping_of c.self.inside.discipline).shown c.args.out.now c.dequeue_at_hand.new.out (sym c.dequeue_at_hand.ensures.given ∙ c.if-not-dequeue_at_hand.false) c.dequeue_at_hand.ensures.packet) c.book_sent-2.new.row c.book_sent-2.ensures).shown ∙ ap (λ n. (pop n).shown) c.self.view_is)))
 
 pub Node::dequeue_at_hand-returns-clause-packet : goal.Node::dequeue_at_hand-returns-clause-packet
 Node::dequeue_at_hand-returns-clause-packet t c =
-    ap (λ o. unwrap_or o c.args.out.now) ((gave c.self.inside (sym c.packet.ensures ∙ c.in_default.is) c.dequeue_at_hand-since.new.self (popping_of c.self.inside.discipline).shown refl c.dequeue_at_hand-since.ensures.after c.self.invariant c.dequeue_at_hand-since.new.out (given-some (popping_of c.self.inside.discipline).shown c.args.out.now c.dequeue_at_hand-since.new.out (sym c.dequeue_at_hand-since.ensures.given ∙ c.if-is_none.ensures) c.dequeue_at_hand-since.ensures.packet) c.book_sent-2.new.row c.book_sent-2.ensures).shown ∙ ap (λ n. (pop n).shown) c.self.view_is)
+    ap (λ o. unwrap_or o c.args.out.now) ((gave c.self.inside (sym c.packet.ensures ∙ c.in_default.is) c.dequeue_at_hand.new.self (popping_of c.self.inside.discipline).shown refl c.dequeue_at_hand.ensures.after c.self.invariant c.dequeue_at_hand.new.out (given-some (popping_of c.self.inside.discipline).shown c.args.out.now c.dequeue_at_hand.new.out (sym c.dequeue_at_hand.ensures.given ∙ c.if-not-dequeue_at_hand.false) c.dequeue_at_hand.ensures.packet) c.book_sent-2.new.row c.book_sent-2.ensures).shown ∙ ap (λ n. (pop n).shown) c.self.view_is)
 
 pub Node::dequeue_at_hand-returns-clause-after : goal.Node::dequeue_at_hand-returns-clause-after
 Node::dequeue_at_hand-returns-clause-after t c =
-    (gave c.self.inside (sym c.packet.ensures ∙ c.in_default.is) c.dequeue_at_hand-since.new.self (popping_of c.self.inside.discipline).shown refl c.dequeue_at_hand-since.ensures.after c.self.invariant c.dequeue_at_hand-since.new.out (given-some (popping_of c.self.inside.discipline).shown c.args.out.now c.dequeue_at_hand-since.new.out (sym c.dequeue_at_hand-since.ensures.given ∙ c.if-is_none.ensures) c.dequeue_at_hand-since.ensures.packet) c.book_sent-2.new.row c.book_sent-2.ensures).after ∙ ap (λ n. booked kept n (pop n).after) c.self.view_is
-
-pub Node::dequeue_at_hand-returns-in-Some-clause-since : goal.Node::dequeue_at_hand-returns-in-Some-clause-since
-Node::dequeue_at_hand-returns-in-Some-clause-since t c =
-    c.arrival-since.ensures ∙ held-since c.self.inside c.in-Some.packet (sym c.packet.ensures ∙ c.in-Some.is) ∙ ap (λ (n : Node Kept). at_hand_since n) c.self.view_is
-
-pub Node::dequeue_at_hand-returns-then-is_none-clause-since : goal.Node::dequeue_at_hand-returns-then-is_none-clause-since
-Node::dequeue_at_hand-returns-then-is_none-clause-since t c =
-    none-since (seen c.self.inside) (sym (still-kept c.self.inside (sym c.packet.ensures ∙ c.in_default.is) c.dequeue_at_hand-since.new.self (popping_of c.self.inside.discipline).shown refl c.dequeue_at_hand-since.ensures.after c.self.invariant (given-none (popping_of c.self.inside.discipline).shown c.args.out.now c.dequeue_at_hand-since.new.out (sym c.dequeue_at_hand-since.ensures.given ∙ c.if-is_none.ensures) c.dequeue_at_hand-since.ensures.packet).0).shown)
-    ∙ ap (λ (n : Node Kept). at_hand_since n) c.self.view_is
-
-pub Node::dequeue_at_hand-returns-clause-since : goal.Node::dequeue_at_hand-returns-clause-since
-Node::dequeue_at_hand-returns-clause-since t c =
-    c.dequeue_at_hand-since.ensures.since ∙ own-since c.self.inside (sym c.packet.ensures ∙ c.in_default.is) ∙ ap (λ (n : Node Kept). at_hand_since n) c.self.view_is
-
-pub Discipline::dequeue_at_hand_further-returns-in_default-clause-since : goal.Discipline::dequeue_at_hand_further-returns-in_default-clause-since
-Discipline::dequeue_at_hand_further-returns-in_default-clause-since t c =
-    let none = subst (λ xs. first_ready (map pop xs) ≡ length (map pop xs)) c.deref.ensures.value c.in_default.ensures in
-    prio-none-since c.in-Prio.bands.items c.in-Prio.priomap none
-    ∙ sym (ap₂ (λ (ns : List (Node Kept)) d. since_in (map at_hand_since ns) d) (ap children_seen c.in-Prio.is) (ap discipline_seen c.in-Prio.is))
-
-pub Discipline::dequeue_at_hand_further-returns-in-Prio-clause-since : goal.Discipline::dequeue_at_hand_further-returns-in-Prio-clause-since
-Discipline::dequeue_at_hand_further-returns-in-Prio-clause-since t c =
-    let first = subst (λ xs. c.in-Some.place ≡ first_ready (map pop xs)) c.deref.ensures.value c.in-Some.ensures.0 in
-    let inside : c.in-Some.place < length c.in-Prio.bands.items = omega (arith, c.in-Some.ensures.1, length-map c.deref.result.now pop, ap (λ xs. length xs) c.deref.ensures.value) in
-    let there = there-at c.in-Prio.bands.items c.in-Some.place c.index_mut.result.now inside c.index_mut.ensures.value in
-    c.dequeue_at_hand.ensures.since ∙ prio-since c.in-Prio.bands.items c.in-Some.place c.index_mut.result.now c.in-Prio.priomap there first
-    ∙ sym (ap₂ (λ (ns : List (Node Kept)) d. since_in (map at_hand_since ns) d) (ap children_seen c.in-Prio.is) (ap discipline_seen c.in-Prio.is))
+    (gave c.self.inside (sym c.packet.ensures ∙ c.in_default.is) c.dequeue_at_hand.new.self (popping_of c.self.inside.discipline).shown refl c.dequeue_at_hand.ensures.after c.self.invariant c.dequeue_at_hand.new.out (given-some (popping_of c.self.inside.discipline).shown c.args.out.now c.dequeue_at_hand.new.out (sym c.dequeue_at_hand.ensures.given ∙ c.if-not-dequeue_at_hand.false) c.dequeue_at_hand.ensures.packet) c.book_sent-2.new.row c.book_sent-2.ensures).after ∙ ap (λ n. booked kept n (pop n).after) c.self.view_is
