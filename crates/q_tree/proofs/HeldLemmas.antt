@@ -3,7 +3,7 @@ use Rattle.std.proofs.Common.{◌≡◌, ℕ, refl, sym, Option, Some, None}
 use Rattle.std.proofs.lemmas.Bool.{false≢true}
 use Rattle.std.proofs.lemmas.Option.{none-some}
 use Rattle.std.proofs.Common.{ap}
-use Rattle.std.specs.Prelude.{Bool, true, false, is_some, unwrap_or, if◌then◌else◌, option_map}
+use Rattle.std.specs.Prelude.{true, false, is_some, unwrap_or, option_map}
 use Rattle.std.proofs.Common.{◌∙◌}
 use Rattle.std.specs.Option.{option_map_or}
 use Rattle.q_packet.specs.Descriptor.{Descriptor}
@@ -42,11 +42,10 @@ some-kept None e = absurd (false≢true (sym e))
 some-kept (Some s) e = (s.packet, refl)
 
 -- a packet that was written to its place, with the time
-pub placed : (o : Option Descriptor) (holds : Bool) (place old : Descriptor) (at t : ℕ) → holds ≡ is_some o → place ≡ unwrap_or o old → since_of o at ≡ t
-    → (if holds then Some (record { packet = place; at = at }) else None) ≡ held_with o t
-placed None holds place old at t e p s = ap (λ (b : Bool). if b then Some (record { packet = place; at = at }) else None) e
-placed (Some q) holds place old at t e p s =
-    ap (λ (b : Bool). if b then Some (record { packet = place; at = at }) else None) e ∙ (λ i. Some (record { packet = p i; at = s i }))
+pub placed : (o : Option Descriptor) (p place old : Descriptor) (at t : ℕ) → o ≡ Some p → place ≡ unwrap_or o old → at ≡ t → Some (record { packet = place; at = at }) ≡ held_with o t
+placed o p place old at t e is s =
+    let same : place ≡ p = is ∙ ap (λ (x : Option Descriptor). unwrap_or x old) e in
+    (λ i. Some (record { packet = same i; at = s i })) ∙ ap (λ (x : Option Descriptor). held_with x t) (sym e)
 
 -- since when the packet has been held, where there is one
 pub arrival-held : (h : Option Stamped) (p : Descriptor) (other : Option ℕ) → packet_held h ≡ Some p

@@ -342,8 +342,8 @@ module _ {now : ℕ} {first s : Schedule} {ns ms : List (Node Kept)} {unasked : 
           ap spec.Drr (served_nothing (heads_of now first ns) first s met.class met.front (shown-head None silent) (ready None silent uncovered))
           ∙ ap (λ (x : Asked). x.peeked.own.discipline) (sym (drr-answer None silent uncovered own))
 
-      pub nothing-since : (at : ℕ) (own : Own) → since_of result.packet at ≡ (ask_drr own (answers now ns) first).peeked.own.since
-      nothing-since at own = ap (λ (o : Option Descriptor). since_of o at) empty ∙ ap (λ (x : Asked). x.peeked.own.since) (sym (drr-answer None silent uncovered own))
+      pub nothing-since : (own : Own) → 0 ≡ (ask_drr own (answers now ns) first).peeked.own.since
+      nothing-since own = ap (λ (x : Asked). x.peeked.own.since) (sym (drr-answer None silent uncovered own))
 
       pub nothing-told : (own : Own) → IsToldOf (ask_drr own (answers now ns) first).rises k.losses l2 k.room r2
       nothing-told own = subst (λ notes. IsToldOf notes k.losses l2 k.room r2) (sym (ap (λ (x : Asked). x.rises) (drr-answer None silent uncovered own) ∙ service-rises None silent uncovered)) shows.told
@@ -379,6 +379,21 @@ module _ {now : ℕ} {first s : Schedule} {ns ms : List (Node Kept)} {unasked : 
       offered-head : heads_of now first ns met.class ≡ Some len
       offered-head = shown-head (Some offer.0) offers ∙ ap Some offer.2
 
+      -- what was told, and when the packet arrived, where it can send it
+      module _ (send : Send ≡ turn_answer len s.active) {s1 : Schedule} (turn : s1 ≡ turned len s) where
+        enough : (m : ℕ) → option_map (λ (x : Descriptor). x.len) (Some offer.0) ≡ Some m → m ≤ met.front.first.deficit
+        enough m e = subst (λ m. m ≤ met.front.first.deficit) (sym offer.2 ∙ same_Some offer.0.len m e) (covers s met.class len met.front send)
+
+        pub given-since : (own : Own) → since_of result.packet (unwrap_or (at_hand_since d) 0) ≡ (ask_drr own (answers now ns) first).peeked.own.since
+        given-since own =
+            ap (λ (o : Option Descriptor). since_of o (unwrap_or (at_hand_since d) 0)) offer.1
+            ∙ ap (λ (o : Option ℕ). unwrap_or o 0) (since-asked now met.at.child d child-can shows.peeked)
+            ∙ ap (λ (y : Asked). y.peeked.own.since) (sym (drr-answer (Some offer.0) offers enough own))
+
+        pub given-told : (own : Own) → IsToldOf (ask_drr own (answers now ns) first).rises k.losses l2 k.room r2
+        given-told own =
+            subst (λ notes. IsToldOf notes k.losses l2 k.room r2) (sym (ap (λ (y : Asked). y.rises) (drr-answer (Some offer.0) offers enough own) ∙ service-rises (Some offer.0) offers enough)) shows.told
+
       -- gives it where it can send it
       module _ (send : Send ≡ turn_answer len s.active) {s1 s2 : Schedule} {ms2 : List (Node Kept)} (turn : s1 ≡ turned len s) (given : (c : Node Kept) → slice_get (set ms place d) place ≡ Some c → IsGivenBy place c s1 s2 (set ms place d) ms2) where
         pays : len ≤ met.front.first.deficit
@@ -405,15 +420,6 @@ module _ {now : ℕ} {first s : Schedule} {ns ms : List (Node Kept)} {unasked : 
         given-schedule own =
             ap spec.Drr (gift.schedule ∙ ap₂ (λ b t. settled_class place b t) emptied (served_head (heads_of now first ns) first s met.class len met.front offered-head pays (ready (Some offer.0) offers covered)))
             ∙ ap (λ (y : Asked). y.peeked.own.discipline) (sym (answer own))
-
-        pub given-since : (own : Own) → since_of result.packet (unwrap_or (at_hand_since d) 0) ≡ (ask_drr own (answers now ns) first).peeked.own.since
-        given-since own =
-            ap (λ (o : Option Descriptor). since_of o (unwrap_or (at_hand_since d) 0)) offer.1
-            ∙ ap (λ (o : Option ℕ). unwrap_or o 0) (since-asked now met.at.child d child-can shows.peeked)
-            ∙ ap (λ (y : Asked). y.peeked.own.since) (sym (answer own))
-
-        pub given-told : (own : Own) → IsToldOf (ask_drr own (answers now ns) first).rises k.losses l2 k.room r2
-        given-told own = subst (λ notes. IsToldOf notes k.losses l2 k.room r2) (sym (ap (λ (y : Asked). y.rises) (answer own) ∙ service-rises (Some offer.0) offers covered)) shows.told
 
         pub given-asked : (own : Own) → AreAsked (ask_drr own (answers now ns) first) ns ms2 result
         given-asked own =
@@ -488,8 +494,8 @@ module _ {now : ℕ} {first s : Schedule} {ns ms : List (Node Kept)} {unasked : 
   pub idle-schedule : (own : Own) → spec.Drr s ≡ (ask_drr own (answers now ns) first).peeked.own.discipline
   idle-schedule own = ap spec.Drr (served_nobody (heads_of now first ns) first s nobody no-turn) ∙ ap (λ (x : Asked). x.peeked.own.discipline) (sym (idle-answer own))
 
-  pub idle-since : {result : Shown} → result.packet ≡ None → (at : ℕ) (own : Own) → since_of result.packet at ≡ (ask_drr own (answers now ns) first).peeked.own.since
-  idle-since empty at own = ap (λ (o : Option Descriptor). since_of o at) empty ∙ ap (λ (x : Asked). x.peeked.own.since) (sym (idle-answer own))
+  pub idle-since : (own : Own) → 0 ≡ (ask_drr own (answers now ns) first).peeked.own.since
+  idle-since own = ap (λ (x : Asked). x.peeked.own.since) (sym (idle-answer own))
 
   pub idle-told : (own : Own) → IsToldOf (ask_drr own (answers now ns) first).rises k.losses k.losses_now k.room k.room_now
   idle-told own = subst (λ notes. IsToldOf notes k.losses k.losses_now k.room k.room_now) (sym (idle-rises own)) h.told

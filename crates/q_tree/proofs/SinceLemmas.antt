@@ -8,7 +8,7 @@ use Rattle.q_packet.specs.Descriptor.{Descriptor}
 use Rattle.q_packet.specs.declared.stamped.Stamped.{Stamped}
 use Rattle.q_model.specs.Node.{Discipline, Fifo, Prio, Tbf, Drr, FqCodel, Own, Forest, none, more, Node, each}
 use Rattle.q_model.specs.Pop.{Popping, first_ready, first_shown, pop_own, pop}
-use Rattle.q_model.specs.Since.{since_of, since_in, since_own, at_hand_since}
+use Rattle.q_model.specs.Since.{since_of, first_since, since_in, since_own, at_hand_since}
 use Rattle.q_tree.specs.Kept.{Kept}
 use Rattle.q_tree.proofs.AtHandLemmas.{first-some, first-none}
 use Rattle.q_tree.proofs.PopLemmas.{none-there}

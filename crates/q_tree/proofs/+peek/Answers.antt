@@ -1,11 +1,11 @@
-use Rattle.std.proofs.Common.{◌∙◌, [], ◌∷◌, set, length, add-one, refl, sym, ap, subst, arith, rules, Option}
-use Rattle.std.specs.Prelude.{slice_index_or, unwrap_or}
+use Rattle.std.proofs.Common.{◌∙◌, [], ◌∷◌, set, length, add-one, refl, sym, ap, subst, arith, rules, Option, Some}
+use Rattle.std.specs.Prelude.{slice_index_or, unwrap_or, slice_get}
 use Rattle.std.proofs.lemmas.List.{length-set}
 use Rattle.std.specs.Box.{with_value}
 use Rattle.std.specs.Vec.{with_items}
 use Rattle.q_bucket.specs.Level.{allows}
 use Rattle.q_fqcodel.specs.FqState.{FqView}
-use Rattle.q_model.specs.Ask.{ask}
+use Rattle.q_model.specs.Ask.{ask, ask_tbf}
 use Rattle.q_model.specs.Node as spec
 use Rattle.q_model.specs.Node.{Node, shape, side_by_side}
 use Rattle.q_model.specs.Pop.{pop}
@@ -29,6 +29,7 @@ use Rattle.q_tree.proofs.HeldLemmas.{none-kept, some-kept, placed, empty-held}
 use Rattle.q_tree.specs.Holding.{held_with}
 use Rattle.q_model.specs.Since.{at_hand_since, since_of}
 use Rattle.q_packet.specs.Descriptor.{Descriptor}
+use Rattle.std.proofs.lemmas.Option.{same_Some}
 
 pub disciplines::drr::peek_class_further-then-requires-clause-dropped_packets : goal.disciplines::drr::peek_class_further-then-requires-clause-dropped_packets
 disciplines::drr::peek_class_further-then-requires-clause-dropped_packets g t c = (fits-beside c.args.now c.args.class.now c.args.so_far c.peek-next.result (g.S.Sink.room c.args.sink.now) c.requires.ready c.peek-next.ensures.peeked.shown).dropped_packets
@@ -42,213 +43,157 @@ disciplines::drr::peek_class_further-then-requires-clause-marked_packets g t c =
 pub disciplines::drr::peek_class_further-then-requires-clause-marked_bytes : goal.disciplines::drr::peek_class_further-then-requires-clause-marked_bytes
 disciplines::drr::peek_class_further-then-requires-clause-marked_bytes g t c = (fits-beside c.args.now c.args.class.now c.args.so_far c.peek-next.result (g.S.Sink.room c.args.sink.now) c.requires.ready c.peek-next.ensures.peeked.shown).marked_bytes
 
-pub disciplines::tbf::dequeue_child-returns-in_default-clause-after :
-    goal.disciplines::tbf::dequeue_child-returns-in_default-clause-after
-disciplines::tbf::dequeue_child-returns-in_default-clause-after g t c = λ own limit.
+pub disciplines::tbf::peek_child-returns-in_default-clause-after :
+    goal.disciplines::tbf::peek_child-returns-in_default-clause-after
+disciplines::tbf::peek_child-returns-in_default-clause-after g t c = λ own limit.
     tbf-none c.args.now own c.args.bucket.now limit c.args.child.now c.peek-shown.new.self c.peek-shown.result c.peek-shown.ensures.peeked.after c.peek-shown.ensures.peeked.arrived c.peek-shown.ensures.peeked.shown (c.packet_len.ensures.none c.in_default.is)
 
-pub disciplines::tbf::dequeue_child-returns-clause-after : goal.disciplines::tbf::dequeue_child-returns-clause-after
-disciplines::tbf::dequeue_child-returns-clause-after g t c = λ own limit.
+pub disciplines::tbf::peek_child-returns-clause-after : goal.disciplines::tbf::peek_child-returns-clause-after
+disciplines::tbf::peek_child-returns-clause-after g t c = λ own limit.
     let offer = shown-len c.peek-shown.result.packet c.packet_len.result c.in-Some.len c.packet_len.ensures.some c.in-Some.is in
     let shown = sym c.peek-shown.ensures.peeked.shown.packet ∙ offer.1 in
     let given = hand-asked c.args.now c.args.child.now c.peek-shown.new.self c.requires.ready c.peek-shown.ensures.peeked.after in
     tbf-gave c.args.now own c.args.bucket.now limit c.args.child.now c.peek-shown.new.self c.dequeue_at_hand.new.self offer.0 c.peek-shown.result
     c.requires.ready c.peek-shown.ensures.peeked.after shown (ap (allows c.args.bucket.now c.args.now) offer.2 ∙ sym c.spend.ensures.answer ∙ c.if-not-spend.false) c.dequeue_at_hand.ensures.after (c.dequeue_at_hand.ensures.arrived ∙ c.peek-shown.ensures.peeked.arrived) (c.peek-shown.ensures.peeked.shown.packet ∙ sym given) c.peek-shown.ensures.peeked.shown.dropped c.peek-shown.ensures.peeked.shown.marked
 
-pub disciplines::tbf::dequeue_child-returns-clause-packet : goal.disciplines::tbf::dequeue_child-returns-clause-packet
-disciplines::tbf::dequeue_child-returns-clause-packet g t c =
-    c.dequeue_at_hand.ensures.packet
-    ∙ ap (λ o. unwrap_or o c.args.out.now) (hand-asked c.args.now c.args.child.now c.peek-shown.new.self c.requires.ready c.peek-shown.ensures.peeked.after ∙ sym c.peek-shown.ensures.peeked.shown.packet)
+pub disciplines::tbf::peek_child-returns-then-not-spend-clause-signals : goal.disciplines::tbf::peek_child-returns-then-not-spend-clause-signals
+disciplines::tbf::peek_child-returns-then-not-spend-clause-signals g t c = c.peek-shown.ensures.peeked.signals ∙ sym (ap signals_of c.showing.ensures)
 
-pub disciplines::tbf::dequeue_child-returns-in_default-clause-packet : goal.disciplines::tbf::dequeue_child-returns-in_default-clause-packet
-disciplines::tbf::dequeue_child-returns-in_default-clause-packet g t c = ap (λ o. unwrap_or o c.args.out.now) (sym (c.packet_len.ensures.none c.in_default.is))
 
-pub disciplines::tbf::dequeue_child-returns-then-not-spend-clause-packet : goal.disciplines::tbf::dequeue_child-returns-then-not-spend-clause-packet
-disciplines::tbf::dequeue_child-returns-then-not-spend-clause-packet g t c = ap (λ (s : Shown). unwrap_or s.packet c.args.out.now) (sym c.showing.ensures)
+pub disciplines::tbf::peek_child-returns-in_default-clause-held : goal.disciplines::tbf::peek_child-returns-in_default-clause-held
+disciplines::tbf::peek_child-returns-in_default-clause-held g t c = λ own limit.
+    c.requires.none ∙ ap (λ (o : Option Descriptor). held_with o (ask_tbf c.args.now own (answers c.args.now (c.args.child.now ∷ [])) c.args.bucket.now limit).peeked.own.since) (sym (c.packet_len.ensures.none c.in_default.is))
 
-pub disciplines::tbf::dequeue_child-returns-then-not-spend-clause-signals : goal.disciplines::tbf::dequeue_child-returns-then-not-spend-clause-signals
-disciplines::tbf::dequeue_child-returns-then-not-spend-clause-signals g t c = c.peek-shown.ensures.peeked.signals ∙ sym (ap signals_of c.showing.ensures)
+pub disciplines::tbf::peek_child-returns-then-not-spend-clause-held : goal.disciplines::tbf::peek_child-returns-then-not-spend-clause-held
+disciplines::tbf::peek_child-returns-then-not-spend-clause-held g t c = λ own limit.
+    c.requires.none ∙ ap (λ (s : Shown). held_with s.packet (ask_tbf c.args.now own (answers c.args.now (c.args.child.now ∷ [])) c.args.bucket.now limit).peeked.own.since) (sym c.showing.ensures)
 
-pub disciplines::drr::dequeue_class-loop-place-init : goal.disciplines::drr::dequeue_class-loop-place-init
-disciplines::drr::dequeue_class-loop-place-init g t c = (
+pub disciplines::tbf::peek_child-returns-clause-held : goal.disciplines::tbf::peek_child-returns-clause-held
+disciplines::tbf::peek_child-returns-clause-held g t c = λ own limit.
+    let offer = shown-len c.peek-shown.result.packet c.packet_len.result c.in-Some.len c.packet_len.ensures.some c.in-Some.is in
+    let shown = sym c.peek-shown.ensures.peeked.shown.packet ∙ offer.1 in
+    placed c.peek-shown.result.packet offer.0 c.dequeue_at_hand.new.out _ c.unwrap_or.result _ offer.1
+    (c.dequeue_at_hand.ensures.packet
+    ∙ ap (λ o. unwrap_or o _) (hand-asked c.args.now c.args.child.now c.peek-shown.new.self c.requires.ready c.peek-shown.ensures.peeked.after ∙ sym c.peek-shown.ensures.peeked.shown.packet))
+    (c.unwrap_or.ensures ∙ ap (λ (o : Option ℕ). unwrap_or o c.zero.result) c.at_hand_since.ensures ∙ ap (unwrap_or (at_hand_since c.peek-shown.new.self)) c.zero.ensures
+    ∙ tbf-gave-since c.args.now own c.args.bucket.now limit c.args.child.now c.peek-shown.new.self offer.0 c.requires.ready c.peek-shown.ensures.peeked.after shown
+    (ap (allows c.args.bucket.now c.args.now) offer.2 ∙ sym c.spend.ensures.answer ∙ c.if-not-spend.false))
+
+pub disciplines::drr::meet_class-loop-place-init : goal.disciplines::drr::meet_class-loop-place-init
+disciplines::drr::meet_class-loop-place-init g t c = (
   classes-start c.args.now c.args.active.now c.args.classes.now c.active_count-unasked.result c.at_hand-shown.result (g.S.Sink.losses c.args.sink.now) (g.S.Sink.room c.args.sink.now) c.requires.ready c.active_count-unasked.ensures
       (record { dropped = ap (λ (s : Shown). s.dropped) c.at_hand-shown.ensures; marked = ap (λ (s : Shown). s.marked) c.at_hand-shown.ensures }),
   g.met.S.Sink.keeps_same c.args.sink.now,
-  refl,
   c.requires.clean ∙ sym (ap signals_of c.at_hand-shown.ensures),
 )
 
-pub disciplines::drr::dequeue_class-offset_bounds-classes-place : goal.disciplines::drr::dequeue_class-offset_bounds-classes-place
-disciplines::drr::dequeue_class-offset_bounds-classes-place g t c =
+pub disciplines::drr::meet_class-offset_bounds-classes-place : goal.disciplines::drr::meet_class-offset_bounds-classes-place
+disciplines::drr::meet_class-offset_bounds-classes-place g t c =
     let met = front-met c.requires.ready c.loop-place.invariant.0 c.front_place.ensures.lawful c.in-Some.place (sym c.in-Some.is ∙ c.front_place.ensures.place) in
     omega (arith, place-within met, c.loop-place.auto.classes)
 
-pub disciplines::drr::dequeue_class-bounds-classes-place : goal.disciplines::drr::dequeue_class-bounds-classes-place
-disciplines::drr::dequeue_class-bounds-classes-place g t c =
+pub disciplines::drr::meet_class-bounds-classes-place : goal.disciplines::drr::meet_class-bounds-classes-place
+disciplines::drr::meet_class-bounds-classes-place g t c =
     place-within (front-met c.requires.ready c.loop-place.invariant.0 c.front_place.ensures.lawful c.in-Some.place (sym c.in-Some.is ∙ c.front_place.ensures.place))
 
-pub disciplines::drr::dequeue_class-peek_class-shown-requires : goal.disciplines::drr::dequeue_class-peek_class-shown-requires
-disciplines::drr::dequeue_class-peek_class-shown-requires g t c κs within =
+pub disciplines::drr::meet_class-peek_class-shown-requires : goal.disciplines::drr::meet_class-peek_class-shown-requires
+disciplines::drr::meet_class-peek_class-shown-requires g t c κs within =
     let met = front-met c.requires.ready c.loop-place.invariant.0 c.front_place.ensures.lawful c.in-Some.place (sym c.in-Some.is ∙ c.front_place.ensures.place) in (
       omega (arith, class-size met c.index-classes-place.result, c.decreases),
-      (within, ((λ some. class-once met c.index-classes-place.result some c.requires.sink), c.loop-place.invariant.3)),
+      (within, ((λ some. class-once met c.index-classes-place.result some c.requires.sink), c.loop-place.invariant.2)),
     )
 
-pub disciplines::drr::dequeue_class-returns-in_default-packet_len-clause-active : goal.disciplines::drr::dequeue_class-returns-in_default-packet_len-clause-active
-disciplines::drr::dequeue_class-returns-in_default-packet_len-clause-active g t c =
-    let met = front-met c.requires.ready c.loop-place.invariant.0 c.front_place.ensures.lawful c.in-Some.place (sym c.in-Some.is ∙ c.front_place.ensures.place) in
-    let shows = class-shown met c.index-classes-place.result c.peek_class-shown.ensures.asked c.peek_class-shown.ensures.told c.peek_class-shown.ensures.at_hand c.peek_class-shown.ensures.not_lost in
-    nothing-schedule met shows (c.packet_len.ensures.none c.in_default-packet_len.is)
-
-pub disciplines::drr::dequeue_class-returns-in_default-packet_len-clause-after : goal.disciplines::drr::dequeue_class-returns-in_default-packet_len-clause-after
-disciplines::drr::dequeue_class-returns-in_default-packet_len-clause-after g t c =
-    let met = front-met c.requires.ready c.loop-place.invariant.0 c.front_place.ensures.lawful c.in-Some.place (sym c.in-Some.is ∙ c.front_place.ensures.place) in
-    let shows = class-shown met c.index-classes-place.result c.peek_class-shown.ensures.asked c.peek_class-shown.ensures.told c.peek_class-shown.ensures.at_hand c.peek_class-shown.ensures.not_lost in
-    nothing-asked met shows (c.packet_len.ensures.none c.in_default-packet_len.is)
-
-pub disciplines::drr::dequeue_class-returns-in_default-packet_len-clause-told : goal.disciplines::drr::dequeue_class-returns-in_default-packet_len-clause-told
-disciplines::drr::dequeue_class-returns-in_default-packet_len-clause-told g t c =
+pub disciplines::drr::meet_class-returns-in_default-packet_len-clause-told : goal.disciplines::drr::meet_class-returns-in_default-packet_len-clause-told
+disciplines::drr::meet_class-returns-in_default-packet_len-clause-told g t c =
     let met = front-met c.requires.ready c.loop-place.invariant.0 c.front_place.ensures.lawful c.in-Some.place (sym c.in-Some.is ∙ c.front_place.ensures.place) in
     let shows = class-shown met c.index-classes-place.result c.peek_class-shown.ensures.asked c.peek_class-shown.ensures.told c.peek_class-shown.ensures.at_hand c.peek_class-shown.ensures.not_lost in
     nothing-told met shows (c.packet_len.ensures.none c.in_default-packet_len.is)
 
-pub disciplines::drr::dequeue_class-returns-in_default-packet_len-clause-kept : goal.disciplines::drr::dequeue_class-returns-in_default-packet_len-clause-kept
-disciplines::drr::dequeue_class-returns-in_default-packet_len-clause-kept g t c =
+pub disciplines::drr::meet_class-returns-in_default-packet_len-clause-kept : goal.disciplines::drr::meet_class-returns-in_default-packet_len-clause-kept
+disciplines::drr::meet_class-returns-in_default-packet_len-clause-kept g t c =
     g.met.S.Sink.keeps_on c.args.sink.now c.loop-place.sink c.peek_class-shown.new.sink c.loop-place.invariant.1 c.peek_class-shown.ensures.kept
 
-pub disciplines::drr::dequeue_class-returns-in_default-packet_len-clause-packet : goal.disciplines::drr::dequeue_class-returns-in_default-packet_len-clause-packet
-disciplines::drr::dequeue_class-returns-in_default-packet_len-clause-packet g t c = c.loop-place.invariant.2 ∙ ap (λ o. unwrap_or o c.args.out.now) (sym (c.packet_len.ensures.none c.in_default-packet_len.is))
-
-pub disciplines::drr::dequeue_class-turn-requires-clause-in_range : goal.disciplines::drr::dequeue_class-turn-requires-clause-in_range
-disciplines::drr::dequeue_class-turn-requires-clause-in_range g t c =
+pub disciplines::drr::meet_class-turn-requires-clause-in_range : goal.disciplines::drr::meet_class-turn-requires-clause-in_range
+disciplines::drr::meet_class-turn-requires-clause-in_range g t c =
     let met = front-met c.requires.ready c.loop-place.invariant.0 c.front_place.ensures.lawful c.in-Some.place (sym c.in-Some.is ∙ c.front_place.ensures.place) in
     let shows = class-shown met c.index-classes-place.result c.peek_class-shown.ensures.asked c.peek_class-shown.ensures.told c.peek_class-shown.ensures.at_hand c.peek_class-shown.ensures.not_lost in
     let offer = shown-len c.peek_class-shown.result.packet c.packet_len.result c.in-Some-packet_len.len c.packet_len.ensures.some c.in-Some-packet_len.is in
     short-enough met shows offer
 
-pub disciplines::drr::dequeue_class-dequeue_class_at_hand-requires : goal.disciplines::drr::dequeue_class-dequeue_class_at_hand-requires
-disciplines::drr::dequeue_class-dequeue_class_at_hand-requires g t c =
-    let met = front-met c.requires.ready c.loop-place.invariant.0 c.front_place.ensures.lawful c.in-Some.place (sym c.in-Some.is ∙ c.front_place.ensures.place) in
-    omega (arith, place-within met, length-set c.loop-place.classes c.in-Some.place c.peek_class-shown.new.class)
-
-pub disciplines::drr::dequeue_class-returns-in-Send-clause-active : goal.disciplines::drr::dequeue_class-returns-in-Send-clause-active
-disciplines::drr::dequeue_class-returns-in-Send-clause-active g t c =
+pub disciplines::drr::meet_class-returns-in-Send-clause-told : goal.disciplines::drr::meet_class-returns-in-Send-clause-told
+disciplines::drr::meet_class-returns-in-Send-clause-told g t c =
     let met = front-met c.requires.ready c.loop-place.invariant.0 c.front_place.ensures.lawful c.in-Some.place (sym c.in-Some.is ∙ c.front_place.ensures.place) in
     let shows = class-shown met c.index-classes-place.result c.peek_class-shown.ensures.asked c.peek_class-shown.ensures.told c.peek_class-shown.ensures.at_hand c.peek_class-shown.ensures.not_lost in
     let offer = shown-len c.peek_class-shown.result.packet c.packet_len.result c.in-Some-packet_len.len c.packet_len.ensures.some c.in-Some-packet_len.is in
-    given-schedule met shows offer (sym c.in-Send.is ∙ c.turn.ensures.answer) c.turn.ensures.after c.dequeue_class_at_hand.ensures.given
+    given-told met shows offer (sym c.in-Send.is ∙ c.turn.ensures.answer) c.turn.ensures.after
 
-pub disciplines::drr::dequeue_class-returns-in-Send-clause-after : goal.disciplines::drr::dequeue_class-returns-in-Send-clause-after
-disciplines::drr::dequeue_class-returns-in-Send-clause-after g t c =
-    let met = front-met c.requires.ready c.loop-place.invariant.0 c.front_place.ensures.lawful c.in-Some.place (sym c.in-Some.is ∙ c.front_place.ensures.place) in
-    let shows = class-shown met c.index-classes-place.result c.peek_class-shown.ensures.asked c.peek_class-shown.ensures.told c.peek_class-shown.ensures.at_hand c.peek_class-shown.ensures.not_lost in
-    let offer = shown-len c.peek_class-shown.result.packet c.packet_len.result c.in-Some-packet_len.len c.packet_len.ensures.some c.in-Some-packet_len.is in
-    given-asked met shows offer (sym c.in-Send.is ∙ c.turn.ensures.answer) c.turn.ensures.after c.dequeue_class_at_hand.ensures.given
-
-pub disciplines::drr::dequeue_class-returns-in-Send-clause-told : goal.disciplines::drr::dequeue_class-returns-in-Send-clause-told
-disciplines::drr::dequeue_class-returns-in-Send-clause-told g t c =
-    let met = front-met c.requires.ready c.loop-place.invariant.0 c.front_place.ensures.lawful c.in-Some.place (sym c.in-Some.is ∙ c.front_place.ensures.place) in
-    let shows = class-shown met c.index-classes-place.result c.peek_class-shown.ensures.asked c.peek_class-shown.ensures.told c.peek_class-shown.ensures.at_hand c.peek_class-shown.ensures.not_lost in
-    let offer = shown-len c.peek_class-shown.result.packet c.packet_len.result c.in-Some-packet_len.len c.packet_len.ensures.some c.in-Some-packet_len.is in
-    given-told met shows offer (sym c.in-Send.is ∙ c.turn.ensures.answer) c.turn.ensures.after c.dequeue_class_at_hand.ensures.given
-
-pub disciplines::drr::dequeue_class-returns-in-Send-clause-packet : goal.disciplines::drr::dequeue_class-returns-in-Send-clause-packet
-disciplines::drr::dequeue_class-returns-in-Send-clause-packet g t c =
-    let met = front-met c.requires.ready c.loop-place.invariant.0 c.front_place.ensures.lawful c.in-Some.place (sym c.in-Some.is ∙ c.front_place.ensures.place) in
-    let shows = class-shown met c.index-classes-place.result c.peek_class-shown.ensures.asked c.peek_class-shown.ensures.told c.peek_class-shown.ensures.at_hand c.peek_class-shown.ensures.not_lost in
-    c.dequeue_class_at_hand.ensures.packet c.peek_class-shown.new.class shows.stored
-    ∙ ap (λ o. unwrap_or (pop c.peek_class-shown.new.class).shown o) c.loop-place.invariant.2
-    ∙ ap (λ o. unwrap_or o c.args.out.now) (given-packet met shows)
-
-pub disciplines::drr::dequeue_class-returns-in-Send-clause-kept : goal.disciplines::drr::dequeue_class-returns-in-Send-clause-kept
-disciplines::drr::dequeue_class-returns-in-Send-clause-kept g t c =
+pub disciplines::drr::meet_class-returns-in-Send-clause-kept : goal.disciplines::drr::meet_class-returns-in-Send-clause-kept
+disciplines::drr::meet_class-returns-in-Send-clause-kept g t c =
     g.met.S.Sink.keeps_on c.args.sink.now c.loop-place.sink c.peek_class-shown.new.sink c.loop-place.invariant.1 c.peek_class-shown.ensures.kept
 
-pub disciplines::drr::dequeue_class-loop-place-smaller : goal.disciplines::drr::dequeue_class-loop-place-smaller
-disciplines::drr::dequeue_class-loop-place-smaller g t c =
+pub disciplines::drr::meet_class-loop-place-smaller : goal.disciplines::drr::meet_class-loop-place-smaller
+disciplines::drr::meet_class-loop-place-smaller g t c =
     let met = front-met c.requires.ready c.loop-place.invariant.0 c.front_place.ensures.lawful c.in-Some.place (sym c.in-Some.is ∙ c.front_place.ensures.place) in
     let shows = class-shown met c.index-classes-place.result c.peek_class-shown.ensures.asked c.peek_class-shown.ensures.told c.peek_class-shown.ensures.at_hand c.peek_class-shown.ensures.not_lost in
     let offer = shown-len c.peek_class-shown.result.packet c.packet_len.result c.in-Some-packet_len.len c.packet_len.ensures.some c.in-Some-packet_len.is in
     fewer-grants met shows offer (sym c.in-Granted.is ∙ c.turn.ensures.answer) c.turn.ensures.after
 
-pub disciplines::drr::dequeue_class-loop-place-preserved : goal.disciplines::drr::dequeue_class-loop-place-preserved
-disciplines::drr::dequeue_class-loop-place-preserved g t c =
+pub disciplines::drr::meet_class-loop-place-preserved : goal.disciplines::drr::meet_class-loop-place-preserved
+disciplines::drr::meet_class-loop-place-preserved g t c =
     let met = front-met c.requires.ready c.loop-place.invariant.0 c.front_place.ensures.lawful c.in-Some.place (sym c.in-Some.is ∙ c.front_place.ensures.place) in
     let shows = class-shown met c.index-classes-place.result c.peek_class-shown.ensures.asked c.peek_class-shown.ensures.told c.peek_class-shown.ensures.at_hand c.peek_class-shown.ensures.not_lost in
     let offer = shown-len c.peek_class-shown.result.packet c.packet_len.result c.in-Some-packet_len.len c.packet_len.ensures.some c.in-Some-packet_len.is in (
       classes-go-on met shows offer (sym c.in-Granted.is ∙ c.turn.ensures.answer) c.turn.ensures.after c.saturating_sub-unasked.ensures,
       g.met.S.Sink.keeps_on c.args.sink.now c.loop-place.sink c.peek_class-shown.new.sink c.loop-place.invariant.1 c.peek_class-shown.ensures.kept,
-      c.loop-place.invariant.2,
       c.peek_class-shown.ensures.signals,
     )
 
-pub disciplines::drr::dequeue_class-returns-clause-active : goal.disciplines::drr::dequeue_class-returns-clause-active
-disciplines::drr::dequeue_class-returns-clause-active g t c = idle-schedule c.requires.ready c.loop-place.invariant.0 c.front_place.ensures.lawful _ c.in_default.is c.front_place.ensures.found
+pub disciplines::drr::meet_class-returns-clause-told : goal.disciplines::drr::meet_class-returns-clause-told
+disciplines::drr::meet_class-returns-clause-told g t c = idle-told c.requires.ready c.loop-place.invariant.0 c.front_place.ensures.lawful _ c.in_default.is c.front_place.ensures.found
 
-pub disciplines::drr::dequeue_class-returns-clause-after : goal.disciplines::drr::dequeue_class-returns-clause-after
-disciplines::drr::dequeue_class-returns-clause-after g t c =
-    idle-asked c.requires.ready c.loop-place.invariant.0 c.front_place.ensures.lawful _ c.in_default.is c.front_place.ensures.found (ap (λ (s : Shown). s.packet) c.at_hand.ensures)
-    (record { dropped = ap (λ (s : Shown). s.dropped) c.at_hand.ensures; marked = ap (λ (s : Shown). s.marked) c.at_hand.ensures })
+pub disciplines::drr::meet_class-returns-clause-kept : goal.disciplines::drr::meet_class-returns-clause-kept
+disciplines::drr::meet_class-returns-clause-kept g t c = c.loop-place.invariant.1
 
-pub disciplines::drr::dequeue_class-returns-clause-packet : goal.disciplines::drr::dequeue_class-returns-clause-packet
-disciplines::drr::dequeue_class-returns-clause-packet g t c = c.loop-place.invariant.2 ∙ ap (λ o. unwrap_or o c.args.out.now) (sym (ap (λ (s : Shown). s.packet) c.at_hand.ensures))
+pub disciplines::drr::meet_class-returns-clause-signals : goal.disciplines::drr::meet_class-returns-clause-signals
+disciplines::drr::meet_class-returns-clause-signals g t c = sym (ap signals_of c.at_hand.ensures)
 
-pub disciplines::drr::dequeue_class-returns-clause-told : goal.disciplines::drr::dequeue_class-returns-clause-told
-disciplines::drr::dequeue_class-returns-clause-told g t c = idle-told c.requires.ready c.loop-place.invariant.0 c.front_place.ensures.lawful _ c.in_default.is c.front_place.ensures.found
-
-pub disciplines::drr::dequeue_class-returns-clause-kept : goal.disciplines::drr::dequeue_class-returns-clause-kept
-disciplines::drr::dequeue_class-returns-clause-kept g t c = c.loop-place.invariant.1
-
-pub disciplines::drr::dequeue_class-returns-clause-signals : goal.disciplines::drr::dequeue_class-returns-clause-signals
-disciplines::drr::dequeue_class-returns-clause-signals g t c = sym (ap signals_of c.at_hand.ensures)
-
-pub disciplines::tbf::dequeue_child-returns-in_default-clause-since : goal.disciplines::tbf::dequeue_child-returns-in_default-clause-since
-disciplines::tbf::dequeue_child-returns-in_default-clause-since g t c =
-    λ own limit.
-    let empty = c.packet_len.ensures.none c.in_default.is in
-    ap (λ (o : Option Descriptor). since_of o c.args.since.now) empty
-    ∙ tbf-none-since c.args.now own c.args.bucket.now limit c.args.child.now (sym c.peek-shown.ensures.peeked.shown.packet ∙ empty)
-
-pub disciplines::tbf::dequeue_child-returns-clause-since : goal.disciplines::tbf::dequeue_child-returns-clause-since
-disciplines::tbf::dequeue_child-returns-clause-since g t c =
-    λ own limit.
-    let offer = shown-len c.peek-shown.result.packet c.packet_len.result c.in-Some.len c.packet_len.ensures.some c.in-Some.is in
-    let shown = sym c.peek-shown.ensures.peeked.shown.packet ∙ offer.1 in
-    ap (λ (o : Option Descriptor). since_of o c.unwrap_or.result) offer.1
-    ∙ c.unwrap_or.ensures ∙ ap (λ (o : Option ℕ). unwrap_or o c.zero.result) c.dequeue_at_hand.ensures.since ∙ ap (unwrap_or (at_hand_since c.peek-shown.new.self)) c.zero.ensures
-    ∙ tbf-gave-since c.args.now own c.args.bucket.now limit c.args.child.now c.peek-shown.new.self offer.0 c.requires.ready c.peek-shown.ensures.peeked.after shown
-    (ap (allows c.args.bucket.now c.args.now) offer.2 ∙ sym c.spend.ensures.answer ∙ c.if-not-spend.false)
-
-pub disciplines::tbf::peek_child-returns-clause-held : goal.disciplines::tbf::peek_child-returns-clause-held
-disciplines::tbf::peek_child-returns-clause-held g t c =
-    λ own limit.
-    placed c.dequeue_child-shown.result.packet c.has_packet.result c.dequeue_child-shown.new.out _ c.dequeue_child-shown.new.since _ c.has_packet.ensures c.dequeue_child-shown.ensures.packet
-    (c.dequeue_child-shown.ensures.since own limit)
-
-pub disciplines::drr::dequeue_class-returns-in_default-packet_len-clause-since : goal.disciplines::drr::dequeue_class-returns-in_default-packet_len-clause-since
-disciplines::drr::dequeue_class-returns-in_default-packet_len-clause-since g t c =
+pub disciplines::drr::meet_class-returns-in_default-packet_len-clause-nothing : goal.disciplines::drr::meet_class-returns-in_default-packet_len-clause-nothing
+disciplines::drr::meet_class-returns-in_default-packet_len-clause-nothing g t c =
     let met = front-met c.requires.ready c.loop-place.invariant.0 c.front_place.ensures.lawful c.in-Some.place (sym c.in-Some.is ∙ c.front_place.ensures.place) in
     let shows = class-shown met c.index-classes-place.result c.peek_class-shown.ensures.asked c.peek_class-shown.ensures.told c.peek_class-shown.ensures.at_hand c.peek_class-shown.ensures.not_lost in
-    nothing-since met shows (c.packet_len.ensures.none c.in_default-packet_len.is) _
+    let empty = c.packet_len.ensures.none c.in_default-packet_len.is in
+    record {
+      empty = empty;
+      since = nothing-since met shows empty;
+      schedule = nothing-schedule met shows empty;
+      asked = nothing-asked met shows empty;
+    }
 
-pub disciplines::drr::dequeue_class-returns-in-Send-clause-since : goal.disciplines::drr::dequeue_class-returns-in-Send-clause-since
-disciplines::drr::dequeue_class-returns-in-Send-clause-since g t c =
+pub disciplines::drr::meet_class-returns-clause-nothing : goal.disciplines::drr::meet_class-returns-clause-nothing
+disciplines::drr::meet_class-returns-clause-nothing g t c =
+    let empty = ap (λ (s : Shown). s.packet) c.at_hand.ensures in
+    record {
+      empty = empty;
+      since = idle-since c.requires.ready c.loop-place.invariant.0 c.front_place.ensures.lawful _ c.in_default.is c.front_place.ensures.found;
+      schedule = idle-schedule c.requires.ready c.loop-place.invariant.0 c.front_place.ensures.lawful _ c.in_default.is c.front_place.ensures.found;
+      asked = idle-asked c.requires.ready c.loop-place.invariant.0 c.front_place.ensures.lawful _ c.in_default.is c.front_place.ensures.found empty
+          (record { dropped = ap (λ (s : Shown). s.dropped) c.at_hand.ensures; marked = ap (λ (s : Shown). s.marked) c.at_hand.ensures });
+    }
+
+pub disciplines::drr::meet_class-returns-in-Send-clause-met : goal.disciplines::drr::meet_class-returns-in-Send-clause-met
+disciplines::drr::meet_class-returns-in-Send-clause-met g t c =
     let met = front-met c.requires.ready c.loop-place.invariant.0 c.front_place.ensures.lawful c.in-Some.place (sym c.in-Some.is ∙ c.front_place.ensures.place) in
     let shows = class-shown met c.index-classes-place.result c.peek_class-shown.ensures.asked c.peek_class-shown.ensures.told c.peek_class-shown.ensures.at_hand c.peek_class-shown.ensures.not_lost in
     let offer = shown-len c.peek_class-shown.result.packet c.packet_len.result c.in-Some-packet_len.len c.packet_len.ensures.some c.in-Some-packet_len.is in
-    λ own.
-    ap (since_of c.peek_class-shown.result.packet) (c.dequeue_class_at_hand.ensures.since c.peek_class-shown.new.class shows.stored)
-    ∙ given-since met shows offer (sym c.in-Send.is ∙ c.turn.ensures.answer) c.turn.ensures.after c.dequeue_class_at_hand.ensures.given own
-
-pub disciplines::drr::dequeue_class-returns-clause-since : goal.disciplines::drr::dequeue_class-returns-clause-since
-disciplines::drr::dequeue_class-returns-clause-since g t c =
-    idle-since c.requires.ready c.loop-place.invariant.0 c.front_place.ensures.lawful _ c.in_default.is c.front_place.ensures.found (ap (λ (s : Shown). s.packet) c.at_hand.ensures) _
-
-pub disciplines::drr::peek_classes-returns-clause-held : goal.disciplines::drr::peek_classes-returns-clause-held
-disciplines::drr::peek_classes-returns-clause-held g t c =
-    λ own.
-    placed c.dequeue_class-shown.result.packet c.has_packet.result c.dequeue_class-shown.new.out _ c.dequeue_class-shown.new.since _ c.has_packet.ensures c.dequeue_class-shown.ensures.packet
-    (c.dequeue_class-shown.ensures.since own)
+    let send = sym c.in-Send.is ∙ c.turn.ensures.answer in
+    let here = λ (class : Node Kept) (at : slice_get (set c.loop-place.classes c.in-Some.place c.peek_class-shown.new.class) c.in-Some.place ≡ Some class). same_Some class c.peek_class-shown.new.class (sym at ∙ shows.stored) in
+    record {
+      inside = omega (arith, place-within met, length-set c.loop-place.classes c.in-Some.place c.peek_class-shown.new.class);
+      shown = λ class at. ap (λ (n : Node Kept). (pop n).shown) (here class at) ∙ given-packet met shows;
+      since = λ class at own. ap (λ (n : Node Kept). since_of c.peek_class-shown.result.packet (unwrap_or (at_hand_since n) 0)) (here class at) ∙ given-since met shows offer send c.turn.ensures.after own;
+      schedule = λ given ks gift own. given-schedule met shows offer send c.turn.ensures.after gift own;
+      asked = λ given ks gift own. given-asked met shows offer send c.turn.ensures.after gift own;
+    }
 
 pub node::Discipline::ask-peek_bands-requires : goal.node::Discipline::ask-peek_bands-requires
 node::Discipline::ask-peek_bands-requires g t c κs within =
