@@ -13,6 +13,7 @@ pub mod Promised
 pub mod Names
 pub mod Nodes
 pub mod Noting
+pub mod Oldest
 pub mod Readiness
 pub mod Sample
 pub mod Scripts
