@@ -1,13 +1,17 @@
--- The class of a drr that is met in turn, before it hands out its packet: what comes of it once it does (tc-drr(8)).
-use Rattle.std.specs.Prelude.{◌≡◌, ℕ, ◌<◌, List, Option, None, Some, length, slice_get, unwrap_or}
+-- A class of a drr that is met in turn, and the child of a tbf whose bucket has paid, before they hand out their packet: what comes of
+-- it once they do (tc-drr(8), tc-tbf(8)).
+use Rattle.std.specs.Prelude.{◌≡◌, ℕ, ◌<◌, List, [], ◌∷◌, None, Some, length, slice_get, unwrap_or}
 use Rattle.q_drr.specs.Schedule.{Schedule}
-use Rattle.q_model.specs.Ask.{ask_drr}
+use Rattle.q_packet.specs.Descriptor.{Descriptor}
+use Rattle.q_bucket.specs.Level.{TokenBucket}
+use Rattle.q_model.specs.Ask.{ask_drr, ask_tbf}
 use Rattle.q_model.specs.Node as spec
 use Rattle.q_model.specs.Node.{Own}
 use Rattle.q_model.specs.Pop.{pop}
 use Rattle.q_model.specs.Since.{at_hand_since, since_of}
 use Rattle.q_tree.specs.AskSteps.{AreAsked, IsGivenBy, answers}
-use Rattle.q_tree.specs.Kept.{Kept}
+use Rattle.q_model.specs.Work.{booked}
+use Rattle.q_tree.specs.Kept.{Kept, kept}
 use Rattle.q_tree.specs.Shown.{Shown}
 
 -- the class in this place can send the packet that is shown, and has it at hand
@@ -28,3 +32,15 @@ pub record AreUnserved (now : ℕ) (before after : Schedule) (ns ms : List (spec
   pub since : (own : Own) → 0 ≡ (ask_drr own (answers now ns) before).peeked.own.since
   pub schedule : (own : Own) → spec.Drr after ≡ (ask_drr own (answers now ns) before).peeked.own.discipline
   pub asked : (own : Own) → AreAsked (ask_drr own (answers now ns) before) ns ms s
+
+-- the bucket of a tbf has paid for the packet that its child shows, and still has at hand: what comes of it once the child hands it out
+pub record IsAllowed (now : ℕ) (p : Descriptor) (b : TokenBucket) (n m : spec.Node Kept) (s : Shown) : Type 0 where
+  pub shown : (pop m).shown ≡ Some p
+  pub since : (own : Own) (limit : ℕ) → unwrap_or (at_hand_since m) 0 ≡ (ask_tbf now own (answers now (n ∷ [])) b limit).peeked.own.since
+  pub asked : (c : spec.Node Kept) → c ≡ booked kept m (pop m).after → c.memory.counts.arrived ≡ m.memory.counts.arrived
+      → (own : Own) (limit : ℕ) → AreAsked (ask_tbf now own (answers now (n ∷ [])) b limit) (n ∷ []) (c ∷ []) s
+
+-- the child shows none, or the bucket does not allow it
+pub record IsWaiting (now : ℕ) (own : Own) (limit : ℕ) (b : TokenBucket) (n m : spec.Node Kept) (s : Shown) : Type 0 where
+  pub since : 0 ≡ (ask_tbf now own (answers now (n ∷ [])) b limit).peeked.own.since
+  pub asked : AreAsked (ask_tbf now own (answers now (n ∷ [])) b limit) (n ∷ []) (m ∷ []) s

@@ -1,6 +1,12 @@
-ghost use Rattle.std.specs.Prelude.{◌≡◌, None, is_some, option_map};
+ghost use Rattle.std.specs.Prelude.{◌≡◌, IsSome, None, is_some, option_map, unwrap_or};
+ghost use Rattle.q_model.specs.Pop.{pop};
+ghost use Rattle.q_model.specs.Since.{at_hand_since};
+ghost use Rattle.q_model.specs.Work.{booked};
+ghost use Rattle.q_tree.specs.Holding.{held_with};
+ghost use Rattle.q_tree.specs.Kept.{kept};
 ghost use Rattle.q_packet.specs.declared.stamped.Stamped.{Stamped};
 
+use crate::node::Node;
 use q_packet::{KeptPacket, Moment, SOME_KEPT};
 use std::marker::Model;
 
@@ -66,6 +72,18 @@ impl Held {
             return Some(self.since);
         }
         None
+    }
+
+    /// Dequeues the packet that this child has at hand, and holds it. When it arrived is known as long as the child has it.
+    pub(crate) fn hold(&mut self, child: &mut Node)
+        requires { IsSome (pop child.old).shown }
+        ensures held { self.new ≡ held_with (pop child.old).shown (unwrap_or (at_hand_since child.old) 0) }
+        ensures after { child.new ≡ booked kept child.old (pop child.old).after }
+        ensures arrived { child.new.memory.counts.arrived ≡ child.old.memory.counts.arrived }
+    {
+        self.since = child.at_hand_since().unwrap_or(Moment::zero());
+        child.dequeue_at_hand(&mut self.place);
+        self.holds = true;
     }
 
     /// The packet leaves.

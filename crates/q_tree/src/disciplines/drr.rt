@@ -180,10 +180,8 @@ pub(crate) fn peek_classes<S: Sink>(
 {
     let (shown, met) = meet_class(active, classes, now, signals, sink);
     if let Some(place) = met {
-        // When it arrived is known as long as the class has it.
-        held.since = classes[place].at_hand_since().unwrap_or(Moment::zero());
-        dequeue_class_at_hand(active, classes, place, &mut held.place);
-        held.holds = true;
+        held.hold(&mut classes[place]);
+        settle(active, place, classes[place].is_empty());
     }
     shown
 }

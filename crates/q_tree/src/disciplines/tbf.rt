@@ -1,5 +1,5 @@
 //! tbf: how one is made, dequeues, shows its packet, is ready, and changes (tc-tbf(8)).
-ghost use Rattle.std.specs.Prelude.{◌≡◌, ◌≤◌, [], ◌∷◌, IfOk, None, length, unwrap_or, ℕ};
+ghost use Rattle.std.specs.Prelude.{◌≡◌, ◌≤◌, [], ◌∷◌, IfOk, None, Some, length, unwrap_or, ℕ};
 ghost use Rattle.q_invariants.proofs.Kept.{IsLawfulRoot};
 ghost use Rattle.q_model.specs.Ask.{ask_tbf};
 ghost use Rattle.q_model.specs.Beneath.{beneath};
@@ -8,7 +8,9 @@ ghost use Rattle.q_model.specs.Node.{Own, Tbf, shape};
 ghost use Rattle.q_tree.specs.AskSteps.{AreAsked, CanAsk, IsToldOf, answers, no_signals, signals_of};
 ghost use Rattle.q_tree.specs.Changing.{tbf_answer};
 ghost use Rattle.q_tree.specs.Holding.{held_with};
+ghost use Rattle.q_packet.specs.Descriptor.{Descriptor};
 ghost use Rattle.q_tree.specs.Making.{IsNewTbf};
+ghost use Rattle.q_tree.specs.Meeting.{IsAllowed, IsWaiting};
 ghost use Rattle.q_tree.specs.ReadyAt.{covers_at, shaped, shaped_after};
 ghost use Rattle.q_tree.specs.DisciplineChanges.{IsChangedBy, leaf_limited};
 ghost use Rattle.q_tree.specs.declared.commands.discipline_change.DisciplineChange.TheVariants.{SetBucket};
@@ -76,6 +78,35 @@ pub(crate) fn dequeue_child<S: Sink>(
     ensures signals { signals.new ≡ signals_of result }
     ensures kept { S.keeps sink.old sink.new }
 {
+    let shown = allow_child(bucket, child, now, signals, sink);
+    if shown.has_packet() {
+        // What is handed out is what was shown.
+        child.dequeue_at_hand(out);
+    }
+    shown
+}
+
+// The same up to where the packet is handed out: the child still has it at hand.
+#[cycle(peek)]
+#[inline(always)]
+fn allow_child<S: Sink>(
+    bucket: &mut Bucket,
+    child: &mut Node,
+    now: Moment,
+    signals: &mut Signals,
+    sink: &mut S,
+) -> Shown
+    requires ready { CanAsk now child.old }
+    requires order { bucket.old.last ≤ now }
+    requires sink { length (beneath child.old) ≤ S.room sink.old }
+    requires clean { signals.old ≡ no_signals }
+    ensures bucket { (own : Own) (limit : ℕ) → own.discipline ≡ Tbf bucket.old limit → Tbf bucket.new limit ≡ (ask_tbf now own (answers now (child.old ∷ [])) bucket.old limit).peeked.own.discipline }
+    ensures allowed { (p : Descriptor) → result.packet ≡ Some p → IsAllowed now p bucket.old child.old child.new result }
+    ensures waits { result.packet ≡ None → (own : Own) (limit : ℕ) → IsWaiting now own limit bucket.old child.old child.new result }
+    ensures told { (own : Own) (limit : ℕ) → IsToldOf (ask_tbf now own (answers now (child.old ∷ [])) bucket.old limit).rises (S.losses sink.old) (S.losses sink.new) (S.room sink.old) (S.room sink.new) }
+    ensures signals { signals.new ≡ signals_of result }
+    ensures kept { S.keeps sink.old sink.new }
+{
     let shown = child.peek(now, signals, sink);
     let Some(len) = shown.packet_len() else {
         return shown;
@@ -83,8 +114,6 @@ pub(crate) fn dequeue_child<S: Sink>(
     if !bucket.spend(now, len) {
         return shown.showing(&None);
     }
-    // What is handed out is what was shown.
-    child.dequeue_at_hand(out);
     shown
 }
 
@@ -111,17 +140,10 @@ pub(crate) fn peek_child<S: Sink>(
     ensures signals { signals.new ≡ signals_of result }
     ensures kept { S.keeps sink.old sink.new }
 {
-    let shown = child.peek(now, signals, sink);
-    let Some(len) = shown.packet_len() else {
-        return shown;
-    };
-    if !bucket.spend(now, len) {
-        return shown.showing(&None);
+    let shown = allow_child(bucket, child, now, signals, sink);
+    if shown.has_packet() {
+        held.hold(child);
     }
-    // When it arrived is known as long as the child has it.
-    held.since = child.at_hand_since().unwrap_or(Moment::zero());
-    child.dequeue_at_hand(&mut held.place);
-    held.holds = true;
     shown
 }
 
