@@ -52,3 +52,12 @@ pub arrival-held : (h : Option Stamped) (p : Descriptor) (other : Option ℕ) �
     → option_map (λ (s : Stamped). s.at) h ≡ option_map_or (λ (q : Descriptor). Some (since_held h)) (packet_held h) other
 arrival-held None p other e = absurd (none-some p e)
 arrival-held (Some s) p other e = refl
+
+-- a packet that may be there
+pub some-there : (o : Option Descriptor) → is_some o ≡ true → (p : Descriptor) × (o ≡ Some p)
+some-there None e = absurd (false≢true e)
+some-there (Some p) e = (p, refl)
+
+pub none-there : (o : Option Descriptor) → is_some o ≡ false → o ≡ None
+none-there None e = refl
+none-there (Some p) e = absurd (false≢true (sym e))

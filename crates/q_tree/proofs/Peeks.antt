@@ -1,6 +1,6 @@
 -- A node that is asked: what its discipline can rely on, what is booked, and what the node is then.
 use Rattle.std.proofs.Common.{◌≡◌, ℕ, ◌≤◌, ◌<◌, ◌^◌, ◌∙◌, List, [], ◌∷◌, ◌++◌, map, take, drop, length, refl, sym, ap, ap₂, subst, Option, Some, None, option_to_list, flat_map, arith}
-use Rattle.std.specs.Prelude.{Bool, true, is_some, if◌then◌else◌, unwrap_or}
+use Rattle.std.specs.Prelude.{Bool, true, false, is_some, if◌then◌else◌, unwrap_or}
 use Rattle.std.specs.Option.{option_map_or}
 use Rattle.std.specs.List.{All}
 use Rattle.std.proofs.lemmas.List.{append-nil, drop_all, take_all, length-append, length-map}
@@ -120,6 +120,31 @@ tbf-none-since now own b limit n silent =
     let a : Asked = ask now (shape n) in
     let below : List Asked = a ∷ [] in
     ap (λ (o : Option Descriptor). (option_map_or (λ (p : Descriptor). if allows b now p.len then spends own below b limit now a p else waits own below a) o (waits own below a)).peeked.own.since) (sym silent)
+
+-- one whose bucket does not allow what its child shows
+pub tbf-waits : (now : ℕ) (own : Own) (b : TokenBucket) (limit : ℕ) (n m : Node Kept) (p : Descriptor) (r s : Shown) → m ≡ booked kept n (ask now (shape n)).peeked → m.memory.counts.arrived ≡ n.memory.counts.arrived → IsShown (ask now (shape n)) r
+    → (ask now (shape n)).shown ≡ Some p → allows b now p.len ≡ false → s.packet ≡ None → s.dropped ≡ r.dropped → s.marked ≡ r.marked
+    → AreAsked (ask_child now own (ask now (shape n) ∷ []) b limit (ask now (shape n))) (n ∷ []) (m ∷ []) s
+tbf-waits now own b limit n m p r s new arrived told shown may none dropped marked =
+    let a : Asked = ask now (shape n) in
+    let below : List Asked = a ∷ [] in
+    let is : ask_child now own below b limit a ≡ waits own below a =
+    ap (λ (o : Option Descriptor). option_map_or (λ (p : Descriptor). if allows b now p.len then spends own below b limit now a p else waits own below a) o (waits own below a)) shown
+    ∙ ap (λ (t : Bool). if t then spends own below b limit now a p else waits own below a) may in
+    subst (λ (x : Asked). AreAsked x (n ∷ []) (m ∷ []) s) (sym is) (record {
+      long = refl;
+      nodes = ap (λ (x : Node Kept). side_by_side (x ∷ [])) new;
+      within = λ t all. set-within (n ∷ []) 0 n m refl arrived t all;
+      shown = record { packet = none; dropped = dropped ∙ told.dropped; marked = marked ∙ told.marked };
+    })
+
+pub tbf-waits-since : (now : ℕ) (own : Own) (b : TokenBucket) (limit : ℕ) (n : Node Kept) (p : Descriptor) → (ask now (shape n)).shown ≡ Some p → allows b now p.len ≡ false
+    → 0 ≡ (ask_child now own (ask now (shape n) ∷ []) b limit (ask now (shape n))).peeked.own.since
+tbf-waits-since now own b limit n p shown may =
+    let a : Asked = ask now (shape n) in
+    let below : List Asked = a ∷ [] in
+    ap (λ (t : Bool). (if t then spends own below b limit now a p else waits own below a).peeked.own.since) (sym may)
+    ∙ ap (λ (o : Option Descriptor). (option_map_or (λ (p : Descriptor). if allows b now p.len then spends own below b limit now a p else waits own below a) o (waits own below a)).peeked.own.since) (sym shown)
 
 -- children of a discipline that can be asked
 abbrev each-here : (now : ℕ) (d : Discipline) → CanAskIn now d → CanAskEach now (children_seen d)

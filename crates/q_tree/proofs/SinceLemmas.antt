@@ -1,6 +1,7 @@
 -- When the packet arrived that a node has at hand, and that an fq_codel sends.
-use Rattle.std.proofs.Common.{◌≡◌, ℕ, suc, ◌+◌, ◌<◌, ◌∙◌, List, [], ◌∷◌, map, length, refl, sym, ap, Option, Some, None, option_map, option_and_then, arith}
-use Rattle.std.specs.Prelude.{Bool, true, false, not, cond, is_some, slice_get}
+use Rattle.std.proofs.Common.{◌≡◌, ℕ, suc, ◌+◌, ◌≤◌, ◌<◌, ◌∙◌, List, [], ◌∷◌, map, drop, length, refl, sym, ap, Option, Some, None, option_map, option_and_then, arith}
+use Rattle.std.specs.Prelude.{Bool, true, false, not, cond, is_some, slice_get, slice_index_or}
+use Rattle.std.proofs.lemmas.List.{drop_more, drop_all}
 use Rattle.std.specs.List.{position_or_len}
 use Rattle.std.specs.Option.{option_map_or}
 use Rattle.std.proofs.lemmas.Option.{none-some, slice_get-map}
@@ -118,3 +119,43 @@ none-since n e = by (at_hand_since n) (since-alike n ∙ ap is_some e)
     by : (o : Option ℕ) → is_some o ≡ false → None ≡ o
     by None h = refl
     by (Some x) h = absurd (false≢true (sym h))
+
+-- bands in order
+next : (n : ℕ) → 1 + n ≡ suc n
+next n = omega arith
+
+since-some : (o : Option ℕ) (ts : List (Option ℕ)) (t : ℕ) → o ≡ Some t → first_since (o ∷ ts) ≡ Some t
+since-some o ts t e = ap (λ (x : Option ℕ). first_since (x ∷ ts)) e
+
+since-none : (o : Option ℕ) (ts : List (Option ℕ)) → o ≡ None → first_since (o ∷ ts) ≡ first_since ts
+since-none o ts e =
+    ap (λ (x : Option ℕ). first_since (x ∷ ts)) e
+    ∙ ap (λ (n : ℕ). option_and_then (λ (x : Option ℕ). x) (slice_get (None ∷ ts) n)) (next (first_timed ts))
+
+times-of : (ns : List (Node Kept)) (i : ℕ) (x : Node Kept) → i < length ns → x ≡ slice_index_or ns i x
+    → map at_hand_since (drop i ns) ≡ at_hand_since x ∷ map at_hand_since (drop (i + 1) ns)
+times-of ns i x inside is =
+    ap (map (λ (n : Node Kept). at_hand_since n)) (drop_more ns i x inside) ∙ ap (λ (y : Node Kept). at_hand_since y ∷ map at_hand_since (drop (i + 1) ns)) (sym is)
+
+pub found-since : (ns : List (Node Kept)) (i : ℕ) (x : Node Kept) (t : ℕ) → i < length ns → x ≡ slice_index_or ns i x
+    → first_since (map at_hand_since (drop i ns)) ≡ first_since (map at_hand_since ns) → at_hand_since x ≡ Some t → Some t ≡ first_since (map at_hand_since ns)
+found-since ns i x t inside is same e =
+    sym (since-some (at_hand_since x) (map at_hand_since (drop (i + 1) ns)) t e) ∙ sym (ap first_since (times-of ns i x inside is)) ∙ same
+
+pub passed-since : (ns : List (Node Kept)) (i : ℕ) (x : Node Kept) → i < length ns → x ≡ slice_index_or ns i x
+    → first_since (map at_hand_since (drop i ns)) ≡ first_since (map at_hand_since ns) → at_hand_since x ≡ None
+    → first_since (map at_hand_since (drop (i + 1) ns)) ≡ first_since (map at_hand_since ns)
+passed-since ns i x inside is same e =
+    sym (since-none (at_hand_since x) (map at_hand_since (drop (i + 1) ns)) e) ∙ sym (ap first_since (times-of ns i x inside is)) ∙ same
+
+pub nobody-since : (ns : List (Node Kept)) (i : ℕ) → length ns ≤ i → first_since (map at_hand_since (drop i ns)) ≡ first_since (map at_hand_since ns)
+    → None ≡ first_since (map at_hand_since ns)
+nobody-since ns i past same = sym (ap (λ (xs : List (Node Kept)). first_since (map at_hand_since xs)) (drop_all i ns past)) ∙ same
+
+-- what a discipline has, of a node that holds none
+pub kind-since : (a : Inside) (d : Discipline) (ns : List (Node Kept)) → packet_held a.held ≡ None → discipline_seen a.discipline ≡ d → ns ≡ children_seen a.discipline
+    → since_in (map at_hand_since ns) d ≡ at_hand_since (seen a)
+kind-since a d ns none is kids =
+    ap (λ (xs : List (Node Kept)). since_in (map at_hand_since xs) d) kids
+    ∙ sym (ap (since_in (map at_hand_since (children_seen a.discipline))) is)
+    ∙ own-since a none

@@ -1,6 +1,6 @@
 -- A class of a drr that is met in turn, and the child of a tbf whose bucket has paid, before they hand out their packet: what comes of
 -- it once they do (tc-drr(8), tc-tbf(8)).
-use Rattle.std.specs.Prelude.{◌≡◌, ℕ, ◌<◌, List, [], ◌∷◌, None, Some, length, slice_get, unwrap_or}
+use Rattle.std.specs.Prelude.{◌≡◌, ℕ, ◌<◌, List, [], ◌∷◌, IsSome, None, Some, length, slice_get, unwrap_or}
 use Rattle.q_drr.specs.Schedule.{Schedule}
 use Rattle.q_packet.specs.Descriptor.{Descriptor}
 use Rattle.q_bucket.specs.Level.{TokenBucket}
@@ -17,6 +17,7 @@ use Rattle.q_tree.specs.Shown.{Shown}
 -- the class in this place can send the packet that is shown, and has it at hand
 pub record IsMet (now place : ℕ) (before after : Schedule) (ns ms : List (spec.Node Kept)) (s : Shown) : Type 0 where
   pub inside : place < length ms
+  pub some : IsSome s.packet
   pub shown : (c : spec.Node Kept) → slice_get ms place ≡ Some c → (pop c).shown ≡ s.packet
   pub since : (c : spec.Node Kept) → slice_get ms place ≡ Some c
       → (own : Own) → since_of s.packet (unwrap_or (at_hand_since c) 0) ≡ (ask_drr own (answers now ns) before).peeked.own.since

@@ -1,5 +1,5 @@
-use Rattle.std.proofs.Common.{◌∙◌, [], ◌∷◌, set, length, add-one, refl, sym, ap, subst, arith, rules, Option, Some}
-use Rattle.std.specs.Prelude.{slice_index_or, unwrap_or, slice_get}
+use Rattle.std.proofs.Common.{◌∙◌, [], ◌∷◌, set, length, add-one, refl, sym, ap, ap₂, subst, arith, rules, Option, Some}
+use Rattle.std.specs.Prelude.{is_some, slice_index_or, unwrap_or, slice_get}
 use Rattle.std.proofs.lemmas.List.{length-set}
 use Rattle.std.specs.Box.{with_value}
 use Rattle.std.specs.Vec.{with_items}
@@ -19,17 +19,17 @@ use Rattle.q_tree.proofs.AskBands.{AreBandsAsked, told_to, band-at, band-once, b
 use Rattle.q_tree.proofs.AskOnce.{fits-beside, told-nothing, told-then}
 use Rattle.q_tree.proofs.AtHandLemmas.{none-held, some-held, shown-len}
 use Rattle.q_tree.proofs.HereLemmas.{flow-packets}
-use Rattle.q_tree.proofs.Peeks.{asked-in, told-in, each-of, room-of, own-room, items-are, serve-of, holding-after, can-in, enough, can-book, peeked-done, shown-here, told-here, tbf-gave, tbf-none, hand-asked, tbf-gave-since, tbf-none-since}
+use Rattle.q_tree.proofs.Peeks.{asked-in, told-in, each-of, room-of, own-room, items-are, serve-of, holding-after, can-in, enough, can-book, peeked-done, shown-here, told-here, tbf-gave, tbf-none, hand-asked, tbf-gave-since, tbf-none-since, tbf-waits, tbf-waits-since}
 use Rattle.q_tree.proofs.ServeLemmas.{classes-go-on, classes-start, class-once, class-shown, class-size, fewer-grants, front-met, given-asked, given-packet, given-schedule, given-told, idle-asked, idle-schedule, idle-told, nothing-asked, nothing-schedule, nothing-told, place-within, short-enough, nothing-since, given-since, idle-since}
 use Rattle.q_tree.proofs.Quiet.{shown-nothing}
 use Rattle.q_tree.proofs.RouteLemmas.{child-size, children-size}
 use Rattle.q_tree.proofs.TakeCounts.{flow-told}
 use Rattle.q_tree.proofs.+peek.Goals as goal
-use Rattle.q_tree.proofs.HeldLemmas.{none-kept, some-kept, placed, empty-held}
+use Rattle.q_tree.proofs.HeldLemmas.{none-kept, some-kept, some-there, none-there, empty-held}
 use Rattle.q_tree.specs.Holding.{held_with}
 use Rattle.q_model.specs.Since.{at_hand_since, since_of}
 use Rattle.q_packet.specs.Descriptor.{Descriptor}
-use Rattle.std.proofs.lemmas.Option.{same_Some}
+use Rattle.std.proofs.lemmas.Option.{none-some, same_Some}
 
 pub disciplines::drr::peek_class_further-then-requires-clause-dropped_packets : goal.disciplines::drr::peek_class_further-then-requires-clause-dropped_packets
 disciplines::drr::peek_class_further-then-requires-clause-dropped_packets g t c = (fits-beside c.args.now c.args.class.now c.args.so_far c.peek-next.result (g.S.Sink.room c.args.sink.now) c.requires.ready c.peek-next.ensures.peeked.shown).dropped_packets
@@ -43,41 +43,76 @@ disciplines::drr::peek_class_further-then-requires-clause-marked_packets g t c =
 pub disciplines::drr::peek_class_further-then-requires-clause-marked_bytes : goal.disciplines::drr::peek_class_further-then-requires-clause-marked_bytes
 disciplines::drr::peek_class_further-then-requires-clause-marked_bytes g t c = (fits-beside c.args.now c.args.class.now c.args.so_far c.peek-next.result (g.S.Sink.room c.args.sink.now) c.requires.ready c.peek-next.ensures.peeked.shown).marked_bytes
 
-pub disciplines::tbf::peek_child-returns-in_default-clause-after :
-    goal.disciplines::tbf::peek_child-returns-in_default-clause-after
-disciplines::tbf::peek_child-returns-in_default-clause-after g t c = λ own limit.
-    tbf-none c.args.now own c.args.bucket.now limit c.args.child.now c.peek-shown.new.self c.peek-shown.result c.peek-shown.ensures.peeked.after c.peek-shown.ensures.peeked.arrived c.peek-shown.ensures.peeked.shown (c.packet_len.ensures.none c.in_default.is)
+pub disciplines::tbf::allow_child-returns-in_default-clause-allowed : goal.disciplines::tbf::allow_child-returns-in_default-clause-allowed
+disciplines::tbf::allow_child-returns-in_default-clause-allowed g t c = λ p is. absurd (none-some p (sym (c.packet_len.ensures.none c.in_default.is) ∙ is))
+
+pub disciplines::tbf::allow_child-returns-in_default-clause-waits : goal.disciplines::tbf::allow_child-returns-in_default-clause-waits
+disciplines::tbf::allow_child-returns-in_default-clause-waits g t c = λ none own limit. record {
+  since = tbf-none-since c.args.now own c.args.bucket.now limit c.args.child.now (sym c.peek-shown.ensures.peeked.shown.packet ∙ none);
+  asked = tbf-none c.args.now own c.args.bucket.now limit c.args.child.now c.peek-shown.new.self c.peek-shown.result c.peek-shown.ensures.peeked.after c.peek-shown.ensures.peeked.arrived c.peek-shown.ensures.peeked.shown none;
+}
+
+pub disciplines::tbf::allow_child-returns-then-not-spend-clause-allowed : goal.disciplines::tbf::allow_child-returns-then-not-spend-clause-allowed
+disciplines::tbf::allow_child-returns-then-not-spend-clause-allowed g t c = λ p is. absurd (none-some p (sym (ap (λ (s : Shown). s.packet) c.showing.ensures) ∙ is))
+
+pub disciplines::tbf::allow_child-returns-then-not-spend-clause-waits : goal.disciplines::tbf::allow_child-returns-then-not-spend-clause-waits
+disciplines::tbf::allow_child-returns-then-not-spend-clause-waits g t c = λ none own limit.
+    let offer = shown-len c.peek-shown.result.packet c.packet_len.result c.in-Some.len c.packet_len.ensures.some c.in-Some.is in
+    let shown = sym c.peek-shown.ensures.peeked.shown.packet ∙ offer.1 in
+    let may = ap (allows c.args.bucket.now c.args.now) offer.2 ∙ sym c.spend.ensures.answer ∙ c.if-not-spend.true in
+    record {
+      since = tbf-waits-since c.args.now own c.args.bucket.now limit c.args.child.now offer.0 shown may;
+      asked = tbf-waits c.args.now own c.args.bucket.now limit c.args.child.now c.peek-shown.new.self offer.0 c.peek-shown.result c.showing.result c.peek-shown.ensures.peeked.after c.peek-shown.ensures.peeked.arrived c.peek-shown.ensures.peeked.shown
+          shown may none (ap (λ (s : Shown). s.dropped) c.showing.ensures) (ap (λ (s : Shown). s.marked) c.showing.ensures);
+    }
+
+pub disciplines::tbf::allow_child-returns-then-not-spend-clause-signals : goal.disciplines::tbf::allow_child-returns-then-not-spend-clause-signals
+disciplines::tbf::allow_child-returns-then-not-spend-clause-signals g t c = c.peek-shown.ensures.peeked.signals ∙ sym (ap signals_of c.showing.ensures)
+
+pub disciplines::tbf::allow_child-returns-clause-allowed : goal.disciplines::tbf::allow_child-returns-clause-allowed
+disciplines::tbf::allow_child-returns-clause-allowed g t c = λ p is.
+    let offer = shown-len c.peek-shown.result.packet c.packet_len.result c.in-Some.len c.packet_len.ensures.some c.in-Some.is in
+    let shown = sym c.peek-shown.ensures.peeked.shown.packet ∙ offer.1 in
+    let may = ap (allows c.args.bucket.now c.args.now) offer.2 ∙ sym c.spend.ensures.answer ∙ c.if-not-spend.false in
+    let given = hand-asked c.args.now c.args.child.now c.peek-shown.new.self c.requires.ready c.peek-shown.ensures.peeked.after in
+    record {
+      shown = given ∙ sym c.peek-shown.ensures.peeked.shown.packet ∙ is;
+      since = λ own limit. tbf-gave-since c.args.now own c.args.bucket.now limit c.args.child.now c.peek-shown.new.self offer.0 c.requires.ready c.peek-shown.ensures.peeked.after shown may;
+      asked = λ child after arrived own limit.
+          tbf-gave c.args.now own c.args.bucket.now limit c.args.child.now c.peek-shown.new.self child offer.0 c.peek-shown.result
+          c.requires.ready c.peek-shown.ensures.peeked.after shown may after (arrived ∙ c.peek-shown.ensures.peeked.arrived) (c.peek-shown.ensures.peeked.shown.packet ∙ sym given) c.peek-shown.ensures.peeked.shown.dropped c.peek-shown.ensures.peeked.shown.marked;
+    }
+
+pub disciplines::tbf::allow_child-returns-clause-waits : goal.disciplines::tbf::allow_child-returns-clause-waits
+disciplines::tbf::allow_child-returns-clause-waits g t c = λ none own limit.
+    let offer = shown-len c.peek-shown.result.packet c.packet_len.result c.in-Some.len c.packet_len.ensures.some c.in-Some.is in
+    absurd (none-some offer.0 (sym none ∙ offer.1))
+
+pub disciplines::tbf::peek_child-hold-requires : goal.disciplines::tbf::peek_child-hold-requires
+disciplines::tbf::peek_child-hold-requires g t c =
+    let there = some-there c.allow_child-shown.result.packet (sym c.has_packet.ensures ∙ c.if-has_packet.true) in
+    ap is_some (c.allow_child-shown.ensures.allowed there.0 there.1).shown
+
+pub disciplines::tbf::peek_child-returns-then-has_packet-clause-after : goal.disciplines::tbf::peek_child-returns-then-has_packet-clause-after
+disciplines::tbf::peek_child-returns-then-has_packet-clause-after g t c = λ own limit.
+    let there = some-there c.allow_child-shown.result.packet (sym c.has_packet.ensures ∙ c.if-has_packet.true) in
+    (c.allow_child-shown.ensures.allowed there.0 there.1).asked c.hold.new.child c.hold.ensures.after c.hold.ensures.arrived own limit
+
+pub disciplines::tbf::peek_child-returns-then-has_packet-clause-held : goal.disciplines::tbf::peek_child-returns-then-has_packet-clause-held
+disciplines::tbf::peek_child-returns-then-has_packet-clause-held g t c = λ own limit.
+    let there = some-there c.allow_child-shown.result.packet (sym c.has_packet.ensures ∙ c.if-has_packet.true) in
+    let allowed = c.allow_child-shown.ensures.allowed there.0 there.1 in
+    c.hold.ensures.held ∙ ap₂ held_with (allowed.shown ∙ sym there.1) (allowed.since own limit)
 
 pub disciplines::tbf::peek_child-returns-clause-after : goal.disciplines::tbf::peek_child-returns-clause-after
 disciplines::tbf::peek_child-returns-clause-after g t c = λ own limit.
-    let offer = shown-len c.peek-shown.result.packet c.packet_len.result c.in-Some.len c.packet_len.ensures.some c.in-Some.is in
-    let shown = sym c.peek-shown.ensures.peeked.shown.packet ∙ offer.1 in
-    let given = hand-asked c.args.now c.args.child.now c.peek-shown.new.self c.requires.ready c.peek-shown.ensures.peeked.after in
-    tbf-gave c.args.now own c.args.bucket.now limit c.args.child.now c.peek-shown.new.self c.dequeue_at_hand.new.self offer.0 c.peek-shown.result
-    c.requires.ready c.peek-shown.ensures.peeked.after shown (ap (allows c.args.bucket.now c.args.now) offer.2 ∙ sym c.spend.ensures.answer ∙ c.if-not-spend.false) c.dequeue_at_hand.ensures.after (c.dequeue_at_hand.ensures.arrived ∙ c.peek-shown.ensures.peeked.arrived) (c.peek-shown.ensures.peeked.shown.packet ∙ sym given) c.peek-shown.ensures.peeked.shown.dropped c.peek-shown.ensures.peeked.shown.marked
-
-pub disciplines::tbf::peek_child-returns-then-not-spend-clause-signals : goal.disciplines::tbf::peek_child-returns-then-not-spend-clause-signals
-disciplines::tbf::peek_child-returns-then-not-spend-clause-signals g t c = c.peek-shown.ensures.peeked.signals ∙ sym (ap signals_of c.showing.ensures)
-
-
-pub disciplines::tbf::peek_child-returns-in_default-clause-held : goal.disciplines::tbf::peek_child-returns-in_default-clause-held
-disciplines::tbf::peek_child-returns-in_default-clause-held g t c = λ own limit.
-    c.requires.none ∙ ap (λ (o : Option Descriptor). held_with o (ask_tbf c.args.now own (answers c.args.now (c.args.child.now ∷ [])) c.args.bucket.now limit).peeked.own.since) (sym (c.packet_len.ensures.none c.in_default.is))
-
-pub disciplines::tbf::peek_child-returns-then-not-spend-clause-held : goal.disciplines::tbf::peek_child-returns-then-not-spend-clause-held
-disciplines::tbf::peek_child-returns-then-not-spend-clause-held g t c = λ own limit.
-    c.requires.none ∙ ap (λ (s : Shown). held_with s.packet (ask_tbf c.args.now own (answers c.args.now (c.args.child.now ∷ [])) c.args.bucket.now limit).peeked.own.since) (sym c.showing.ensures)
+    (c.allow_child-shown.ensures.waits (none-there c.allow_child-shown.result.packet (sym c.has_packet.ensures ∙ c.if-has_packet.false)) own limit).asked
 
 pub disciplines::tbf::peek_child-returns-clause-held : goal.disciplines::tbf::peek_child-returns-clause-held
 disciplines::tbf::peek_child-returns-clause-held g t c = λ own limit.
-    let offer = shown-len c.peek-shown.result.packet c.packet_len.result c.in-Some.len c.packet_len.ensures.some c.in-Some.is in
-    let shown = sym c.peek-shown.ensures.peeked.shown.packet ∙ offer.1 in
-    placed c.peek-shown.result.packet offer.0 c.dequeue_at_hand.new.out _ c.unwrap_or.result _ offer.1
-    (c.dequeue_at_hand.ensures.packet
-    ∙ ap (λ o. unwrap_or o _) (hand-asked c.args.now c.args.child.now c.peek-shown.new.self c.requires.ready c.peek-shown.ensures.peeked.after ∙ sym c.peek-shown.ensures.peeked.shown.packet))
-    (c.unwrap_or.ensures ∙ ap (λ (o : Option ℕ). unwrap_or o c.zero.result) c.at_hand_since.ensures ∙ ap (unwrap_or (at_hand_since c.peek-shown.new.self)) c.zero.ensures
-    ∙ tbf-gave-since c.args.now own c.args.bucket.now limit c.args.child.now c.peek-shown.new.self offer.0 c.requires.ready c.peek-shown.ensures.peeked.after shown
-    (ap (allows c.args.bucket.now c.args.now) offer.2 ∙ sym c.spend.ensures.answer ∙ c.if-not-spend.false))
+    c.requires.none
+    ∙ ap (λ (o : Option Descriptor). held_with o (ask_tbf c.args.now own (answers c.args.now (c.args.child.now ∷ [])) c.args.bucket.now limit).peeked.own.since)
+        (sym (none-there c.allow_child-shown.result.packet (sym c.has_packet.ensures ∙ c.if-has_packet.false)))
 
 pub disciplines::drr::meet_class-loop-place-init : goal.disciplines::drr::meet_class-loop-place-init
 disciplines::drr::meet_class-loop-place-init g t c = (
@@ -189,6 +224,7 @@ disciplines::drr::meet_class-returns-in-Send-clause-met g t c =
     let here = λ (class : Node Kept) (at : slice_get (set c.loop-place.classes c.in-Some.place c.peek_class-shown.new.class) c.in-Some.place ≡ Some class). same_Some class c.peek_class-shown.new.class (sym at ∙ shows.stored) in
     record {
       inside = omega (arith, place-within met, length-set c.loop-place.classes c.in-Some.place c.peek_class-shown.new.class);
+      some = ap is_some offer.1;
       shown = λ class at. ap (λ (n : Node Kept). (pop n).shown) (here class at) ∙ given-packet met shows;
       since = λ class at own. ap (λ (n : Node Kept). since_of c.peek_class-shown.result.packet (unwrap_or (at_hand_since n) 0)) (here class at) ∙ given-since met shows offer send c.turn.ensures.after own;
       schedule = λ given ks gift own. given-schedule met shows offer send c.turn.ensures.after gift own;

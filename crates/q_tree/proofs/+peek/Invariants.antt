@@ -44,6 +44,9 @@ decreases-disciplines::prio::peek_bands g l = 4 * forest_size (side_by_side l.ba
 abbrev pub decreases-disciplines::tbf::peek_child : goal.decreases-disciplines::tbf::peek_child
 decreases-disciplines::tbf::peek_child g l = 4 * node_size l.child.now + 3
 
+abbrev pub decreases-disciplines::tbf::allow_child : goal.decreases-disciplines::tbf::allow_child
+decreases-disciplines::tbf::allow_child g l = 4 * node_size l.child.now + 2
+
 abbrev pub decreases-disciplines::drr::peek_classes : goal.decreases-disciplines::drr::peek_classes
 decreases-disciplines::drr::peek_classes g l = 4 * forest_size (side_by_side l.classes.now) + 2
 
