@@ -1,26 +1,28 @@
 -- The oldest packet of a node of the code: of what it holds, of its own queues, and of its children.
-use Rattle.std.proofs.Common.{◌≡◌, ℕ, ◌+◌, ◌≤◌, ◌<◌, ◌∙◌, List, [], ◌∷◌, ◌++◌, map, drop, length, refl, sym, ap, ap₂, subst, Option, Some, None, option_map, arith}
-use Rattle.std.specs.Prelude.{All, slice_index_or}
+use Rattle.std.proofs.Common.{◌≡◌, ℕ, zero, suc, ◌+◌, ◌≤◌, ◌<◌, ◌∙◌, List, [], ◌∷◌, ◌++◌, map, drop, length, refl, sym, ap, ap₂, subst, Option, Some, None, option_map, arith}
+use Rattle.std.specs.Prelude.{All, slice_get, slice_index_or}
 use Rattle.std.specs.List.{flat_map}
 use Rattle.std.specs.Option.{option_to_list}
 use Rattle.std.proofs.lemmas.List.{append-nil, drop_more, drop_all}
 use Rattle.std.proofs.lemmas.List.Elements.{All-weaker}
+use Rattle.std.proofs.lemmas.Option.{none-some, same_Some}
 use Rattle.q_packet.specs.Descriptor.{Descriptor}
 use Rattle.q_packet.specs.declared.stamped.Stamped.{Stamped}
 use Rattle.q_codel.specs.declared.limit.Limit.{Limit}
 use Rattle.q_fqcodel.specs.FqState.{Flow, FqState}
 use Rattle.q_fqcodel.specs.Oldest.{earlier, earliest, first_arrival, first_arrivals}
 use Rattle.q_fqcodel.proofs.OldestLemmas.{earlier_assoc, earliest-append, earliest-one}
-use Rattle.q_model.specs.Beneath.{beneath}
+use Rattle.q_model.specs.Beneath.{beneath, beneath_own}
 use Rattle.q_model.specs.Lawful.{IsStampedBy, IsLawfulFlow, IsLawfulDiscipline}
 use Rattle.q_model.specs.Node as spec
-use Rattle.q_model.specs.Node.{Node}
+use Rattle.q_model.specs.Node.{Node, side_by_side}
 use Rattle.q_model.specs.Oldest.{arrivals_in, arrival_held, oldest_own, oldest}
-use Rattle.q_invariants.proofs.Forests.{each-side}
+use Rattle.q_invariants.proofs.Forests.{each-side, AreLawful}
+use Rattle.q_invariants.proofs.Kept.{AllLawful, IsLawfulRoot}
 use Rattle.q_invariants.proofs.Oldest.{first-oldest, flows-oldest, own-oldest}
 use Rattle.q_tree.specs.Holding.{packet_held, since_held}
 use Rattle.q_tree.specs.Kept.{Kept}
-use Rattle.q_tree.specs.Oldest.{oldest_of, oldest_within}
+use Rattle.q_tree.specs.Oldest.{IsInOrder, IsInOrderIn, AreAllInOrder, oldest_of, oldest_within}
 use Rattle.q_tree.specs.ReadyAt.{sooner}
 use Rattle.q_tree.specs.Seen.{seen, discipline_seen, children_seen}
 use Rattle.q_tree.specs.declared.node.Discipline.{Discipline}
@@ -85,3 +87,33 @@ oldest-end ns i first past = ap (λ (ms : List (Node Kept)). earlier first (olde
     none : (o : Option ℕ) → earlier o None ≡ o
     none None = refl
     none (Some x) = refl
+
+-- a lawful node, and its discipline
+pub inside-order : (a : Inside) (n : Node Kept) → seen a ≡ n → IsInOrder n → IsInOrderIn a.discipline
+inside-order a n view h =
+    let law : IsLawfulRoot h.mtu h.clock (seen a) = subst (IsLawfulRoot h.mtu h.clock) (sym view) h.lawful in
+    record {
+      mtu = h.mtu;
+      clock = h.clock;
+      own = subst (λ bs. IsLawfulDiscipline h.mtu h.clock bs (discipline_seen a.discipline)) (each-side beneath_own (children_seen a.discipline)) law.0.discipline;
+      lawful = from h.mtu h.clock (children_seen a.discipline) law.1;
+    }
+  where
+    from : (mtu clock : ℕ) (ns : List (Node Kept)) → AllLawful mtu clock (side_by_side ns) → AreLawful mtu clock ns
+    from mtu clock [] h = tt
+    from mtu clock (m ∷ ns) h = ((h.0, h.1), from mtu clock ns h.2)
+
+-- its children
+pub all-order : (d : Discipline) (ns : List (Node Kept)) → ns ≡ children_seen d → IsInOrderIn d → AreAllInOrder ns
+all-order d ns is h = record { mtu = h.mtu; clock = h.clock; lawful = subst (AreLawful h.mtu h.clock) (sym is) h.lawful }
+
+pub one-order : (d : Discipline) (n : Node Kept) → n ∷ [] ≡ children_seen d → IsInOrderIn d → IsInOrder n
+one-order d n is h = record { mtu = h.mtu; clock = h.clock; lawful = (subst (AreLawful h.mtu h.clock) (sym is) h.lawful).0 }
+
+pub each-order : (ns : List (Node Kept)) (i : ℕ) (x : Node Kept) → slice_get ns i ≡ Some x → AreAllInOrder ns → IsInOrder x
+each-order ns i x at h = record { mtu = h.mtu; clock = h.clock; lawful = found ns i at h.lawful }
+  where
+    found : (ns : List (Node Kept)) (i : ℕ) → slice_get ns i ≡ Some x → AreLawful h.mtu h.clock ns → IsLawfulRoot h.mtu h.clock x
+    found [] i at law = absurd (none-some x at)
+    found (n ∷ ns) zero at law = subst (IsLawfulRoot h.mtu h.clock) (same_Some n x at) law.0
+    found (n ∷ ns) (suc i) at law = found ns i at law.1

@@ -193,7 +193,7 @@ pub disciplines::drr::meet_class-returns-clause-signals : goal.disciplines::drr:
 disciplines::drr::meet_class-returns-clause-signals g t c = sym (ap signals_of c.at_hand.ensures)
 
 pub disciplines::drr::meet_class-returns-in_default-packet_len-clause-nothing : goal.disciplines::drr::meet_class-returns-in_default-packet_len-clause-nothing
-disciplines::drr::meet_class-returns-in_default-packet_len-clause-nothing g t c =
+disciplines::drr::meet_class-returns-in_default-packet_len-clause-nothing g t c = λ none.
     let met = front-met c.requires.ready c.loop-place.invariant.0 c.front_place.ensures.lawful c.in-Some.place (sym c.in-Some.is ∙ c.front_place.ensures.place) in
     let shows = class-shown met c.index-classes-place.result c.peek_class-shown.ensures.asked c.peek_class-shown.ensures.told c.peek_class-shown.ensures.at_hand c.peek_class-shown.ensures.not_lost in
     let empty = c.packet_len.ensures.none c.in_default-packet_len.is in
@@ -205,7 +205,7 @@ disciplines::drr::meet_class-returns-in_default-packet_len-clause-nothing g t c 
     }
 
 pub disciplines::drr::meet_class-returns-clause-nothing : goal.disciplines::drr::meet_class-returns-clause-nothing
-disciplines::drr::meet_class-returns-clause-nothing g t c =
+disciplines::drr::meet_class-returns-clause-nothing g t c = λ none.
     let empty = ap (λ (s : Shown). s.packet) c.at_hand.ensures in
     record {
       empty = empty;
@@ -215,8 +215,19 @@ disciplines::drr::meet_class-returns-clause-nothing g t c =
           (record { dropped = ap (λ (s : Shown). s.dropped) c.at_hand.ensures; marked = ap (λ (s : Shown). s.marked) c.at_hand.ensures });
     }
 
+pub disciplines::drr::meet_class-returns-in_default-packet_len-clause-met : goal.disciplines::drr::meet_class-returns-in_default-packet_len-clause-met
+disciplines::drr::meet_class-returns-in_default-packet_len-clause-met g t c = λ p is. absurd (none-some p (sym (c.packet_len.ensures.none c.in_default-packet_len.is) ∙ is))
+
+pub disciplines::drr::meet_class-returns-clause-met : goal.disciplines::drr::meet_class-returns-clause-met
+disciplines::drr::meet_class-returns-clause-met g t c = λ p is. absurd (none-some p (sym (ap (λ (s : Shown). s.packet) c.at_hand.ensures) ∙ is))
+
+pub disciplines::drr::meet_class-returns-in-Send-clause-nothing : goal.disciplines::drr::meet_class-returns-in-Send-clause-nothing
+disciplines::drr::meet_class-returns-in-Send-clause-nothing g t c = λ none.
+    let offer = shown-len c.peek_class-shown.result.packet c.packet_len.result c.in-Some-packet_len.len c.packet_len.ensures.some c.in-Some-packet_len.is in
+    absurd (none-some offer.0 (sym none ∙ offer.1))
+
 pub disciplines::drr::meet_class-returns-in-Send-clause-met : goal.disciplines::drr::meet_class-returns-in-Send-clause-met
-disciplines::drr::meet_class-returns-in-Send-clause-met g t c =
+disciplines::drr::meet_class-returns-in-Send-clause-met g t c = λ p is.
     let met = front-met c.requires.ready c.loop-place.invariant.0 c.front_place.ensures.lawful c.in-Some.place (sym c.in-Some.is ∙ c.front_place.ensures.place) in
     let shows = class-shown met c.index-classes-place.result c.peek_class-shown.ensures.asked c.peek_class-shown.ensures.told c.peek_class-shown.ensures.at_hand c.peek_class-shown.ensures.not_lost in
     let offer = shown-len c.peek_class-shown.result.packet c.packet_len.result c.in-Some-packet_len.len c.packet_len.ensures.some c.in-Some-packet_len.is in

@@ -1,6 +1,7 @@
 //! drr: how one chooses a class, dequeues, shows its packet, is ready, and changes (tc-drr(8)).
-ghost use Rattle.std.specs.Prelude.{◌≡◌, ◌<◌, ◌≤◌, IfNone, IfSome, None, OnErr, OnOk, Some, false, length, map, option_and_then, slice_get, true, unwrap_or};
+ghost use Rattle.std.specs.Prelude.{◌≡◌, ◌<◌, ◌≤◌, None, OnErr, OnOk, Some, false, length, map, option_and_then, slice_get, true, unwrap_or};
 ghost use Rattle.q_drr.specs.Schedule.{place_of};
+ghost use Rattle.q_packet.specs.Descriptor.{Descriptor};
 ghost use Rattle.q_model.specs.Ask.{ask, ask_drr};
 ghost use Rattle.q_model.specs.Beneath.{totals_in};
 ghost use Rattle.q_model.specs.Filters.{named_class};
@@ -94,32 +95,33 @@ pub(crate) fn dequeue_class<S: Sink>(
     ensures signals { signals.new ≡ signals_of result }
     ensures kept { S.keeps sink.old sink.new }
 {
-    let (shown, met) = meet_class(active, classes, now, signals, sink);
-    if let Some(place) = met {
+    let mut place = 0;
+    let shown = meet_class(active, classes, &mut place, now, signals, sink);
+    if shown.has_packet() {
         // What is handed out is what was shown.
         dequeue_class_at_hand(active, classes, place, out);
     }
     shown
 }
 
-// The same up to where the packet is handed out: the place of the class that can send it, which still has it at hand, and what is
-// shown; no place where none is.
+// The same up to where the packet is handed out: the class that can send it, whose place is written to `met`, still has it at hand.
 #[cycle(peek)]
 #[inline(always)]
 fn meet_class<S: Sink>(
     active: &mut Active,
     classes: &mut [Node],
+    met: &mut usize,
     now: Moment,
     signals: &mut Signals,
     sink: &mut S,
-) -> (Shown, Option<usize>)
+) -> Shown
     requires ready { CanServe now active.old classes.old }
     requires sink { length (packets_beneath classes.old) ≤ S.room sink.old }
     requires clean { signals.old ≡ no_signals }
-    ensures met { IfSome result.1 (λ place. IsMet now place active.old active.new classes.old classes.new result.0) }
-    ensures nothing { IfNone result.1 (AreUnserved now active.old active.new classes.old classes.new result.0) }
+    ensures met { (p : Descriptor) → result.packet ≡ Some p → IsMet now met.new active.old active.new classes.old classes.new result }
+    ensures nothing { result.packet ≡ None → AreUnserved now active.old active.new classes.old classes.new result }
     ensures told { (own : Own) → IsToldOf (ask_drr own (answers now classes.old) active.old).rises (S.losses sink.old) (S.losses sink.new) (S.room sink.old) (S.room sink.new) }
-    ensures signals { signals.new ≡ signals_of result.0 }
+    ensures signals { signals.new ≡ signals_of result }
     ensures kept { S.keeps sink.old sink.new }
 {
     let mut shown = Shown::at_hand(&None);
@@ -129,16 +131,19 @@ fn meet_class<S: Sink>(
         shown = peek_class(&mut classes[place], unasked > 0, shown, now, signals, sink);
         unasked = unasked.saturating_sub(1);
         let Some(len) = shown.packet_len() else {
-            return (shown, None);
+            return shown;
         };
         match active.turn(len) {
-            Turn::Send => return (shown, Some(place)),
+            Turn::Send => {
+                *met = place;
+                return shown;
+            }
             Turn::Granted => {}
         }
     }
     // No class was active, so nobody was asked.
     *signals = NO_SIGNALS;
-    (Shown::at_hand(&None), None)
+    Shown::at_hand(&None)
 }
 
 // The class in this place hands out its packet, and becomes inactive where that was its last.
@@ -178,8 +183,9 @@ pub(crate) fn peek_classes<S: Sink>(
     ensures signals { signals.new ≡ signals_of result }
     ensures kept { S.keeps sink.old sink.new }
 {
-    let (shown, met) = meet_class(active, classes, now, signals, sink);
-    if let Some(place) = met {
+    let mut place = 0;
+    let shown = meet_class(active, classes, &mut place, now, signals, sink);
+    if shown.has_packet() {
         held.hold(&mut classes[place]);
         settle(active, place, classes[place].is_empty());
     }
