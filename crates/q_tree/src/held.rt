@@ -75,6 +75,7 @@ impl Held {
     }
 
     /// Dequeues the packet that this child has at hand, and holds it. When it arrived is known as long as the child has it.
+    #[inline(always)]
     pub(crate) fn hold(&mut self, child: &mut Node)
         requires { IsSome (pop child.old).shown }
         ensures held { self.new ≡ held_with (pop child.old).shown (unwrap_or (at_hand_since child.old) 0) }

@@ -91,6 +91,7 @@ impl Node {
 
     /// When the packet arrived that the node has at hand. It is asked for only where another node is to hold that packet.
     #[cycle(at_hand_since)]
+    #[inline(always)]
     pub(crate) fn at_hand_since(&self) -> Option<Moment>
         ensures { result ≡ at_hand_since self.now }
     {
