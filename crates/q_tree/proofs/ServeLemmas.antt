@@ -1,10 +1,10 @@
 -- The classes of a drr that are asked in turn, until one is met that can send its packet, or shows none.
 use Rattle.std.proofs.Common.{◌≡◌, ℕ, zero, suc, ◌-◌, ◌≤◌, ◌<◌, ◌∙◌, List, [], ◌∷◌, ◌++◌, take, set, length, refl, sym, ap, ap₂, subst, inl, inr, ◌||◌, eq-eqb, Option, Some, None, option_and_then, option_map, arith}
-use Rattle.std.specs.Prelude.{true, false, is_some, nat_lt, ◌==◌, slice_get, slice_index_or, unwrap_or}
+use Rattle.std.specs.Prelude.{Bool, true, false, is_some, nat_lt, ◌==◌, slice_get, slice_index_or, unwrap_or}
 use Rattle.std.specs.List.{All, sum_by}
 use Rattle.std.specs.Option.{option_map_or}
 use Rattle.std.proofs.lemmas.Bool.{cases_lt, cases_Bool, eqb-true, ltb-true, ltb-false, false≢true}
-use Rattle.std.proofs.lemmas.List.{length-map, length-set, take_all}
+use Rattle.std.proofs.lemmas.List.{length-map, length-set, take_all, get_or-set_same}
 use Rattle.std.proofs.lemmas.List.Elements.{All-head, All-set}
 use Rattle.std.proofs.lemmas.Option.{same_Some, slice_get-map, slice_get_within, get_or_from_slice_get}
 use Rattle.q_packet.specs.Descriptor.{Descriptor}
@@ -515,3 +515,22 @@ module _ {now : ℕ} {first s : Schedule} {ns ms : List (Node Kept)} {unasked : 
           marked = counted.marked ∙ ap (λ notes. (counts_in notes).marked) (sym (idle-rises own ∙ rises));
         };
       }
+
+-- the class in a place that is there
+pub class-there : (ns : List (Node Kept)) (i : ℕ) → i < length ns → (c : Node Kept) × (slice_get ns i ≡ Some c)
+class-there [] i inside = absurd (omega (arith, inside))
+class-there (n ∷ ns) zero inside = (n, refl)
+class-there (n ∷ ns) (suc i) inside = class-there ns i (omega (arith, inside))
+
+-- which has handed out its packet, after which the schedule was settled
+pub class-given : (ns : List (Node Kept)) (i : ℕ) (class x y z : Node Kept) (before after : Schedule) (e : Bool) → slice_get ns i ≡ Some class
+    → y ≡ booked kept (slice_index_or ns i x) (pop (slice_index_or ns i x)).after → y.memory.counts.arrived ≡ (slice_index_or ns i x).memory.counts.arrived
+    → e ≡ is_empty (slice_index_or (set ns i y) i z) → after ≡ settled_class i e before → IsGivenBy i class before after ns (set ns i y)
+class-given ns i class x y z before after e at left arrived empty settled =
+    let here : slice_index_or ns i x ≡ class = get_or_from_slice_get ns i class x at in
+    let new : y ≡ booked kept class (pop class).after = left ∙ ap (λ (n : Node Kept). booked kept n (pop n).after) here in
+    record {
+      classes = ap (set ns i) new;
+      schedule = settled ∙ ap (λ b. settled_class i b before) (empty ∙ ap (λ (n : Node Kept). is_empty n) (get_or-set_same ns i y z (slice_get_within ns i class at) ∙ new));
+      arrived = sym (ap (λ (n : Node Kept). n.memory.counts.arrived) new) ∙ arrived ∙ ap (λ (n : Node Kept). n.memory.counts.arrived) here;
+    }

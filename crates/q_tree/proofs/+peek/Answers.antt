@@ -5,7 +5,7 @@ use Rattle.std.specs.Box.{with_value}
 use Rattle.std.specs.Vec.{with_items}
 use Rattle.q_bucket.specs.Level.{allows}
 use Rattle.q_fqcodel.specs.FqState.{FqView}
-use Rattle.q_model.specs.Ask.{ask, ask_tbf}
+use Rattle.q_model.specs.Ask.{ask, ask_tbf, ask_drr}
 use Rattle.q_model.specs.Node as spec
 use Rattle.q_model.specs.Node.{Node, shape, side_by_side}
 use Rattle.q_model.specs.Pop.{pop}
@@ -17,15 +17,15 @@ use Rattle.q_tree.specs.declared.node.Discipline.TheVariants as code
 use Rattle.q_tree.specs.Shown.{Shown}
 use Rattle.q_tree.proofs.AskBands.{AreBandsAsked, told_to, band-at, band-once, band-shown, band-rises, band-passed, band-told, bands-start, bands-end, bands-rises}
 use Rattle.q_tree.proofs.AskOnce.{fits-beside, told-nothing, told-then}
-use Rattle.q_tree.proofs.AtHandLemmas.{none-held, some-held, shown-len}
+use Rattle.q_tree.proofs.AtHandLemmas.{none-held, some-held, shown-len, there-at}
 use Rattle.q_tree.proofs.HereLemmas.{flow-packets}
 use Rattle.q_tree.proofs.Peeks.{asked-in, told-in, each-of, room-of, own-room, items-are, serve-of, holding-after, can-in, enough, can-book, peeked-done, shown-here, told-here, tbf-gave, tbf-none, hand-asked, tbf-gave-since, tbf-none-since, tbf-waits, tbf-waits-since}
-use Rattle.q_tree.proofs.ServeLemmas.{classes-go-on, classes-start, class-once, class-shown, class-size, fewer-grants, front-met, given-asked, given-packet, given-schedule, given-told, idle-asked, idle-schedule, idle-told, nothing-asked, nothing-schedule, nothing-told, place-within, short-enough, nothing-since, given-since, idle-since}
+use Rattle.q_tree.proofs.ServeLemmas.{classes-go-on, classes-start, class-once, class-shown, class-size, fewer-grants, front-met, given-asked, given-packet, given-schedule, given-told, idle-asked, idle-schedule, idle-told, nothing-asked, nothing-schedule, nothing-told, place-within, short-enough, nothing-since, given-since, idle-since, class-given}
 use Rattle.q_tree.proofs.Quiet.{shown-nothing}
 use Rattle.q_tree.proofs.RouteLemmas.{child-size, children-size}
 use Rattle.q_tree.proofs.TakeCounts.{flow-told}
 use Rattle.q_tree.proofs.+peek.Goals as goal
-use Rattle.q_tree.proofs.HeldLemmas.{none-kept, some-kept, some-there, none-there, empty-held}
+use Rattle.q_tree.proofs.HeldLemmas.{none-kept, some-kept, some-there, none-there, empty-held, held-with}
 use Rattle.q_tree.specs.Holding.{held_with}
 use Rattle.q_model.specs.Since.{at_hand_since, since_of}
 use Rattle.q_packet.specs.Descriptor.{Descriptor}
@@ -241,6 +241,52 @@ disciplines::drr::meet_class-returns-in-Send-clause-met g t c = λ p is.
       schedule = λ given ks gift own. given-schedule met shows offer send c.turn.ensures.after gift own;
       asked = λ given ks gift own. given-asked met shows offer send c.turn.ensures.after gift own;
     }
+
+pub disciplines::drr::peek_classes-bounds-classes-place : goal.disciplines::drr::peek_classes-bounds-classes-place
+disciplines::drr::peek_classes-bounds-classes-place g t c = 
+    let there = some-there c.meet_class-shown.result.packet (sym c.has_packet.ensures ∙ c.if-has_packet.true) in
+    let met = c.meet_class-shown.ensures.met there.0 there.1 in
+    met.inside
+
+pub disciplines::drr::peek_classes-hold-requires : goal.disciplines::drr::peek_classes-hold-requires
+disciplines::drr::peek_classes-hold-requires g t c = 
+    let there = some-there c.meet_class-shown.result.packet (sym c.has_packet.ensures ∙ c.if-has_packet.true) in
+    let met = c.meet_class-shown.ensures.met there.0 there.1 in
+    ap is_some (met.shown c.index-classes-place.result (there-at c.meet_class-shown.new.classes c.meet_class-shown.new.met c.index-classes-place.result met.inside c.index-classes-place.is) ∙ there.1)
+
+pub disciplines::drr::peek_classes-returns-then-has_packet-clause-active : goal.disciplines::drr::peek_classes-returns-then-has_packet-clause-active
+disciplines::drr::peek_classes-returns-then-has_packet-clause-active g t c = λ own.
+    let there = some-there c.meet_class-shown.result.packet (sym c.has_packet.ensures ∙ c.if-has_packet.true) in
+    let met = c.meet_class-shown.ensures.met there.0 there.1 in
+    let given = λ class at. class-given c.meet_class-shown.new.classes c.meet_class-shown.new.met class c.index-classes-place.result c.hold.new.child c.index-classes-place-2.result c.meet_class-shown.new.active c.settle.new.active c.is_empty.result
+        at c.hold.ensures.after c.hold.ensures.arrived c.is_empty.ensures c.settle.ensures in
+    met.schedule c.settle.new.active (set c.meet_class-shown.new.classes c.meet_class-shown.new.met c.hold.new.child) given own
+
+pub disciplines::drr::peek_classes-returns-then-has_packet-clause-after : goal.disciplines::drr::peek_classes-returns-then-has_packet-clause-after
+disciplines::drr::peek_classes-returns-then-has_packet-clause-after g t c = λ own.
+    let there = some-there c.meet_class-shown.result.packet (sym c.has_packet.ensures ∙ c.if-has_packet.true) in
+    let met = c.meet_class-shown.ensures.met there.0 there.1 in
+    let given = λ class at. class-given c.meet_class-shown.new.classes c.meet_class-shown.new.met class c.index-classes-place.result c.hold.new.child c.index-classes-place-2.result c.meet_class-shown.new.active c.settle.new.active c.is_empty.result
+        at c.hold.ensures.after c.hold.ensures.arrived c.is_empty.ensures c.settle.ensures in
+    met.asked c.settle.new.active (set c.meet_class-shown.new.classes c.meet_class-shown.new.met c.hold.new.child) given own
+
+pub disciplines::drr::peek_classes-returns-then-has_packet-clause-held : goal.disciplines::drr::peek_classes-returns-then-has_packet-clause-held
+disciplines::drr::peek_classes-returns-then-has_packet-clause-held g t c = λ own.
+    let there = some-there c.meet_class-shown.result.packet (sym c.has_packet.ensures ∙ c.if-has_packet.true) in
+    let met = c.meet_class-shown.ensures.met there.0 there.1 in
+    let at = there-at c.meet_class-shown.new.classes c.meet_class-shown.new.met c.index-classes-place.result met.inside c.index-classes-place.is in
+    c.hold.ensures.held ∙ ap (λ (o : Option Descriptor). held_with o (unwrap_or (at_hand_since c.index-classes-place.result) 0)) (met.shown c.index-classes-place.result at)
+    ∙ held-with c.meet_class-shown.result.packet (unwrap_or (at_hand_since c.index-classes-place.result) 0) _ (met.since c.index-classes-place.result at own)
+
+pub disciplines::drr::peek_classes-returns-clause-active : goal.disciplines::drr::peek_classes-returns-clause-active
+disciplines::drr::peek_classes-returns-clause-active g t c = λ own. (c.meet_class-shown.ensures.nothing (none-there c.meet_class-shown.result.packet (sym c.has_packet.ensures ∙ c.if-has_packet.false))).schedule own
+
+pub disciplines::drr::peek_classes-returns-clause-after : goal.disciplines::drr::peek_classes-returns-clause-after
+disciplines::drr::peek_classes-returns-clause-after g t c = λ own. (c.meet_class-shown.ensures.nothing (none-there c.meet_class-shown.result.packet (sym c.has_packet.ensures ∙ c.if-has_packet.false))).asked own
+
+pub disciplines::drr::peek_classes-returns-clause-held : goal.disciplines::drr::peek_classes-returns-clause-held
+disciplines::drr::peek_classes-returns-clause-held g t c = λ own.
+    c.requires.none ∙ ap (λ (o : Option Descriptor). held_with o (ask_drr own (answers c.args.now c.args.classes.now) c.args.active.now).peeked.own.since) (sym (none-there c.meet_class-shown.result.packet (sym c.has_packet.ensures ∙ c.if-has_packet.false)))
 
 pub node::Discipline::ask-peek_bands-requires : goal.node::Discipline::ask-peek_bands-requires
 node::Discipline::ask-peek_bands-requires g t c κs within =
