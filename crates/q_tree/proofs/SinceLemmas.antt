@@ -10,7 +10,12 @@ use Rattle.q_packet.specs.declared.stamped.Stamped.{Stamped}
 use Rattle.q_model.specs.Node.{Discipline, Fifo, Prio, Tbf, Drr, FqCodel, Own, Forest, none, more, Node, each}
 use Rattle.q_model.specs.Pop.{Popping, first_ready, first_shown, pop_own, pop}
 use Rattle.q_model.specs.Since.{since_of, first_since, since_in, since_own, at_hand_since}
+use Rattle.q_codel.specs.Codel.{leaving, marks, sent}
+use Rattle.q_codel.specs.declared.taken.Taken.{Taken}
+use Rattle.q_fqcodel.specs.FqState.{Flow, FqState}
+use Rattle.q_fqcodel.specs.Take.{head_sent, packet_sent, sender, sent_from}
 use Rattle.q_tree.specs.Kept.{Kept}
+use Rattle.q_tree.proofs.TakeCounts.{packet_of}
 use Rattle.q_tree.proofs.AtHandLemmas.{first-some, first-none}
 use Rattle.q_tree.proofs.PopLemmas.{none-there}
 use Rattle.std.proofs.lemmas.Bool.{false≢true}
@@ -102,6 +107,19 @@ sent-since (Some p) (Some s) at none e = time (Some at) (Some s.at) e
 
     time : (a b : Option ℕ) → a ≡ b → or_zero a ≡ or_zero b
     time a b e = ap or_zero e
+
+-- an fq_codel that sends none
+pub unsent : (now : ℕ) (s : FqState) → packet_of (sent_from now s) ≡ None → head_sent now s ≡ None
+unfolding sent_from packet_sent head_sent
+unsent now s e = by (sender s) e
+  where
+    gone : (marked : Bool) (o : Option Stamped) → packet_of (option_map (λ (h : Stamped). record { packet = leaving marked h.packet; marked = marked }) o) ≡ None → o ≡ None
+    gone marked None e = refl
+    gone marked (Some h) e = absurd (none-some (leaving marked h.packet) (sym e))
+
+    by : (o : Option Flow) → packet_of (option_and_then (packet_sent now) o) ≡ None → option_and_then (λ (f : Flow). sent f.codel now f.queue) o ≡ None
+    by None e = refl
+    by (Some f) e = gone (marks f.codel now f.queue) (sent f.codel now f.queue) e
 
 -- a node of the code: one that holds a packet, and one that holds none
 pub held-since : (a : Inside) (p : Descriptor) → packet_held a.held ≡ Some p → option_map (λ (s : Stamped). s.at) a.held ≡ at_hand_since (seen a)
