@@ -13,8 +13,8 @@ impl Tree {
     /// When the packet arrived that has been queued longest at the node in this place or below it; `None` where nothing is queued there,
     /// or where no node is. The packet has waited since then, and no other one longer.
     ///
-    /// It is found when it is asked for, and nothing is kept for it on a packet's path: it looks at each node once, and at each flow
-    /// of an fq_codel.
+    /// It is found when it is asked for: it looks at each node once, and at each flow of an fq_codel. On a packet's path one thing is
+    /// kept for it, which is when a packet arrived that is held.
     pub fn oldest(&self, place: Place) -> Option<Moment>
         ensures { result ≡ oldest_at place self.now.tree }
     {
