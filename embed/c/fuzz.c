@@ -312,6 +312,20 @@ static void promised(qtree_device *device, struct input *input) {
     CHECK(code == QTREE_DONE ? (promise.link == 0) == (late == UINT64_MAX) : late == 7);
 }
 
+/* A delay has a time and a lateness or neither; nothing is written where nothing is promised. */
+static void delayed(qtree_device *device, struct input *input) {
+    qtree_delay delay = { 7, 7, 7 };
+    uint32_t place = (uint32_t)take(input, 1) % 4;
+    uint16_t major = (uint16_t)take(input, 1), minor = (uint16_t)take(input, 1);
+    qtree_code code = qtree_worst(device, place, major, minor, &delay);
+    CHECK(code == QTREE_DONE || code == QTREE_NOTHING || code == QTREE_OUT_OF_RANGE || code == QTREE_IS_CLOSED);
+    if (code == QTREE_DONE) {
+        CHECK((delay.ns == UINT64_MAX) == (delay.late == UINT64_MAX) && (delay.ns == UINT64_MAX || delay.ns <= QTREE_MOMENT_MAX));
+    } else {
+        CHECK(delay.bytes == 7 && delay.ns == 7 && delay.late == 7);
+    }
+}
+
 /* Qdiscs and classes by their indexes: there are as many as can be asked for in a row, and each is one that the header describes. */
 static void read_nodes(const qtree_device *device, struct input *input) {
     qtree_node_view node, beside;
@@ -365,6 +379,7 @@ static void look(qtree_device *device, struct input *input) {
     qtree_code code = qtree_stats(device, (uint32_t)take(input, 1) % 4, (uint16_t)take(input, 1), (uint16_t)take(input, 1), &row);
     CHECK(code == QTREE_DONE || code == QTREE_NOTHING || code == QTREE_OUT_OF_RANGE || code == QTREE_IS_CLOSED);
     promised(device, input);
+    delayed(device, input);
     code = qtree_events(device, &events, &recorded);
     CHECK(code == QTREE_DONE ? recorded <= events : code == QTREE_IS_CLOSED && events == 0 && recorded == 0);
     code = qtree_recorded(device, (size_t)take(input, 1), &event);

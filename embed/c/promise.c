@@ -1,5 +1,6 @@
-/* What each class of a drr is promised by a set-up: tools/promise runs this on a file of tc's lines. It opens a device, does the lines on
- * it, and asks qtree_service and qtree_lateness of each class. Where nothing is promised it says why. */
+/* What is promised by a set-up to each class of a drr and to each pfifo and bfifo: tools/promise runs this on a file of tc's lines. It opens
+ * a device, does the lines on it, and asks qtree_service and qtree_lateness of each class, and qtree_worst of each fifo. Where nothing is
+ * promised it says why. */
 #include "qtree.h"
 
 #include <errno.h>
@@ -71,6 +72,29 @@ static const char *kind_of(uint32_t kind) {
     return names[kind < sizeof names / sizeof *names ? kind : 0];
 }
 
+/* A tbf that is not at the root, if there is one. */
+static const qtree_node_view *tbf_below(const struct tree *tree) {
+    for (size_t i = 1; i < tree->count; i++) {
+        if (tree->nodes[i].kind == QTREE_TBF) {
+            return &tree->nodes[i];
+        }
+    }
+    return NULL;
+}
+
+/* Whether the tbf at the root has room in its burst for a longest packet and for what its rate brings in a nanosecond. */
+static bool has_room(const struct tree *tree) {
+    const qtree_node_view *root = &tree->nodes[0];
+    return root->burst > tree->mtu && root->rate <= (root->burst - tree->mtu) * UINT64_C(8000000000);
+}
+
+static void say_no_room(const struct tree *tree) {
+    const qtree_node_view *root = &tree->nodes[0];
+    printf("nothing: the burst of the tbf %x:, %" PRIu32 " bytes, has no room for a packet of %" PRIu64
+           " bytes and for what the rate brings in a nanosecond\n",
+           root->handle, root->burst, tree->mtu);
+}
+
 /* Why a class of this drr is promised nothing. */
 static void say_why(const struct tree *tree, const qtree_node_view *drr) {
     const qtree_node_view *root = &tree->nodes[0], *at = drr;
@@ -81,15 +105,41 @@ static void say_why(const struct tree *tree, const qtree_node_view *drr) {
             return;
         }
     }
-    for (size_t i = 1; i < tree->count; i++) {
-        if (tree->nodes[i].kind == QTREE_TBF) {
-            printf("nothing: while the tbf %x: waits, the drr above it waits too\n", tree->nodes[i].handle);
+    const qtree_node_view *tbf = tbf_below(tree);
+    if (tbf != NULL) {
+        printf("nothing: while the tbf %x: waits, the drr above it waits too\n", tbf->handle);
+    } else {
+        say_no_room(tree);
+    }
+}
+
+/* Why the packets of this fifo are promised no delay. */
+static void say_why_none(const struct tree *tree, const qtree_node_view *fifo) {
+    const qtree_node_view *root = &tree->nodes[0], *at = fifo;
+    while (at->place != QTREE_ROOT) {
+        const qtree_node_view *parent = node_of(tree, at->parent_major);
+        if (parent->kind == QTREE_PRIO && at->parent_minor != 1) {
+            printf("nothing: more may arrive in the bands of the prio %x: before it\n", parent->handle);
             return;
         }
+        if (parent->kind != QTREE_PRIO && parent != root) {
+            printf("nothing: the %s %x: stands between it and the root\n", kind_of(parent->kind), parent->handle);
+            return;
+        }
+        if (parent->kind == QTREE_DRR) {
+            printf("nothing: the drr %x: sends packets of other classes before it\n", parent->handle);
+            return;
+        }
+        at = parent;
     }
-    printf("nothing: the burst of the tbf %x:, %" PRIu32 " bytes, has no room for a packet of %" PRIu64
-           " bytes and for what the rate brings in a nanosecond\n",
-           root->handle, root->burst, tree->mtu);
+    const qtree_node_view *tbf = tbf_below(tree);
+    if (tbf != NULL) {
+        printf("nothing: while the tbf %x: waits, other packets may go before\n", tbf->handle);
+    } else if (root->kind == QTREE_TBF && !has_room(tree)) {
+        say_no_room(tree);
+    } else {
+        printf("nothing: the number is too large\n");
+    }
 }
 
 /* A time with its unit; none where polls may come at any time. */
@@ -137,6 +187,38 @@ static void put_table(const struct tree *tree) {
     }
 }
 
+static void put_fifo(const struct tree *tree, const qtree_node_view *fifo) {
+    qtree_delay delay;
+    char name[16] = "root";
+    if (fifo->place == QTREE_CLASS) {
+        snprintf(name, sizeof name, "%x:%x", fifo->parent_major, fifo->parent_minor);
+    }
+    printf("%-10s%11s", name, kind_of(fifo->kind));
+    if (qtree_worst(&tree->device, fifo->place, fifo->parent_major, fifo->parent_minor, &delay) != QTREE_DONE) {
+        printf("  ");
+        say_why_none(tree, fifo);
+        return;
+    }
+    printf("%16" PRIu64, delay.bytes);
+    if (delay.ns != UINT64_MAX) {
+        printf("%14.3f us", (double)delay.ns / 1e3);
+    } else {
+        printf("%17s", "-");
+    }
+    put_time(delay.late);
+    printf("\n");
+}
+
+/* The fifos, from the root down. */
+static void put_fifos(const struct tree *tree) {
+    printf("\n%-10s%11s%16s%17s%15s\n", "fifo at", "kind", "bytes till gone", "worst delay", "polls late");
+    for (size_t i = 0; i < tree->count; i++) {
+        if (tree->nodes[i].kind == QTREE_PFIFO || tree->nodes[i].kind == QTREE_BFIFO) {
+            put_fifo(tree, &tree->nodes[i]);
+        }
+    }
+}
+
 static int tell(struct tree *tree, const qtree_settings *settings, FILE *file) {
     tree->mtu = settings->mtu;
     if (qtree_open(&tree->device, settings) != QTREE_DONE) {
@@ -148,6 +230,7 @@ static int tell(struct tree *tree, const qtree_settings *settings, FILE *file) {
             tree->count++;
         }
         put_table(tree);
+        put_fifos(tree);
         status = fflush(stdout) != 0 ? failed("the table", strerror(errno)) : 0;
     }
     qtree_close(&tree->device);

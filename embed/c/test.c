@@ -34,12 +34,12 @@ static void sizes(void) {
     static const size_t bytes[] = {
         sizeof(qtree_device), sizeof(qtree_settings), sizeof(qtree_packet), sizeof(qtree_loss),   sizeof(qtree_row),    sizeof(qtree_event),
         sizeof(qtree_fault),  sizeof(qtree_count),    sizeof(qtree_port),   sizeof(qtree_outlet), sizeof(qtree_layout),
-        sizeof(qtree_sent),   sizeof(qtree_promise), sizeof(qtree_node_view), sizeof(qtree_class_view),
+        sizeof(qtree_sent),   sizeof(qtree_promise), sizeof(qtree_node_view), sizeof(qtree_class_view), sizeof(qtree_delay),
     };
-    for (uint32_t what = QTREE_TYPE_DEVICE; what <= QTREE_TYPE_CLASS_VIEW; what++) {
+    for (uint32_t what = QTREE_TYPE_DEVICE; what <= QTREE_TYPE_DELAY; what++) {
         CHECK(qtree_size_of(what) == bytes[what]);
     }
-    CHECK(qtree_size_of(QTREE_TYPE_CLASS_VIEW + 1) == 0 && qtree_size_of(UINT32_MAX) == 0);
+    CHECK(qtree_size_of(QTREE_TYPE_DELAY + 1) == 0 && qtree_size_of(UINT32_MAX) == 0);
     qtree_fault fault;
     qtree_sample_fault(&fault);
     CHECK(fault.word == 1 && fault.number == 2);
@@ -399,6 +399,33 @@ static void services(void) {
     qtree_close(&device);
 }
 
+static bool is_delay(qtree_delay delay, uint64_t bytes, uint64_t ns, uint64_t late) {
+    return delay.bytes == bytes && delay.ns == ns && delay.late == late;
+}
+
+/* Voice before data on a link, and without one. */
+static void delays(void) {
+    qtree_device device = QTREE_CLOSED;
+    qtree_delay delay = { 7, 7, 7 };
+    CHECK(qtree_worst(&device, QTREE_ROOT, 0, 0, &delay) == QTREE_IS_CLOSED && is_delay(delay, 7, 7, 7));
+    CHECK(qtree_open(&device, &(qtree_settings){ 1000, 0, 1514 }) == QTREE_DONE);
+    CHECK(qtree_worst(&device, QTREE_ROOT, 0, 0, &delay) == QTREE_DONE && is_delay(delay, 1514000, UINT64_MAX, UINT64_MAX));
+    CHECK(tc(&device, "tc qdisc add dev a root handle 1: tbf rate 3mbit burst 1640 limit 10000") == QTREE_DONE);
+    CHECK(qtree_worst(&device, QTREE_CLASS, 1, 1, &delay) == QTREE_DONE && is_delay(delay, 10000, 26666667, 335999));
+    CHECK(tc(&device, "tc qdisc add dev a parent 1:1 handle 2: prio") == QTREE_DONE);
+    CHECK(tc(&device, "tc qdisc add dev a parent 2:1 handle 3: bfifo limit 3000") == QTREE_DONE);
+    CHECK(qtree_worst(&device, QTREE_CLASS, 2, 1, &delay) == QTREE_DONE && is_delay(delay, 3000, 8000000, 335999));
+    delay = (qtree_delay){ 7, 7, 7 };
+    CHECK(qtree_worst(&device, QTREE_CLASS, 2, 2, &delay) == QTREE_NOTHING && qtree_worst(&device, QTREE_CLASS, 1, 1, &delay) == QTREE_NOTHING);
+    CHECK(qtree_worst(&device, QTREE_TOP, 0, 0, &delay) == QTREE_NOTHING && qtree_worst(&device, QTREE_ROOT, 0, 0, &delay) == QTREE_NOTHING);
+    CHECK(qtree_worst(&device, QTREE_CLASS, 2, 0, &delay) == QTREE_OUT_OF_RANGE && qtree_worst(&device, 3, 0, 0, &delay) == QTREE_OUT_OF_RANGE);
+    CHECK(tc(&device, "tc qdisc add dev a parent 2:2 handle 4: tbf rate 1mbit burst 1514 limit 1514") == QTREE_DONE);
+    CHECK(qtree_worst(&device, QTREE_CLASS, 2, 1, &delay) == QTREE_NOTHING && tc(&device, "tc qdisc del dev a parent 2:2") == QTREE_DONE);
+    CHECK(tc(&device, "tc qdisc change dev a root tbf rate 3mbit burst 1514 limit 10000") == QTREE_DONE);
+    CHECK(qtree_worst(&device, QTREE_CLASS, 2, 1, &delay) == QTREE_NOTHING && is_delay(delay, 7, 7, 7));
+    qtree_close(&device);
+}
+
 /* A tree with each kind of qdisc, as numbers. */
 static void nodes(void) {
     qtree_device device = QTREE_CLOSED;
@@ -516,6 +543,7 @@ int main(void) {
     ring_opening();
     rings();
     services();
+    delays();
     qtree_device device = QTREE_CLOSED;
     CHECK(qtree_open(&device, &(qtree_settings){ 1000, 0, 1514 }) == QTREE_DONE);
     commands(&device);

@@ -354,6 +354,23 @@ qtree_code qtree_service(const qtree_device *device, uint32_t place, uint16_t ma
  * QTREE_DONE, QTREE_NOTHING, QTREE_OUT_OF_RANGE, QTREE_IS_CLOSED. */
 qtree_code qtree_lateness(const qtree_device *device, uint32_t place, uint16_t major, uint16_t minor, uint64_t *late);
 
+/* How long a packet waits at most in a pfifo or bfifo that no other packet passes, from when it was kept until it has left, whatever
+ * comes meanwhile. The device sends no more than bytes until then, the packet among them. With a tbf at the root the packet has left once
+ * the program polled until no packet came at ns nanoseconds after its arrival, or later; so if the program polls no later after the time
+ * of qtree_ready_at than late says, that is by ns + late. Without one ns and late are UINT64_MAX. This holds as long as commands take no
+ * packet from the qdisc and put none before it, leave a tbf at the root as it is, and add no other. */
+typedef struct qtree_delay {
+    uint64_t bytes; /* with the packet's own */
+    uint64_t ns;    /* nanoseconds, rounded up */
+    uint64_t late;  /* nanoseconds */
+} qtree_delay;
+
+/* What is promised so to the pfifo or bfifo in a place, as qtree_stats has places. QTREE_NOTHING where another qdisc or none is there,
+ * where something other than the first bands of prios leads there from the root, a tbf at the root apart; where another tbf is in the
+ * tree; where the one at the root has a burst without room, as qtree_service says; or where a number is too large.
+ * QTREE_DONE, QTREE_NOTHING, QTREE_OUT_OF_RANGE, QTREE_IS_CLOSED. */
+qtree_code qtree_worst(const qtree_device *device, uint32_t place, uint16_t major, uint16_t minor, qtree_delay *delay);
+
 /* What `tc qdisc show`, `tc -s qdisc show`, `tc class show` and `tc filter show` print, of which needed is the length in bytes; no
  * zero byte ends it. Nothing is written where room is less than that (QTREE_ROOM); so a call with room 0 asks for the length.
  * QTREE_DONE, QTREE_ROOM, QTREE_OUT_OF_RANGE, QTREE_IS_CLOSED, QTREE_MEMORY. */
@@ -602,7 +619,8 @@ enum {
     QTREE_TYPE_SENT = 11,
     QTREE_TYPE_PROMISE = 12,
     QTREE_TYPE_NODE_VIEW = 13,
-    QTREE_TYPE_CLASS_VIEW = 14
+    QTREE_TYPE_CLASS_VIEW = 14,
+    QTREE_TYPE_DELAY = 15
 };
 size_t qtree_size_of(uint32_t what);
 

@@ -48,7 +48,10 @@ fn answers(alloc: Global, lines: &[Ask], rows: &[(Spot, Option<Told>)]) -> Resul
 #[test]
 fn a_tbf_alone_pays_for_its_limit(rt: HostRuntime) -> Result<(), Fail> {
     let rows = [
-        (Spot::Class(1, 1), Some((1_000_000, Some((400_000_000, 50_399))))),
+        (
+            Spot::Class(1, 1),
+            Some((1_000_000, Some((400_000_000, 50_399)))),
+        ),
         (Spot::Root, None),
         (Spot::Top, None),
         (Spot::Class(1, 2), None),
@@ -60,7 +63,10 @@ fn a_tbf_alone_pays_for_its_limit(rt: HostRuntime) -> Result<(), Fail> {
 #[test]
 fn a_time_is_rounded_up(rt: HostRuntime) -> Result<(), Fail> {
     let link = New::Shaper(3_000_000, 1_515);
-    let rows = [(Spot::Class(1, 1), Some((1_000_000, Some((2_666_666_667, 2_665)))))];
+    let rows = [(
+        Spot::Class(1, 1),
+        Some((1_000_000, Some((2_666_666_667, 2_665)))),
+    )];
     answers(rt.alloc(), &[Ask::Graft(Spot::Root, 1, link)], &rows)
 }
 
@@ -111,13 +117,21 @@ fn other_qdiscs_are_answered_nothing(rt: HostRuntime) -> Result<(), Fail> {
         Ask::AddClass(1, 2, 1_500),
         Ask::Graft(Spot::Class(1, 2), 2, New::FqCodel(10)),
     ];
-    answers(rt.alloc(), &lines, &[(Spot::Root, None), (Spot::Class(1, 2), None)])
+    answers(
+        rt.alloc(),
+        &lines,
+        &[(Spot::Root, None), (Spot::Class(1, 2), None)],
+    )
 }
 
 #[test]
 fn a_burst_without_room_is_answered_nothing(rt: HostRuntime) -> Result<(), Fail> {
     let link = New::Shaper(20_000_000, 1_514);
-    answers(rt.alloc(), &[Ask::Graft(Spot::Root, 1, link)], &[(Spot::Class(1, 1), None)])
+    answers(
+        rt.alloc(),
+        &[Ask::Graft(Spot::Root, 1, link)],
+        &[(Spot::Class(1, 1), None)],
+    )
 }
 
 #[test]
@@ -126,7 +140,11 @@ fn a_second_tbf_takes_the_answer_away(rt: HostRuntime) -> Result<(), Fail> {
         Ask::Graft(Spot::Root, 1, New::Prio(2)),
         Ask::Graft(Spot::Class(1, 2), 2, LINK),
     ];
-    answers(rt.alloc(), &lines, &[(Spot::Class(1, 1), None), (Spot::Class(2, 1), None)])
+    answers(
+        rt.alloc(),
+        &lines,
+        &[(Spot::Class(1, 1), None), (Spot::Class(2, 1), None)],
+    )
 }
 
 #[test]
@@ -192,7 +210,11 @@ fn a_tbf_lets_its_last_packet_wait_so_long(rt: HostRuntime) -> Result<(), Fail> 
 
 #[test]
 fn a_pfifo_lets_its_last_packet_wait_so_long(rt: HostRuntime) -> Result<(), Fail> {
-    answers_short(rt.alloc(), Some(New::Packets(2)), (3_000, Some((24_000_000, 1_119_999))))?;
+    answers_short(
+        rt.alloc(),
+        Some(New::Packets(2)),
+        (3_000, Some((24_000_000, 1_119_999))),
+    )?;
     let calls = [
         SPENT[0],
         Call::Do(Ask::Graft(Spot::Class(1, 1), 2, New::Packets(2)), 0, None),

@@ -1,6 +1,7 @@
 pub mod Buffers
 pub mod Calls
 pub mod Codes
+pub mod Delays
 pub mod Ends
 pub mod Explaining
 pub mod Folds

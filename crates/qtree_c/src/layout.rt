@@ -4,6 +4,7 @@ ghost use Rattle.qtree_c.specs.Sample.{sample_packet, sample_row, size_of_struct
 
 use crate::c_class_view::CClassView;
 use crate::c_count::CCount;
+use crate::c_delay::CDelay;
 use crate::c_device::CDevice;
 use crate::c_event::CEvent;
 use crate::c_fault::CFault;
@@ -65,6 +66,7 @@ pub extern "C" fn qtree_size_of(what: u32) -> usize
         12 => size_of::<CPromise>(),
         13 => size_of::<CNodeView>(),
         14 => size_of::<CClassView>(),
+        15 => size_of::<CDelay>(),
         _ => 0,
     }
 }

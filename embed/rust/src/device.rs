@@ -17,6 +17,7 @@ use crate::service::Service;
 use crate::settings::Settings;
 use crate::show::Show;
 use crate::text::text_of;
+use crate::worst::Worst;
 use alloc::string::String;
 use alloc::vec::Vec;
 
@@ -367,6 +368,30 @@ impl Device {
         let (code, promise) = self.0.service(place.to_c());
         let (_, late) = self.0.lateness(place.to_c());
         (code == sys::QTREE_DONE).then(|| Service::of(promise, late))
+    }
+
+    /// How long a packet waits at most in the pfifo or bfifo in a place; `None` where another qdisc or none is there, where something
+    /// other than the first bands of prios leads there from the root, a tbf at the root apart; where another tbf is in the tree; where the
+    /// one at the root has a burst without room, as [`Device::service`] says; or where a number is too large.
+    ///
+    /// ```
+    /// # use qtree::{Device, Error, Place, Settings};
+    /// let mut device = Device::open(Settings::default())?;
+    /// for line in [
+    ///     "tc qdisc add dev wan root handle 1: tbf rate 20mbit burst 1640 latency 50ms",
+    ///     "tc qdisc add dev wan parent 1:1 handle 2: prio",
+    ///     "tc qdisc add dev wan parent 2:1 handle 3: bfifo limit 3000",
+    /// ] {
+    ///     device.command(line, 0)?;
+    /// }
+    /// let worst = device.worst(Place::Class(2, 1)).expect("the fifo of the first band");
+    /// assert_eq!((worst.bytes, worst.ns, worst.late), (3000, Some(1_200_000), Some(50_399)));
+    /// # Ok::<(), Error>(())
+    /// ```
+    #[must_use]
+    pub fn worst(&self, place: Place) -> Option<Worst> {
+        let (code, delay) = self.0.worst(place.to_c());
+        (code == sys::QTREE_DONE).then(|| Worst::of(delay))
     }
 
     /// What was counted by the device itself.

@@ -63,6 +63,7 @@ mod settled;
 mod show;
 mod text;
 mod turn;
+mod worst;
 
 pub use builder::PacketBuilder;
 pub use cause::Cause;
@@ -94,6 +95,7 @@ pub use settings::Settings;
 pub use settled::Settled;
 pub use show::Show;
 pub use turn::Turn;
+pub use worst::Worst;
 
 /// The program of the crate's page.
 #[cfg(doctest)]

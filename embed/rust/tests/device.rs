@@ -100,3 +100,24 @@ fn a_class_is_promised_its_part() -> Result<(), Error> {
     assert_eq!(device.service(Place::Root), None);
     Ok(())
 }
+
+#[test]
+fn a_fifo_in_line_is_promised_a_delay() -> Result<(), Error> {
+    let mut device = Device::open(Settings::default())?;
+    let worst = device.worst(Place::Root).expect("the pfifo of the device");
+    assert_eq!((worst.bytes, worst.ns, worst.late), (1_514_000, None, None));
+    for line in [
+        "tc qdisc add dev wan root handle 1: tbf rate 3mbit burst 1640 limit 10000",
+        "tc qdisc add dev wan parent 1:1 handle 2: prio",
+        "tc qdisc add dev wan parent 2:1 handle 3: pfifo limit 2",
+    ] {
+        device.command(line, 0)?;
+    }
+    let worst = device.worst(Place::Class(2, 1)).expect("the first band");
+    assert_eq!((worst.bytes, worst.ns), (3028, Some(8_074_667)));
+    assert_eq!(worst.late, Some(335_999));
+    assert_eq!(device.worst(Place::Class(2, 2)), None);
+    assert_eq!(device.worst(Place::Class(1, 1)), None);
+    assert_eq!(device.worst(Place::Top), None);
+    Ok(())
+}

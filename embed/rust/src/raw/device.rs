@@ -175,6 +175,13 @@ impl RawDevice {
         (code, late)
     }
 
+    pub(crate) fn worst(&self, (place, major, minor): (u32, u16, u16)) -> (u32, sys::Delay) {
+        let mut delay = sys::Delay::default();
+        // SAFETY: the device is open, and `delay` is another place.
+        let code = unsafe { sys::qtree_worst(&self.0, place, major, minor, &mut delay) };
+        (code, delay)
+    }
+
     /// Also the length of the text, which is written where there is room for it.
     pub(crate) fn show(&self, what: u32, text: &mut [u8]) -> (u32, usize) {
         let mut needed = 0;
