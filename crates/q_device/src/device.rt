@@ -272,7 +272,7 @@ impl Device {
         let Some(lane) = self.tree.lane_to(place) else {
             return None;
         };
-        let Some(row) = self.tree.stats(place) else {
+        let Some(row) = self.stats(place) else {
             return None;
         };
         let now = self.tree.clock();
