@@ -13,6 +13,8 @@ mod device;
 #[cfg(test)]
 mod device_bench;
 #[cfg(test)]
+mod device_bursts;
+#[cfg(test)]
 mod device_calls;
 #[cfg(test)]
 mod device_commands;
