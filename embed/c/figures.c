@@ -217,6 +217,29 @@ static void pass(qtree_packet packet, unsigned long times) {
     }
 }
 
+/* By bursts of 32, as qtree_arrive_many and qtree_poll_bufs pass them, where so many packets are queued already. */
+static void by_bursts(unsigned long times, unsigned long queued) {
+    qtree_packet packets[32];
+    qtree_sent sent[32];
+    uint8_t codes[32];
+    size_t done;
+    run("tc qdisc add dev wan root pfifo limit 2000");
+    for (unsigned long i = 0; i < queued; i++) {
+        CHECK(qtree_arrive(&device, &(qtree_packet){ .len = 1000 }, 0) == QTREE_DONE);
+    }
+    for (size_t i = 0; i < 32; i++) {
+        packets[i] = (qtree_packet){ .len = 1000 };
+    }
+    for (unsigned long i = 0; i < times; i += 32) {
+        CHECK(qtree_arrive_many(&device, packets, 32, codes, 32, &done, 0) == QTREE_DONE && done == 32);
+        CHECK(qtree_poll_bufs(&device, 0, sent, 32, &done) == QTREE_DONE && done == 32);
+    }
+}
+
+static void through_a_long_pfifo_by_bursts(unsigned long times) { by_bursts(times, 1000); }
+
+static void through_an_empty_pfifo_by_bursts(unsigned long times) { by_bursts(times, 0); }
+
 static void through_a_pfifo(unsigned long times) {
     run("tc qdisc add dev wan root pfifo");
     pass((qtree_packet){ .len = 100 }, times);
@@ -271,6 +294,8 @@ static int steps(const char *name, const char *times) {
         void (*work)(unsigned long times);
     } all[] = {
         { "pfifo", through_a_pfifo },
+        { "bursts", through_a_long_pfifo_by_bursts },
+        { "first-bursts", through_an_empty_pfifo_by_bursts },
         { "few-filters", through_few_filters },
         { "many-filters", through_many_filters },
         { "filters-left", through_filters_left },
