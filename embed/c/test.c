@@ -75,7 +75,7 @@ static void opening(void) {
     CHECK(qtree_arrive(&device, &packet, 0) == QTREE_IS_CLOSED);
     CHECK(tc(&device, "tc qdisc add dev a root handle 1: drr") == QTREE_IS_CLOSED);
     CHECK(qtree_show(&device, QTREE_SHOW_QDISCS, NULL, 0, &needed) == QTREE_IS_CLOSED && needed == 0);
-    CHECK(qtree_ready_at(&device, &at) == QTREE_IS_CLOSED && at == 7);
+    CHECK(qtree_ready_at(&device, &at) == QTREE_IS_CLOSED && qtree_oldest(&device, QTREE_ROOT, 0, 0, &at) == QTREE_IS_CLOSED && at == 7);
     CHECK(qtree_most_packets(&device, &at) == QTREE_IS_CLOSED && at == 7);
     CHECK(qtree_open(&device, &(qtree_settings){ 1000, 0, 0 }) == QTREE_OUT_OF_RANGE);
     CHECK(qtree_open(&device, &(qtree_settings){ 1000, 1000001, 1514 }) == QTREE_OUT_OF_RANGE);
@@ -144,6 +144,8 @@ static void packets(qtree_device *device) {
     CHECK(hashed.hash == 0x1234 && hashed.dport == 5001 && bare.hash == 0 && bare.src_low == 0x0a000001 && bare.buf == 77);
     uint64_t at = 7;
     CHECK(qtree_ready_at(device, &at) == QTREE_NOTHING && at == 7);
+    CHECK(qtree_oldest(device, QTREE_TOP, 0, 0, &at) == QTREE_NOTHING && qtree_oldest(device, QTREE_CLASS, 1, 2, &at) == QTREE_NOTHING);
+    CHECK(qtree_oldest(device, 3, 0, 0, &at) == QTREE_OUT_OF_RANGE && at == 7);
     same_arrivals(&packet, head, sizeof head);
     const qtree_packet all[] = { packet, packet, packet };
     uint8_t codes[3] = { 9, 9, 9 };
@@ -154,7 +156,10 @@ static void packets(qtree_device *device) {
     CHECK(qtree_ready_at(device, &at) == QTREE_DONE && at == 0);
     CHECK(qtree_poll(device, 0, &packet) == QTREE_DONE && packet.buf == 77);
     CHECK(qtree_poll(device, 0, &packet) == QTREE_LATER && qtree_ready_at(device, &at) == QTREE_DONE && at == 1000000);
+    uint64_t since = 7;
+    CHECK(qtree_oldest(device, QTREE_ROOT, 0, 0, &since) == QTREE_DONE && since == 0);
     CHECK(qtree_poll(device, at - 1, &packet) == QTREE_LATER && qtree_poll(device, at, &packet) == QTREE_DONE);
+    CHECK(qtree_oldest(device, QTREE_ROOT, 0, 0, &since) == QTREE_NOTHING);
     CHECK(qtree_poll(device, at, &packet) == QTREE_IDLE);
     qtree_loss loss;
     CHECK(qtree_reap(device, &loss) == QTREE_DONE && loss.cause == QTREE_LOST_FAT_FLOW && qtree_reap(device, &loss) == QTREE_NOTHING);

@@ -358,6 +358,13 @@ qtree_code qtree_reap_many(qtree_device *device, qtree_loss *losses, size_t room
 enum { QTREE_TOP = 0, QTREE_ROOT = 1, QTREE_CLASS = 2 };
 qtree_code qtree_stats(const qtree_device *device, uint32_t place, uint16_t major, uint16_t minor, qtree_row *row);
 
+/* When the packet arrived that has been queued longest in a place, as qtree_stats has places: its nanoseconds. The device's clock less
+ * this is how long it has waited, and no other one in that place waits longer. QTREE_NOTHING where none is queued there, or nothing stands
+ * there. It looks at each node in that place once, and at each flow of an fq_codel; on a packet's path nothing is kept for it but when a
+ * packet arrived that is held.
+ * QTREE_DONE, QTREE_NOTHING, QTREE_OUT_OF_RANGE, QTREE_IS_CLOSED. */
+qtree_code qtree_oldest(const qtree_device *device, uint32_t place, uint16_t major, uint16_t minor, uint64_t *moment);
+
 /* What the device itself counted. QTREE_DONE, QTREE_IS_CLOSED. */
 qtree_code qtree_totals(const qtree_device *device, qtree_row *row);
 

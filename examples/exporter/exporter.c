@@ -22,6 +22,7 @@ struct exporter {
     qtree_device device;
     struct losses losses;
     struct lateness lateness;
+    uint64_t now; /* the time of the last turn */
     uint32_t made;
 };
 
@@ -68,6 +69,7 @@ static void bring(struct exporter *exporter, uint64_t now) {
 /* The packets that are due are sent, and losses are reaped. */
 static void turn(struct exporter *exporter, uint64_t now) {
     qtree_packet packet;
+    exporter->now = now;
     lateness_count(&exporter->lateness, now);
     while (exporter->lateness.due <= now) {
         if (qtree_poll(&exporter->device, now, &packet) == QTREE_DONE) {
@@ -88,7 +90,7 @@ static void turn(struct exporter *exporter, uint64_t now) {
 static bool write_all(struct exporter *exporter, FILE *file) {
     struct tree tree;
     pthread_mutex_lock(&exporter->lock);
-    bool is_read = tree_read(&tree, &exporter->device) == QTREE_DONE;
+    bool is_read = tree_read(&tree, &exporter->device, exporter->now) == QTREE_DONE;
     struct losses losses = exporter->losses;
     struct lateness lateness = exporter->lateness;
     pthread_mutex_unlock(&exporter->lock);

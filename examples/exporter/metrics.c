@@ -118,6 +118,23 @@ static void write_flows(FILE *file, const char *device, const struct tree *tree,
     }
 }
 
+/* How long the oldest packet has waited at the device and at each qdisc where one is queued. */
+static void write_waits(FILE *file, const char *device, const struct tree *tree) {
+    const char *name = "qtree_oldest_packet_seconds";
+    write_head(file, name, "gauge", "How long the oldest packet that is queued has waited", "");
+    if (tree->device_wait != NOBODY_WAITS) {
+        write_begin(file, name, device);
+        fprintf(file, ",kind=\"device\",handle=\"\",parent=\"\"} %.9f\n", (double)tree->device_wait / SECOND);
+    }
+    for (size_t i = 0; i < tree->qdisc_count; i++) {
+        if (tree->waits[i] != NOBODY_WAITS) {
+            write_begin(file, name, device);
+            write_qdisc(file, &tree->qdiscs[i]);
+            fprintf(file, " %.9f\n", (double)tree->waits[i] / SECOND);
+        }
+    }
+}
+
 /* A number of one family that has the device as its only label; a time is written in seconds. */
 static void write_number(FILE *file, const char *device, const char *name, const char *type, const char *help, uint64_t number, bool is_time) {
     write_head(file, name, type, help, "");
@@ -160,6 +177,7 @@ void metrics_write(FILE *file, const char *device, const struct tree *tree, cons
         write_counts(file, device, tree, which, false);
         write_counts(file, device, tree, which, true);
     }
+    write_waits(file, device, tree);
     write_losses(file, device, losses, false);
     write_losses(file, device, losses, true);
     for (int which = 0; which < 3; which++) {

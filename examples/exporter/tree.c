@@ -21,16 +21,28 @@ static bool read_classes(struct tree *tree, size_t *room, const qtree_device *de
     return true;
 }
 
-qtree_code tree_read(struct tree *tree, const qtree_device *device) {
+/* How long the oldest packet in a place has waited. */
+static uint64_t wait_at(const qtree_device *device, uint32_t place, uint16_t major, uint16_t minor, uint64_t now) {
+    uint64_t since;
+    if (qtree_oldest(device, place, major, minor, &since) != QTREE_DONE) {
+        return NOBODY_WAITS;
+    }
+    return now > since ? now - since : 0;
+}
+
+qtree_code tree_read(struct tree *tree, const qtree_device *device, uint64_t now) {
     size_t room = 0;
     tree->classes = NULL;
     tree->qdisc_count = tree->class_count = 0;
     if (qtree_totals(device, &tree->device) != QTREE_DONE) {
         return QTREE_IS_CLOSED;
     }
+    tree->device_wait = wait_at(device, QTREE_TOP, 0, 0, now);
     for (size_t index = 0; index < MOST_QDISCS && qtree_node(device, index, &tree->qdiscs[index]) == QTREE_DONE; index++) {
+        const qtree_node_view *qdisc = &tree->qdiscs[index];
+        tree->waits[index] = wait_at(device, qdisc->place, qdisc->parent_major, qdisc->parent_minor, now);
         tree->qdisc_count++;
-        if (tree->qdiscs[index].kind == QTREE_DRR && !read_classes(tree, &room, device, index)) {
+        if (qdisc->kind == QTREE_DRR && !read_classes(tree, &room, device, index)) {
             return QTREE_MEMORY;
         }
     }

@@ -16,6 +16,7 @@ ghost use Rattle.q_codel.specs.Codel.{leaving};
 
 use crate::control_law::gap;
 use crate::front::Front;
+use crate::leaving::Leaving;
 use crate::parameters::Parameters;
 use crate::queue::Queue;
 use crate::sink::Sink;
@@ -68,7 +69,7 @@ impl Model for ControlState {
 }
 
 impl ControlState {
-    ghost use Rattle.q_codel.specs.Codel.{joined, vars_at_first, taken, drops, left, after, begun, above_after, is_late, Chooses, HasChosen};
+    ghost use Rattle.q_codel.specs.Codel.{joined, vars_at_first, sent, taken, drops, left, after, begun, above_after, is_late, Chooses, HasChosen};
 
     /// The state of a queue that has not sent yet.
     pub fn new() -> ControlState
@@ -154,7 +155,7 @@ impl ControlState {
     }
 
     /// Does what [`ControlState::take_into`] does, where [`ControlState::passed`] found the head late, which is not judged again:
-    /// `front` is what CoDel reads of it. Returns whether the packet was marked.
+    /// `front` is what CoDel reads of it. Returns whether the packet was marked, and when it was queued.
     #[inline(always)]
     pub fn take_late_into<Q: Queue, S: Sink>(
         &mut self,
@@ -164,11 +165,12 @@ impl ControlState {
         now: Moment,
         sink: &mut S,
         out: &mut KeptPacket,
-    ) -> bool
+    ) -> Leaving
         requires front { IsFront front (Q.packets queue.old) }
         requires late { is_late (joined parameters.now self.old) now (Q.packets queue.old) ≡ true }
         requires room { count (Q.packets queue.old) ≤ S.room sink.old }
-        ensures taken { Some (record { packet = out.new; marked = result }) ≡ taken (joined parameters.now self.old) now (Q.packets queue.old) }
+        ensures taken { Some (record { packet = out.new; marked = result.marked }) ≡ taken (joined parameters.now self.old) now (Q.packets queue.old) }
+        ensures at { Some result.at ≡ option_map (λ (s : Stamped). s.at) (sent (joined parameters.now self.old) now (Q.packets queue.old)) }
         ensures left { Q.packets queue.new ≡ left (joined parameters.now self.old) now (Q.packets queue.old) }
         ensures state { joined parameters.now self.new
             ≡ after (joined parameters.now self.old) now (Q.packets queue.old) }
@@ -181,8 +183,9 @@ impl ControlState {
         ensures sink_kept { S.keeps sink.old sink.new }
     {
         let marked = self.drop_or_mark(parameters, front, queue, now, sink);
+        let at = head_at(queue);
         give_head(queue, marked, out);
-        marked
+        Leaving { marked, at }
     }
 
     /// The state once the head is sent as it is (RFC 8289, section 5.6); `None` if the head is late, so that
@@ -403,6 +406,18 @@ impl ControlState {
         }
         self.first_above_time <= now.ns()
     }
+}
+
+// When the head of a queue was queued that has one.
+#[inline(always)]
+fn head_at<Q: Queue>(queue: &Q) -> Moment
+    requires { 0 < count (Q.packets queue.now) }
+    ensures { Some result ≡ option_map (λ (s : Stamped). s.at) (slice_get (Q.packets queue.now) 0) }
+{
+    let Some(front) = queue.front() else {
+        unreachable!()
+    };
+    front.at
 }
 
 // Takes the head of a queue that has one into `out`, with the codepoint `Ce` where it is marked.

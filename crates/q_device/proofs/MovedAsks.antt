@@ -58,15 +58,15 @@ module _ (t : ℕ) where
   moved-at (b ∷ below) all zero a e = subst (IsMoved t) (same_Some b a e) all.0
   moved-at (b ∷ below) all (suc i) a e = moved-at below all.1 i a e
 
-  module _ (handle : Option ℕ) (filters : List Filter) where
+  module _ (handle : Option ℕ) (filters : List Filter) (since : ℕ) where
     -- ---- a tbf
 
     tbf-moves : (b : TokenBucket) (limit : ℕ) → IsInRange b → (a : Asked) (below : List Asked) → IsMoved t a
-        → (let own : Own = node t handle filters (Tbf b limit) None in Moves t (ask_tbf t own (a ∷ below) b limit).shown (outlook t (ask_tbf t own (a ∷ below) b limit).peeked))
+        → (let own : Own = node t handle filters since (Tbf b limit) None in Moves t (ask_tbf t own (a ∷ below) b limit).shown (outlook t (ask_tbf t own (a ∷ below) b limit).peeked))
     tbf-moves b limit range a below h = by a.shown refl
       where
         own : Own
-        own = node t handle filters (Tbf b limit) None
+        own = node t handle filters since (Tbf b limit) None
 
         P : Asked → Type 0
         P x = Moves t x.shown (outlook t x.peeked)
@@ -83,7 +83,7 @@ module _ (t : ℕ) where
     -- ---- a drr
 
     abbrev drr : Schedule → Own
-    drr s = node t handle filters (Drr s) None
+    drr s = node t handle filters since (Drr s) None
 
     -- one that gives a packet holds it
     drr-moves : (s : Schedule) (below : List Asked) → ((ask_drr (drr s) below s).shown ≡ None → Moves t None (outlook t (gives_nothing (drr s) below (service_of s below)).peeked))
@@ -148,12 +148,12 @@ module _ (t : ℕ) where
 
     module _ (mtu : ℕ) where
       pub asked-moves : (held : Option Descriptor) (d : Discipline) (below : List Asked)
-          → (let own : Own = node t handle filters d held in
+          → (let own : Own = node t handle filters since d held in
           IsLawfulOwn mtu t own (map beneath (befores below)) → AreMoved t below → Moves t (ask_own t own below).shown (outlook t (ask_own t own below).peeked))
       asked-moves (Some p) d below h all = hand-moves t p
       asked-moves None (Fifo limit queue) below h all = fifo-moves (slice_get (packets_of queue) 0)
       asked-moves None (Prio priomap) below h all =
-          let own : Own = node t handle filters (Prio priomap) None in
+          let own : Own = node t handle filters since (Prio priomap) None in
           let k : ℕ = ready below in
           subst (Moves t (ask_own t own below).shown) (sym (asked-outlook t own (notes_to k below) (peeked_to k below)))
           (subst (λ (o : Option Descriptor). Moves t o (with_bands no_packet (map (outlook t) (peeked_to k below)))) (sym (prio-shown own below)) (bands-move t no_packet (none-moves t) below all))
@@ -166,7 +166,7 @@ module _ (t : ℕ) where
       asked-moves None (FqCodel s) below h all = by (option_map (λ (x : Taken). x.packet) (sent_from t (selected s))) refl
         where
           own : Own
-          own = node t handle filters (FqCodel s) None
+          own = node t handle filters since (FqCodel s) None
 
           notes : List Note
           notes = (ask_fq_codel t own below s).peeked.memory
@@ -174,6 +174,6 @@ module _ (t : ℕ) where
           after : FqState
           after = after_sending t (selected s)
 
-          by : (x : Option Descriptor) → option_map (λ (x : Taken). x.packet) (sent_from t (selected s)) ≡ x → Moves t x (outlook t (worked (node t handle filters (FqCodel after) x) notes (befores below)))
+          by : (x : Option Descriptor) → option_map (λ (x : Taken). x.packet) (sent_from t (selected s)) ≡ x → Moves t x (outlook t (worked (node t handle filters since (FqCodel after) x) notes (befores below)))
           by None e = subst (λ n. Moves t None (of_flows t n)) (sym (take_leaves_none t s h.discipline.lists h.discipline.settings.quantum_low e)) (none-moves t)
           by (Some p) e = hand-moves t p

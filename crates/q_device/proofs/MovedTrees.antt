@@ -16,7 +16,7 @@ use Rattle.q_device.proofs.RenewedTrees.{own-renewed, forest-renewed, left}
 module _ (mtu t : ℕ) (least : 1 ≤ mtu) (low : t ≤ 2 ^ 62) where
   own-moves : (own : Own) (x : Forest (Unit {0})) → IsLawfulRoot mtu t (record { own = own; memory = tt; below = x }) → AreMoved t (each (ask_own t) x)
       → Moves t (ask_own t own (each (ask_own t) x)).shown (outlook t (ask_own t own (each (ask_own t) x)).peeked)
-  own-moves own x lawful all = asked-moves t own.handle own.filters mtu own.held own.discipline (each (ask_own t) x) (subst (IsLawfulOwn mtu t own) (sym (beneath-befores t x)) lawful.0) all
+  own-moves own x lawful all = asked-moves t own.handle own.filters own.since mtu own.held own.discipline (each (ask_own t) x) (subst (IsLawfulOwn mtu t own) (sym (beneath-befores t x)) lawful.0) all
 
   forest-moved : (x : Forest (Unit {0})) → AllLawful mtu t x → AreMoved t (each (ask_own t) x)
   forest-moved none h = tt

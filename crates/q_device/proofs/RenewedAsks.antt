@@ -118,18 +118,18 @@ module _ (now t : ℕ) (order : now ≤ t) where
   -- ---- a node that was not asked
 
   module _ (mtu : ℕ) where
-    pub aged : (handle : Option ℕ) (filters : List Filter) (held : Option Descriptor) (d : Discipline) (os ps : List Outlook) (packets : List (List Descriptor))
-        → (let own : Own = record { handle = handle; discipline = d; held = held; filters = filters } in
+    pub aged : (handle : Option ℕ) (filters : List Filter) (since : ℕ) (held : Option Descriptor) (d : Discipline) (os ps : List Outlook) (packets : List (List Descriptor))
+        → (let own : Own = record { handle = handle; discipline = d; held = held; since = since; filters = filters } in
         IsLawfulOwn mtu t own packets → AllRenew t os ps → Renews t (outlook_own now own os) (outlook_own t own ps))
-    aged handle filters (Some p) d os ps packets h all = hand-renews now t p.len order
-    aged handle filters None (Fifo limit queue) os ps packets h all = fifo-renews (slice_get (packets_of queue) 0)
-    aged handle filters None (Prio priomap) os ps packets h all = bands-renew t no_packet no_packet (none-renews t no_packet refl) os ps all
-    aged handle filters None (Tbf b limit) [] [] packets h all = none-renews t no_packet refl
-    aged handle filters None (Tbf b limit) [] (p ∷ ps) packets h all = absurd all
-    aged handle filters None (Tbf b limit) (o ∷ os) [] packets h all = absurd all
-    aged handle filters None (Tbf b limit) (o ∷ os) (p ∷ ps) packets h all = shaped-renews t b h.discipline.level o p all.0
-    aged handle filters None (Drr s) os ps packets h all = front-renews s os ps all (slice_get s.active 0)
-    aged handle filters None (FqCodel s) os ps packets h all = flows-renew (fq.packets_of s.flows) (fq.packets_of s.flows) (λ e. e)
+    aged handle filters since (Some p) d os ps packets h all = hand-renews now t p.len order
+    aged handle filters since None (Fifo limit queue) os ps packets h all = fifo-renews (slice_get (packets_of queue) 0)
+    aged handle filters since None (Prio priomap) os ps packets h all = bands-renew t no_packet no_packet (none-renews t no_packet refl) os ps all
+    aged handle filters since None (Tbf b limit) [] [] packets h all = none-renews t no_packet refl
+    aged handle filters since None (Tbf b limit) [] (p ∷ ps) packets h all = absurd all
+    aged handle filters since None (Tbf b limit) (o ∷ os) [] packets h all = absurd all
+    aged handle filters since None (Tbf b limit) (o ∷ os) (p ∷ ps) packets h all = shaped-renews t b h.discipline.level o p all.0
+    aged handle filters since None (Drr s) os ps packets h all = front-renews s os ps all (slice_get s.active 0)
+    aged handle filters since None (FqCodel s) os ps packets h all = flows-renew (fq.packets_of s.flows) (fq.packets_of s.flows) (λ e. e)
 
   -- ---- what was known of a node, and its answer at t
 
@@ -174,14 +174,14 @@ module _ (now t : ℕ) (order : now ≤ t) where
 
   -- ---- a tbf
 
-  module _ (handle : Option ℕ) (filters : List Filter) where
+  module _ (handle : Option ℕ) (filters : List Filter) (since : ℕ) where
     tbf-renews : (b : TokenBucket) (limit : ℕ) → IsInRange b → (o : Outlook) (a : Asked) (below : List Asked) → IsRenewed o a
-        → (let own : Own = node t handle filters (Tbf b limit) None in
+        → (let own : Own = node t handle filters since (Tbf b limit) None in
         Foresees now t (shaped b o) (ask_tbf t own (a ∷ below) b limit).shown → Renews t (shaped b o) (outlook t (ask_tbf t own (a ∷ below) b limit).peeked))
     tbf-renews b limit range o a below h = by a.shown
       where
         own : Own
-        own = node t handle filters (Tbf b limit) None
+        own = node t handle filters since (Tbf b limit) None
 
         P : Asked → Type 0
         P x = Foresees now t (shaped b o) x.shown → Renews t (shaped b o) (outlook t x.peeked)
@@ -200,7 +200,7 @@ module _ (now t : ℕ) (order : now ≤ t) where
     -- ---- a drr
 
     abbrev drr : Schedule → Own
-    drr s = node t handle filters (Drr s) None
+    drr s = node t handle filters since (Drr s) None
 
     -- one that gives a packet holds it
     drr-renews : (o : Outlook) (s : Schedule) (below : List Asked) → Foresees now t o (ask_drr (drr s) below s).shown
@@ -305,7 +305,7 @@ module _ (now t : ℕ) (order : now ≤ t) where
     flows-left : (s : FqState) → fq.packets_of s.flows ≡ 0 → fq.packets_of (after_sending t (selected s)).flows ≡ 0
     flows-left s idle = omega (arith, idle, packets-all s.flows, packets-all (after_sending t (selected s)).flows, take_keeps_all one s t)
 
-    fq-renews : (s : FqState) (below : List Asked) → (let own : Own = node t handle filters (FqCodel s) None in
+    fq-renews : (s : FqState) (below : List Asked) → (let own : Own = node t handle filters since (FqCodel s) None in
         Foresees now t (of_flows now (fq.packets_of s.flows)) (ask_fq_codel t own below s).shown → Renews t (of_flows now (fq.packets_of s.flows)) (outlook t (ask_fq_codel t own below s).peeked))
     fq-renews s below = by (option_map (λ (x : Taken). x.packet) (sent_from t (selected s)))
       where
@@ -313,9 +313,9 @@ module _ (now t : ℕ) (order : now ≤ t) where
         after = after_sending t (selected s)
 
         notes : List Note
-        notes = (ask_fq_codel t (node t handle filters (FqCodel s) None) below s).peeked.memory
+        notes = (ask_fq_codel t (node t handle filters since (FqCodel s) None) below s).peeked.memory
 
-        by : (x : Option Descriptor) → Foresees now t (of_flows now (fq.packets_of s.flows)) x → Renews t (of_flows now (fq.packets_of s.flows)) (outlook t (worked (node t handle filters (FqCodel after) x) notes (befores below)))
+        by : (x : Option Descriptor) → Foresees now t (of_flows now (fq.packets_of s.flows)) x → Renews t (of_flows now (fq.packets_of s.flows)) (outlook t (worked (node t handle filters since (FqCodel after) x) notes (befores below)))
         by None f = flows-renew (fq.packets_of s.flows) (fq.packets_of after.flows) (flows-left s)
         by (Some p) f = held-renews now t (of_flows now (fq.packets_of s.flows)) p f
 
@@ -323,13 +323,13 @@ module _ (now t : ℕ) (order : now ≤ t) where
 
     module _ (mtu : ℕ) where
       pub asked-renews : (held : Option Descriptor) (d : Discipline) (os : List Outlook) (below : List Asked)
-          → (let own : Own = node t handle filters d held in
+          → (let own : Own = node t handle filters since d held in
           IsLawfulOwn mtu t own (map beneath (befores below)) → AreRenewed os below → Foresees now t (outlook_own now own os) (ask_own t own below).shown
           → Renews t (outlook_own now own os) (outlook t (ask_own t own below).peeked))
       asked-renews (Some p) d os below h all f = hand-renews now t p.len order
       asked-renews None (Fifo limit queue) os below h all f = fifo-renews (slice_get (packets_of queue) 0)
       asked-renews None (Prio priomap) os below h all f =
-          let own : Own = node t handle filters (Prio priomap) None in
+          let own : Own = node t handle filters since (Prio priomap) None in
           let k : ℕ = position_or_len (λ (a : Asked). is_some a.shown) below in
           subst (Renews t (with_bands no_packet os)) (sym (asked-outlook t own (notes_to k below) (peeked_to k below)))
           (bands-renew t no_packet no_packet (none-renews t no_packet refl) os (map (outlook t) (peeked_to k below)) (passed-renew os below all k))

@@ -32,8 +32,8 @@ module _ (mtu now t : ℕ) (least : 1 ≤ mtu) (low : t ≤ 2 ^ 62) (order : now
       record {
         foreseen = sees;
         before = subst (Renews t (outlook_own now own os)) (sym (ap (outlook t) (before-is t own below) ∙ asked-outlook t own [] (befores below)))
-            (aged now t order mtu own.handle own.filters own.held own.discipline os (map (outlook t) (befores below)) (each beneath_own x) lawful.0 (befores-renew now t order os below all));
-        peeked = asked-renews now t order own.handle own.filters mtu own.held own.discipline os below (subst (IsLawfulOwn mtu t own) (sym (beneath-befores t x)) lawful.0) all sees;
+            (aged now t order mtu own.handle own.filters own.since own.held own.discipline os (map (outlook t) (befores below)) (each beneath_own x) lawful.0 (befores-renew now t order os below all));
+        peeked = asked-renews now t order own.handle own.filters own.since mtu own.held own.discipline os below (subst (IsLawfulOwn mtu t own) (sym (beneath-befores t x)) lawful.0) all sees;
       }
 
   pub forest-renewed : (x : Forest (Unit {0})) → AllLawful mtu t x → AreRenewed now t order (each (outlook_own now) x) (each (ask_own t) x)

@@ -4,6 +4,7 @@ ghost use Rattle.q_model.specs.Node.{shape};
 ghost use Rattle.q_model.specs.Settings.{IsInRange};
 ghost use Rattle.q_model.specs.Step.{step};
 ghost use Rattle.q_model.specs.Tally.{no_counts, totals, with_packet};
+ghost use Rattle.q_model.specs.Oldest.{oldest_at};
 ghost use Rattle.q_model.specs.TreeState.{given, stats};
 ghost use Rattle.q_model.specs.declared.event.Event.TheVariants as event;
 ghost use Rattle.q_model.specs.declared.reply.Reply.TheVariants as reply;
@@ -327,6 +328,15 @@ impl Device {
         ensures { result ≡ stats totals place self.now.device.tree }
     {
         self.tree.stats(place)
+    }
+
+    /// When the packet arrived that has been queued longest at the node in this place or below it; `None` where nothing is queued there,
+    /// or where no node is. So [`Device::clock`] less this time is how long it has waited. It is found when it is asked for: it looks at
+    /// each node once, and at each flow of an fq_codel.
+    pub fn oldest(&self, place: Place) -> Option<Moment>
+        ensures { result ≡ oldest_at place self.now.device.tree }
+    {
+        self.tree.oldest(place)
     }
 
     /// The tree. Its clock is the device's, since every event gives the tree the time at which it counts.

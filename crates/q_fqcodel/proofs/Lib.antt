@@ -18,6 +18,7 @@ pub mod LostLemmas
 pub mod MovedLemmas
 pub mod NewFlowLemmas
 pub mod NodesLemmas
+pub mod OldestLemmas
 pub mod OrderLemmas
 pub mod PassedLemmas
 pub mod PoolLemmas

@@ -7,6 +7,7 @@ use Rattle.q_packet.proofs.TotalsLemmas.{size-cons}
 use Rattle.q_packet.specs.Totals.{size}
 use Rattle.q_packet.specs.Descriptor.{Descriptor}
 use Rattle.q_packet.specs.declared.stamped.Stamped.{Stamped}
+use Rattle.q_codel.specs.Codel as codel
 use Rattle.q_codel.specs.Codel.{CodelState, is_late, Chooses, drops, taken, left, after, leaving}
 use Rattle.q_codel.specs.Front.{front_of}
 use Rattle.q_codel.specs.declared.front.Front.{Front}
@@ -30,6 +31,7 @@ none_dropped s t now head rest chosen =
 
 pub record Passed (s : CodelState) (now : ℕ) (queue : List Stamped) (front : Front) (packet : Descriptor) (t : CodelState) : Type 0 where
   pub len : front.len ≡ packet.len
+  pub at : Some front.at ≡ option_map (λ (x : Stamped). x.at) (codel.sent s now queue)
   pub sent : taken_as packet false ≡ taken s now queue
   pub none : drops s now queue ≡ 0
   pub left_is : drop 1 queue ≡ left s now queue
@@ -46,6 +48,7 @@ passed s t now (head ∷ rest) front bytes packet f b p chooses =
     let packet_is = same_Some packet head.packet p in
     record {
       len = ap (λ (x : Front). x.len) front_is ∙ ap (λ (x : Descriptor). x.len) (sym packet_is);
+      at = ap (λ (x : Front). Some x.at) front_is ∙ ap (option_map (λ (x : Stamped). x.at)) chosen.head_is;
       sent = ap (λ (x : Descriptor). taken_as x false) packet_is
           ∙ ap₂ (λ (m : Bool) (o : Option Stamped). option_map (λ (x : Stamped). record { packet = leaving m x.packet; marked = m }) o) chosen.marked_is chosen.head_is;
       none = none_dropped s t now head rest chosen;

@@ -5,11 +5,11 @@ use Rattle.std.proofs.lemmas.Bool.{cond-false, lt-ltb, ne_eqb, eqb-true, not-fal
 use Rattle.std.proofs.lemmas.List.{length-take, length-drop, nil_from_length}
 use Rattle.q_packet.specs.Totals.{count}
 use Rattle.q_packet.specs.declared.stamped.Stamped.{Stamped}
-use Rattle.q_codel.specs.Codel.{CodelState, drops, taken, left}
+use Rattle.q_codel.specs.Codel.{CodelState, drops, sent, taken, left}
 use Rattle.q_codel.specs.declared.taken.Taken.{Taken}
 use Rattle.q_fqcodel.specs.Cleared.{adjust}
 use Rattle.q_fqcodel.specs.FqState.{Flow, FqState}
-use Rattle.q_fqcodel.specs.Take.{packet_sent, packets_dropped, flow_after, front, sender, sent_from, dropped_from, paid, with_sent, after_sending}
+use Rattle.q_fqcodel.specs.Take.{packet_sent, packets_dropped, flow_after, front, sender, head_sent, sent_from, dropped_from, paid, with_sent, after_sending}
 use Rattle.q_fqcodel.specs.Entry.{Entry}
 
 drops_empty : (s : CodelState) (now : ℕ) → drops s now [] ≡ 0
@@ -87,6 +87,18 @@ dropped_of : (now : ℕ) (o : Option Flow) (P : List Stamped → Type 0) → IsS
 dropped_of now None P some h = absurd cc
 dropped_of now (Some f) P some h = h
 
+-- what is known of the packet that CoDel sends, as it was queued
+head_of : (now : ℕ) (o : Option Flow) (P : Option Stamped → Type 0) → IsSome o → IfSome o (λ f. P (sent f.codel now f.queue)) → P (option_and_then (λ (f : Flow). sent f.codel now f.queue) o)
+head_of now None P some h = absurd cc
+head_of now (Some f) P some h = h
+
+pub head_is : (s : FqState) (e : Entry) (rest : List Entry) (now : ℕ) (P : Option Stamped → Type 0) → s.new_flows ++ s.old_flows ≡ e ∷ rest → e.flow < length s.flows
+    → IfSome (slice_get s.flows e.flow) (λ f. P (sent f.codel now f.queue)) → P (head_sent now s)
+unfolding head_sent
+head_is s e rest now P front within h =
+    subst (λ (o : Option Flow). P (option_and_then (λ (f : Flow). sent f.codel now f.queue) o)) (sym (sender_found s e rest front))
+    (head_of now (slice_get s.flows e.flow) P (slice_there s.flows e.flow within) h)
+
 -- what is known of the packets that CoDel drops
 pub dropped_is : (s : FqState) (e : Entry) (rest : List Entry) (now : ℕ) (P : List Stamped → Type 0) → s.new_flows ++ s.old_flows ≡ e ∷ rest → e.flow < length s.flows
     → IfSome (slice_get s.flows e.flow) (λ f. P (packets_dropped now f)) → P (dropped_from now s)
@@ -110,6 +122,11 @@ pub sent_none : (s : FqState) (now : ℕ) → s.new_flows ≡ [] → s.old_flows
 unfolding sent_from sender front
 sent_none s now no_new no_old =
     ap₂ (λ (l m : List Entry). option_and_then (packet_sent now) (option_and_then (λ (e : Entry). slice_get s.flows e.flow) (slice_get (l ++ m) 0))) no_new no_old
+
+pub head_none : (s : FqState) (now : ℕ) → s.new_flows ≡ [] → s.old_flows ≡ [] → head_sent now s ≡ None
+unfolding head_sent sender front
+head_none s now no_new no_old =
+    ap₂ (λ (l m : List Entry). option_and_then (λ (f : Flow). sent f.codel now f.queue) (option_and_then (λ (e : Entry). slice_get s.flows e.flow) (slice_get (l ++ m) 0))) no_new no_old
 
 pub dropped_none : (s : FqState) (now : ℕ) → s.new_flows ≡ [] → s.old_flows ≡ [] → dropped_from now s ≡ []
 unfolding dropped_from sender front

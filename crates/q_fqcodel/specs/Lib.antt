@@ -9,6 +9,7 @@ pub mod Links
 pub mod Linked
 pub mod NewFlow
 pub mod Nodes
+pub mod Oldest
 pub mod Order
 pub mod Pool
 pub mod PoolKept

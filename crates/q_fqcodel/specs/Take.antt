@@ -3,7 +3,7 @@
 use Rattle.std.specs.Prelude.{ℕ, Bool, pos, ◌-ℤ◌, List, [], ◌∷◌, ◌++◌, take, Option, Some, None, option_map, option_and_then, slice_get, unwrap_or, IsSomeAnd, ◌≡◌, true}
 use Rattle.q_packet.specs.Descriptor.{Descriptor}
 use Rattle.q_packet.specs.declared.stamped.Stamped.{Stamped}
-use Rattle.q_codel.specs.Codel.{drops, taken, left, after, is_late}
+use Rattle.q_codel.specs.Codel.{drops, sent, taken, left, after, is_late}
 use Rattle.q_codel.specs.declared.taken.Taken.{Taken}
 use Rattle.q_fqcodel.specs.Cleared.{adjust, clear}
 use Rattle.q_fqcodel.specs.Selection.{arranged}
@@ -41,6 +41,10 @@ sender s = option_and_then (λ (e : Entry). slice_get s.flows e.flow) (front s)
 -- CoDel finds the head of the flow in front late: it has to drop or mark
 abbrev pub IsFrontLate : ℕ → FqState → Type 0
 IsFrontLate now s = IsSomeAnd (sender s) (λ (f : Flow). is_late f.codel now f.queue ≡ true)
+
+-- the packet that the flow in front sends, as it was queued
+unfoldable pub head_sent : ℕ → FqState → Option Stamped
+head_sent now s = option_and_then (λ (f : Flow). sent f.codel now f.queue) (sender s)
 
 -- the packet that the flow in front sends, and those that CoDel drops before it
 unfoldable pub sent_from : ℕ → FqState → Option Taken

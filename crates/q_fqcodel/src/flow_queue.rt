@@ -1,16 +1,17 @@
 //! One flow's queue as CoDel sees it: CoDel is lent a queue, and the packets of all flows are in one pool.
-ghost use Rattle.std.specs.Prelude.{◌≡◌, ◌+◌, ◌≤◌, [], ◌++◌, take, get_or, true, refl};
+ghost use Rattle.std.specs.Prelude.{◌≡◌, ◌+◌, ◌≤◌, [], ◌++◌, Some, take, get_or, option_map, true, refl};
 ghost use Rattle.std.proofs.Common.{◌∙◌};
 ghost use Rattle.q_packet.specs.Totals.{count};
-ghost use Rattle.q_codel.specs.Codel.{joined, drops, taken, left, after, is_late};
+ghost use Rattle.q_codel.specs.Codel.{joined, drops, sent, taken, left, after, is_late};
 ghost use Rattle.q_codel.specs.Front.{IsFront};
 ghost use Rattle.q_codel.specs.Losses.{losses_of};
 ghost use Rattle.q_fqcodel.specs.Pool.{SameBeside};
+ghost use Rattle.q_packet.specs.declared.stamped.Stamped.{Stamped};
 ghost use Rattle.q_fqcodel.specs.Take.{taken_as};
 ghost use Rattle.q_fqcodel.specs.PoolKept.{kept_same, kept_on};
 
 use crate::pool::Pool;
-use q_codel::{ControlState, Front, Parameters, Queue, Sink};
+use q_codel::{ControlState, Front, Leaving, Parameters, Queue, Sink};
 use q_packet::{Cause, KeptPacket, Moment, Stamped};
 
 /// The queue of one flow, as a view of the packets of all.
@@ -63,8 +64,8 @@ impl<'a> Queue for FlowQueue<'a> {
     ghost keeps_on = { λ q r s a b. (kept_on q.flow r.flow q.pool.now.queues r.pool.now.queues s.pool.now.queues a.1 a.0 b.0, b.1 ∙ a.1, b.2 ∙ a.2, b.3 ∙ a.3) };
 }
 
-/// Lets a flow whose head was found late send by CoDel's law into `out`, and says whether the packet was marked. `front` is what CoDel
-/// reads of the head, which is not judged again.
+/// Lets a flow whose head was found late send by CoDel's law into `out`, and says whether the packet was marked and when it was queued.
+/// `front` is what CoDel reads of the head, which is not judged again.
 #[inline(always)]
 pub(crate) fn send_late_from<S: Sink>(
     pool: &mut Pool,
@@ -75,11 +76,12 @@ pub(crate) fn send_late_from<S: Sink>(
     now: Moment,
     out: &mut KeptPacket,
     sink: &mut S,
-) -> bool
+) -> Leaving
     requires front { IsFront front (get_or pool.old.queues flow []) }
     requires late { is_late (joined parameters.now codel.old) now (get_or pool.old.queues flow []) ≡ true }
     requires room { count (get_or pool.old.queues flow []) ≤ S.room sink.old }
-    ensures sent { taken_as out.new result ≡ taken (joined parameters.now codel.old) now (get_or pool.old.queues flow []) }
+    ensures sent { taken_as out.new result.marked ≡ taken (joined parameters.now codel.old) now (get_or pool.old.queues flow []) }
+    ensures at { Some result.at ≡ option_map (λ (s : Stamped). s.at) (sent (joined parameters.now codel.old) now (get_or pool.old.queues flow [])) }
     ensures left { get_or pool.new.queues flow [] ≡ left (joined parameters.now codel.old) now (get_or pool.old.queues flow []) }
     ensures state { joined parameters.now codel.new ≡ after (joined parameters.now codel.old) now (get_or pool.old.queues flow []) }
     ensures lost { S.losses sink.new ≡ S.losses sink.old

@@ -1,8 +1,8 @@
 //! All flows by index: where a flow's packets are, what CoDel knows of it, and how its list is told of both.
-ghost use Rattle.std.specs.Prelude.{◌≡◌, ◌+◌, ◌<◌, ◌≤◌, ◌%◌, ◌^◌, [], ◌++◌, ◌&&◌, ◌==◌, not, true, false, nat_le, length, map, replicate, take, drop, set, slice_get, get_or, ◌↔◌, IsSome, IfSome, IsOk, IfOk, OnOk, OnErr};
+ghost use Rattle.std.specs.Prelude.{◌≡◌, ◌+◌, ◌<◌, ◌≤◌, ◌%◌, ◌^◌, [], ◌++◌, ◌&&◌, ◌==◌, not, true, false, nat_le, length, map, replicate, take, drop, set, slice_get, get_or, ◌↔◌, Some, option_map, IsSome, IfSome, IsOk, IfOk, OnOk, OnErr};
 ghost use Rattle.q_packet.specs.Totals.{count};
 ghost use Rattle.q_packet.specs.declared.stamped.Stamped.{Stamped};
-ghost use Rattle.q_codel.specs.Codel.{is_late};
+ghost use Rattle.q_codel.specs.Codel.{is_late, sent};
 ghost use Rattle.q_codel.specs.Front.{IsFront};
 ghost use Rattle.q_codel.specs.Losses.{losses_of};
 ghost use Rattle.q_fqcodel.specs.Cleared.{adjust};
@@ -10,6 +10,7 @@ ghost use Rattle.q_fqcodel.specs.FqState.{queue_of, is_idle, packets_of, bytes_o
 ghost use Rattle.q_fqcodel.specs.Put.{joined, shortened, fattest, shed_count};
 ghost use Rattle.q_fqcodel.specs.Take.{taken_as, packet_sent, packets_dropped, flow_after};
 ghost use Rattle.q_fqcodel.specs.Pool.{stamp, cleared};
+ghost use Rattle.q_fqcodel.specs.Oldest.{earlier, earliest, first_arrival, first_arrivals};
 
 use crate::course::Course;
 use crate::flow_queue::send_late_from;
@@ -18,7 +19,7 @@ use crate::pool::Pool;
 use crate::sent::Sent;
 use crate::settings::Settings;
 use crate::winners::Winners;
-use q_codel::{ControlState, Parameters, Sink};
+use q_codel::{ControlState, Front, Parameters, Sink};
 use q_packet::{Cause, KeptPacket, Moment};
 use std::alloc::{AllocError, Global};
 use std::marker::Model;
@@ -135,7 +136,7 @@ impl Flows {
         self.states[flow as usize].rest();
     }
 
-    /// Sends the head of a flow, which has one, into `out` as it is, and returns its length in bytes.
+    /// Sends the head of a flow, which has one, into `out` as it is, and returns what CoDel read of it.
     ///
     /// # Errors
     ///
@@ -146,12 +147,13 @@ impl Flows {
         flow: u32,
         now: Moment,
         out: &mut KeptPacket,
-    ) -> Result<u16, Late>
+    ) -> Result<Front, Late>
         requires in_range { flow < length self.old.flows }
         requires some { 0 < count (queue_of self.old.flows flow) }
         ensures sent { OnOk result (IfSome (slice_get self.old.flows flow) (λ f. taken_as out.new false ≡ packet_sent now f)) }
-        ensures len { IfOk result (λ len. len ≡ out.new.len) }
-        ensures some { IfOk result (λ len. 0 < len) }
+        ensures at { IfOk result (λ front. IfSome (slice_get self.old.flows flow) (λ f. Some front.at ≡ option_map (λ (s : Stamped). s.at) (sent f.codel now f.queue))) }
+        ensures len { IfOk result (λ front. front.len ≡ out.new.len) }
+        ensures some { IfOk result (λ front. 0 < front.len) }
         ensures dropped { OnOk result (IfSome (slice_get self.old.flows flow) (λ f. packets_dropped now f ≡ [])) }
         ensures flows { OnOk result (self.new.flows ≡ adjust (flow_after now) flow self.old.flows) }
         ensures places { self.new.places ≡ self.old.places }
@@ -168,7 +170,7 @@ impl Flows {
         self.pool.take_of_into(flow, out);
         self.states[flow as usize].pass(after);
         self.winners.renew(flow, behind, Course::Fell);
-        Ok(front.len)
+        Ok(front)
     }
 
     /// Lets a flow whose head CoDel found late send by its law into `out`. The head is not judged again.
@@ -185,6 +187,7 @@ impl Flows {
         requires late { IfSome (slice_get self.old.flows flow) (λ f. is_late f.codel now f.queue ≡ true) }
         requires room { count (queue_of self.old.flows flow) ≤ S.room sink.old }
         ensures sent { IfSome (slice_get self.old.flows flow) (λ f. taken_as out.new result.marked ≡ packet_sent now f) }
+        ensures at { IfSome (slice_get self.old.flows flow) (λ f. Some result.at ≡ option_map (λ (s : Stamped). s.at) (sent f.codel now f.queue)) }
         ensures len { result.len ≡ out.new.len }
         ensures some { 0 < result.len }
         ensures dropped { IfSome (slice_get self.old.flows flow) (λ f. result.dropped ≡ not (count (packets_dropped now f) == 0)) }
@@ -199,7 +202,7 @@ impl Flows {
         let (front, _) = self.pool.peek(flow);
         let held = self.pool.count_at(flow);
         let codel = &mut self.states[flow as usize];
-        let marked = send_late_from(
+        let leaving = send_late_from(
             &mut self.pool,
             codel,
             &self.parameters,
@@ -214,9 +217,28 @@ impl Flows {
         self.winners.renew(flow, bytes, Course::Either);
         Sent {
             len: out.stored.len,
-            marked,
+            marked: leaving.marked,
             dropped: held - rest > 1,
+            at: leaving.at,
         }
+    }
+
+    /// When the packet arrived that has been queued longest, of those in front of a flow.
+    pub(crate) fn oldest(&self) -> Option<Moment>
+        ensures { result ≡ earliest (first_arrivals self.now.flows) }
+    {
+        let mut oldest = None;
+        for flow in 0..self.len() {
+            oldest = earlier(oldest, self.first_arrival(flow));
+        }
+        oldest
+    }
+
+    // When the packet in front of a flow arrived.
+    fn first_arrival(&self, flow: u32) -> Option<Moment>
+        ensures { result ≡ first_arrival (queue_of self.now.flows flow) }
+    {
+        self.pool.arrival_of(flow)
     }
 
     // The fat flow, once a packet with so many bytes has joined a flow.
@@ -452,4 +474,17 @@ fn lose_from<S: Sink>(pool: &mut Pool, flow: u32, lost: u64, cause: Cause, sink:
         let stamped = pool.take_of(flow).unwrap();
         sink.lost(stamped.packet, cause);
     }
+}
+
+// The earlier of two times, each of which may not be there.
+fn earlier(a: Option<Moment>, b: Option<Moment>) -> Option<Moment>
+    ensures { result ≡ earlier a b }
+{
+    let Some(first) = a else {
+        return b;
+    };
+    let Some(second) = b else {
+        return a;
+    };
+    Some(first.min(second))
 }

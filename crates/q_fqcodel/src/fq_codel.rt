@@ -2,7 +2,9 @@ ghost use Rattle.std.specs.Prelude.{ℕ, ◌≡◌, ◌+◌, ◌%◌, ◌<◌, n
 ghost use Rattle.std.specs.Option.{option_map_or};
 ghost use Rattle.q_packet.specs.Totals.{count, size};
 ghost use Rattle.q_packet.specs.Descriptor.{Descriptor};
+ghost use Rattle.q_codel.specs.declared.front.Front.{Front as Read};
 ghost use Rattle.q_codel.specs.declared.taken.Taken.{Taken};
+ghost use Rattle.q_packet.specs.declared.stamped.Stamped.{Stamped};
 ghost use Rattle.q_codel.specs.Losses.{losses_of};
 
 use crate::active_lists::ActiveLists;
@@ -14,7 +16,7 @@ use crate::late::Late;
 use crate::link::Link;
 use crate::sent::Sent;
 use crate::settings::Settings;
-use q_codel::{ControlState, Sink, Taken};
+use q_codel::{ControlState, Front, Sink, Taken};
 use q_packet::{Cause, KeptPacket, Moment, Packet, SOME_KEPT};
 use std::alloc::{AllocError, Global};
 use std::marker::Model;
@@ -57,8 +59,9 @@ impl FqCodel {
     ghost use Rattle.std.specs.Prelude.{min};
     ghost use Rattle.q_fqcodel.specs.FqState.{packets_of, bytes_of, all_packets, first_state, after_change};
     ghost use Rattle.q_fqcodel.specs.Put.{after_put, lost_by_put, is_lost_itself};
-    ghost use Rattle.q_fqcodel.specs.Take.{selected, front, sent_from, dropped_from, after_sending, IsFrontLate};
+    ghost use Rattle.q_fqcodel.specs.Take.{selected, front, head_sent, sent_from, dropped_from, after_sending, IsFrontLate};
     ghost use Rattle.q_fqcodel.specs.Lawful.{IsLawful};
+    ghost use Rattle.q_fqcodel.specs.Oldest.{earliest, first_arrivals};
     ghost use Rattle.q_fqcodel.specs.Turns.{GoesOn, IsSettled};
 
     /// Takes the next packet to send at the time `now`, and hands those that CoDel drops before it to `sink`. Returns
@@ -97,6 +100,7 @@ impl FqCodel {
         ensures some { (0 < result.len) ↔ (0 < packets_of self.old.state.flows) }
         ensures packet { out.new ≡ option_map_or (λ (t : Taken). t.packet) (sent_from now (selected self.old.state)) out.old }
         ensures marked { result.marked ≡ option_map_or (λ (t : Taken). t.marked) (sent_from now (selected self.old.state)) false }
+        ensures at { result.at ≡ option_map_or (λ (s : Stamped). s.at) (head_sent now (selected self.old.state)) 0 }
         ensures dropped { result.dropped ≡ not (count (dropped_from now (selected self.old.state)) == 0) }
         ensures after { self.new.state ≡ after_sending now (selected self.old.state) }
         ensures places { self.new.places ≡ self.old.places }
@@ -110,20 +114,22 @@ impl FqCodel {
                     len: 0,
                     marked: false,
                     dropped: false,
+                    at: Moment::zero(),
                 };
             }
-            Ok(Some(len)) => {
+            Ok(Some(front)) => {
                 return Sent {
-                    len,
+                    len: front.len,
                     marked: false,
                     dropped: false,
+                    at: front.at,
                 };
             }
             Err(_) => return self.take_late_into(now, out, sink),
         }
     }
 
-    /// Does what [`FqCodel::take_into`] does where the packet in front goes as it is, and returns its length in bytes; `None` where no
+    /// Does what [`FqCodel::take_into`] does where the packet in front goes as it is, and returns what CoDel read of it; `None` where no
     /// flow has a packet. So the usual take has no sink, and nothing to report of drops and marks.
     ///
     /// # Errors
@@ -131,10 +137,15 @@ impl FqCodel {
     /// [`Late`] where CoDel finds that packet late, so that it has to drop or mark: the flow that sends is in front then, and
     /// [`FqCodel::take_late_into`] goes on.
     #[inline(always)]
-    pub fn pass_into(&mut self, now: Moment, out: &mut KeptPacket) -> Result<Option<u16>, Late>
-        ensures len { IfOk result (λ len. len ≡ option_map (λ (t : Taken). t.packet.len) (sent_from now (selected self.old.state))) }
-        ensures some { IfOk result (λ len. IsSome len ↔ (0 < packets_of self.old.state.flows)) }
-        ensures positive { IfOk result (λ len. IfSome len (λ n. 0 < n)) }
+    pub fn pass_into(
+        &mut self,
+        now: Moment,
+        out: &mut KeptPacket,
+    ) -> Result<Option<Front>, Late>
+        ensures len { IfOk result (λ passed. option_map (λ (f : Read). f.len) passed ≡ option_map (λ (t : Taken). t.packet.len) (sent_from now (selected self.old.state))) }
+        ensures at { IfOk result (λ passed. option_map (λ (f : Read). f.at) passed ≡ option_map (λ (s : Stamped). s.at) (head_sent now (selected self.old.state))) }
+        ensures some { IfOk result (λ passed. IsSome passed ↔ (0 < packets_of self.old.state.flows)) }
+        ensures positive { IfOk result (λ passed. IfSome passed (λ f. 0 < f.len)) }
         ensures packet { OnOk result (out.new ≡ option_map_or (λ (t : Taken). t.packet) (sent_from now (selected self.old.state)) out.old) }
         ensures marked { OnOk result (option_map_or (λ (t : Taken). t.marked) (sent_from now (selected self.old.state)) false ≡ false) }
         ensures dropped { OnOk result (dropped_from now (selected self.old.state) ≡ []) }
@@ -166,6 +177,7 @@ impl FqCodel {
         ensures some { (0 < result.len) ↔ (0 < packets_of self.old.state.flows) }
         ensures packet { out.new ≡ option_map_or (λ (t : Taken). t.packet) (sent_from now self.old.state) out.old }
         ensures marked { result.marked ≡ option_map_or (λ (t : Taken). t.marked) (sent_from now self.old.state) false }
+        ensures at { Some result.at ≡ option_map (λ (s : Stamped). s.at) (head_sent now self.old.state) }
         ensures dropped { result.dropped ≡ not (count (dropped_from now self.old.state) == 0) }
         ensures after { self.new.state ≡ after_sending now self.old.state }
         ensures places { self.new.places ≡ self.old.places }
@@ -331,6 +343,14 @@ impl FqCodel {
         (self.flows.count(), self.flows.bytes())
     }
 
+    /// When the packet arrived that has been queued longest, of those in front of a flow; `None` where every flow is empty. It looks at
+    /// each flow once.
+    pub fn oldest(&self) -> Option<Moment>
+        ensures { result ≡ earliest (first_arrivals self.now.state.flows) }
+    {
+        self.flows.oldest()
+    }
+
     /// How many flows are listed as new, and how many as old (RFC 8290, section 4.2). It walks no list.
     pub fn listed(&self) -> (usize, usize)
         ensures new { result.0 ≡ length self.now.state.new_flows }
@@ -452,12 +472,13 @@ impl FqCodel {
         first: Option<Entry>,
         now: Moment,
         out: &mut KeptPacket,
-    ) -> Result<Option<u16>, Late>
+    ) -> Result<Option<Front>, Late>
         requires first { first ≡ front self.old.state }
         requires settled { IsSettled self.old.state }
-        ensures len { IfOk result (λ len. len ≡ option_map (λ (t : Taken). t.packet.len) (sent_from now self.old.state)) }
-        ensures some { IfOk result (λ len. IsSome len ↔ (0 < packets_of self.old.state.flows)) }
-        ensures positive { IfOk result (λ len. IfSome len (λ n. 0 < n)) }
+        ensures len { IfOk result (λ passed. option_map (λ (f : Read). f.len) passed ≡ option_map (λ (t : Taken). t.packet.len) (sent_from now self.old.state)) }
+        ensures at { IfOk result (λ passed. option_map (λ (f : Read). f.at) passed ≡ option_map (λ (s : Stamped). s.at) (head_sent now self.old.state)) }
+        ensures some { IfOk result (λ passed. IsSome passed ↔ (0 < packets_of self.old.state.flows)) }
+        ensures positive { IfOk result (λ passed. IfSome passed (λ f. 0 < f.len)) }
         ensures packet { OnOk result (out.new ≡ option_map_or (λ (t : Taken). t.packet) (sent_from now self.old.state) out.old) }
         ensures marked { OnOk result (option_map_or (λ (t : Taken). t.marked) (sent_from now self.old.state) false ≡ false) }
         ensures dropped { OnOk result (dropped_from now self.old.state ≡ []) }
@@ -472,9 +493,9 @@ impl FqCodel {
             let _ = self.queued();
             return Ok(None);
         };
-        let len = self.flows.pass_into(front.flow, now, out)?;
-        self.lists.write_front(front.charged(len));
-        Ok(Some(len))
+        let passed = self.flows.pass_into(front.flow, now, out)?;
+        self.lists.write_front(front.charged(passed.len));
+        Ok(Some(passed))
     }
 }
 

@@ -3,6 +3,7 @@ ghost use Rattle.std.specs.Prelude.{ℕ, ◌≡◌, ◌≢◌, ◌+◌, ◌-◌,
 ghost use Rattle.q_packet.specs.Totals.{count, size};
 ghost use Rattle.q_packet.specs.declared.stamped.Stamped.{Stamped};
 ghost use Rattle.q_codel.specs.Front.{front_of};
+ghost use Rattle.q_fqcodel.specs.Oldest.{first_arrival};
 ghost use Rattle.q_codel.specs.Losses.{losses_of};
 ghost use Rattle.q_fqcodel.specs.Pool.{stamp, packets_in, bytes_in, no_list, moved, SameBeside};
 
@@ -115,6 +116,18 @@ impl Pool {
         }
         let node = self.nodes.at(list.head);
         Some(node.front())
+    }
+
+    /// When the packet in front of a flow arrived.
+    pub(crate) fn arrival_of(&self, flow: u32) -> Option<Moment>
+        ensures { result ≡ first_arrival (get_or self.now.queues flow []) }
+    {
+        let list = list_of(&self.lists, flow);
+        if list.count == 0 {
+            return None;
+        }
+        let node = self.nodes.at(list.head);
+        Some(node.at)
     }
 
     /// What CoDel reads of the packet in front of a flow, which has one, and the flow's bytes: its list is read once.

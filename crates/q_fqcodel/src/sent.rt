@@ -1,4 +1,6 @@
-/// What a take into a caller's packet did: four bytes, so that no packet is copied on the way up.
+use q_packet::Moment;
+
+/// What a take into a caller's packet did, so that no packet is copied on the way up.
 #[derive(Clone, Copy, Debug)]
 pub struct Sent {
     /// The length in bytes of the packet that was sent; 0 where there was none.
@@ -7,4 +9,6 @@ pub struct Sent {
     pub marked: bool,
     /// Whether CoDel dropped packets before it.
     pub dropped: bool,
+    /// When it was queued; 0 where there was none.
+    pub at: Moment,
 }

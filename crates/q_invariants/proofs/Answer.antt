@@ -15,6 +15,7 @@ use Rattle.q_invariants.proofs.Weights.{weigh, arrived, sent, lost, dropped, mar
 use Rattle.q_invariants.proofs.Kept.{IsLawfulRoot}
 use Rattle.q_invariants.proofs.Told.{IsRootTold}
 use Rattle.q_invariants.proofs.Forests.{each-side, AreLawful, AreTold, lawful-side, told-side}
+use Rattle.q_model.specs.Since.{since_of}
 
 -- a peek leaves a packet where there was one
 abbrev pub one : Descriptor → ℕ
@@ -222,5 +223,5 @@ is-shown mtu now below s h = subst (λ (notes : List Note). IsAnswer mtu now (an
 
 -- one that dequeues it
 pub is-dequeued : (mtu now : ℕ) (own : Own) (below : List Asked) (d : Dequeue)
-    → IsAsked mtu now own (record d.after { held = d.packet }) (record d.after { held = None }) below d.children d.children d.rises d.packet → IsSilent d.mine → IsAnswer mtu now (dequeued own below d)
-is-dequeued mtu now own below d h silent = is-answer mtu now own (record d.after { held = d.packet }) (record d.after { held = None }) below d.children d.children d.rises d.mine d.packet h silent
+    → IsAsked mtu now own (record d.after { held = d.packet; since = since_of d.packet d.since }) (record d.after { held = None; since = 0 }) below d.children d.children d.rises d.packet → IsSilent d.mine → IsAnswer mtu now (dequeued own below d)
+is-dequeued mtu now own below d h silent = is-answer mtu now own (record d.after { held = d.packet; since = since_of d.packet d.since }) (record d.after { held = None; since = 0 }) below d.children d.children d.rises d.mine d.packet h silent

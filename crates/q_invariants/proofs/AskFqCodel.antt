@@ -13,7 +13,7 @@ use Rattle.q_fqcodel.specs.Entry.{Entry}
 use Rattle.q_fqcodel.specs.FqState.{FqSettings, Flow, FqState, is_idle, all_packets, rested_flow}
 use Rattle.q_fqcodel.specs.Ranges.{IsInRange}
 use Rattle.q_fqcodel.specs.Selection.{arranged}
-use Rattle.q_fqcodel.specs.Take.{selected, flow_after, sent_from, dropped_from, with_sent, after_sending}
+use Rattle.q_fqcodel.specs.Take.{selected, flow_after, sent_from, dropped_from, with_sent, after_sending, head_sent}
 use Rattle.q_fqcodel.proofs.KeptLemmas.{take_keeps_lawful}
 use Rattle.q_model.specs.declared.filter.Filter.{Filter}
 use Rattle.q_model.specs.Node.{FqCodel, Own}
@@ -27,6 +27,9 @@ use Rattle.q_invariants.proofs.Lengths.{lengths-among}
 use Rattle.q_invariants.proofs.Answer.{one, IsAnswer, AreAnswers, waiting, is-dequeued}
 use Rattle.q_invariants.proofs.Sums.{in_children, weigh-waiting, weigh-holds, befores-lawful, befores-told}
 use Rattle.q_invariants.proofs.FlowNotes.{take-weighs, nothing-dropped, marks-weigh, lost-marks, quiet-marks, flow-silent}
+use Rattle.std.specs.Option.{option_map_or}
+use Rattle.q_model.specs.Since.{since_of}
+use Rattle.q_invariants.proofs.Stamps.{stamped-drop}
 
 -- flows that are changed one by one
 pub All-adjust : {F : Type 0} (P : F → Type 0) (r : F → F) → ((f : F) → P f → P (r f)) → (n : ℕ) (fs : List F) → All P fs → All P (adjust r n fs)
@@ -66,7 +69,7 @@ after-lawful now s low f h =
       settings = subst IsCodelParams (sym kept.settings) h.settings;
       state = kept.state;
       agrees = agrees-by s f.codel (flow_after now f).codel kept.settings h.agrees;
-      stamps = All-drop (λ (x : Stamped). x.at ≤ now) (suc (drops f.codel now f.queue)) f.queue h.stamps;
+      stamps = stamped-drop now (suc (drops f.codel now f.queue)) f.queue h.stamps;
     }
 
 sent-lawful : (now : ℕ) (s : FqState) → now ≤ 2 ^ 62 → (es fs : List Entry) → All (IsLawfulFlow now s.settings) s.flows → All (IsLawfulFlow now s.settings) (with_sent now s es fs).flows
@@ -103,42 +106,44 @@ take-lawful mtu now s below low h =
       none = h.none;
     }
 
-module _ (mtu now : ℕ) (low : now ≤ 2 ^ 62) (handle : Option ℕ) (filters : List Filter) where
-  abbrev fq_codel : FqState → Option Descriptor → Own
-  fq_codel s held = record { handle = handle; discipline = FqCodel s; held = held; filters = filters }
+module _ (mtu now : ℕ) (low : now ≤ 2 ^ 62) (handle : Option ℕ) (filters : List Filter) (since : ℕ) where
+  abbrev fq_codel : FqState → Option Descriptor → ℕ → Own
+  fq_codel s held at = record { handle = handle; discipline = FqCodel s; held = held; since = at; filters = filters }
 
-  pub fq_codel-answers : (s : FqState) (below : List Asked) → IsLawfulOwn mtu now (fq_codel s None) (map beneath (befores below)) → AreAnswers mtu now below → IsAnswer mtu now (ask_fq_codel now (fq_codel s None) below s)
+  pub fq_codel-answers : (s : FqState) (below : List Asked) → IsLawfulOwn mtu now (fq_codel s None since) (map beneath (befores below)) → AreAnswers mtu now below → IsAnswer mtu now (ask_fq_codel now (fq_codel s None since) below s)
   fq_codel-answers s below h all =
       let after : FqState = after_sending now (selected s) in
       let sent : Option Taken = sent_from now (selected s) in
       let packet : Option Descriptor = option_map (λ (t : Taken). t.packet) sent in
+      let at : ℕ = option_map_or (λ (p : Stamped). p.at) (head_sent now (selected s)) 0 in
       let gone : List Descriptor = packets_of (dropped_from now (selected s)) in
-      let before_is : (w : Descriptor → ℕ) → weigh w (waiting (fq_codel s None) (befores below)) ≡ weigh w [] + weigh w (packets_of (all_packets s.flows)) + in_children w (befores below) =
-      λ w. weigh-waiting w (fq_codel s None) (befores below) in
-      let peeked_is : (w : Descriptor → ℕ) → weigh w (waiting (fq_codel after packet) (befores below)) ≡ weigh w (option_to_list packet) + weigh w (packets_of (all_packets after.flows)) + in_children w (befores below) =
-      λ w. weigh-waiting w (fq_codel after packet) (befores below) in
-      let taken_is : (w : Descriptor → ℕ) → weigh w (waiting (fq_codel after None) (befores below)) ≡ weigh w [] + weigh w (packets_of (all_packets after.flows)) + in_children w (befores below) =
-      λ w. weigh-waiting w (fq_codel after None) (befores below) in
+      let before_is : (w : Descriptor → ℕ) → weigh w (waiting (fq_codel s None since) (befores below)) ≡ weigh w [] + weigh w (packets_of (all_packets s.flows)) + in_children w (befores below) =
+      λ w. weigh-waiting w (fq_codel s None since) (befores below) in
+      let peeked_is : (w : Descriptor → ℕ) → weigh w (waiting (fq_codel after packet (since_of packet at)) (befores below)) ≡ weigh w (option_to_list packet) + weigh w (packets_of (all_packets after.flows)) + in_children w (befores below) =
+      λ w. weigh-waiting w (fq_codel after packet (since_of packet at)) (befores below) in
+      let taken_is : (w : Descriptor → ℕ) → weigh w (waiting (fq_codel after None 0) (befores below)) ≡ weigh w [] + weigh w (packets_of (all_packets after.flows)) + in_children w (befores below) =
+      λ w. weigh-waiting w (fq_codel after None 0) (befores below) in
       let losses : (w : Descriptor → ℕ) → lost w (losses_of CoDel gone ++ marks_of sent) ≡ weigh w gone =
       λ w. omega (arith, lost-append w (losses_of CoDel gone) (marks_of sent), lost-losses w CoDel gone, lost-marks w sent) in
-      let peeks : (w : Descriptor → ℕ) → weigh w (waiting (fq_codel s None) (befores below)) ≡ lost w (losses_of CoDel gone ++ marks_of sent) + weigh w (waiting (fq_codel after packet) (befores below)) =
+      let peeks : (w : Descriptor → ℕ) → weigh w (waiting (fq_codel s None since) (befores below)) ≡ lost w (losses_of CoDel gone ++ marks_of sent) + weigh w (waiting (fq_codel after packet (since_of packet at)) (befores below)) =
       λ w. omega (arith, take-weighs w now s, before_is w, peeked_is w, losses w, weigh-nil w) in
-      let gives : (w : Descriptor → ℕ) → weigh w (waiting (fq_codel after packet) (befores below)) ≡ weigh w (option_to_list packet) + weigh w (waiting (fq_codel after None) (befores below)) =
+      let gives : (w : Descriptor → ℕ) → weigh w (waiting (fq_codel after packet (since_of packet at)) (befores below)) ≡ weigh w (option_to_list packet) + weigh w (waiting (fq_codel after None 0) (befores below)) =
       λ w. omega (arith, peeked_is w, taken_is w, weigh-nil w) in
       let lawful = take-lawful mtu now s (map beneath (befores below)) low h.discipline in
-      is-dequeued mtu now (fq_codel s None) below (record {
-        after = fq_codel after None;
+      is-dequeued mtu now (fq_codel s None since) below (record {
+        after = fq_codel after None since;
         children = befores below;
         rises = losses_of CoDel gone ++ marks_of sent;
         mine = flow_notes s (selected s) sent;
         packet = packet;
+        since = at;
       }) (record {
         handle_peeked = refl;
         handle_taken = refl;
         lawful = h;
         lawful_peeked = record {
           discipline = lawful;
-          lengths = lengths-among mtu (waiting (fq_codel s None) (befores below)) (waiting (fq_codel after packet) (befores below)) (λ w. omega (arith, peeks w)) h.lengths;
+          lengths = lengths-among mtu (waiting (fq_codel s None since) (befores below)) (waiting (fq_codel after packet (since_of packet at)) (befores below)) (λ w. omega (arith, peeks w)) h.lengths;
           held = λ some. tt;
           filters = h.filters;
           in_order = h.in_order;
@@ -146,7 +151,7 @@ module _ (mtu now : ℕ) (low : now ≤ 2 ^ 62) (handle : Option ℕ) (filters :
         };
         lawful_taken = record {
           discipline = lawful;
-          lengths = lengths-among mtu (waiting (fq_codel s None) (befores below)) (waiting (fq_codel after None) (befores below)) (λ w. omega (arith, peeks w, gives w)) h.lengths;
+          lengths = lengths-among mtu (waiting (fq_codel s None since) (befores below)) (waiting (fq_codel after None 0) (befores below)) (λ w. omega (arith, peeks w, gives w)) h.lengths;
           held = λ some. tt;
           filters = h.filters;
           in_order = h.in_order;
@@ -168,18 +173,18 @@ module _ (mtu now : ℕ) (low : now ≤ 2 ^ 62) (handle : Option ℕ) (filters :
           marked-losses w CoDel gone,
           marks-weigh w sent,
           weigh-nil w,
-          weigh-holds w (fq_codel s None) (befores below),
-          weigh-holds w (fq_codel after packet) (befores below),
+          weigh-holds w (fq_codel s None since) (befores below),
+          weigh-holds w (fq_codel after packet (since_of packet at)) (befores below),
         );
-        marks_given = λ w. omega (arith, weigh-nil w, weigh-holds w (fq_codel after packet) (befores below), weigh-holds w (fq_codel after None) (befores below));
+        marks_given = λ w. omega (arith, weigh-nil w, weigh-holds w (fq_codel after packet (since_of packet at)) (befores below), weigh-holds w (fq_codel after None 0) (befores below));
         stays = stays packet refl (losses one) (peeks one) (peeked_is one);
       }) (flow-silent s (selected s) sent)
     where
       stays : (o : Option Descriptor) → option_map (λ (t : Taken). t.packet) (sent_from now (selected s)) ≡ o
           → lost one (losses_of CoDel (packets_of (dropped_from now (selected s))) ++ marks_of (sent_from now (selected s))) ≡ weigh one (packets_of (dropped_from now (selected s)))
-          → weigh one (waiting (fq_codel s None) (befores below)) ≡ lost one (losses_of CoDel (packets_of (dropped_from now (selected s))) ++ marks_of (sent_from now (selected s))) + weigh one (waiting (fq_codel (after_sending now (selected s)) (option_map (λ (t : Taken). t.packet) (sent_from now (selected s)))) (befores below))
+          → weigh one (waiting (fq_codel s None since) (befores below)) ≡ lost one (losses_of CoDel (packets_of (dropped_from now (selected s))) ++ marks_of (sent_from now (selected s))) + weigh one (waiting (fq_codel (after_sending now (selected s)) (option_map (λ (t : Taken). t.packet) (sent_from now (selected s)))) (befores below))
           → weigh one (waiting (fq_codel (after_sending now (selected s)) (option_map (λ (t : Taken). t.packet) (sent_from now (selected s)))) (befores below)) ≡ weigh one (option_to_list (option_map (λ (t : Taken). t.packet) (sent_from now (selected s)))) + weigh one (packets_of (all_packets (after_sending now (selected s)).flows)) + in_children one (befores below)
-          → weigh one (waiting (fq_codel (after_sending now (selected s)) (option_map (λ (t : Taken). t.packet) (sent_from now (selected s)))) (befores below)) ≡ 0 → weigh one (waiting (fq_codel s None) (befores below)) ≡ 0
+          → weigh one (waiting (fq_codel (after_sending now (selected s)) (option_map (λ (t : Taken). t.packet) (sent_from now (selected s)))) (befores below)) ≡ 0 → weigh one (waiting (fq_codel s None since) (befores below)) ≡ 0
       stays None e losses peeks peeked none =
           let nothing : weigh one (packets_of (dropped_from now (selected s))) ≡ 0 = ap (λ (q : List Stamped). weigh one (packets_of q)) (nothing-dropped now (selected s) e) ∙ weigh-nil one in
           omega (arith, losses, peeks, none, nothing)

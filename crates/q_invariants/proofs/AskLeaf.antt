@@ -17,6 +17,7 @@ use Rattle.q_invariants.proofs.Weights.{weigh, weigh-nil, weigh-cons, weigh-one,
 use Rattle.q_invariants.proofs.Lengths.{HasLength, lengths-among}
 use Rattle.q_invariants.proofs.Answer.{IsAnswer, AreAnswers, IsAsked, waiting, holds, is-shown}
 use Rattle.q_invariants.proofs.Sums.{weigh-waiting, weigh-holds, befores-lawful, befores-told}
+use Rattle.q_invariants.proofs.Stamps.{stamped-drop}
 
 -- a node that shows what it has at hand, and asks no child
 asked_at_hand : (mtu now : ℕ) (own after : Own) (below : List Asked) (packet : Option Descriptor) → after.handle ≡ own.handle → AreAnswers mtu now below
@@ -50,12 +51,12 @@ holding-answers mtu now own below p e h all =
     let lengths : All (HasLength mtu) (p ∷ rest) = subst (λ (o : Option Descriptor). All (HasLength mtu) (option_to_list o ++ packets_in own.discipline ++ flat_map (λ packets. packets) (map beneath (befores below)))) e h.lengths in
     is-shown mtu now below (record {
       own = own;
-      own_taken = record own { held = None };
+      own_taken = record own { held = None; since = 0 };
       peeked = befores below;
       taken = befores below;
       notes = [];
       packet = Some p;
-    }) (asked_at_hand mtu now own (record own { held = None }) below (Some p) refl all h (record {
+    }) (asked_at_hand mtu now own (record own { held = None; since = 0 }) below (Some p) refl all h (record {
       discipline = h.discipline;
       lengths = All-tail (HasLength mtu) p rest lengths;
       held = λ none. absurd (false≢true none);
@@ -63,19 +64,19 @@ holding-answers mtu now own below p e h all =
       in_order = h.in_order;
       named = h.named;
     })
-    (λ w. omega (arith, weigh-waiting w own (befores below), weigh-waiting w (record own { held = None }) (befores below), ap (λ (o : Option Descriptor). weigh w (option_to_list o)) e, weigh-nil w))
-    (λ w. omega (arith, weigh-holds w own (befores below), weigh-holds w (record own { held = None }) (befores below), ap (λ (o : Option Descriptor). weigh w (option_to_list o)) e, weigh-nil w)))
+    (λ w. omega (arith, weigh-waiting w own (befores below), weigh-waiting w (record own { held = None; since = 0 }) (befores below), ap (λ (o : Option Descriptor). weigh w (option_to_list o)) e, weigh-nil w))
+    (λ w. omega (arith, weigh-holds w own (befores below), weigh-holds w (record own { held = None; since = 0 }) (befores below), ap (λ (o : Option Descriptor). weigh w (option_to_list o)) e, weigh-nil w)))
 
 -- the head and the rest of a queue
 pub weigh-head : (w : Descriptor → ℕ) (queue : List Stamped) → weigh w (packets_of queue) ≡ weigh w (option_to_list (slice_get (packets_of queue) 0)) + weigh w (packets_of (drop 1 queue))
 weigh-head w [] = omega (arith, weigh-nil w)
 weigh-head w (s ∷ queue) = omega (arith, weigh-cons w s.packet (packets_of queue), weigh-one w s.packet)
 
-pub fifo-answers : (mtu now : ℕ) (handle : Option ℕ) (filters : List Filter) (limit : Limit) (queue : List Stamped) (below : List Asked)
-    → (let own : Own = record { handle = handle; discipline = Fifo limit queue; held = None; filters = filters } in
+pub fifo-answers : (mtu now : ℕ) (handle : Option ℕ) (filters : List Filter) (since : ℕ) (limit : Limit) (queue : List Stamped) (below : List Asked)
+    → (let own : Own = record { handle = handle; discipline = Fifo limit queue; held = None; since = since; filters = filters } in
     IsLawfulOwn mtu now own (map beneath (befores below)) → AreAnswers mtu now below → IsAnswer mtu now (ask_fifo own below limit queue))
-fifo-answers mtu now handle filters limit queue below h all =
-    let own : Own = record { handle = handle; discipline = Fifo limit queue; held = None; filters = filters } in
+fifo-answers mtu now handle filters since limit queue below h all =
+    let own : Own = record { handle = handle; discipline = Fifo limit queue; held = None; since = since; filters = filters } in
     let after : Own = record own { discipline = Fifo limit (drop 1 queue) } in
     let shorter : (w : Descriptor → ℕ) → weigh w (waiting own (befores below)) ≡ weigh w (option_to_list (slice_get (packets_of queue) 0)) + weigh w (waiting after (befores below)) =
     λ w. omega (arith, weigh-waiting w own (befores below), weigh-waiting w after (befores below), weigh-head w queue, weigh-nil w) in
@@ -87,7 +88,7 @@ fifo-answers mtu now handle filters limit queue below h all =
       notes = [];
       packet = slice_get (packets_of queue) 0;
     }) (asked_at_hand mtu now own after below (slice_get (packets_of queue) 0) refl all h (record {
-      discipline = record { stamps = All-drop (λ (s : Stamped). s.at ≤ now) 1 queue h.discipline.stamps; none = h.discipline.none };
+      discipline = record { stamps = stamped-drop now 1 queue h.discipline.stamps; none = h.discipline.none };
       lengths = lengths-among mtu (waiting own (befores below)) (waiting after (befores below)) (λ w. omega (arith, shorter w)) h.lengths;
       held = λ none. absurd (false≢true none);
       filters = h.filters;

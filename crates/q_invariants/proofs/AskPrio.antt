@@ -129,11 +129,11 @@ as-many mtu now own before after e priomap d none fewer h =
       named = subst (λ (n : ℕ). All (λ (f : Filter). is_some (class_in n f.minor own.discipline) ≡ true) own.filters) (sym same) h.named;
     }
 
-pub prio-answers : (mtu now : ℕ) (handle : Option ℕ) (filters : List Filter) (priomap : List ℕ) (below : List Asked)
-    → (let own : Own = record { handle = handle; discipline = Prio priomap; held = None; filters = filters } in
+pub prio-answers : (mtu now : ℕ) (handle : Option ℕ) (filters : List Filter) (since : ℕ) (priomap : List ℕ) (below : List Asked)
+    → (let own : Own = record { handle = handle; discipline = Prio priomap; held = None; since = since; filters = filters } in
     IsLawfulOwn mtu now own (map beneath (befores below)) → AreAnswers mtu now below → IsAnswer mtu now (ask_prio own below))
-prio-answers mtu now handle filters priomap below h all =
-    let own : Own = record { handle = handle; discipline = Prio priomap; held = None; filters = filters } in
+prio-answers mtu now handle filters since priomap below h all =
+    let own : Own = record { handle = handle; discipline = Prio priomap; held = None; since = since; filters = filters } in
     let k : ℕ = position_or_len (λ (a : Asked). is_some a.shown) below in
     let p = are-passed mtu now k below all in
     let peeks : (w : Descriptor → ℕ) → weigh w (waiting own (befores below)) ≡ lost w (notes_to k below) + weigh w (waiting own (peeked_to k below)) =

@@ -78,7 +78,7 @@ prio-taken (suc k) (a ∷ below) = (inr (inl refl), prio-taken k below)
 
 module _ (now : ℕ) (own : Own) (b : TokenBucket) (limit : ℕ) (a : Asked) where
   child-staged : (o : Option Descriptor) → AreStaged own (a ∷ []) (option_map_or (λ (p : Descriptor). if allows b now p.len then spends own (a ∷ []) b limit now a p else waits own (a ∷ []) a) o (waits own (a ∷ []) a))
-  child-staged None = dequeued-staged own (a ∷ []) (record { after = own; children = a.peeked ∷ []; rises = a.rises; mine = []; packet = None }) refl (inr (inl refl), tt)
+  child-staged None = dequeued-staged own (a ∷ []) (record { after = own; children = a.peeked ∷ []; rises = a.rises; mine = []; packet = None; since = 0 }) refl (inr (inl refl), tt)
   child-staged (Some p) = by (allows b now p.len)
     where
       by : (may : Bool) → AreStaged own (a ∷ []) (if may then spends own (a ∷ []) b limit now a p else waits own (a ∷ []) a)
@@ -87,7 +87,7 @@ module _ (now : ℕ) (own : Own) (b : TokenBucket) (limit : ℕ) (a : Asked) whe
         peeked = record { children = a.taken ∷ []; is = refl; stages = (inr (inr refl), tt); handle = refl };
         taken = record { children = a.taken ∷ []; is = refl; stages = (inr (inr refl), tt); handle = refl };
       }
-      by false = dequeued-staged own (a ∷ []) (record { after = own; children = a.peeked ∷ []; rises = a.rises; mine = []; packet = None }) refl (inr (inl refl), tt)
+      by false = dequeued-staged own (a ∷ []) (record { after = own; children = a.peeked ∷ []; rises = a.rises; mine = []; packet = None; since = 0 }) refl (inr (inl refl), tt)
 
 tbf-staged : (now : ℕ) (own : Own) (below : List Asked) (b : TokenBucket) (limit : ℕ) → length below ≡ 1 → AreStaged own below (ask_tbf now own below b limit)
 tbf-staged now own [] b limit e = absurd (omega (arith, e))
@@ -123,6 +123,7 @@ module _ (own : Own) (below : List Asked) (s : Schedule) (same : length s.classe
         rises = (service_of s below).rises;
         mine = (service_of s below).grants;
         packet = None;
+        since = 0;
       }) refl (looked-staged (is_among (asked_entries (choice_of (head_of s below) s) s.active)) s.classes below same)
 
   serves-staged : (i : ℕ) (a : Asked) (o : Option Descriptor) → slice_get below i ≡ Some a

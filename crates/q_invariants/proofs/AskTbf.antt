@@ -11,7 +11,7 @@ use Rattle.q_model.specs.Node.{Tbf, Own}
 use Rattle.q_model.specs.Beneath.{beneath}
 use Rattle.q_model.specs.Lawful.{IsLawfulOwn}
 use Rattle.q_model.specs.Work.{Worked}
-use Rattle.q_model.specs.Ask.{Asked, befores, spends, waits, ask_tbf}
+use Rattle.q_model.specs.Ask.{Asked, befores, spends, waits, ask_tbf, since_shown}
 use Rattle.q_invariants.proofs.Weights.{weigh, weigh-nil, weigh-one, arrived-nil, sent-nil, lost-nil, dropped-nil, marked-nil, arrived-cons, sent-cons, lost-cons, dropped-cons, marked-cons}
 use Rattle.q_invariants.proofs.Lengths.{IsShort, lengths-among, short-among}
 use Rattle.q_invariants.proofs.Answer.{one, IsAnswer, AreAnswers, IsSilent, silent-nil, waiting, is-dequeued}
@@ -48,15 +48,15 @@ spent-note bytes = record {
   nothing_marked = λ w. omega (arith, marked-cons w (Spent bytes) [], marked-nil w);
 }
 
-module _ (mtu now : ℕ) (handle : Option ℕ) (filters : List Filter) (limit : ℕ) where
-  abbrev tbf : TokenBucket → Option Descriptor → Own
-  tbf b held = record { handle = handle; discipline = Tbf b limit; held = held; filters = filters }
+module _ (mtu now : ℕ) (handle : Option ℕ) (filters : List Filter) (since : ℕ) (limit : ℕ) where
+  abbrev tbf : TokenBucket → Option Descriptor → ℕ → Own
+  tbf b held at = record { handle = handle; discipline = Tbf b limit; held = held; since = at; filters = filters }
 
   -- another bucket of the same burst, another child with no more than the old one had, and a packet held
-  tbf-lawful : (b c : TokenBucket) (held : Option Descriptor) (before after : Worked) → IsInRange c → c.last ≤ now → c.burst ≡ b.burst
+  tbf-lawful : (b c : TokenBucket) (held : Option Descriptor) (at : ℕ) (before after : Worked) → IsInRange c → c.last ≤ now → c.burst ≡ b.burst
       → ((w : Descriptor → ℕ) → weigh w (option_to_list held) + weigh w (beneath after) ≤ weigh w (beneath before))
-      → IsLawfulOwn mtu now (tbf b None) (map beneath (before ∷ [])) → IsLawfulOwn mtu now (tbf c held) (map beneath (after ∷ []))
-  tbf-lawful b c held before after range last burst fewer h = record {
+      → IsLawfulOwn mtu now (tbf b None since) (map beneath (before ∷ [])) → IsLawfulOwn mtu now (tbf c held at) (map beneath (after ∷ []))
+  tbf-lawful b c held at before after range last burst fewer h = record {
     discipline = record {
       level = range;
       last = last;
@@ -66,16 +66,16 @@ module _ (mtu now : ℕ) (handle : Option ℕ) (filters : List Filter) (limit : 
           (short-among b.burst (beneath before) (beneath after) (λ w. omega (arith, fewer w)) (All-head (λ packets. All (IsShort b.burst) packets) (beneath before) [] h.discipline.short)))
           (All-nil (λ packets. All (IsShort c.burst) packets));
     };
-    lengths = lengths-among mtu (waiting (tbf b None) (before ∷ [])) (waiting (tbf c held) (after ∷ []))
-        (λ w. omega (arith, fewer w, weigh-waiting w (tbf b None) (before ∷ []), weigh-waiting w (tbf c held) (after ∷ []), weigh-nil w)) h.lengths;
+    lengths = lengths-among mtu (waiting (tbf b None since) (before ∷ [])) (waiting (tbf c held at) (after ∷ []))
+        (λ w. omega (arith, fewer w, weigh-waiting w (tbf b None since) (before ∷ []), weigh-waiting w (tbf c held at) (after ∷ []), weigh-nil w)) h.lengths;
     held = λ some. tt;
     filters = h.filters;
     in_order = h.in_order;
     named = h.named;
   }
 
-  spends-answers : (b : TokenBucket) (a : Asked) (p : Descriptor) → a.shown ≡ Some p → IsLawfulOwn mtu now (tbf b None) (map beneath (befores (a ∷ []))) → AreAnswers mtu now (a ∷ [])
-      → IsAnswer mtu now (spends (tbf b None) (a ∷ []) b limit now a p)
+  spends-answers : (b : TokenBucket) (a : Asked) (p : Descriptor) → a.shown ≡ Some p → IsLawfulOwn mtu now (tbf b None since) (map beneath (befores (a ∷ []))) → AreAnswers mtu now (a ∷ [])
+      → IsAnswer mtu now (spends (tbf b None since) (a ∷ []) b limit now a p)
   spends-answers b a p e h all =
       let after : TokenBucket = after_spend b now p.len in
       let may : Bool = allows b now p.len in
@@ -83,18 +83,19 @@ module _ (mtu now : ℕ) (handle : Option ℕ) (filters : List Filter) (limit : 
       let range = spent-in_range may b now p.len h.discipline.level in
       let last = spent-last may b now p.len h.discipline.last in
       let burst = spent-burst may b now p.len in
-      is-dequeued mtu now (tbf b None) (a ∷ []) (record {
-        after = tbf after None;
+      is-dequeued mtu now (tbf b None since) (a ∷ []) (record {
+        after = tbf after None since;
         children = a.taken ∷ [];
         rises = a.rises;
         mine = Spent p.len ∷ [];
         packet = Some p;
+        since = since_shown a;
       }) (record {
         handle_peeked = refl;
         handle_taken = refl;
         lawful = h;
-        lawful_peeked = tbf-lawful b after (Some p) a.before a.taken range last burst (λ w. omega (arith, all.0.peeks w, all.0.gives w, shown w)) h;
-        lawful_taken = tbf-lawful b after None a.before a.taken range last burst (λ w. omega (arith, all.0.peeks w, all.0.gives w, weigh-nil w)) h;
+        lawful_peeked = tbf-lawful b after (Some p) (since_shown a) a.before a.taken range last burst (λ w. omega (arith, all.0.peeks w, all.0.gives w, shown w)) h;
+        lawful_taken = tbf-lawful b after None 0 a.before a.taken range last burst (λ w. omega (arith, all.0.peeks w, all.0.gives w, weigh-nil w)) h;
         all_before = befores-lawful mtu now (a ∷ []) all;
         all_peeked = (all.0.lawful_taken, tt);
         all_taken = (all.0.lawful_taken, tt);
@@ -102,22 +103,23 @@ module _ (mtu now : ℕ) (handle : Option ℕ) (filters : List Filter) (limit : 
         told_peeked = (all.0.told_taken, tt);
         told_taken = (all.0.told_taken, tt);
         quiet = all.0.quiet;
-        peeks = λ w. omega (arith, all.0.peeks w, all.0.gives w, shown w, weigh-nil w, weigh-waiting w (tbf b None) (a.before ∷ []), weigh-waiting w (tbf after (Some p)) (a.taken ∷ []));
-        gives = λ w. omega (arith, weigh-nil w, weigh-waiting w (tbf after None) (a.taken ∷ []), weigh-waiting w (tbf after (Some p)) (a.taken ∷ []));
-        marks = λ w. omega (arith, all.0.marks w, all.0.marks_given w, shown w, weigh-nil w, weigh-holds w (tbf b None) (a.before ∷ []), weigh-holds w (tbf after (Some p)) (a.taken ∷ []));
-        marks_given = λ w. omega (arith, weigh-nil w, weigh-holds w (tbf after None) (a.taken ∷ []), weigh-holds w (tbf after (Some p)) (a.taken ∷ []));
-        stays = λ none. absurd (omega (arith, none, weigh-one one p, weigh-waiting one (tbf after (Some p)) (a.taken ∷ [])));
+        peeks = λ w. omega (arith, all.0.peeks w, all.0.gives w, shown w, weigh-nil w, weigh-waiting w (tbf b None since) (a.before ∷ []), weigh-waiting w (tbf after (Some p) (since_shown a)) (a.taken ∷ []));
+        gives = λ w. omega (arith, weigh-nil w, weigh-waiting w (tbf after None 0) (a.taken ∷ []), weigh-waiting w (tbf after (Some p) (since_shown a)) (a.taken ∷ []));
+        marks = λ w. omega (arith, all.0.marks w, all.0.marks_given w, shown w, weigh-nil w, weigh-holds w (tbf b None since) (a.before ∷ []), weigh-holds w (tbf after (Some p) (since_shown a)) (a.taken ∷ []));
+        marks_given = λ w. omega (arith, weigh-nil w, weigh-holds w (tbf after None 0) (a.taken ∷ []), weigh-holds w (tbf after (Some p) (since_shown a)) (a.taken ∷ []));
+        stays = λ none. absurd (omega (arith, none, weigh-one one p, weigh-waiting one (tbf after (Some p) (since_shown a)) (a.taken ∷ [])));
       }) (spent-note p.len)
 
-  waits-answers : (b : TokenBucket) (a : Asked) → IsLawfulOwn mtu now (tbf b None) (map beneath (befores (a ∷ []))) → AreAnswers mtu now (a ∷ []) → IsAnswer mtu now (waits (tbf b None) (a ∷ []) a)
+  waits-answers : (b : TokenBucket) (a : Asked) → IsLawfulOwn mtu now (tbf b None since) (map beneath (befores (a ∷ []))) → AreAnswers mtu now (a ∷ []) → IsAnswer mtu now (waits (tbf b None since) (a ∷ []) a)
   waits-answers b a h all =
-      let after = tbf-lawful b b None a.before a.peeked h.discipline.level h.discipline.last refl (λ w. omega (arith, all.0.peeks w, weigh-nil w)) h in
-      is-dequeued mtu now (tbf b None) (a ∷ []) (record {
-        after = tbf b None;
+      let after = tbf-lawful b b None 0 a.before a.peeked h.discipline.level h.discipline.last refl (λ w. omega (arith, all.0.peeks w, weigh-nil w)) h in
+      is-dequeued mtu now (tbf b None since) (a ∷ []) (record {
+        after = tbf b None since;
         children = a.peeked ∷ [];
         rises = a.rises;
         mine = [];
         packet = None;
+        since = 0;
       }) (record {
         handle_peeked = refl;
         handle_taken = refl;
@@ -131,25 +133,25 @@ module _ (mtu now : ℕ) (handle : Option ℕ) (filters : List Filter) (limit : 
         told_peeked = (all.0.told_peeked, tt);
         told_taken = (all.0.told_peeked, tt);
         quiet = all.0.quiet;
-        peeks = λ w. omega (arith, all.0.peeks w, weigh-waiting w (tbf b None) (a.before ∷ []), weigh-waiting w (tbf b None) (a.peeked ∷ []));
+        peeks = λ w. omega (arith, all.0.peeks w, weigh-waiting w (tbf b None since) (a.before ∷ []), weigh-waiting w (tbf b None 0) (a.peeked ∷ []));
         gives = λ w. omega (arith, weigh-nil w);
-        marks = λ w. omega (arith, all.0.marks w, weigh-holds w (tbf b None) (a.before ∷ []), weigh-holds w (tbf b None) (a.peeked ∷ []));
+        marks = λ w. omega (arith, all.0.marks w, weigh-holds w (tbf b None since) (a.before ∷ []), weigh-holds w (tbf b None 0) (a.peeked ∷ []));
         marks_given = λ w. omega (arith, weigh-nil w);
-        stays = λ none. omega (arith, weigh-nil one, weigh-waiting one (tbf b None) (a.before ∷ []), all.0.stays (omega (arith, none, weigh-waiting one (tbf b None) (a.peeked ∷ []))));
+        stays = λ none. omega (arith, weigh-nil one, weigh-waiting one (tbf b None since) (a.before ∷ []), all.0.stays (omega (arith, none, weigh-waiting one (tbf b None 0) (a.peeked ∷ []))));
       }) silent-nil
 
   -- whether the bucket allows it or not
-  may-answer : (b : TokenBucket) (a : Asked) (p : Descriptor) (may : Bool) → a.shown ≡ Some p → IsLawfulOwn mtu now (tbf b None) (map beneath (befores (a ∷ []))) → AreAnswers mtu now (a ∷ [])
-      → IsAnswer mtu now (if may then spends (tbf b None) (a ∷ []) b limit now a p else waits (tbf b None) (a ∷ []) a)
+  may-answer : (b : TokenBucket) (a : Asked) (p : Descriptor) (may : Bool) → a.shown ≡ Some p → IsLawfulOwn mtu now (tbf b None since) (map beneath (befores (a ∷ []))) → AreAnswers mtu now (a ∷ [])
+      → IsAnswer mtu now (if may then spends (tbf b None since) (a ∷ []) b limit now a p else waits (tbf b None since) (a ∷ []) a)
   may-answer b a p true e h all = spends-answers b a p e h all
   may-answer b a p false e h all = waits-answers b a h all
 
-  child-answers : (b : TokenBucket) (a : Asked) (o : Option Descriptor) → a.shown ≡ o → IsLawfulOwn mtu now (tbf b None) (map beneath (befores (a ∷ []))) → AreAnswers mtu now (a ∷ [])
-      → IsAnswer mtu now (option_map_or (λ (p : Descriptor). if allows b now p.len then spends (tbf b None) (a ∷ []) b limit now a p else waits (tbf b None) (a ∷ []) a) o (waits (tbf b None) (a ∷ []) a))
+  child-answers : (b : TokenBucket) (a : Asked) (o : Option Descriptor) → a.shown ≡ o → IsLawfulOwn mtu now (tbf b None since) (map beneath (befores (a ∷ []))) → AreAnswers mtu now (a ∷ [])
+      → IsAnswer mtu now (option_map_or (λ (p : Descriptor). if allows b now p.len then spends (tbf b None since) (a ∷ []) b limit now a p else waits (tbf b None since) (a ∷ []) a) o (waits (tbf b None since) (a ∷ []) a))
   child-answers b a None e h all = waits-answers b a h all
   child-answers b a (Some p) e h all = may-answer b a p (allows b now p.len) e h all
 
-  pub tbf-answers : (b : TokenBucket) (below : List Asked) → IsLawfulOwn mtu now (tbf b None) (map beneath (befores below)) → AreAnswers mtu now below → IsAnswer mtu now (ask_tbf now (tbf b None) below b limit)
+  pub tbf-answers : (b : TokenBucket) (below : List Asked) → IsLawfulOwn mtu now (tbf b None since) (map beneath (befores below)) → AreAnswers mtu now below → IsAnswer mtu now (ask_tbf now (tbf b None since) below b limit)
   tbf-answers b [] h all = absurd (let none : 0 ≡ 1 = h.discipline.one in omega (arith, none))
   tbf-answers b (a ∷ []) h all = child-answers b a a.shown refl h all
   tbf-answers b (a ∷ c ∷ below) h all = absurd (let many : length (map beneath (befores (a ∷ c ∷ below))) ≡ 1 = h.discipline.one in omega (arith, many))

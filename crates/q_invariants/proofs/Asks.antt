@@ -42,7 +42,7 @@ before-child now own below b limit a (Some p) = by (allows b now p.len)
 before-tbf : (now : ℕ) (own : Own) (below : List Asked) (b : TokenBucket) (limit : ℕ) → (ask_tbf now own below b limit).before ≡ worked own [] (befores below)
 before-tbf now own below b limit = by (slice_get below 0)
   where
-    by : (o : Option Asked) → (option_map_or (ask_child now own below b limit) o (dequeued own below (record { after = own; children = []; rises = []; mine = []; packet = None }))).before ≡ worked own [] (befores below)
+    by : (o : Option Asked) → (option_map_or (ask_child now own below b limit) o (dequeued own below (record { after = own; children = []; rises = []; mine = []; packet = None; since = 0 }))).before ≡ worked own [] (befores below)
     by None = refl
     by (Some a) = before-child now own below b limit a a.shown
 
@@ -92,18 +92,18 @@ beneath-befores now (more own m below others) =
     (beneath-befores now others)
 
 module _ (mtu now : ℕ) (least : 1 ≤ mtu) (low : now ≤ 2 ^ 62) where
-  node-answers : (handle : Option ℕ) (filters : List Filter) (held : Option Descriptor) (d : Discipline) (below : List Asked)
-      → (let own : Own = record { handle = handle; discipline = d; held = held; filters = filters } in
+  node-answers : (handle : Option ℕ) (filters : List Filter) (since : ℕ) (held : Option Descriptor) (d : Discipline) (below : List Asked)
+      → (let own : Own = record { handle = handle; discipline = d; held = held; since = since; filters = filters } in
       IsLawfulOwn mtu now own (map beneath (befores below)) → AreAnswers mtu now below → IsAnswer mtu now (ask_own now own below))
-  node-answers handle filters (Some p) d below h all = holding-answers mtu now (record { handle = handle; discipline = d; held = Some p; filters = filters }) below p refl h all
-  node-answers handle filters None (Fifo limit queue) below h all = fifo-answers mtu now handle filters limit queue below h all
-  node-answers handle filters None (Prio priomap) below h all = prio-answers mtu now handle filters priomap below h all
-  node-answers handle filters None (Tbf b limit) below h all = tbf-answers mtu now handle filters limit b below h all
-  node-answers handle filters None (Drr s) below h all = drr-answers mtu now least handle filters s below h all
-  node-answers handle filters None (FqCodel s) below h all = fq_codel-answers mtu now low handle filters s below h all
+  node-answers handle filters since (Some p) d below h all = holding-answers mtu now (record { handle = handle; discipline = d; held = Some p; since = since; filters = filters }) below p refl h all
+  node-answers handle filters since None (Fifo limit queue) below h all = fifo-answers mtu now handle filters since limit queue below h all
+  node-answers handle filters since None (Prio priomap) below h all = prio-answers mtu now handle filters since priomap below h all
+  node-answers handle filters since None (Tbf b limit) below h all = tbf-answers mtu now handle filters since limit b below h all
+  node-answers handle filters since None (Drr s) below h all = drr-answers mtu now least handle filters since s below h all
+  node-answers handle filters since None (FqCodel s) below h all = fq_codel-answers mtu now low handle filters since s below h all
 
   own-answers : (own : Own) (below : List Asked) → IsLawfulOwn mtu now own (map beneath (befores below)) → AreAnswers mtu now below → IsAnswer mtu now (ask_own now own below)
-  own-answers own below h all = node-answers own.handle own.filters own.held own.discipline below h all
+  own-answers own below h all = node-answers own.handle own.filters own.since own.held own.discipline below h all
 
   pub forest-answers : (x : Forest (Unit {0})) → AllLawful mtu now x → AreAnswers mtu now (each (ask_own now) x)
   forest-answers none h = tt
@@ -117,7 +117,7 @@ module _ (mtu now : ℕ) (least : 1 ≤ mtu) (low : now ≤ 2 ^ 62) where
 
 -- addresses, depth and the number of nodes rest on handles and on the form alone
 addressed : List (List Address) → Option ℕ → List Address
-addressed xs h = addresses_own (record { handle = h; discipline = Prio []; held = None; filters = [] }) xs
+addressed xs h = addresses_own (record { handle = h; discipline = Prio []; held = None; since = 0; filters = [] }) xs
 
 pub addresses-look : LooksAtHandle addresses_own
 unfolding addressed

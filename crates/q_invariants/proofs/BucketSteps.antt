@@ -11,7 +11,7 @@ use Rattle.q_bucket.specs.Level.{TokenBucket, units_in_byte, capacity, level_at,
 use Rattle.q_model.specs.Tally.{Sent, Spent}
 use Rattle.q_model.specs.Node.{Tbf, Own}
 use Rattle.q_model.specs.Work.{Worked}
-use Rattle.q_model.specs.Ask.{Asked, holding, Dequeue, dequeued, waits, spends, ask_child, ask_tbf}
+use Rattle.q_model.specs.Ask.{Asked, holding, Dequeue, dequeued, waits, spends, ask_child, ask_tbf, since_shown}
 use Rattle.q_model.specs.Stretches.{sent_by, spent_by, bytes_sent, bytes_spent, length_held}
 use Rattle.q_invariants.proofs.NoteSums.{AreRisen, sum-risen, past-sent, past-spent}
 use Rattle.q_invariants.proofs.Risen.{AllRise}
@@ -140,7 +140,7 @@ module _ (now : ℕ) (own : Own) (below : List Asked) (b : TokenBucket) (limit :
   child-stage : (a : Asked) → AreRisen a.rises → (o : Option Descriptor) (w : Worked)
       → IsStageOf (option_map_or (λ (p : Descriptor). if allows b now p.len then spends own below b limit now a p else waits own below a) o (waits own below a)) w → IsTbfStage now b w own.held
   child-stage a rises None w stage =
-      dequeued-stage (record { after = own; children = a.peeked ∷ []; rises = a.rises; mine = []; packet = None }) b limit 0 is rises refl refl (inl (refl, refl)) refl w stage
+      dequeued-stage (record { after = own; children = a.peeked ∷ []; rises = a.rises; mine = []; packet = None; since = 0 }) b limit 0 is rises refl refl (inl (refl, refl)) refl w stage
   child-stage a rises (Some p) w stage = by (allows b now p.len) refl stage
     where
       by : (may : Bool) → allows b now p.len ≡ may → IsStageOf (if may then spends own below b limit now a p else waits own below a) w → IsTbfStage now b w own.held
@@ -151,9 +151,10 @@ module _ (now : ℕ) (own : Own) (below : List Asked) (b : TokenBucket) (limit :
             rises = a.rises;
             mine = Spent p.len ∷ [];
             packet = Some p;
+            since = since_shown a;
           }) (after_spend b now p.len) limit p.len refl rises (omega arith) refl (inr (e, refl)) refl w st
       by false e st =
-          dequeued-stage (record { after = own; children = a.peeked ∷ []; rises = a.rises; mine = []; packet = None }) b limit 0 is rises refl refl (inl (refl, refl)) refl w st
+          dequeued-stage (record { after = own; children = a.peeked ∷ []; rises = a.rises; mine = []; packet = None; since = 0 }) b limit 0 is rises refl refl (inl (refl, refl)) refl w st
 
   pub tbf-stage : AllRise below → (w : Worked) → IsStageOf (ask_tbf now own below b limit) w → IsTbfStage now b w own.held
   tbf-stage rises w stage = by (slice_get below 0) (at below rises) stage
@@ -163,8 +164,8 @@ module _ (now : ℕ) (own : Own) (below : List Asked) (b : TokenBucket) (limit :
       at (x ∷ xs) h a e = subst (λ (y : Asked). AreRisen y.rises) (same_Some x a e) h.0
 
       by : (o : Option Asked) → ((a : Asked) → o ≡ Some a → AreRisen a.rises)
-          → IsStageOf (option_map_or (ask_child now own below b limit) o (dequeued own below (record { after = own; children = []; rises = []; mine = []; packet = None }))) w → IsTbfStage now b w own.held
-      by None h st = dequeued-stage (record { after = own; children = []; rises = []; mine = []; packet = None }) b limit 0 is tt refl refl (inl (refl, refl)) refl w st
+          → IsStageOf (option_map_or (ask_child now own below b limit) o (dequeued own below (record { after = own; children = []; rises = []; mine = []; packet = None; since = 0 }))) w → IsTbfStage now b w own.held
+      by None h st = dequeued-stage (record { after = own; children = []; rises = []; mine = []; packet = None; since = 0 }) b limit 0 is tt refl refl (inl (refl, refl)) refl w st
       by (Some a) h st = child-stage a (h a refl) a.shown w st
 
 pub holding-stage : (now : ℕ) (own : Own) (below : List Asked) (b : TokenBucket) (limit : ℕ) (p : Descriptor) → own.discipline ≡ Tbf b limit → own.held ≡ Some p

@@ -18,7 +18,7 @@ use Rattle.q_model.specs.Node.{Discipline, Drr, Own, Forest, Node, children, eac
 use Rattle.q_model.specs.Beneath.{is_empty}
 use Rattle.q_model.specs.Grants.{granted_notes}
 use Rattle.q_model.specs.Work.{Worked, booked, settled_class}
-use Rattle.q_model.specs.Ask.{Asked, befores, holding, Dequeue, dequeued, length_of, service_of, place_met, gives_nothing, class_gives, class_serves, ask_drr, ask_discipline, ask_own, ask}
+use Rattle.q_model.specs.Ask.{Asked, befores, holding, Dequeue, dequeued, length_of, service_of, place_met, gives_nothing, class_gives, class_serves, ask_drr, ask_discipline, ask_own, ask, since_shown}
 use Rattle.q_model.specs.Stretches.{sent_by, bytes_sent, granted_by, grants_to}
 use Rattle.q_invariants.proofs.Forests.{nodes-side}
 use Rattle.q_invariants.proofs.Kept.{IsLawfulRoot}
@@ -129,6 +129,7 @@ module _ (now : ℕ) (x : Forest (Unit {0})) (s : Schedule) (differ : EntriesDif
           rises = (service_of s asked).rises;
           mine = (service_of s asked).grants;
           packet = None;
+          since = 0;
         }) (served shown s) refl refl refl (inl (record { schedule = refl; children = refl; hidden = hidden })) w stage
 
     serves-stage : (i : ℕ) (a : Asked) (o : Option Descriptor) → place_met s asked ≡ Some i → slice_get asked i ≡ Some a → a.shown ≡ o → (w : Worked)
@@ -143,6 +144,7 @@ module _ (now : ℕ) (x : Forest (Unit {0})) (s : Schedule) (differ : EntriesDif
           rises = (service_of s asked).rises;
           mine = (service_of s asked).grants;
           packet = Some p;
+          since = since_shown a;
         }) (settled_class i (is_empty a.taken) (served shown s)) refl refl refl
         (inr (record { place = i; answer = a; packet = p; placed = placed; there = there; shows = shows; schedule = refl; children = refl })) w stage
 

@@ -11,7 +11,10 @@ use Rattle.q_invariants.proofs.Kept.{AllLawful, IsLawfulRoot}
 
 module _ (clock now : ℕ) (le : clock ≤ now) where
   pub stamped-later : (queue : List Stamped) → IsStampedBy clock queue → IsStampedBy now queue
-  stamped-later queue h = All-weaker (λ (s : Stamped). s.at ≤ clock) (λ (s : Stamped). s.at ≤ now) (λ s e. omega arith) queue h
+  stamped-later queue h = record {
+    past = All-weaker (λ (s : Stamped). s.at ≤ clock) (λ (s : Stamped). s.at ≤ now) (λ s e. omega arith) queue h.past;
+    in_order = h.in_order;
+  }
 
   pub flow-later : (settings : FqSettings) (f : Flow) → IsLawfulFlow clock settings f → IsLawfulFlow now settings f
   flow-later settings f h = record { settings = h.settings; state = h.state; agrees = h.agrees; stamps = stamped-later f.queue h.stamps }

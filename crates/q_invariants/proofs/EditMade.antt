@@ -28,11 +28,12 @@ use Rattle.q_model.specs.Lawful.{IsLawfulDiscipline, IsLawfulOwn, IsLawfulFlow}
 use Rattle.q_invariants.proofs.Kept.{AllLawful}
 use Rattle.q_invariants.proofs.EditHandles.{times_below}
 use Rattle.q_invariants.proofs.EditNew.{IsNew, AllIdle, idle_beneath}
+use Rattle.q_invariants.proofs.Stamps.{stamped-nil}
 
 module _ (mtu clock : ℕ) where
   -- a node without filters that holds nothing
-  own_made : (handle : Option ℕ) (d : Discipline) (below : List (List Descriptor)) → beneath_own (record { handle = handle; discipline = d; held = None; filters = [] }) below ≡ []
-      → IsLawfulDiscipline mtu clock below d → IsLawfulOwn mtu clock (record { handle = handle; discipline = d; held = None; filters = [] }) below
+  own_made : (handle : Option ℕ) (d : Discipline) (below : List (List Descriptor)) → beneath_own (record { handle = handle; discipline = d; held = None; since = 0; filters = [] }) below ≡ []
+      → IsLawfulDiscipline mtu clock below d → IsLawfulOwn mtu clock (record { handle = handle; discipline = d; held = None; since = 0; filters = [] }) below
   own_made handle d below empty h = record {
     discipline = h;
     lengths = subst (All (λ (p : Descriptor). IsWithin 1 mtu p.len)) (sym empty) (All-nil (λ (p : Descriptor). IsWithin 1 mtu p.len));
@@ -57,7 +58,7 @@ module _ (mtu clock : ℕ) where
   }
 
   pub new_leaf : (handle : Option ℕ) (limit : Limit) → IsNew mtu clock handle (node_of handle (Fifo limit []) [])
-  new_leaf handle limit = new_node handle (Fifo limit []) [] refl tt tt (λ h. refl) (record { stamps = All-nil (λ (s : Stamped). s.at ≤ clock); none = refl })
+  new_leaf handle limit = new_node handle (Fifo limit []) [] refl tt tt (λ h. refl) (record { stamps = stamped-nil clock; none = refl })
 
   -- leaves side by side
   module _ (leaf : Shape) (new : IsNew mtu clock None leaf) where
@@ -127,7 +128,7 @@ first_is_lawful mtu clock s r same small = record {
     settings = record { target = r.target_high; interval_low = r.interval_low; interval_high = r.interval_high; mtu = omega (arith, same, small) };
     state = record { first_above_time = omega arith; drop_next = omega arith; count = omega arith; lastcount = omega arith };
     agrees = record { target = refl; interval = refl; ecn = refl; mtu = refl };
-    stamps = All-nil (λ (s : Stamped). s.at ≤ clock);
+    stamps = stamped-nil clock;
   });
   none = refl;
 }

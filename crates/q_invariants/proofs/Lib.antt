@@ -60,6 +60,7 @@ pub mod Lengths
 pub mod MadeSizes
 pub mod Members
 pub mod NoteSums
+pub mod Oldest
 pub mod PopGives
 pub mod Pops
 pub mod PutBeneath
@@ -86,6 +87,7 @@ pub mod SizeChecks
 pub mod SizedChanges
 pub mod SizedPlans
 pub mod Sound
+pub mod Stamps
 pub mod StepNodes
 pub mod Sums
 pub mod TakeAfterPeek

@@ -97,9 +97,12 @@ module _ (own after : Own) (below : List Popping) (children : List Worked) (pack
         holds = all_hold;
       }
 
-module _ (handle : Option ℕ) (filters : List Filter) (below : List Popping) (all : AreGiven below) where
+module _ (handle : Option ℕ) (filters : List Filter) (since : ℕ) (below : List Popping) (all : AreGiven below) where
   abbrev bare : Discipline → Own
-  bare d = record { handle = handle; discipline = d; held = None; filters = filters }
+  bare d = record { handle = handle; discipline = d; held = None; since = since; filters = filters }
+
+  abbrev gone : Discipline → Own
+  gone d = record (bare d) { since = 0 }
 
   fifo-gives : (limit : Limit) (queue : List Stamped) → IsGiven (pop_discipline (bare (Fifo limit queue)) below (Fifo limit queue))
   fifo-gives limit queue =
@@ -122,13 +125,13 @@ module _ (handle : Option ℕ) (filters : List Filter) (below : List Popping) (a
   nothing-given : (own : Own) → IsGiven (giving own below own (as_they_are below) None)
   nothing-given own = let s = staying below all in is-given own own below (as_they_are below) None refl all s.told (λ w. omega (arith, weigh-nil w)) (λ w. omega (arith, weigh-nil w))
 
-  held-given : (d : Discipline) (p : Descriptor) → IsGiven (giving (record (bare d) { held = Some p }) below (bare d) (as_they_are below) (Some p))
+  held-given : (d : Discipline) (p : Descriptor) → IsGiven (giving (record (bare d) { held = Some p }) below (gone d) (as_they_are below) (Some p))
   held-given d p =
       let own : Own = record (bare d) { held = Some p } in
       let s = staying below all in
-      is-given own (bare d) below (as_they_are below) (Some p) refl all s.told
-      (λ w. omega (arith, weigh-waiting w own (as_they_are below), weigh-waiting w (bare d) (as_they_are below), weigh-nil w))
-      (λ w. omega (arith, weigh-holds w own (as_they_are below), weigh-holds w (bare d) (as_they_are below), weigh-nil w))
+      is-given own (gone d) below (as_they_are below) (Some p) refl all s.told
+      (λ w. omega (arith, weigh-waiting w own (as_they_are below), weigh-waiting w (gone d) (as_they_are below), weigh-nil w))
+      (λ w. omega (arith, weigh-holds w own (as_they_are below), weigh-holds w (gone d) (as_they_are below), weigh-nil w))
 
   node-gives : (held : Option Descriptor) (d : Discipline) → IsGiven (pop_own (record (bare d) { held = held }) below)
   node-gives (Some p) d = held-given d p
@@ -140,10 +143,10 @@ module _ (handle : Option ℕ) (filters : List Filter) (below : List Popping) (a
 
 all-give : {M : Type 0} (x : Forest M) → AreGiven (each pop_own x)
 all-give none = tt
-all-give (more own m below others) = (node-gives own.handle own.filters (each pop_own below) (all-give below) own.held own.discipline, all-give others)
+all-give (more own m below others) = (node-gives own.handle own.filters own.since (each pop_own below) (all-give below) own.held own.discipline, all-give others)
 
 pub pop-gives : {M : Type 0} (n : Node M) → IsGiven (pop n)
-pop-gives n = node-gives n.own.handle n.own.filters (each pop_own n.below) (all-give n.below) n.own.held n.own.discipline
+pop-gives n = node-gives n.own.handle n.own.filters n.own.since (each pop_own n.below) (all-give n.below) n.own.held n.own.discipline
 
 -- of a node that remembers something
 pub pop-told : {M : Type 0} (n : Node M) → IsRootTold n (pop n).after

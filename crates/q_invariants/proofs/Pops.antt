@@ -10,7 +10,7 @@ use Rattle.q_packet.specs.declared.cause.Cause.TheVariants.{CoDel}
 use Rattle.q_packet.specs.declared.stamped.Stamped.{Stamped}
 use Rattle.q_codel.specs.declared.limit.Limit.{Limit}
 use Rattle.q_codel.specs.declared.taken.Taken.{Taken}
-use Rattle.q_fqcodel.specs.Take.{selected, sent_from, dropped_from, after_sending}
+use Rattle.q_fqcodel.specs.Take.{selected, sent_from, dropped_from, after_sending, head_sent}
 use Rattle.q_bucket.specs.Level.{TokenBucket, allows, after_spend}
 use Rattle.q_drr.specs.Schedule.{Schedule}
 use Rattle.q_model.specs.declared.filter.Filter.{Filter}
@@ -20,9 +20,10 @@ use Rattle.q_model.specs.Beneath.{packets_of, is_empty}
 use Rattle.q_model.specs.Quanta.{flow_notes}
 use Rattle.q_model.specs.Lawful.{CanHold}
 use Rattle.q_model.specs.Work.{Worked, worked, each_booked, booked, losses_of, settled_class}
-use Rattle.q_model.specs.Ask.{Asked, befores, dequeued, waits, spends, ask_fifo, ask_prio, ask_child, ask_tbf, service_of, place_met, gives_nothing, class_gives, class_serves, ask_drr, marks_of, ask_own, ask}
+use Rattle.q_model.specs.Ask.{Asked, befores, dequeued, waits, spends, ask_fifo, ask_prio, ask_child, ask_tbf, service_of, place_met, gives_nothing, class_gives, class_serves, ask_drr, marks_of, ask_own, ask, since_shown}
 use Rattle.q_model.specs.Pop.{Popping, as_they_are, first_ready, popped_at, giving, pop_prio, pop_discipline, pop_own, pop}
 use Rattle.q_invariants.proofs.Forests.{each-side}
+use Rattle.q_model.specs.Since.{since_of}
 
 -- one piece of work after another, as one
 abbrev pub AreThen : Forest (List Note) → Forest (List Note) → Forest (List Note) → Type 0
@@ -93,7 +94,7 @@ before-own own below = by own.held own.discipline
     discipline (Drr s) = refl
     discipline (FqCodel s) = refl
 
-    by : (o : Option Descriptor) (d : Discipline) → (option_map_or (λ (p : Descriptor). giving own below (record own { held = None }) (as_they_are below) (Some p)) o (pop_discipline own below d)).before ≡ worked own [] (as_they_are below)
+    by : (o : Option Descriptor) (d : Discipline) → (option_map_or (λ (p : Descriptor). giving own below (record own { held = None; since = 0 }) (as_they_are below) (Some p)) o (pop_discipline own below d)).before ≡ worked own [] (as_they_are below)
     by None d = discipline d
     by (Some p) d = refl
 
@@ -132,29 +133,29 @@ kept-kids : (kids : List Worked) → AreThen (side_by_side kids) (side_by_side (
 kept-kids kids = subst (λ (bs : List Popping). AreThen (side_by_side kids) (side_by_side (as_they_are bs)) (side_by_side kids)) (sym (each-side pop_own kids)) (still-side kids)
 
 -- one that holds what it shows
-holds-popped : (after : Own) (notes : List Note) (kids : List Worked) (p : Descriptor) → IsPoppedAs (worked (record after { held = Some p }) notes kids) (worked (record after { held = None }) (notes ++ Sent p ∷ []) kids) (Some p)
-holds-popped after notes kids p = record { shown = refl; taken = λ some. record { own = refl; memory = refl; below = kept-kids kids } }
+holds-popped : (after : Own) (at : ℕ) (notes : List Note) (kids : List Worked) (p : Descriptor) → IsPoppedAs (worked (record after { held = Some p; since = at }) notes kids) (worked (record after { held = None; since = 0 }) (notes ++ Sent p ∷ []) kids) (Some p)
+holds-popped after at notes kids p = record { shown = refl; taken = λ some. record { own = refl; memory = refl; below = kept-kids kids } }
 
 -- one that shows nothing
-waits-popped : (after : Own) (notes : List Note) (kids : List Worked) (taken : Worked) → CanHold after.discipline → IsPoppedAs (worked (record after { held = None }) notes kids) taken None
+waits-popped : (after : Own) (notes : List Note) (kids : List Worked) (taken : Worked) → CanHold after.discipline → IsPoppedAs (worked (record after { held = None; since = 0 }) notes kids) taken None
 waits-popped after notes kids taken can = record { shown = by after.discipline can; taken = λ some. absurd (false≢true some) }
   where
-    by : (d : Discipline) → CanHold d → (pop_discipline (record after { held = None }) (each pop_own (side_by_side kids)) d).shown ≡ None
+    by : (d : Discipline) → CanHold d → (pop_discipline (record after { held = None; since = 0 }) (each pop_own (side_by_side kids)) d).shown ≡ None
     by (Fifo limit queue) can = absurd can
     by (Prio priomap) can = absurd can
     by (Tbf b limit) can = refl
     by (Drr s) can = refl
     by (FqCodel s) can = refl
 
-dequeued-popped : (own after : Own) (below : List Asked) (kids : List Worked) (rises mine : List Note) (packet : Option Descriptor) → CanHold after.discipline
-    → IsPopped (dequeued own below (record { after = after; children = kids; rises = rises; mine = mine; packet = packet }))
-dequeued-popped own after below kids rises mine None can = waits-popped after (rises ++ mine) kids (worked (record after { held = None }) (rises ++ mine ++ []) kids) can
-dequeued-popped own after below kids rises mine (Some p) can = holds-popped after (rises ++ mine) kids p
+dequeued-popped : (own after : Own) (below : List Asked) (kids : List Worked) (rises mine : List Note) (packet : Option Descriptor) (at : ℕ) → CanHold after.discipline
+    → IsPopped (dequeued own below (record { after = after; children = kids; rises = rises; mine = mine; packet = packet; since = at }))
+dequeued-popped own after below kids rises mine None at can = waits-popped after (rises ++ mine) kids (worked (record after { held = None; since = 0 }) (rises ++ mine ++ []) kids) can
+dequeued-popped own after below kids rises mine (Some p) at can = holds-popped after at (rises ++ mine) kids p
 
 -- a fifo
-fifo-popped : (handle : Option ℕ) (filters : List Filter) (limit : Limit) (queue : List Stamped) (below : List Asked)
-    → IsPopped (ask_fifo (record { handle = handle; discipline = Fifo limit queue; held = None; filters = filters }) below limit queue)
-fifo-popped handle filters limit queue below = record { shown = refl; taken = λ some. record { own = refl; memory = refl; below = kept-kids (befores below) } }
+fifo-popped : (handle : Option ℕ) (filters : List Filter) (since : ℕ) (limit : Limit) (queue : List Stamped) (below : List Asked)
+    → IsPopped (ask_fifo (record { handle = handle; discipline = Fifo limit queue; held = None; since = since; filters = filters }) below limit queue)
+fifo-popped handle filters since limit queue below = record { shown = refl; taken = λ some. record { own = refl; memory = refl; below = kept-kids (befores below) } }
 
 -- a prio: what it showed is at hand in the same band
 abbrev shows : Asked → Bool
@@ -203,14 +204,14 @@ are-popped (a ∷ below) all = by (is_some a.shown) refl (are-popped below all.1
     by true e rest = one-popped a below all.0 e
     by false e rest = subst (λ n. ArePopped n (a ∷ below)) (next (position_or_len shows below)) (one-passed a below (position_or_len shows below) all.0 e rest)
 
-prio-popped : (handle : Option ℕ) (filters : List Filter) (priomap : List ℕ) (below : List Asked) → AllPopped below
-    → IsPopped (ask_prio (record { handle = handle; discipline = Prio priomap; held = None; filters = filters }) below)
-prio-popped handle filters priomap below all =
+prio-popped : (handle : Option ℕ) (filters : List Filter) (since : ℕ) (priomap : List ℕ) (below : List Asked) → AllPopped below
+    → IsPopped (ask_prio (record { handle = handle; discipline = Prio priomap; held = None; since = since; filters = filters }) below)
+prio-popped handle filters since priomap below all =
     let k : ℕ = position_or_len shows below in
     let bands : List Popping = map pop (peeked_to k below) in
     let at = are-popped below all in
     let same : each pop_own (side_by_side (peeked_to k below)) ≡ bands = each-side pop_own (peeked_to k below) in
-    let own : Own = record { handle = handle; discipline = Prio priomap; held = None; filters = filters } in
+    let own : Own = record { handle = handle; discipline = Prio priomap; held = None; since = since; filters = filters } in
     let packet : Option Descriptor = option_and_then (λ (a : Asked). a.shown) (slice_get below k) in
     let shown : (pop_prio own bands).shown ≡ packet = ap (λ n. option_and_then (λ (b : Popping). b.shown) (slice_get bands n)) at.found ∙ at.shown in
     record {
@@ -223,64 +224,64 @@ prio-popped handle filters priomap below all =
       };
     }
 
-abbrev bare : Option ℕ → List Filter → Discipline → Own
-bare handle filters d = record { handle = handle; discipline = d; held = None; filters = filters }
+abbrev bare : Option ℕ → List Filter → ℕ → Discipline → Own
+bare handle filters since d = record { handle = handle; discipline = d; held = None; since = since; filters = filters }
 
 -- a tbf, which holds the packet that its bucket allows
-tbf-popped : (now : ℕ) (handle : Option ℕ) (filters : List Filter) (b : TokenBucket) (limit : ℕ) (below : List Asked)
-    → IsPopped (ask_tbf now (record { handle = handle; discipline = Tbf b limit; held = None; filters = filters }) below b limit)
-tbf-popped now handle filters b limit below = child (slice_get below 0)
+tbf-popped : (now : ℕ) (handle : Option ℕ) (filters : List Filter) (since : ℕ) (b : TokenBucket) (limit : ℕ) (below : List Asked)
+    → IsPopped (ask_tbf now (record { handle = handle; discipline = Tbf b limit; held = None; since = since; filters = filters }) below b limit)
+tbf-popped now handle filters since b limit below = child (slice_get below 0)
   where
-    allowed : (a : Asked) (p : Descriptor) (may : Bool) → IsPopped (if may then spends (bare handle filters (Tbf b limit)) below b limit now a p else waits (bare handle filters (Tbf b limit)) below a)
-    allowed a p true = dequeued-popped (bare handle filters (Tbf b limit)) (record (bare handle filters (Tbf b limit)) { discipline = Tbf (after_spend b now p.len) limit }) below (a.taken ∷ []) a.rises (Spent p.len ∷ []) (Some p) tt
-    allowed a p false = dequeued-popped (bare handle filters (Tbf b limit)) (bare handle filters (Tbf b limit)) below (a.peeked ∷ []) a.rises [] None tt
+    allowed : (a : Asked) (p : Descriptor) (may : Bool) → IsPopped (if may then spends (bare handle filters since (Tbf b limit)) below b limit now a p else waits (bare handle filters since (Tbf b limit)) below a)
+    allowed a p true = dequeued-popped (bare handle filters since (Tbf b limit)) (record (bare handle filters since (Tbf b limit)) { discipline = Tbf (after_spend b now p.len) limit }) below (a.taken ∷ []) a.rises (Spent p.len ∷ []) (Some p) (since_shown a) tt
+    allowed a p false = dequeued-popped (bare handle filters since (Tbf b limit)) (bare handle filters since (Tbf b limit)) below (a.peeked ∷ []) a.rises [] None 0 tt
 
-    packet : (a : Asked) (o : Option Descriptor) → IsPopped (option_map_or (λ (p : Descriptor). if allows b now p.len then spends (bare handle filters (Tbf b limit)) below b limit now a p else waits (bare handle filters (Tbf b limit)) below a) o (waits (bare handle filters (Tbf b limit)) below a))
-    packet a None = dequeued-popped (bare handle filters (Tbf b limit)) (bare handle filters (Tbf b limit)) below (a.peeked ∷ []) a.rises [] None tt
+    packet : (a : Asked) (o : Option Descriptor) → IsPopped (option_map_or (λ (p : Descriptor). if allows b now p.len then spends (bare handle filters since (Tbf b limit)) below b limit now a p else waits (bare handle filters since (Tbf b limit)) below a) o (waits (bare handle filters since (Tbf b limit)) below a))
+    packet a None = dequeued-popped (bare handle filters since (Tbf b limit)) (bare handle filters since (Tbf b limit)) below (a.peeked ∷ []) a.rises [] None 0 tt
     packet a (Some p) = allowed a p (allows b now p.len)
 
-    child : (o : Option Asked) → IsPopped (option_map_or (ask_child now (bare handle filters (Tbf b limit)) below b limit) o (dequeued (bare handle filters (Tbf b limit)) below (record { after = (bare handle filters (Tbf b limit)); children = []; rises = []; mine = []; packet = None })))
-    child None = dequeued-popped (bare handle filters (Tbf b limit)) (bare handle filters (Tbf b limit)) below [] [] [] None tt
+    child : (o : Option Asked) → IsPopped (option_map_or (ask_child now (bare handle filters since (Tbf b limit)) below b limit) o (dequeued (bare handle filters since (Tbf b limit)) below (record { after = (bare handle filters since (Tbf b limit)); children = []; rises = []; mine = []; packet = None; since = 0 })))
+    child None = dequeued-popped (bare handle filters since (Tbf b limit)) (bare handle filters since (Tbf b limit)) below [] [] [] None 0 tt
     child (Some a) = packet a a.shown
 
 -- a drr, which holds the packet of the class that is met
-drr-popped : (handle : Option ℕ) (filters : List Filter) (s : Schedule) (below : List Asked) → IsPopped (ask_drr (record { handle = handle; discipline = Drr s; held = None; filters = filters }) below s)
-drr-popped handle filters s below = by (place_met s below)
+drr-popped : (handle : Option ℕ) (filters : List Filter) (since : ℕ) (s : Schedule) (below : List Asked) → IsPopped (ask_drr (record { handle = handle; discipline = Drr s; held = None; since = since; filters = filters }) below s)
+drr-popped handle filters since s below = by (place_met s below)
   where
-    nothing : IsPopped (gives_nothing (bare handle filters (Drr s)) below (service_of s below))
-    nothing = let v = service_of s below in dequeued-popped (bare handle filters (Drr s)) (record (bare handle filters (Drr s)) { discipline = Drr v.schedule }) below v.below v.rises v.grants None tt
+    nothing : IsPopped (gives_nothing (bare handle filters since (Drr s)) below (service_of s below))
+    nothing = let v = service_of s below in dequeued-popped (bare handle filters since (Drr s)) (record (bare handle filters since (Drr s)) { discipline = Drr v.schedule }) below v.below v.rises v.grants None 0 tt
 
-    serves : (i : ℕ) (a : Asked) (o : Option Descriptor) → IsPopped (option_map_or (class_gives (bare handle filters (Drr s)) below (service_of s below) i a) o (gives_nothing (bare handle filters (Drr s)) below (service_of s below)))
+    serves : (i : ℕ) (a : Asked) (o : Option Descriptor) → IsPopped (option_map_or (class_gives (bare handle filters since (Drr s)) below (service_of s below) i a) o (gives_nothing (bare handle filters since (Drr s)) below (service_of s below)))
     serves i a None = nothing
     serves i a (Some p) =
         let v = service_of s below in
-        dequeued-popped (bare handle filters (Drr s)) (record (bare handle filters (Drr s)) { discipline = Drr (settled_class i (is_empty a.taken) v.schedule) }) below (set v.below i a.taken) v.rises v.grants (Some p) tt
+        dequeued-popped (bare handle filters since (Drr s)) (record (bare handle filters since (Drr s)) { discipline = Drr (settled_class i (is_empty a.taken) v.schedule) }) below (set v.below i a.taken) v.rises v.grants (Some p) (since_shown a) tt
 
-    child : (i : ℕ) (o : Option Asked) → IsPopped (option_map_or (class_serves (bare handle filters (Drr s)) below (service_of s below) i) o (gives_nothing (bare handle filters (Drr s)) below (service_of s below)))
+    child : (i : ℕ) (o : Option Asked) → IsPopped (option_map_or (class_serves (bare handle filters since (Drr s)) below (service_of s below) i) o (gives_nothing (bare handle filters since (Drr s)) below (service_of s below)))
     child i None = nothing
     child i (Some a) = serves i a a.shown
 
-    by : (o : Option ℕ) → IsPopped (option_map_or (λ i. option_map_or (class_serves (bare handle filters (Drr s)) below (service_of s below) i) (slice_get below i) (gives_nothing (bare handle filters (Drr s)) below (service_of s below))) o (gives_nothing (bare handle filters (Drr s)) below (service_of s below)))
+    by : (o : Option ℕ) → IsPopped (option_map_or (λ i. option_map_or (class_serves (bare handle filters since (Drr s)) below (service_of s below) i) (slice_get below i) (gives_nothing (bare handle filters since (Drr s)) below (service_of s below))) o (gives_nothing (bare handle filters since (Drr s)) below (service_of s below)))
     by None = nothing
     by (Some i) = child i (slice_get below i)
 
-node-popped : (now : ℕ) (handle : Option ℕ) (filters : List Filter) (held : Option Descriptor) (d : Discipline) (below : List Asked) → AllPopped below
-    → IsPopped (ask_own now (record { handle = handle; discipline = d; held = held; filters = filters }) below)
-node-popped now handle filters (Some p) d below all = holds-popped (record { handle = handle; discipline = d; held = None; filters = filters }) [] (befores below) p
-node-popped now handle filters None (Fifo limit queue) below all = fifo-popped handle filters limit queue below
-node-popped now handle filters None (Prio priomap) below all = prio-popped handle filters priomap below all
-node-popped now handle filters None (Tbf b limit) below all = tbf-popped now handle filters b limit below
-node-popped now handle filters None (Drr s) below all = drr-popped handle filters s below
-node-popped now handle filters None (FqCodel s) below all =
-    let own : Own = record { handle = handle; discipline = FqCodel s; held = None; filters = filters } in
+node-popped : (now : ℕ) (handle : Option ℕ) (filters : List Filter) (since : ℕ) (held : Option Descriptor) (d : Discipline) (below : List Asked) → AllPopped below
+    → IsPopped (ask_own now (record { handle = handle; discipline = d; held = held; since = since; filters = filters }) below)
+node-popped now handle filters since (Some p) d below all = holds-popped (record { handle = handle; discipline = d; held = None; since = since; filters = filters }) since [] (befores below) p
+node-popped now handle filters since None (Fifo limit queue) below all = fifo-popped handle filters since limit queue below
+node-popped now handle filters since None (Prio priomap) below all = prio-popped handle filters since priomap below all
+node-popped now handle filters since None (Tbf b limit) below all = tbf-popped now handle filters since b limit below
+node-popped now handle filters since None (Drr s) below all = drr-popped handle filters since s below
+node-popped now handle filters since None (FqCodel s) below all =
+    let own : Own = record { handle = handle; discipline = FqCodel s; held = None; since = since; filters = filters } in
     let sent = sent_from now (selected s) in
     dequeued-popped own (record own { discipline = FqCodel (after_sending now (selected s)) }) below (befores below) (losses_of CoDel (packets_of (dropped_from now (selected s))) ++ marks_of sent) (flow_notes s (selected s) sent)
-    (option_map (λ (t : Taken). t.packet) sent) tt
+    (option_map (λ (t : Taken). t.packet) sent) (option_map_or (λ (p : Stamped). p.at) (head_sent now (selected s)) 0) tt
 
 all-popped : (now : ℕ) (x : Forest (Unit {0})) → AllPopped (each (ask_own now) x)
 all-popped now none = tt
-all-popped now (more own m below others) = (node-popped now own.handle own.filters own.held own.discipline (each (ask_own now) below) (all-popped now below), all-popped now others)
+all-popped now (more own m below others) = (node-popped now own.handle own.filters own.since own.held own.discipline (each (ask_own now) below) (all-popped now below), all-popped now others)
 
 -- every tree that was asked
 pub ask-popped : (now : ℕ) (s : Shape) → IsPopped (ask now s)
-ask-popped now s = node-popped now s.own.handle s.own.filters s.own.held s.own.discipline (each (ask_own now) s.below) (all-popped now s.below)
+ask-popped now s = node-popped now s.own.handle s.own.filters s.own.since s.own.held s.own.discipline (each (ask_own now) s.below) (all-popped now s.below)

@@ -28,9 +28,9 @@ use Rattle.q_invariants.proofs.Quiet.{quiets, beneath-quiet, beneath-quiets, qui
 use Rattle.q_invariants.proofs.PutHere.{IsPut, put-parts}
 use Rattle.q_invariants.proofs.PutQueue.{longer-lengths}
 
-module _ (mtu now : ℕ) (least : 1 ≤ mtu) (p : Descriptor) (fits : IsWithin 1 mtu p.len) (handle : Option ℕ) (held : Option Descriptor) (filters : List Filter) where
+module _ (mtu now : ℕ) (least : 1 ≤ mtu) (p : Descriptor) (fits : IsWithin 1 mtu p.len) (handle : Option ℕ) (held : Option Descriptor) (filters : List Filter) (since : ℕ) where
   abbrev own_of : Discipline → Own
-  own_of d = record { handle = handle; discipline = d; held = held; filters = filters }
+  own_of d = record { handle = handle; discipline = d; held = held; since = since; filters = filters }
 
   module _ (i : ℕ) (before after : List Worked) (c m : List Descriptor)
       (at : slice_get (map beneath before) i ≡ Some c) (becomes : map beneath after ≡ set (map beneath before) i m)
@@ -109,7 +109,7 @@ beneath-put mtu now p s i c w least fits h can at put =
     let packets = settled-packets i (is_empty w.node) s.own.discipline in
     put-parts mtu now p s own w.rises after (record {
       handle = refl;
-      lawful = own-settled mtu now least p fits s.own.handle s.own.held s.own.filters i (quiets s) after (beneath (quiet c)) (beneath w.node) quiet_at (map-set beneath (quiets s) i w.node)
+      lawful = own-settled mtu now least p fits s.own.handle s.own.held s.own.filters s.own.since i (quiets s) after (beneath (quiet c)) (beneath w.node) quiet_at (map-set beneath (quiets s) i w.node)
           (λ f. omega (arith, put.conserved f, quiet_is f)) (λ f. omega (arith, put.conserved f, here.weighs f)) s.own.discipline can
           (subst (IsLawfulOwn mtu now s.own) (sym (beneath-quiets s)) h.0);
       all = here.lawful (quiets-lawful mtu now s.below h.1) put.lawful;

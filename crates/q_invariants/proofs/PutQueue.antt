@@ -31,18 +31,19 @@ use Rattle.q_invariants.proofs.FlowNotes.{stamped_weight, weigh-packets}
 use Rattle.q_invariants.proofs.AskFqCodel.{All-adjust}
 use Rattle.q_invariants.proofs.Quiet.{quiets, waiting-quiet, beneath-quiets, quiets-told, quiets-lawful}
 use Rattle.q_invariants.proofs.PutHere.{IsPut, put-parts}
+use Rattle.q_invariants.proofs.Stamps.{stamped-push, stamped-drop}
 
 -- the lengths of what was there, and of the packet that is put
 pub longer-lengths : (mtu : ℕ) (p : Descriptor) (before after : List Descriptor) → IsWithin 1 mtu p.len → ((w : Descriptor → ℕ) → weigh w after ≤ w (plain p) + weigh w before) → All (HasLength mtu) before → All (HasLength mtu) after
 longer-lengths mtu p before after fits fewer h =
     lengths-among mtu (p ∷ before) after (λ w. omega (arith, fewer w, weigh-cons w p before)) (All-cons (HasLength mtu) p before fits h)
 
-module _ (mtu now : ℕ) (p : Descriptor) (fits : IsWithin 1 mtu p.len) (handle : Option ℕ) (held : Option Descriptor) (filters : List Filter) (below : Forest (Unit {0})) where
+module _ (mtu now : ℕ) (p : Descriptor) (fits : IsWithin 1 mtu p.len) (handle : Option ℕ) (held : Option Descriptor) (filters : List Filter) (since : ℕ) (below : Forest (Unit {0})) where
   abbrev stamped : Stamped
   stamped = record { packet = p; at = now }
 
   abbrev fifo_shape : Limit → List Stamped → Shape
-  fifo_shape limit queue = record { own = record { handle = handle; discipline = Fifo limit queue; held = held; filters = filters }; memory = tt; below = below }
+  fifo_shape limit queue = record { own = record { handle = handle; discipline = Fifo limit queue; held = held; since = since; filters = filters }; memory = tt; below = below }
 
   pub fifo-put : (limit : Limit) (queue : List Stamped) → IsLawfulRoot mtu now (fifo_shape limit queue) → IsPut mtu now p (fifo_shape limit queue) (put_here now p None (fifo_shape limit queue))
   fifo-put limit queue h =
@@ -54,7 +55,7 @@ module _ (mtu now : ℕ) (p : Descriptor) (fits : IsWithin 1 mtu p.len) (handle 
         handle = refl;
         lawful = record {
           discipline = record {
-            stamps = All-push (λ (x : Stamped). x.at ≤ now) queue stamped h.0.discipline.stamps (omega arith);
+            stamps = stamped-push stamped queue h.0.discipline.stamps;
             none = beneath-quiets s ∙ h.0.discipline.none;
           };
           lengths = longer-lengths mtu p (waiting s.own (quiets s)) (waiting own (quiets s)) fits (λ w. omega (arith, more w)) (subst (All (HasLength mtu)) (sym (waiting-quiet s)) h.0.lengths);
@@ -95,11 +96,11 @@ joined-lawful now settings p f h = record {
   settings = h.settings;
   state = h.state;
   agrees = h.agrees;
-  stamps = All-push (λ (x : Stamped). x.at ≤ now) f.queue (record { packet = p; at = now }) h.stamps (omega arith);
+  stamps = stamped-push (record { packet = p; at = now }) f.queue h.stamps;
 }
 
 shortened-lawful : (now : ℕ) (settings : FqSettings) (n : ℕ) (f : Flow) → IsLawfulFlow now settings f → IsLawfulFlow now settings (shortened n f)
-shortened-lawful now settings n f h = record { settings = h.settings; state = h.state; agrees = h.agrees; stamps = All-drop (λ (x : Stamped). x.at ≤ now) n f.queue h.stamps }
+shortened-lawful now settings n f h = record { settings = h.settings; state = h.state; agrees = h.agrees; stamps = stamped-drop now n f.queue h.stamps }
 
 put-flows : (now : ℕ) (settings : FqSettings) (s : FqState) (p : Descriptor) → All (IsLawfulFlow now settings) s.flows → All (IsLawfulFlow now settings) (after_put s p now).flows
 unfolding cut_back appended
@@ -118,9 +119,9 @@ put-lawful mtu now s p below byte bytes h =
       none = h.none;
     }
 
-module _ (mtu now : ℕ) (p : Descriptor) (fits : IsWithin 1 mtu p.len) (handle : Option ℕ) (held : Option Descriptor) (filters : List Filter) (below : Forest (Unit {0})) where
+module _ (mtu now : ℕ) (p : Descriptor) (fits : IsWithin 1 mtu p.len) (handle : Option ℕ) (held : Option Descriptor) (filters : List Filter) (since : ℕ) (below : Forest (Unit {0})) where
   abbrev fq_shape : FqState → Shape
-  fq_shape q = record { own = record { handle = handle; discipline = FqCodel q; held = held; filters = filters }; memory = tt; below = below }
+  fq_shape q = record { own = record { handle = handle; discipline = FqCodel q; held = held; since = since; filters = filters }; memory = tt; below = below }
 
   pub fq-put : (q : FqState) → IsLawfulRoot mtu now (fq_shape q) → IsPut mtu now p (fq_shape q) (put_here now p None (fq_shape q))
   fq-put q h =

@@ -30,18 +30,18 @@ use Rattle.q_invariants.proofs.PutQueue.{fifo-put, fq-put}
 use Rattle.q_invariants.proofs.PutBeneath.{beneath-put}
 
 module _ (mtu now : ℕ) (least : 1 ≤ mtu) (p : Descriptor) (fits : IsWithin 1 mtu p.len) where
-  queued : (handle : Option ℕ) (held : Option Descriptor) (filters : List Filter) (below : Forest (Unit {0})) (d : Discipline) → CanQueue d
-      → (let s : Shape = record { own = record { handle = handle; discipline = d; held = held; filters = filters }; memory = tt; below = below } in IsLawfulRoot mtu now s → IsPut mtu now p s (put_here now p None s))
-  queued handle held filters below (Fifo limit queue) can h = fifo-put mtu now p fits handle held filters below limit queue h
-  queued handle held filters below (FqCodel q) can h = fq-put mtu now p fits handle held filters below q h
-  queued handle held filters below (Prio priomap) can h = absurd can
-  queued handle held filters below (Tbf b limit) can h = absurd can
-  queued handle held filters below (Drr s) can h = absurd can
+  queued : (handle : Option ℕ) (held : Option Descriptor) (filters : List Filter) (since : ℕ) (below : Forest (Unit {0})) (d : Discipline) → CanQueue d
+      → (let s : Shape = record { own = record { handle = handle; discipline = d; held = held; since = since; filters = filters }; memory = tt; below = below } in IsLawfulRoot mtu now s → IsPut mtu now p s (put_here now p None s))
+  queued handle held filters since below (Fifo limit queue) can h = fifo-put mtu now p fits handle held filters since below limit queue h
+  queued handle held filters since below (FqCodel q) can h = fq-put mtu now p fits handle held filters since below q h
+  queued handle held filters since below (Prio priomap) can h = absurd can
+  queued handle held filters since below (Tbf b limit) can h = absurd can
+  queued handle held filters since below (Drr s) can h = absurd can
 
   pub along-put : (path : List ℕ) (refusal : Option Cause) (s : Shape) → route p s ≡ record { path = path; refusal = refusal } → IsLawfulRoot mtu now s → IsPut mtu now p s (put_along now p refusal path s)
   along-put [] (Some cause) s e h = refused-put mtu now p s cause h
   along-put [] None s e h =
-      queued s.own.handle s.own.held s.own.filters s.below s.own.discipline (way-ends p s.own (each (λ own below. way p own below own.discipline) s.below) s.own.discipline e) h
+      queued s.own.handle s.own.held s.own.filters s.own.since s.below s.own.discipline (way-ends p s.own (each (λ own below. way p own below own.discipline) s.below) s.own.discipline e) h
   along-put (i ∷ path) refusal s e h =
       let on = route-goes p s i path refusal e in
       let put = beneath-put mtu now p s i on.child (put_along now p refusal path on.child) least fits h on.passes on.there

@@ -21,13 +21,13 @@ use Rattle.q_model.specs.Beneath.{is_empty}
 use Rattle.q_model.specs.Grants.{asked_entries, granted_notes}
 use Rattle.q_model.specs.Route.{class_at}
 use Rattle.q_model.specs.Work.{Worked, settled_class}
-use Rattle.q_model.specs.Ask.{Asked, befores, class_answer, is_among, peeked_classes, length_of, head_of, Service, service_of, place_met, gives_nothing, class_gives, class_serves, ask_drr}
+use Rattle.q_model.specs.Ask.{Asked, befores, class_answer, is_among, peeked_classes, length_of, head_of, Service, service_of, place_met, gives_nothing, class_gives, class_serves, ask_drr, since_shown}
 use Rattle.q_invariants.proofs.Exact.{classes-served}
 use Rattle.q_invariants.proofs.AskClasses.{peeked_by}
 use Rattle.q_invariants.proofs.DrrService.{IsMetAt, met-asked}
 use Rattle.q_invariants.proofs.EditClasses.{class_known}
 use Rattle.q_invariants.proofs.EditClassPlans.{position_of}
-use Rattle.q_invariants.proofs.SecondPeek.{Repeats, again, AreStable, again-worked, second-by, node, second-dequeued}
+use Rattle.q_invariants.proofs.SecondPeek.{Repeats, again, AreStable, again-worked, second-by, node, second-dequeued, held_since}
 use Rattle.q_invariants.proofs.SecondClasses.{rises_of, once_more, heads-again, rises-again, looked-again}
 
 -- the length of what the class that is met shows
@@ -65,7 +65,7 @@ place-front : (s : Schedule) (below : List Asked) (e : Entry) (rest : List Entry
     → (prepared (head_of s below) s).active ≡ e ∷ rest → place_met s below ≡ class_at e.class s
 place-front s below e rest front = ap (λ (es : List Entry). option_and_then (λ (m : Met). class_at m.class s) (met_in (head_of s below) es)) front
 
-module _ (now : ℕ) (handle : Option ℕ) (filters : List Filter) (s : Schedule) (below : List Asked) (stable : AreStable now below) (same : length s.classes ≡ length below)
+module _ (now : ℕ) (handle : Option ℕ) (filters : List Filter) (since : ℕ) (s : Schedule) (below : List Asked) (stable : AreStable now below) (same : length s.classes ≡ length below)
     (lawful : IsLawful (served (head_of s below) s)) where
   abbrev heads : ℕ → Option ℕ
   heads = head_of s below
@@ -215,16 +215,20 @@ module _ (now : ℕ) (handle : Option ℕ) (filters : List Filter) (s : Schedule
           (ap (λ (o : Option ℕ). option_and_then length_of (option_and_then (slice_get below) o)) (sym (place-front s below x rest front)) ∙ e)
 
   abbrev drr : Schedule → Own
-  drr t = node now handle filters (Drr t) None
+  drr t = node now handle filters since (Drr t) None
+
+  -- the same, where it has nothing to hold
+  abbrev still : Schedule → Own
+  still t = held_since now handle filters since (Drr t) None 0
 
   second-nothing : head_met s below ≡ None
       → Repeats now (gives_nothing (drr s) below (service_of s below))
   second-nothing e =
       let a : Asked = gives_nothing (drr s) below (service_of s below) in
       let h : IsIdle = idle e in
-      second-by now a (again now a.peeked) (gives_nothing (drr left) children quiet_service)
-      (again-worked now (drr left) ((service_of s below).rises ++ (service_of s below).grants) (service_of s below).below
-      ∙ nothing-given (drr left) left children h.head ∙ ap (gives_nothing (drr left) children) h.service)
+      second-by now a (again now a.peeked) (gives_nothing (still left) children quiet_service)
+      (again-worked now (still left) ((service_of s below).rises ++ (service_of s below).grants) (service_of s below).below
+      ∙ nothing-given (still left) left children h.head ∙ ap (gives_nothing (still left) children) h.service)
       (record { shown = refl; rises = refl; peeked = refl })
 
   pub second-drr : Repeats now (ask_drr (drr s) below s)
@@ -246,7 +250,7 @@ module _ (now : ℕ) (handle : Option ℕ) (filters : List Filter) (s : Schedule
       shows : (i : ℕ) (a : Asked) → place_met s below ≡ Some i → slice_get below i ≡ Some a → (o : Option Descriptor)
           → a.shown ≡ o → P (option_map_or (class_gives (drr s) below v i a) o nothing)
       shows i a e at None is = head (Some i) e (ap (option_and_then length_of) at ∙ ap (option_map (λ (p : Descriptor). p.len)) is)
-      shows i a e at (Some p) is = second-dequeued now handle filters (drr s) below (Drr (settled_class i (is_empty a.taken) v.schedule)) (set v.below i a.taken) v.rises v.grants p
+      shows i a e at (Some p) is = second-dequeued now handle filters since (drr s) below (Drr (settled_class i (is_empty a.taken) v.schedule)) (set v.below i a.taken) v.rises v.grants p (since_shown a)
 
       child : (i : ℕ) → place_met s below ≡ Some i → (o : Option Asked) → slice_get below i ≡ o
           → P (option_map_or (class_serves (drr s) below v i) o nothing)

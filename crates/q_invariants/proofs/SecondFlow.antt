@@ -9,7 +9,7 @@ use Rattle.q_fqcodel.specs.Entry.{Entry}
 use Rattle.q_fqcodel.specs.FqState.{FqState}
 use Rattle.q_fqcodel.specs.Lawful.{IsLawful}
 use Rattle.q_fqcodel.specs.QuantaGiven.{Grant, quanta_given, grants}
-use Rattle.q_fqcodel.specs.Take.{selected, front, sent_from, dropped_from, after_sending}
+use Rattle.q_fqcodel.specs.Take.{selected, front, sent_from, dropped_from, after_sending, head_sent}
 use Rattle.q_fqcodel.proofs.KeptLemmas.{take_keeps_lawful}
 use Rattle.q_fqcodel.proofs.FlowsShow.{given, sends_none, settled_selected}
 use Rattle.q_fqcodel.proofs.SentLemmas.{sent_none, dropped_none, after_none}
@@ -22,6 +22,7 @@ use Rattle.q_model.specs.Work.{losses_of}
 use Rattle.q_model.specs.Ask.{Asked, befores, dequeued, marks_of, ask_fq_codel}
 use Rattle.q_model.specs.Quanta.{flows_granted, flow_gave, flow_notes}
 use Rattle.q_invariants.proofs.SecondPeek.{Repeats, again, AreStable, again-quiet, second-by, node, second-dequeued}
+use Rattle.std.specs.Option.{option_map_or}
 
 -- ---- a flow is in neither list
 
@@ -35,37 +36,39 @@ module _ (z : FqState) (new : z.new_flows ≡ []) (old : z.old_flows ≡ []) whe
   none-gave None = refl
   none-gave (Some e) = refl
 
-  module _ (now : ℕ) (handle : Option ℕ) (filters : List Filter) (below : List Asked) where
+  module _ (now : ℕ) (handle : Option ℕ) (filters : List Filter) (since : ℕ) (below : List Asked) where
     abbrev own : Own
-    own = node now handle filters (FqCodel z) None
+    own = node now handle filters since (FqCodel z) None
 
-    abbrev ends : FqState → List Stamped → Option Taken → List Note → Asked
-    ends t dropped sent mine = dequeued own below (record {
+    abbrev ends : FqState → List Stamped → Option Taken → List Note → ℕ → Asked
+    ends t dropped sent mine at = dequeued own below (record {
       after = record own { discipline = FqCodel t };
       children = befores below;
       rises = losses_of CoDel (packets_of dropped) ++ marks_of sent;
       mine = mine;
       packet = given sent;
+      since = at;
     })
 
     -- it answers so, and is as it was
-    idle-answer : ask_fq_codel now own below z ≡ ends z [] None []
+    idle-answer : ask_fq_codel now own below z ≡ ends z [] None [] 0
     idle-answer =
-        ap (λ (c : FqState). ends (after_sending now c) (dropped_from now c) (sent_from now c) (flow_notes z c (sent_from now c))) (none_left z new old)
-        ∙ ap (λ (t : FqState). ends t (dropped_from now z) (sent_from now z) (flow_notes z z (sent_from now z))) (after_none z now new old)
-        ∙ ap (λ (ps : List Stamped). ends z ps (sent_from now z) (flow_notes z z (sent_from now z))) (dropped_none z now new old)
-        ∙ ap (λ (o : Option Taken). ends z [] o (flow_notes z z o)) (sent_none z now new old)
-        ∙ ap (ends z [] None) (ap₂ (λ (a b : List Note). a ++ b) none-granted (none-gave (front z)))
+        let at : ℕ = option_map_or (λ (p : Stamped). p.at) (head_sent now (selected z)) 0 in
+        ap (λ (c : FqState). ends (after_sending now c) (dropped_from now c) (sent_from now c) (flow_notes z c (sent_from now c)) at) (none_left z new old)
+        ∙ ap (λ (t : FqState). ends t (dropped_from now z) (sent_from now z) (flow_notes z z (sent_from now z)) at) (after_none z now new old)
+        ∙ ap (λ (ps : List Stamped). ends z ps (sent_from now z) (flow_notes z z (sent_from now z)) at) (dropped_none z now new old)
+        ∙ ap (λ (o : Option Taken). ends z [] o (flow_notes z z o) at) (sent_none z now new old)
+        ∙ ap (λ (notes : List Note). ends z [] None notes at) (ap₂ (λ (a b : List Note). a ++ b) none-granted (none-gave (front z)))
 
 -- ---- an fq_codel asked once more
 
-module _ (now : ℕ) (handle : Option ℕ) (filters : List Filter) where
+module _ (now : ℕ) (handle : Option ℕ) (filters : List Filter) (since : ℕ) where
   pub second-fq_codel : (s : FqState) (below : List Asked) → IsLawful s → 1 ≤ s.settings.quantum → AreStable now below
-      → Repeats now (ask_fq_codel now (node now handle filters (FqCodel s) None) below s)
+      → Repeats now (ask_fq_codel now (node now handle filters since (FqCodel s) None) below s)
   second-fq_codel s below lawful positive h = by (given sent) refl
     where
       own : Own
-      own = node now handle filters (FqCodel s) None
+      own = node now handle filters since (FqCodel s) None
 
       sent : Option Taken
       sent = sent_from now (selected s)
@@ -76,17 +79,20 @@ module _ (now : ℕ) (handle : Option ℕ) (filters : List Filter) where
       rises : List Note
       rises = losses_of CoDel (packets_of (dropped_from now (selected s))) ++ marks_of sent
 
+      at : ℕ
+      at = option_map_or (λ (p : Stamped). p.at) (head_sent now (selected s)) 0
+
       answer : Option Descriptor → Asked
-      answer o = dequeued own below (record { after = record own { discipline = FqCodel after }; children = befores below; rises = rises; mine = flow_notes s (selected s) sent; packet = o })
+      answer o = dequeued own below (record { after = record own { discipline = FqCodel after }; children = befores below; rises = rises; mine = flow_notes s (selected s) sent; packet = o; since = at })
 
       by : (o : Option Descriptor) → given sent ≡ o → Repeats now (answer o)
-      by (Some p) e = second-dequeued now handle filters own below (FqCodel after) (befores below) rises (flow_notes s (selected s) sent) p
+      by (Some p) e = second-dequeued now handle filters since own below (FqCodel after) (befores below) rises (flow_notes s (selected s) sent) p at
       by None e =
           let chosen : IsLawful (selected s) = (take_keeps_lawful s now lawful positive).0 in
           let none = sends_none now (selected s) chosen (settled_selected s lawful positive) e in
           let same : after ≡ selected s = after_none (selected s) now none.0 none.1 in
           let new : after.new_flows ≡ [] = ap (λ (t : FqState). t.new_flows) same ∙ none.0 in
           let old : after.old_flows ≡ [] = ap (λ (t : FqState). t.old_flows) same ∙ none.1 in
-          second-by now (answer None) (again now (answer None).peeked) (ends after new old now handle filters below after [] None [])
-          (again-quiet now (node now handle filters (FqCodel after) None) (rises ++ flow_notes s (selected s) sent) below h ∙ idle-answer after new old now handle filters below)
+          second-by now (answer None) (again now (answer None).peeked) (ends after new old now handle filters 0 below after [] None [] 0)
+          (again-quiet now (node now handle filters 0 (FqCodel after) None) (rises ++ flow_notes s (selected s) sent) below h ∙ idle-answer after new old now handle filters 0 below)
           (record { shown = refl; rises = refl; peeked = refl })

@@ -10,7 +10,7 @@ use Rattle.q_model.specs.declared.filter.Filter.{Filter}
 use Rattle.q_model.specs.Tally.{Note, Spent}
 use Rattle.q_model.specs.Node.{Discipline, Fifo, Tbf, Own, from_below}
 use Rattle.q_model.specs.Work.{Worked, worked}
-use Rattle.q_model.specs.Ask.{Asked, befores, holding, dequeued, spends, waits, ask_child, ask_tbf, ask_fifo, ask_own}
+use Rattle.q_model.specs.Ask.{Asked, befores, holding, dequeued, spends, waits, ask_child, ask_tbf, ask_fifo, ask_own, since_shown}
 use Rattle.q_invariants.proofs.Forests.{each-side}
 
 -- the same node asked once more: it shows the same, has nothing to tell, and neither it nor what is beneath it changes
@@ -59,9 +59,13 @@ module _ (now : ℕ) where
   pub second-same : (a : Asked) → again a.peeked ≡ a → a.rises ≡ [] → a.peeked ≡ a.before → Repeats a
   second-same a e rises peeked = second-by a (again a.peeked) a e (record { shown = refl; rises = rises; peeked = peeked })
 
-  module _ (handle : Option ℕ) (filters : List Filter) where
+  module _ (handle : Option ℕ) (filters : List Filter) (since : ℕ) where
     abbrev pub node : Discipline → Option Descriptor → Own
-    node d held = record { handle = handle; discipline = d; held = held; filters = filters }
+    node d held = record { handle = handle; discipline = d; held = held; since = since; filters = filters }
+
+    -- once it has dequeued a packet that arrived then
+    abbrev pub held_since : Discipline → Option Descriptor → ℕ → Own
+    held_since d held at = record (node d held) { since = at }
 
     pub second-holding : (d : Discipline) (below : List Asked) (p : Descriptor) → AreStable below
         → Repeats (holding (node d (Some p)) below p)
@@ -74,12 +78,12 @@ module _ (now : ℕ) where
 
     -- ---- a node that has dequeued a packet holds it
 
-    pub second-dequeued : (own : Own) (below : List Asked) (d : Discipline) (children : List Worked) (rises mine : List Note) (p : Descriptor)
-        → (let a : Asked = dequeued own below (record { after = node d None; children = children; rises = rises; mine = mine; packet = Some p }) in Repeats a)
-    second-dequeued own below d children rises mine p =
-        let a : Asked = dequeued own below (record { after = node d None; children = children; rises = rises; mine = mine; packet = Some p }) in
-        second-by a (again a.peeked) (holding (node d (Some p)) (map again children) p)
-        (again-worked (node d (Some p)) (rises ++ mine) children)
+    pub second-dequeued : (own : Own) (below : List Asked) (d : Discipline) (children : List Worked) (rises mine : List Note) (p : Descriptor) (at : ℕ)
+        → (let a : Asked = dequeued own below (record { after = node d None; children = children; rises = rises; mine = mine; packet = Some p; since = at }) in Repeats a)
+    second-dequeued own below d children rises mine p at =
+        let a : Asked = dequeued own below (record { after = node d None; children = children; rises = rises; mine = mine; packet = Some p; since = at }) in
+        second-by a (again a.peeked) (holding (held_since d (Some p) at) (map again children) p)
+        (again-worked (held_since d (Some p) at) (rises ++ mine) children)
         (record { shown = refl; rises = refl; peeked = refl })
 
     -- ---- a tbf
@@ -88,36 +92,40 @@ module _ (now : ℕ) where
       abbrev tbf : Own
       tbf = node (Tbf b limit) None
 
+      -- the same, where it has nothing to hold
+      abbrev idle : Own
+      idle = held_since (Tbf b limit) None 0
+
       -- a tbf that waits, waits once more
       waits-again : (below : List Asked) (a : Asked) → IsStable a
-          → ask_child now tbf (again a.peeked ∷ []) b limit (again a.peeked) ≡ waits tbf (again a.peeked ∷ []) (again a.peeked)
+          → ask_child now idle (again a.peeked ∷ []) b limit (again a.peeked) ≡ waits idle (again a.peeked ∷ []) (again a.peeked)
           → Repeats (waits tbf below a)
       waits-again below a h e =
           let c : Asked = again a.peeked in
-          second-by (waits tbf below a) (again (waits tbf below a).peeked) (waits tbf (c ∷ []) c)
-          (again-worked tbf (a.rises ++ []) (a.peeked ∷ []) ∙ e)
+          second-by (waits tbf below a) (again (waits tbf below a).peeked) (waits idle (c ∷ []) c)
+          (again-worked idle (a.rises ++ []) (a.peeked ∷ []) ∙ e)
           (record {
             shown = refl;
             rises = h.second.rises;
-            peeked = ap₂ (λ (notes : List Note) (w : Worked). worked tbf (notes ++ []) (w ∷ [])) h.second.rises h.second.peeked;
+            peeked = ap₂ (λ (notes : List Note) (w : Worked). worked idle (notes ++ []) (w ∷ [])) h.second.rises h.second.peeked;
           })
 
       second-child : (below : List Asked) (a : Asked) → IsStable a
           → Repeats (ask_child now tbf below b limit a)
       second-child below a h = by a.shown refl
         where
-          answer : List Asked → Asked → Option Descriptor → Asked
-          answer bs c o = option_map_or (λ (p : Descriptor). if allows b now p.len then spends tbf bs b limit now c p else waits tbf bs c) o (waits tbf bs c)
+          answer : Own → List Asked → Asked → Option Descriptor → Asked
+          answer own bs c o = option_map_or (λ (p : Descriptor). if allows b now p.len then spends own bs b limit now c p else waits own bs c) o (waits own bs c)
 
           may : (p : Descriptor) (t : Bool) → allows b now p.len ≡ t → a.shown ≡ Some p
               → (let x : Asked = if t then spends tbf below b limit now a p else waits tbf below a in Repeats x)
-          may p true e is = second-dequeued tbf below (Tbf (after_spend b now p.len) limit) (a.taken ∷ []) a.rises (Spent p.len ∷ []) p
+          may p true e is = second-dequeued tbf below (Tbf (after_spend b now p.len) limit) (a.taken ∷ []) a.rises (Spent p.len ∷ []) p (since_shown a)
           may p false e is =
               let c : Asked = again a.peeked in
-              waits-again below a h (ap (answer (c ∷ []) c) (h.second.shown ∙ is) ∙ ap (λ (t : Bool). if t then spends tbf (c ∷ []) b limit now c p else waits tbf (c ∷ []) c) e)
+              waits-again below a h (ap (answer idle (c ∷ []) c) (h.second.shown ∙ is) ∙ ap (λ (t : Bool). if t then spends idle (c ∷ []) b limit now c p else waits idle (c ∷ []) c) e)
 
-          by : (o : Option Descriptor) → a.shown ≡ o → (let x : Asked = answer below a o in Repeats x)
-          by None is = let c : Asked = again a.peeked in waits-again below a h (ap (answer (c ∷ []) c) (h.second.shown ∙ is))
+          by : (o : Option Descriptor) → a.shown ≡ o → (let x : Asked = answer tbf below a o in Repeats x)
+          by None is = let c : Asked = again a.peeked in waits-again below a h (ap (answer idle (c ∷ []) c) (h.second.shown ∙ is))
           by (Some p) is = may p (allows b now p.len) refl is
 
       pub second-tbf : (below : List Asked) → AreStable below

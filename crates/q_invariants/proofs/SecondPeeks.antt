@@ -36,33 +36,33 @@ use Rattle.q_invariants.proofs.SecondFlow.{second-fq_codel}
 
 module _ (mtu now : ℕ) (least : 1 ≤ mtu) (low : now ≤ 2 ^ 62) where
   -- a drr's schedule stays lawful, and has a class for each child
-  drr-second : (handle : Option ℕ) (filters : List Filter) (s : Schedule) (below : List Asked)
-      → IsLawfulOwn mtu now (node now handle filters (Drr s) None) (map beneath (befores below))
+  drr-second : (handle : Option ℕ) (filters : List Filter) (since : ℕ) (s : Schedule) (below : List Asked)
+      → IsLawfulOwn mtu now (node now handle filters since (Drr s) None) (map beneath (befores below))
       → AreAnswers mtu now below → AreStable now below
-      → Repeats now (ask_own now (node now handle filters (Drr s) None) below)
-  drr-second handle filters s below h all stable =
+      → Repeats now (ask_own now (node now handle filters since (Drr s) None) below)
+  drr-second handle filters since s below h all stable =
       let same : length s.classes ≡ length below =
       omega (arith, exact-length (λ n. is_active n s.active) s.classes (map beneath (befores below)) h.discipline.exact, length-map (befores below) beneath, length-map below (λ (a : Asked). a.before)) in
       let lawful : IsLawful (served (head_of s below) s) =
       served_lawful s (head_of s below) h.discipline.schedule (subst (λ n. HeadsFit (head_of s below) n) (sym h.discipline.longest) (heads-fit mtu now s below all)) in
-      second-drr now handle filters s below stable same lawful
+      second-drr now handle filters since s below stable same lawful
 
-  node-second : (handle : Option ℕ) (filters : List Filter) (held : Option Descriptor) (d : Discipline) (below : List Asked)
-      → (let own : Own = node now handle filters d held in
+  node-second : (handle : Option ℕ) (filters : List Filter) (since : ℕ) (held : Option Descriptor) (d : Discipline) (below : List Asked)
+      → (let own : Own = node now handle filters since d held in
       IsLawfulOwn mtu now own (map beneath (befores below)) → AreAnswers mtu now below → AreStable now below → Repeats now (ask_own now own below))
-  node-second handle filters (Some p) d below h all stable = second-holding now handle filters d below p stable
-  node-second handle filters None (Fifo limit queue) below h all stable = second-fifo now handle filters limit queue below stable
-  node-second handle filters None (Prio priomap) below h all stable = second-prio now handle filters priomap below stable
-  node-second handle filters None (Tbf b limit) below h all stable = second-tbf now handle filters b limit below stable
-  node-second handle filters None (Drr s) below h all stable = drr-second handle filters s below h all stable
-  node-second handle filters None (FqCodel s) below h all stable =
-      second-fq_codel now handle filters s below h.discipline.lists h.discipline.settings.quantum_low stable
+  node-second handle filters since (Some p) d below h all stable = second-holding now handle filters since d below p stable
+  node-second handle filters since None (Fifo limit queue) below h all stable = second-fifo now handle filters since limit queue below stable
+  node-second handle filters since None (Prio priomap) below h all stable = second-prio now handle filters since priomap below stable
+  node-second handle filters since None (Tbf b limit) below h all stable = second-tbf now handle filters since b limit below stable
+  node-second handle filters since None (Drr s) below h all stable = drr-second handle filters since s below h all stable
+  node-second handle filters since None (FqCodel s) below h all stable =
+      second-fq_codel now handle filters since s below h.discipline.lists h.discipline.settings.quantum_low stable
 
   own-stable : (own : Own) (below : List Asked) → IsLawfulOwn mtu now own (map beneath (befores below))
       → AreAnswers mtu now below → AreStable now below → IsStable now (ask_own now own below)
   own-stable own below h all stable = record {
     same = ap (again now) (before-is now own below) ∙ again-quiet now own [] below stable;
-    second = node-second own.handle own.filters own.held own.discipline below h all stable;
+    second = node-second own.handle own.filters own.since own.held own.discipline below h all stable;
   }
 
   pub forest-stable : (x : Forest (Unit {0})) → AllLawful mtu now x → AreStable now (each (ask_own now) x)

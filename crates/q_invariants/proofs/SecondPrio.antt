@@ -62,9 +62,9 @@ module _ (now : ℕ) where
       by true e rest = subst P (sym (ready-here a below e)) (same-here a below h.0 h.1 e)
       by false e rest = subst P (sym (ready-later a below e)) (same-later a below (ready below) h.0 e rest)
 
-  module _ (handle : Option ℕ) (filters : List Filter) (priomap : List ℕ) where
+  module _ (handle : Option ℕ) (filters : List Filter) (since : ℕ) (priomap : List ℕ) where
     abbrev pub prio : Own
-    prio = node now handle filters (Prio priomap) None
+    prio = node now handle filters since (Prio priomap) None
 
     abbrev pub prio_at : ℕ → List Asked → Asked
     prio_at k below = showing below (record { own = prio; own_taken = prio; peeked = peeked_to k below; taken = taken_at k below; notes = notes_to k below; packet = packet_at k below })

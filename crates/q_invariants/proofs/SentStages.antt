@@ -19,7 +19,7 @@ use Rattle.q_model.specs.Grants.{grant_notes, granted_notes}
 use Rattle.q_model.specs.Beneath.{is_empty, packets_of}
 use Rattle.q_model.specs.Work.{settled_class}
 use Rattle.q_model.specs.Quanta.{flows_granted, flow_gave, flow_notes}
-use Rattle.q_model.specs.Ask.{Asked, holding, Dequeue, dequeued, waits, spends, ask_tbf, head_of, service_of, place_met, gives_nothing, class_gives, class_serves, ask_drr, ask_discipline, ask_own, ask}
+use Rattle.q_model.specs.Ask.{Asked, holding, Dequeue, dequeued, waits, spends, ask_tbf, head_of, service_of, place_met, gives_nothing, class_gives, class_serves, ask_drr, ask_discipline, ask_own, ask, since_shown}
 use Rattle.q_model.specs.Stretches.{sent_by, bytes_sent, length_held}
 use Rattle.q_invariants.proofs.NoteSums.{AreRisen, sum-risen, past-sent}
 use Rattle.q_invariants.proofs.Risen.{AllRise, rise-service, discipline-rises, all-rise}
@@ -75,11 +75,11 @@ flow-sends s t o = omega (arith, sum_by-append sent_by (flows_granted s) (flow_g
 -- ---- each kind of node
 
 tbf-gives : (now : ℕ) (own : Own) (below : List Asked) (b : TokenBucket) (limit : ℕ) → AllRise below → Gives (ask_tbf now own below b limit)
-tbf-gives now own [] b limit h = dequeued-gives own [] (record { after = own; children = []; rises = []; mine = []; packet = None }) tt refl
+tbf-gives now own [] b limit h = dequeued-gives own [] (record { after = own; children = []; rises = []; mine = []; packet = None; since = 0 }) tt refl
 tbf-gives now own (a ∷ below) b limit h = child a.shown
   where
     waiting : Gives (waits own (a ∷ below) a)
-    waiting = dequeued-gives own (a ∷ below) (record { after = own; children = a.peeked ∷ []; rises = a.rises; mine = []; packet = None }) h.0 refl
+    waiting = dequeued-gives own (a ∷ below) (record { after = own; children = a.peeked ∷ []; rises = a.rises; mine = []; packet = None; since = 0 }) h.0 refl
 
     child : (o : Option Descriptor) → Gives (option_map_or (λ (p : Descriptor). if allows b now p.len then spends own (a ∷ below) b limit now a p else waits own (a ∷ below) a) o (waits own (a ∷ below) a))
     child None = waiting
@@ -93,6 +93,7 @@ tbf-gives now own (a ∷ below) b limit h = child a.shown
               rises = a.rises;
               mine = Spent p.len ∷ [];
               packet = Some p;
+              since = since_shown a;
             }) h.0 refl
         by false = waiting
 
@@ -110,6 +111,7 @@ drr-gives own below s h = by (place_met s below)
           rises = (service_of s below).rises;
           mine = (service_of s below).grants;
           packet = None;
+          since = 0;
         }) (rise-service s below h) silent
 
     serves : (i : ℕ) (a : Asked) (o : Option Descriptor) → Gives (option_map_or (class_gives own below (service_of s below) i a) o (gives_nothing own below (service_of s below)))
@@ -121,6 +123,7 @@ drr-gives own below s h = by (place_met s below)
           rises = (service_of s below).rises;
           mine = (service_of s below).grants;
           packet = Some p;
+          since = since_shown a;
         }) (rise-service s below h) silent
 
     child : (i : ℕ) (o : Option Asked) → Gives (option_map_or (class_serves own below (service_of s below) i) o (gives_nothing own below (service_of s below)))

@@ -22,31 +22,31 @@ use Rattle.q_invariants.proofs.TakeBands.{prio-so}
 -- ---- every node
 
 module _ (mtu now : ℕ) (least : 1 ≤ mtu) (low : now ≤ 2 ^ 62) where
-  node-so : (handle : Option ℕ) (filters : List Filter) (held : Option Descriptor) (d : Discipline) (below : List Asked)
+  node-so : (handle : Option ℕ) (filters : List Filter) (since : ℕ) (held : Option Descriptor) (d : Discipline) (below : List Asked)
       → AreStable now below → TakeSo now below
-      → TakesSo now (ask_own now (node now handle filters d held) below)
-  node-so handle filters (Some p) d below stable all =
-      let own : Own = node now handle filters d (Some p) in
-      shown-so now handle filters (holding own below p) below own (record own { held = None }) (Sent p ∷ []) (again-quiet now own [] below stable) refl refl stable
-  node-so handle filters None (Fifo limit queue) below stable all =
-      let own : Own = node now handle filters (Fifo limit queue) None in
-      shown-so now handle filters (ask_fifo own below limit queue) below own (record own { discipline = Fifo limit (drop 1 queue) }) (map Sent (option_to_list (slice_get (packets_of queue) 0)))
+      → TakesSo now (ask_own now (node now handle filters since d held) below)
+  node-so handle filters since (Some p) d below stable all =
+      let own : Own = node now handle filters since d (Some p) in
+      shown-so now handle filters since (holding own below p) below own (record own { held = None; since = 0 }) (Sent p ∷ []) (again-quiet now own [] below stable) refl refl stable
+  node-so handle filters since None (Fifo limit queue) below stable all =
+      let own : Own = node now handle filters since (Fifo limit queue) None in
+      shown-so now handle filters since (ask_fifo own below limit queue) below own (record own { discipline = Fifo limit (drop 1 queue) }) (map Sent (option_to_list (slice_get (packets_of queue) 0)))
       (again-quiet now own [] below stable) refl refl stable
-  node-so handle filters None (Prio priomap) below stable all = prio-so now handle filters priomap below stable all
-  node-so handle filters None (Tbf b limit) below stable all = tbf-so now handle filters below b limit
-  node-so handle filters None (Drr s) below stable all = drr-so now handle filters below s
-  node-so handle filters None (FqCodel s) below stable all = fq_codel-so now handle filters below s
+  node-so handle filters since None (Prio priomap) below stable all = prio-so now handle filters since priomap below stable all
+  node-so handle filters since None (Tbf b limit) below stable all = tbf-so now handle filters since below b limit
+  node-so handle filters since None (Drr s) below stable all = drr-so now handle filters since below s
+  node-so handle filters since None (FqCodel s) below stable all = fq_codel-so now handle filters since below s
 
   forest-so : (x : Forest (Unit {0})) → AllLawful mtu now x → TakeSo now (each (ask_own now) x)
   forest-so none h = tt
   forest-so (more own m below others) h = (
-    node-so own.handle own.filters own.held own.discipline (each (ask_own now) below) (forest-stable mtu now least low below h.1) (forest-so below h.1),
+    node-so own.handle own.filters own.since own.held own.discipline (each (ask_own now) below) (forest-stable mtu now least low below h.1) (forest-so below h.1),
     forest-so others h.2,
   )
 
   pub ask-so : (s : Shape) → IsLawfulRoot mtu now s → TakesSo now (ask now s)
   ask-so s h =
-      node-so s.own.handle s.own.filters s.own.held s.own.discipline (each (ask_own now) s.below) (forest-stable mtu now least low s.below h.1) (forest-so s.below h.1)
+      node-so s.own.handle s.own.filters s.own.since s.own.held s.own.discipline (each (ask_own now) s.below) (forest-stable mtu now least low s.below h.1) (forest-so s.below h.1)
 
 -- ---- what is remembered
 

@@ -39,15 +39,15 @@ module _ (now : ℕ) where
       by true e rest = subst P (sym (ready-here a below e)) (so-here a below all.0 e)
       by false e rest = subst P (sym (ready-later a below e)) (so-later a below (ready below) h.0 rest)
 
-  module _ (handle : Option ℕ) (filters : List Filter) (priomap : List ℕ) where
+  module _ (handle : Option ℕ) (filters : List Filter) (since : ℕ) (priomap : List ℕ) where
     pub prio-so : (below : List Asked) → AreStable now below → TakeSo now below
-        → TakesSo now (ask_prio (prio now handle filters priomap) below)
+        → TakesSo now (ask_prio (prio now handle filters since priomap) below)
     prio-so below h all p e =
         let k : ℕ = ready below in
         let bs : List Asked = bands now k below in
         let same : IsSame k below bs = bands-same now below h in
-        let a : Asked = ask_prio (prio now handle filters priomap) below in
-        subst (λ (b : Asked). IsJoined a.peeked b.taken a.taken) (sym (again-prio now handle filters priomap below h)) (
+        let a : Asked = ask_prio (prio now handle filters since priomap) below in
+        subst (λ (b : Asked). IsJoined a.peeked b.taken a.taken) (sym (again-prio now handle filters since priomap below h)) (
           refl,
           ap₂ (λ (notes : List Note) (o : Option Descriptor). notes_to k below ++ (notes ++ map Sent (option_to_list o))) same.rises same.packet,
           joined-side (peeked_to k below) (taken_at k bs) (taken_at k below) (bands-so below h all),

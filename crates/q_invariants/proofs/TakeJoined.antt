@@ -10,17 +10,18 @@ use Rattle.q_codel.specs.declared.taken.Taken.{Taken}
 use Rattle.q_bucket.specs.Level.{TokenBucket, allows, after_spend}
 use Rattle.q_drr.specs.Schedule.{Schedule}
 use Rattle.q_fqcodel.specs.FqState.{FqState}
-use Rattle.q_fqcodel.specs.Take.{selected, sent_from, dropped_from, after_sending}
+use Rattle.q_fqcodel.specs.Take.{selected, sent_from, dropped_from, after_sending, head_sent}
 use Rattle.q_model.specs.declared.filter.Filter.{Filter}
 use Rattle.q_model.specs.Tally.{Note, Spent}
 use Rattle.q_model.specs.Node.{Discipline, Tbf, Drr, FqCodel, Own, Forest, none, more, side_by_side, each_memory, shape}
 use Rattle.q_model.specs.Beneath.{packets_of, is_empty}
 use Rattle.q_model.specs.Quanta.{flow_notes}
 use Rattle.q_model.specs.Work.{Worked, worked, losses_of, settled_class}
-use Rattle.q_model.specs.Ask.{Asked, befores, dequeued, spends, waits, ask_child, ask_tbf, marks_of, Service, service_of, place_met, gives_nothing, class_gives, class_serves, ask_drr, ask_fq_codel}
+use Rattle.q_model.specs.Ask.{Asked, befores, dequeued, spends, waits, ask_child, ask_tbf, marks_of, Service, service_of, place_met, gives_nothing, class_gives, class_serves, ask_drr, ask_fq_codel, since_shown}
 use Rattle.q_invariants.proofs.Asks.{before-root}
-use Rattle.q_invariants.proofs.SecondPeek.{again, AreStable, again-worked, again-befores, node}
+use Rattle.q_invariants.proofs.SecondPeek.{again, AreStable, again-worked, again-befores, node, held_since}
 use Rattle.q_invariants.proofs.SecondPeeks.{asked-shape}
+use Rattle.q_packet.specs.declared.stamped.Stamped.{Stamped}
 
 -- ---- notes put together
 
@@ -71,7 +72,7 @@ module _ (now : ℕ) where
   TakeSo [] = Unit {0}
   TakeSo (a ∷ below) = TakesSo a × TakeSo below
 
-  module _ (handle : Option ℕ) (filters : List Filter) where
+  module _ (handle : Option ℕ) (filters : List Filter) (since : ℕ) where
     -- one that holds a packet, and a fifo: asked once more they answer the same
     pub shown-so : (a : Asked) (below : List Asked) (own after : Own) (sent : List Note) → again now a.peeked ≡ a
         → a.peeked ≡ worked own [] (befores below) → a.taken ≡ worked after sent (befores below)
@@ -83,29 +84,29 @@ module _ (now : ℕ) where
         (refl, refl, joined-side (befores below) (befores below) (befores below) (not-asked below h))))
 
     -- one that has dequeued what it shows
-    pub dequeued-so : (own : Own) (below : List Asked) (d : Discipline) (children : List Worked) (rises mine : List Note) (packet : Option Descriptor)
-        → TakesSo (dequeued own below (record { after = node now handle filters d None; children = children; rises = rises; mine = mine; packet = packet }))
-    dequeued-so own below d children rises mine None p e = absurd (none-some p e)
-    dequeued-so own below d children rises mine (Some q) p e =
-        let a : Asked = dequeued own below (record { after = node now handle filters d None; children = children; rises = rises; mine = mine; packet = Some q }) in
-        subst (λ (b : Asked). IsJoined a.peeked b.taken a.taken) (sym (again-worked now (node now handle filters d (Some q)) (rises ++ mine) children))
+    pub dequeued-so : (own : Own) (below : List Asked) (d : Discipline) (children : List Worked) (rises mine : List Note) (packet : Option Descriptor) (at : ℕ)
+        → TakesSo (dequeued own below (record { after = node now handle filters since d None; children = children; rises = rises; mine = mine; packet = packet; since = at }))
+    dequeued-so own below d children rises mine None at p e = absurd (none-some p e)
+    dequeued-so own below d children rises mine (Some q) at p e =
+        let a : Asked = dequeued own below (record { after = node now handle filters since d None; children = children; rises = rises; mine = mine; packet = Some q; since = at }) in
+        subst (λ (b : Asked). IsJoined a.peeked b.taken a.taken) (sym (again-worked now (held_since now handle filters since d (Some q) at) (rises ++ mine) children))
         (refl, refl, joined-side children (befores (map (again now) children)) children (all-before children))
 
     -- a tbf, a drr and an fq_codel dequeue
     module _ (below : List Asked) where
       pub tbf-so : (b : TokenBucket) (limit : ℕ)
-          → TakesSo (ask_tbf now (node now handle filters (Tbf b limit) None) below b limit)
+          → TakesSo (ask_tbf now (node now handle filters since (Tbf b limit) None) below b limit)
       tbf-so b limit = child (slice_get below 0)
         where
           own : Own
-          own = node now handle filters (Tbf b limit) None
+          own = node now handle filters since (Tbf b limit) None
 
           waiting : (a : Asked) → TakesSo (waits own below a)
-          waiting a = dequeued-so own below (Tbf b limit) (a.peeked ∷ []) a.rises [] None
+          waiting a = dequeued-so own below (Tbf b limit) (a.peeked ∷ []) a.rises [] None 0
 
           may : (a : Asked) (p : Descriptor) (t : Bool)
               → TakesSo (if t then spends own below b limit now a p else waits own below a)
-          may a p true = dequeued-so own below (Tbf (after_spend b now p.len) limit) (a.taken ∷ []) a.rises (Spent p.len ∷ []) (Some p)
+          may a p true = dequeued-so own below (Tbf (after_spend b now p.len) limit) (a.taken ∷ []) a.rises (Spent p.len ∷ []) (Some p) (since_shown a)
           may a p false = waiting a
 
           shows : (a : Asked) (o : Option Descriptor)
@@ -114,26 +115,26 @@ module _ (now : ℕ) where
           shows a (Some p) = may a p (allows b now p.len)
 
           child : (o : Option Asked)
-              → TakesSo (option_map_or (ask_child now own below b limit) o (dequeued own below (record { after = own; children = []; rises = []; mine = []; packet = None })))
-          child None = dequeued-so own below (Tbf b limit) [] [] [] None
+              → TakesSo (option_map_or (ask_child now own below b limit) o (dequeued own below (record { after = own; children = []; rises = []; mine = []; packet = None; since = 0 })))
+          child None = dequeued-so own below (Tbf b limit) [] [] [] None 0
           child (Some a) = shows a a.shown
 
-      pub drr-so : (s : Schedule) → TakesSo (ask_drr (node now handle filters (Drr s) None) below s)
+      pub drr-so : (s : Schedule) → TakesSo (ask_drr (node now handle filters since (Drr s) None) below s)
       drr-so s = by (place_met s below)
         where
           own : Own
-          own = node now handle filters (Drr s) None
+          own = node now handle filters since (Drr s) None
 
           v : Service
           v = service_of s below
 
           nothing : TakesSo (gives_nothing own below v)
-          nothing = dequeued-so own below (Drr v.schedule) v.below v.rises v.grants None
+          nothing = dequeued-so own below (Drr v.schedule) v.below v.rises v.grants None 0
 
           shows : (i : ℕ) (a : Asked) (o : Option Descriptor)
               → TakesSo (option_map_or (class_gives own below v i a) o (gives_nothing own below v))
           shows i a None = nothing
-          shows i a (Some p) = dequeued-so own below (Drr (settled_class i (is_empty a.taken) v.schedule)) (set v.below i a.taken) v.rises v.grants (Some p)
+          shows i a (Some p) = dequeued-so own below (Drr (settled_class i (is_empty a.taken) v.schedule)) (set v.below i a.taken) v.rises v.grants (Some p) (since_shown a)
 
           child : (i : ℕ) (o : Option Asked)
               → TakesSo (option_map_or (class_serves own below v i) o (gives_nothing own below v))
@@ -145,8 +146,8 @@ module _ (now : ℕ) where
           by None = nothing
           by (Some i) = child i (slice_get below i)
 
-      pub fq_codel-so : (s : FqState) → TakesSo (ask_fq_codel now (node now handle filters (FqCodel s) None) below s)
+      pub fq_codel-so : (s : FqState) → TakesSo (ask_fq_codel now (node now handle filters since (FqCodel s) None) below s)
       fq_codel-so s =
-          dequeued-so (node now handle filters (FqCodel s) None) below (FqCodel (after_sending now (selected s))) (befores below)
+          dequeued-so (node now handle filters since (FqCodel s) None) below (FqCodel (after_sending now (selected s))) (befores below)
           (losses_of CoDel (packets_of (dropped_from now (selected s))) ++ marks_of (sent_from now (selected s)))
-          (flow_notes s (selected s) (sent_from now (selected s))) (option_map (λ (t : Taken). t.packet) (sent_from now (selected s)))
+          (flow_notes s (selected s) (sent_from now (selected s))) (option_map (λ (t : Taken). t.packet) (sent_from now (selected s))) (option_map_or (λ (p : Stamped). p.at) (head_sent now (selected s)) 0)

@@ -10,7 +10,7 @@ use Rattle.q_codel.specs.declared.limit.Limit.{Limit}
 use Rattle.q_packet.specs.declared.stamped.Stamped.{Stamped}
 use Rattle.q_bucket.specs.Level.{TokenBucket, allows, after_spend}
 use Rattle.q_model.specs.declared.filter.Filter.{Filter}
-use Rattle.q_model.specs.Ask.{Asked, befores, holding, waits, spends, ask_prio, ask_drr, ask_fq_codel, ask_discipline, ask_own, ask}
+use Rattle.q_model.specs.Ask.{Asked, befores, holding, waits, spends, ask_prio, ask_drr, ask_fq_codel, ask_discipline, ask_own, ask, since_shown}
 use Rattle.q_model.specs.Beneath.{packets_of}
 use Rattle.q_model.specs.Node.{Discipline, Fifo, Prio, Tbf, Drr, FqCodel, Own, Forest, none, more, Shape, each}
 use Rattle.q_model.specs.Tally.{Note}
@@ -58,9 +58,9 @@ first-line : (ws : List Worked) (w : Worked) → slice_get ws 0 ≡ Some w → u
 first-line [] w e = absurd (none-some w e)
 first-line (v ∷ ws) w e = ap (λ (o : Option Worked). unwrap_or (option_map line o) []) e
 
-module _ (now : ℕ) (handle : Option ℕ) (filters : List Filter) where
+module _ (now : ℕ) (handle : Option ℕ) (filters : List Filter) (since : ℕ) where
   abbrev node : Discipline → Option Descriptor → Own
-  node d held = record { handle = handle; discipline = d; held = held; filters = filters }
+  node d held = record { handle = handle; discipline = d; held = held; since = since; filters = filters }
 
   before-lined : (own : Own) (lines : List (List Descriptor)) (below : List Asked) → AreLined lines below → line (worked own [] (befores below)) ≡ line_own own lines
   before-lined own lines below h = line-worked own [] (befores below) ∙ ap (line_own own) (lines-befores lines below h)
@@ -179,7 +179,7 @@ module _ (now : ℕ) (handle : Option ℕ) (filters : List Filter) where
 pub forest-lined : (now : ℕ) (x : Forest (Unit {0})) → NoTbfs x → AreLined (each line_own x) (each (ask_own now) x)
 forest-lined now none h = tt
 forest-lined now (more own m below others) h =
-    let own_is = own-lined now own.handle own.filters own.held own.discipline (each line_own below) (each (ask_own now) below) h.0 (forest-lined now below h.1) in
+    let own_is = own-lined now own.handle own.filters own.since own.held own.discipline (each line_own below) (each (ask_own now) below) h.0 (forest-lined now below h.1) in
     (own_is.0, own_is.1, forest-lined now others h.2)
 
 -- a whole tree, whatever is at its root
@@ -191,9 +191,9 @@ module _ (now : ℕ) (s : Shape) (other : NoTbfs s.below) where
   below = each (ask_own now) s.below
 
   -- what a tbf takes from its child
-  module _ (handle : Option ℕ) (filters : List Filter) (b : TokenBucket) (limit : ℕ) where
+  module _ (handle : Option ℕ) (filters : List Filter) (since : ℕ) (b : TokenBucket) (limit : ℕ) where
     abbrev tbf : Own
-    tbf = record { handle = handle; discipline = Tbf b limit; held = None; filters = filters }
+    tbf = record { handle = handle; discipline = Tbf b limit; held = None; since = since; filters = filters }
 
     waits-lined : (ls : List Descriptor) (ks : List (List Descriptor)) (a : Asked) (cs : List Asked) → IsLined ls a → BeginsWith ls (line (waits tbf (a ∷ cs) a).peeked)
     waits-lined ls ks a cs h = subst (BeginsWith ls) (sym (line-worked tbf (waits tbf (a ∷ cs) a).peeked.memory (a.peeked ∷ []))) h.peeked
@@ -212,7 +212,7 @@ module _ (now : ℕ) (s : Shape) (other : NoTbfs s.below) where
         by false = (waits-lined ls [] a cs h, subst (BeginsWith ls) (sym (line-worked tbf (waits tbf (a ∷ cs) a).taken.memory (a.peeked ∷ []))) h.peeked)
         by true =
             let after : Own = record tbf { discipline = Tbf (after_spend b now p.len) limit } in (
-              subst (BeginsWith ls) (sym (line-worked (record after { held = Some p }) (spends tbf (a ∷ cs) b limit now a p).peeked.memory (a.taken ∷ []))) given,
+              subst (BeginsWith ls) (sym (line-worked (record after { held = Some p; since = since_shown a }) (spends tbf (a ∷ cs) b limit now a p).peeked.memory (a.taken ∷ []))) given,
               subst (λ (xs : List Descriptor). BeginsWith ls (p ∷ xs)) (sym (line-worked after (spends tbf (a ∷ cs) b limit now a p).taken.memory (a.taken ∷ []))) given,
             )
 
@@ -222,15 +222,15 @@ module _ (now : ℕ) (s : Shape) (other : NoTbfs s.below) where
     tbf-lined (ls ∷ ks) [] h = absurd h
     tbf-lined (ls ∷ ks) (a ∷ cs) h =
         let left = tbf-peeks ls a cs h.0 a.shown refl in
-        record { before = ap line (before-is now tbf (a ∷ cs)) ∙ before-lined now handle filters tbf (ls ∷ ks) (a ∷ cs) h; peeked = left.0; taken = left.1 }
+        record { before = ap line (before-is now tbf (a ∷ cs)) ∙ before-lined now handle filters since tbf (ls ∷ ks) (a ∷ cs) h; peeked = left.0; taken = left.1 }
 
   pub root-lined : IsLined (line s) (ask now s)
   root-lined = by s.own.held s.own.discipline
     where
       by : (held : Option Descriptor) (d : Discipline) → (let own : Own = record s.own { discipline = d; held = held } in IsLined (line_own own lines) (ask_own now own below))
-      by held (Fifo limit queue) = (own-lined now s.own.handle s.own.filters held (Fifo limit queue) lines below refl (forest-lined now s.below other)).0
-      by held (Prio priomap) = (own-lined now s.own.handle s.own.filters held (Prio priomap) lines below refl (forest-lined now s.below other)).0
-      by held (Drr t) = (own-lined now s.own.handle s.own.filters held (Drr t) lines below refl (forest-lined now s.below other)).0
-      by held (FqCodel t) = (own-lined now s.own.handle s.own.filters held (FqCodel t) lines below refl (forest-lined now s.below other)).0
-      by (Some p) (Tbf b limit) = held-lined now s.own.handle s.own.filters p (Tbf b limit) lines below (forest-lined now s.below other)
-      by None (Tbf b limit) = tbf-lined s.own.handle s.own.filters b limit lines below (forest-lined now s.below other)
+      by held (Fifo limit queue) = (own-lined now s.own.handle s.own.filters s.own.since held (Fifo limit queue) lines below refl (forest-lined now s.below other)).0
+      by held (Prio priomap) = (own-lined now s.own.handle s.own.filters s.own.since held (Prio priomap) lines below refl (forest-lined now s.below other)).0
+      by held (Drr t) = (own-lined now s.own.handle s.own.filters s.own.since held (Drr t) lines below refl (forest-lined now s.below other)).0
+      by held (FqCodel t) = (own-lined now s.own.handle s.own.filters s.own.since held (FqCodel t) lines below refl (forest-lined now s.below other)).0
+      by (Some p) (Tbf b limit) = held-lined now s.own.handle s.own.filters s.own.since p (Tbf b limit) lines below (forest-lined now s.below other)
+      by None (Tbf b limit) = tbf-lined s.own.handle s.own.filters s.own.since b limit lines below (forest-lined now s.below other)

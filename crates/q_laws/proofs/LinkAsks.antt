@@ -9,7 +9,7 @@ use Rattle.q_drr.specs.Schedule.{Schedule}
 use Rattle.q_model.specs.Tally.{Sent, Spent}
 use Rattle.q_model.specs.Node.{Discipline, Tbf, Drr, Own, side_by_side}
 use Rattle.q_model.specs.Work.{Worked}
-use Rattle.q_model.specs.Ask.{Asked, holding, Dequeue, dequeued, waits, spends, ask_tbf, service_of, place_met, gives_nothing, class_gives, class_serves, ask_discipline, ask_own}
+use Rattle.q_model.specs.Ask.{Asked, holding, Dequeue, dequeued, waits, spends, ask_tbf, service_of, place_met, gives_nothing, class_gives, class_serves, ask_discipline, ask_own, since_shown}
 use Rattle.q_model.specs.Stretches.{spent_by, bytes_spent, length_held}
 use Rattle.q_invariants.proofs.AskStages.{IsStageOf}
 use Rattle.q_invariants.proofs.BucketSteps.{given-bytes}
@@ -52,7 +52,7 @@ module _ (now : ℕ) (own : Own) (a : Asked) (rises : AreRisen a.rises) where
 
   waits-takes : (w : Worked) → IsStageOf (waits own (a ∷ []) a) w → TakesOf a w
   waits-takes w stage =
-      dequeued-takes (record { after = own; children = a.peeked ∷ []; rises = a.rises; mine = []; packet = None }) a.peeked 0 refl refl refl (inr (inl (refl, refl))) w stage
+      dequeued-takes (record { after = own; children = a.peeked ∷ []; rises = a.rises; mine = []; packet = None; since = 0 }) a.peeked 0 refl refl refl (inr (inl (refl, refl))) w stage
 
   tbf-takes : (b : TokenBucket) (limit : ℕ) (w : Worked) → IsStageOf (ask_tbf now own (a ∷ []) b limit) w → TakesOf a w
   tbf-takes b limit w stage = by a.shown refl stage
@@ -66,6 +66,7 @@ module _ (now : ℕ) (own : Own) (a : Asked) (rises : AreRisen a.rises) where
             rises = a.rises;
             mine = Spent p.len ∷ [];
             packet = Some p;
+            since = since_shown a;
           }) a.taken p.len refl refl (omega arith) (inr (inr (refl, sym (ap length_held e)))) w st
 
       by : (o : Option Descriptor) → a.shown ≡ o → IsStageOf (option_map_or (λ (p : Descriptor). if allows b now p.len then spends own (a ∷ []) b limit now a p else waits own (a ∷ []) a) o (waits own (a ∷ []) a)) w → TakesOf a w

@@ -14,7 +14,7 @@ use Rattle.q_drr.specs.Schedule.{Class, Schedule}
 use Rattle.q_drr.specs.Take.{choice_of}
 use Rattle.q_fqcodel.specs.FqState.{FqSettings, FqState, all_packets}
 use Rattle.q_fqcodel.specs.Put.{flow_of}
-use Rattle.q_fqcodel.specs.Take.{selected, sent_from, after_sending}
+use Rattle.q_fqcodel.specs.Take.{selected, sent_from, after_sending, head_sent}
 use Rattle.q_model.specs.declared.filter.Filter.{Filter}
 use Rattle.q_model.specs.Filters.{named_class}
 use Rattle.q_model.specs.Route.{band_of}
@@ -25,7 +25,7 @@ use Rattle.q_model.specs.Grants.{asked_entries}
 use Rattle.q_model.specs.Lawful.{IsLawfulOwn}
 use Rattle.q_model.specs.Quanta.{flow_notes}
 use Rattle.q_model.specs.Work.{Worked, worked, settled_class}
-use Rattle.q_model.specs.Ask.{Asked, befores, holding, Dequeue, dequeued, waits, spends, ask_tbf, is_among, head_of, service_of, place_met, gives_nothing, class_gives, class_serves, ask_drr, ask_discipline, ask_own, ask}
+use Rattle.q_model.specs.Ask.{Asked, befores, holding, Dequeue, dequeued, waits, spends, ask_tbf, is_among, head_of, service_of, place_met, gives_nothing, class_gives, class_serves, ask_drr, ask_discipline, ask_own, ask, since_shown}
 use Rattle.q_invariants.proofs.Answer.{beneath-worked}
 use Rattle.q_invariants.proofs.Asks.{beneath-befores}
 use Rattle.q_invariants.proofs.AskFqCodel.{take-settings}
@@ -39,6 +39,7 @@ use Rattle.q_laws.proofs.PartLemmas.{part-refl}
 use Rattle.q_laws.proofs.OrderParts.{flat, IsLess, less-append, less-behind, OnlyAt, AreLess, are-less-refl, less-only, less-flat, Gives, gives-less, gives-flat}
 use Rattle.q_laws.proofs.OrderFlows.{less-before, fifo-gives, flow_queues, all-flat, take-gives}
 use Rattle.q_laws.proofs.OrderWays.{HasWay, less-way, way-only, IsOnWay, AllOnWay, IsRootOnWay, AreOnWay, way-worked}
+use Rattle.q_model.specs.Since.{since_of}
 
 module _ (c : Descriptor) where
   pub record Keeps (a : Asked) : Type 0 where
@@ -105,11 +106,11 @@ module _ (c : Descriptor) where
       subst (IsLess c after) (sym (beneath-is own [] (befores below))) (less-before c (option_to_list own.held) after before h) in
       record {
         before = way-worked c own [] (befores below) way all;
-        peeked = way-worked c (record d.after { held = d.packet }) (d.rises ++ d.mine) d.children way_after all_after;
-        taken = way-worked c (record d.after { held = None }) (d.rises ++ d.mine ++ map Sent (option_to_list d.packet)) d.children way_after all_after;
-        peeks = subst (λ (ps : List Descriptor). IsLess c ps (beneath (worked own [] (befores below)))) (sym (beneath-is (record d.after { held = d.packet }) (d.rises ++ d.mine) d.children)) less;
+        peeked = way-worked c (record d.after { held = d.packet; since = since_of d.packet d.since }) (d.rises ++ d.mine) d.children way_after all_after;
+        taken = way-worked c (record d.after { held = None; since = 0 }) (d.rises ++ d.mine ++ map Sent (option_to_list d.packet)) d.children way_after all_after;
+        peeks = subst (λ (ps : List Descriptor). IsLess c ps (beneath (worked own [] (befores below)))) (sym (beneath-is (record d.after { held = d.packet; since = since_of d.packet d.since }) (d.rises ++ d.mine) d.children)) less;
         gives = subst (λ (ps : List Descriptor). IsLess c (option_to_list d.packet ++ ps) (beneath (worked own [] (befores below))))
-            (sym (beneath-is (record d.after { held = None }) (d.rises ++ d.mine ++ map Sent (option_to_list d.packet)) d.children)) less;
+            (sym (beneath-is (record d.after { held = None; since = 0 }) (d.rises ++ d.mine ++ map Sent (option_to_list d.packet)) d.children)) less;
       }
 
   -- ---- each kind of node
@@ -132,9 +133,9 @@ module _ (c : Descriptor) where
   prio-gives zero (a ∷ below) h = inl (h.0.gives, are-less-refl c (waiting (befores below)))
   prio-gives (suc k) (a ∷ below) h = inr (h.0.peeks, prio-gives k below h.1)
 
-  module _ (now : ℕ) (handle : Option ℕ) (filters : List Filter) where
+  module _ (now : ℕ) (handle : Option ℕ) (filters : List Filter) (since : ℕ) where
     abbrev node : Discipline → Option Descriptor → Own
-    node d held = record { handle = handle; discipline = d; held = held; filters = filters }
+    node d held = record { handle = handle; discipline = d; held = held; since = since; filters = filters }
 
     holding-keeps : (d : Discipline) (p : Descriptor) (below : List Asked) → AreKept below → IsOnWay c (node d (Some p)) d (waiting (befores below)) → Keeps (holding (node d (Some p)) below p)
     holding-keeps d p below h way =
@@ -200,7 +201,7 @@ module _ (c : Descriptor) where
 
       waits-keeps : Keeps (waits tbf (a ∷ []) a)
       waits-keeps =
-          dequeued-keeps tbf (a ∷ []) (record { after = tbf; children = a.peeked ∷ []; rises = a.rises; mine = []; packet = None }) refl (h.before, tt) refl (h.peeked, tt)
+          dequeued-keeps tbf (a ∷ []) (record { after = tbf; children = a.peeked ∷ []; rises = a.rises; mine = []; packet = None; since = 0 }) refl (h.before, tt) refl (h.peeked, tt)
           (less-flat c (beneath a.peeked ∷ []) (beneath a.before ∷ []) (h.peeks, tt))
 
       spends-keeps : (p : Descriptor) → a.shown ≡ Some p → Keeps (spends tbf (a ∷ []) b limit now a p)
@@ -211,6 +212,7 @@ module _ (c : Descriptor) where
             rises = a.rises;
             mine = Spent p.len ∷ [];
             packet = Some p;
+            since = since_shown a;
           }) refl (h.before, tt) refl (h.taken, tt)
           (gives-flat c (p ∷ []) 0 (beneath a.taken ∷ []) (beneath a.before ∷ []) refl
           (inl (subst (λ (o : Option Descriptor). IsLess c (option_to_list o ++ beneath a.taken) (beneath a.before)) e h.gives, tt)))
@@ -259,6 +261,7 @@ module _ (c : Descriptor) where
             rises = (service_of s below).rises;
             mine = (service_of s below).grants;
             packet = None;
+            since = 0;
           }) way all (class-way s (service_of s below).schedule (waiting looked) (waiting (befores below)) (classes-served (head_of s below) s) less way) (stages-way below looked h staged)
           (less-flat c (waiting looked) (waiting (befores below)) less)
 
@@ -278,6 +281,7 @@ module _ (c : Descriptor) where
             rises = (service_of s below).rises;
             mine = (service_of s below).grants;
             packet = Some p;
+            since = since_shown a;
           }) way all (class-way s left (waiting children) (waiting (befores below)) (class-settled i (is_empty a.taken) (service_of s below).schedule ∙ classes-served (head_of s below) s) less way)
           (stages-way below children h stages) (gives-flat c (p ∷ []) in-place.0 (waiting children) (waiting (befores below)) in-place.1 given)
 
@@ -317,6 +321,7 @@ module _ (c : Descriptor) where
           rises = (ask_discipline now own below (FqCodel s)).rises;
           mine = flow_notes s (selected s) (sent_from now (selected s));
           packet = packet;
+          since = option_map_or (λ (p : Stamped). p.at) (head_sent now (selected s)) 0;
         }) way all left all whole
 
     node-keeps : (held : Option Descriptor) (d : Discipline) (below : List Asked) → HasSoMany d (length below) → AreKept below → IsOnWay c (node d held) d (waiting (befores below)) → Keeps (ask_own now (node d held) below)
@@ -333,7 +338,7 @@ module _ (c : Descriptor) where
     own-keeps : (own : Own) (x : Forest (Unit {0})) → IsLawfulOwn mtu now own (each beneath_own x) → IsOnWay c own own.discipline (each beneath_own x) → AreKept (each (ask_own now) x) → Keeps (ask_own now own (each (ask_own now) x))
     own-keeps own x lawful way h =
         let many = so-many mtu now (each beneath_own x) own.discipline lawful.discipline in
-        node-keeps now own.handle own.filters own.held own.discipline (each (ask_own now) x) (subst (HasSoMany own.discipline) (each-length beneath_own (ask_own now) x) many) h
+        node-keeps now own.handle own.filters own.since own.held own.discipline (each (ask_own now) x) (subst (HasSoMany own.discipline) (each-length beneath_own (ask_own now) x) many) h
         (subst (IsOnWay c own own.discipline) (sym (beneath-befores now x)) way)
 
     forest-keeps : (x : Forest (Unit {0})) → AllLawful mtu now x → AllOnWay c x → AreKept (each (ask_own now) x)

@@ -144,9 +144,9 @@ module _ (c p : Descriptor) (now : ℕ) where
         way = way-worked c s.own notes (quiets s) (subst (IsOnWay c s.own s.own.discipline) (sym (beneath-quiets s)) h.0) (way-quiets c s.below h.1);
       }
 
-  module _ (mtu : ℕ) (handle : Option ℕ) (held : Option Descriptor) (filters : List Filter) (below : Forest (Unit {0})) where
+  module _ (mtu : ℕ) (handle : Option ℕ) (held : Option Descriptor) (filters : List Filter) (since : ℕ) (below : Forest (Unit {0})) where
     abbrev node : Discipline → Shape
-    node d = record { own = record { handle = handle; discipline = d; held = held; filters = filters }; memory = tt; below = below }
+    node d = record { own = record { handle = handle; discipline = d; held = held; since = since; filters = filters }; memory = tt; below = below }
 
     fifo-puts : (limit : Limit) (queue : List Stamped) → IsLawfulRoot mtu now (node (Fifo limit queue)) → IsRootOnWay c (node (Fifo limit queue)) → Puts (node (Fifo limit queue)) (put_here now p None (node (Fifo limit queue))).node
     fifo-puts limit queue lawful h =
@@ -265,7 +265,7 @@ module _ (c p : Descriptor) (now : ℕ) where
   pub along-puts : (mtu : ℕ) (path : List ℕ) (refusal : Option Cause) (s : Shape) → route p s ≡ record { path = path; refusal = refusal } → IsLawfulRoot mtu now s → IsRootOnWay c s → Puts s (put_along now p refusal path s).node
   along-puts mtu [] (Some cause) s e lawful h = refused-puts s (Arrived p ∷ Lost p cause ∷ []) h
   along-puts mtu [] None s e lawful h =
-      here-puts mtu s.own.handle s.own.held s.own.filters s.below s.own.discipline
+      here-puts mtu s.own.handle s.own.held s.own.filters s.own.since s.below s.own.discipline
       (way-ends p s.own (each (λ own below. way p own below own.discipline) s.below) s.own.discipline e) lawful h
   along-puts mtu (i ∷ path) refusal s e lawful h =
       let on = route-goes p s i path refusal e in

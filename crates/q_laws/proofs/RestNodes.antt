@@ -96,7 +96,7 @@ module _ (now : ℕ) (own : Own) (below : List Asked) (h : Rests own.discipline)
     tbf-rests : AllRests (ask_tbf now own below b limit)
     tbf-rests = by (slice_get below 0)
       where
-        by : (o : Option Asked) → AllRests (option_map_or (ask_child now own below b limit) o (dequeued own below (record { after = own; children = []; rises = []; mine = []; packet = None })))
+        by : (o : Option Asked) → AllRests (option_map_or (ask_child now own below b limit) o (dequeued own below (record { after = own; children = []; rises = []; mine = []; packet = None; since = 0 })))
         by None = record { before = h; peeked = h; taken = h }
         by (Some a) = child-rests a a.shown
 

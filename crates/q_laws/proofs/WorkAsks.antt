@@ -181,9 +181,9 @@ module _ (mtu now : ℕ) (own : Own) (s : Schedule) (below : List Asked) (h : Is
 
 -- ---- every discipline
 
-module _ (mtu now : ℕ) (low : now ≤ 2 ^ 62) (handle : Option ℕ) (filters : List Filter) where
+module _ (mtu now : ℕ) (low : now ≤ 2 ^ 62) (handle : Option ℕ) (filters : List Filter) (since : ℕ) where
   abbrev node : Discipline → Option Descriptor → Own
-  node d held = record { handle = handle; discipline = d; held = held; filters = filters }
+  node d held = record { handle = handle; discipline = d; held = held; since = since; filters = filters }
 
   flows-rest : (s : FqState) (below : List Asked) → IsLawfulOwn mtu now (node (FqCodel s) None) (map beneath (befores below)) → AreAnswers mtu now below
       → option_map (λ (t : Taken). t.packet) (sent_from now (selected s)) ≡ None → length (waiting (node (FqCodel s) None) (befores below)) ≡ 0
@@ -192,7 +192,7 @@ module _ (mtu now : ℕ) (low : now ≤ 2 ^ 62) (handle : Option ℕ) (filters :
       let a : Asked = ask_fq_codel now own below s in
       let after : FqState = after_sending now (selected s) in
       let left : Own = node (FqCodel after) (option_map (λ (t : Taken). t.packet) (sent_from now (selected s))) in
-      let answer : IsAnswer mtu now a = fq_codel-answers mtu now low handle filters s below h all in
+      let answer : IsAnswer mtu now a = fq_codel-answers mtu now low handle filters since s below h all in
       let gone = take_leaves_none now s h.discipline.lists h.discipline.settings.quantum_low silent in
       let counted : length (packets_of (all_packets after.flows)) ≡ 0 =
       omega (arith, gone, length-map (all_packets after.flows) (λ (x : Stamped). x.packet), packets-all after.flows, count-sum (all_packets after.flows)) in

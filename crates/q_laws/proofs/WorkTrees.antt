@@ -75,7 +75,7 @@ module _ (mtu now : ℕ) (least : 1 ≤ mtu) (low : now ≤ 2 ^ 62) where
   node-rests own x other h lawful rest silent =
       let below : List Asked = each (ask_own now) x in
       ap (λ (w : Worked). length (beneath w)) (before-is now own below) ∙ ap length (beneath-worked own [] (befores below))
-      ∙ own-rests mtu now low own.handle own.filters own.held own.discipline below other (subst (IsLawfulOwn mtu now own) (sym (beneath-befores now x)) h) (forest-answers mtu now least low x lawful) rest silent
+      ∙ own-rests mtu now low own.handle own.filters own.since own.held own.discipline below other (subst (IsLawfulOwn mtu now own) (sym (beneath-befores now x)) h) (forest-answers mtu now least low x lawful) rest silent
 
   pub forest-rests : (x : Forest (Unit {0})) → AllLawful mtu now x → NoTbfs x → AreRests (each (ask_own now) x)
   forest-rests none h other = tt

@@ -1,6 +1,6 @@
 -- What a node shows when it is peeked, what is left of it then, and what is left once that packet is taken from it.
 -- tc-prio(8), tc-tbf(8), tc-drr(8), tc-fq_codel(8); that tbf, drr and fq_codel hold what they show is this project's choice.
-use Rattle.std.specs.Prelude.{ℕ, suc, Bool, ◌==◌, if◌then◌else◌, List, [], ◌∷◌, ◌++◌, map, take, drop, Option, Some, None, is_some, option_map, option_and_then, slice_get, set}
+use Rattle.std.specs.Prelude.{ℕ, suc, Bool, ◌==◌, if◌then◌else◌, List, [], ◌∷◌, ◌++◌, map, take, drop, Option, Some, None, is_some, option_map, option_and_then, slice_get, set, unwrap_or}
 use Rattle.std.specs.List.{flat_map, list_any, position_or_len, zip}
 use Rattle.std.specs.Option.{option_map_or, option_to_list}
 use Rattle.q_packet.specs.Descriptor.{Descriptor}
@@ -9,13 +9,14 @@ use Rattle.q_packet.specs.declared.cause.Cause.TheVariants.{CoDel}
 use Rattle.q_codel.specs.declared.limit.Limit.{Limit}
 use Rattle.q_codel.specs.declared.taken.Taken.{Taken}
 use Rattle.q_fqcodel.specs.FqState.{FqState}
-use Rattle.q_fqcodel.specs.Take.{selected, sent_from, dropped_from, after_sending}
+use Rattle.q_fqcodel.specs.Take.{selected, head_sent, sent_from, dropped_from, after_sending}
 use Rattle.q_bucket.specs.Level.{TokenBucket, allows, after_spend}
 use Rattle.q_drr.specs.Schedule.{Class, Entry, Schedule}
 use Rattle.q_drr.specs.Take.{choice_of, met, served}
 use Rattle.q_drr.specs.declared.met.Met.{Met}
 use Rattle.q_model.specs.Tally.{Note, Sent, Marked, Spent}
 use Rattle.q_model.specs.Node.{Discipline, Fifo, Prio, Tbf, Drr, FqCodel, Own, Shape, from_below}
+use Rattle.q_model.specs.Since.{at_hand_since, since_of}
 use Rattle.q_model.specs.Beneath.{packets_of, is_empty}
 use Rattle.q_model.specs.Route.{class_at}
 use Rattle.q_model.specs.Work.{Work, Worked, worked, losses_of, settled_class}
@@ -58,7 +59,7 @@ showing below s = record {
 abbrev pub holding : Own → List Asked → Descriptor → Asked
 holding own below p = showing below (record {
   own = own;
-  own_taken = record own { held = None };
+  own_taken = record own { held = None; since = 0 };
   peeked = befores below;
   taken = befores below;
   notes = [];
@@ -94,23 +95,29 @@ ask_prio own below =
     })
 
 -- A node that has dequeued a packet, or nothing, and holds it until it is taken: what it is then, but for the packet that it
--- holds; its children; what they and it have to report to the nodes above; and what it notes for itself alone.
+-- holds; its children; what they and it have to report to the nodes above; what it notes for itself alone; and when the
+-- packet arrived, if it has one.
 pub record Dequeue : Type 0 where
   pub after : Own
   pub children : List Worked
   pub rises : List Note
   pub mine : List Note
   pub packet : Option Descriptor
+  pub since : ℕ
 
 -- where it was `own`, and its children were these
 abbrev pub dequeued : Own → List Asked → Dequeue → Asked
 dequeued own below d = record {
   before = worked own [] (befores below);
-  peeked = worked (record d.after { held = d.packet }) (d.rises ++ d.mine) d.children;
+  peeked = worked (record d.after { held = d.packet; since = since_of d.packet d.since }) (d.rises ++ d.mine) d.children;
   shown = d.packet;
-  taken = worked (record d.after { held = None }) (d.rises ++ d.mine ++ map Sent (option_to_list d.packet)) d.children;
+  taken = worked (record d.after { held = None; since = 0 }) (d.rises ++ d.mine ++ map Sent (option_to_list d.packet)) d.children;
   rises = d.rises;
 }
+
+-- when the packet arrived that a node shows, once it was asked; 0 where it shows none
+abbrev pub since_shown : Asked → ℕ
+since_shown a = unwrap_or (at_hand_since a.peeked) 0
 
 -- A tbf asks its child; where the bucket allows the packet that is shown, it spends its length and takes the packet.
 abbrev pub spends : Own → List Asked → TokenBucket → ℕ → ℕ → Asked → Descriptor → Asked
@@ -120,11 +127,12 @@ spends own below bucket limit now child p = dequeued own below (record {
   rises = child.rises;
   mine = Spent p.len ∷ [];
   packet = Some p;
+  since = since_shown child;
 })
 
 abbrev pub waits : Own → List Asked → Asked → Asked
 waits own below child =
-    dequeued own below (record { after = own; children = child.peeked ∷ []; rises = child.rises; mine = []; packet = None })
+    dequeued own below (record { after = own; children = child.peeked ∷ []; rises = child.rises; mine = []; packet = None; since = 0 })
 
 abbrev pub ask_child : ℕ → Own → List Asked → TokenBucket → ℕ → Asked → Asked
 ask_child now own below bucket limit child =
@@ -134,7 +142,7 @@ ask_child now own below bucket limit child =
 abbrev pub ask_tbf : ℕ → Own → List Asked → TokenBucket → ℕ → Asked
 ask_tbf now own below bucket limit =
     option_map_or (ask_child now own below bucket limit) (slice_get below 0)
-    (dequeued own below (record { after = own; children = []; rises = []; mine = []; packet = None }))
+    (dequeued own below (record { after = own; children = []; rises = []; mine = []; packet = None; since = 0 }))
 
 -- the answer of a drr's class, by its number
 abbrev pub class_answer : Schedule → List Asked → ℕ → Option Asked
@@ -185,6 +193,7 @@ gives_nothing own below v = dequeued own below (record {
   rises = v.rises;
   mine = v.grants;
   packet = None;
+  since = 0;
 })
 
 -- the class hands out its packet, and leaves the active list where its child is empty
@@ -197,6 +206,7 @@ class_gives own below v i child p =
       rises = v.rises;
       mine = v.grants;
       packet = Some p;
+      since = since_shown child;
     })
 
 abbrev pub class_serves : Own → List Asked → Service → ℕ → Asked → Asked
@@ -225,6 +235,7 @@ ask_fq_codel now own below s =
       rises = losses_of CoDel (packets_of (dropped_from now chosen)) ++ marks_of sent;
       mine = flow_notes s chosen sent;
       packet = option_map (λ (t : Taken). t.packet) sent;
+      since = option_map_or (λ (s : Stamped). s.at) (head_sent now chosen) 0;
     })
 
 abbrev pub ask_discipline : ℕ → Own → List Asked → Discipline → Asked

@@ -1,6 +1,6 @@
 -- What every step on a tree is to keep: of each node, of the whole tree, and, with the device's clock, of the times in it.
 -- tc-prio(8), tc-tbf(8), tc-drr(8) and RFC 8290, section 4, for the lists and levels; the bounds are this project's choice.
-use Rattle.std.specs.Prelude.{◌≡◌, ℕ, ◌<◌, ◌≤◌, ◌^◌, ◌==◌, Bool, not, List, [], All, length, IsSome, is_some}
+use Rattle.std.specs.Prelude.{◌≡◌, ℕ, ◌<◌, ◌≤◌, ◌^◌, ◌==◌, Bool, not, List, [], ◌∷◌, All, length, IsSome, is_some}
 use Rattle.std.specs.List.{AllZip, AllPairs}
 use Rattle.q_packet.specs.Descriptor.{Descriptor}
 use Rattle.q_packet.specs.declared.stamped.Stamped.{Stamped}
@@ -23,9 +23,15 @@ use Rattle.q_model.specs.Find.{Address, addresses, class_in, depth, count_nodes}
 use Rattle.q_model.specs.Refusals.{most_levels, most_nodes, most_filters}
 use Rattle.q_model.specs.TreeState.{TreeState}
 
--- no packet is stamped with a time that is yet to come
-abbrev pub IsStampedBy : ℕ → List Stamped → Type 0
-IsStampedBy clock queue = All (λ (s : Stamped). s.at ≤ clock) queue
+-- each packet of a queue was stamped at or after those in front of it
+abbrev pub AreInOrder : List Stamped → Type 0
+AreInOrder [] = Unit {0}
+AreInOrder (s ∷ queue) = All (λ (behind : Stamped). s.at ≤ behind.at) queue × AreInOrder queue
+
+-- no packet is stamped with a time that is yet to come, and none before one that is in front of it
+pub record IsStampedBy (clock : ℕ) (queue : List Stamped) : Type 0 where
+  pub past : All (λ (s : Stamped). s.at ≤ clock) queue
+  pub in_order : AreInOrder queue
 
 -- What is said of a node's children is said of the packets below each, in class order.
 

@@ -13,6 +13,7 @@ pub mod Make
 pub mod Node
 pub mod Refusal
 pub mod Numbers
+pub mod Oldest
 pub mod Options
 pub mod Pop
 pub mod Put
@@ -25,6 +26,7 @@ pub mod Route
 pub mod Settings
 pub mod Shrink
 pub mod ShrinkDevice
+pub mod Since
 pub mod Sound
 pub mod Step
 pub mod Stretches

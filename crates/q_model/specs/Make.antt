@@ -19,7 +19,7 @@ pub record Device : Type 0 where
 
 abbrev pub node_of : Option ℕ → Discipline → List Shape → Shape
 node_of handle discipline below = record {
-  own = record { handle = handle; discipline = discipline; held = None; filters = [] };
+  own = record { handle = handle; discipline = discipline; held = None; since = 0; filters = [] };
   memory = tt;
   below = side_by_side below;
 }

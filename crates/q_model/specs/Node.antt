@@ -19,12 +19,14 @@ pub data Discipline : Type 0 where
   Drr : Schedule → Discipline
   FqCodel : FqState → Discipline
 
--- what a node is, apart from its children: the major number of its handle, which an implicit leaf lacks, its discipline,
--- the packet that it was asked to show and has dequeued for that, and its filters in their order
+-- What a node is, apart from its children: the major number of its handle, which an implicit leaf lacks, its discipline,
+-- the packet that it was asked to show and has dequeued for that, and its filters in their order. `since` is when the packet
+-- that it holds arrived, 0 where it holds none.
 pub record Own : Type 0 where
   pub handle : Option ℕ
   pub discipline : Discipline
   pub held : Option Descriptor
+  pub since : ℕ
   pub filters : List Filter
 
 -- nodes side by side: the first one, what it remembers, its children, and the others

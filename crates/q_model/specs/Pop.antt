@@ -50,7 +50,7 @@ pop_discipline own below (FqCodel s) = giving own below own (as_they_are below) 
 
 -- a node that holds a packet hands that one out
 abbrev pub pop_own : Own → List Popping → Popping
-pop_own own below = option_map_or (λ (p : Descriptor). giving own below (record own { held = None }) (as_they_are below) (Some p)) own.held (pop_discipline own below own.discipline)
+pop_own own below = option_map_or (λ (p : Descriptor). giving own below (record own { held = None; since = 0 }) (as_they_are below) (Some p)) own.held (pop_discipline own below own.discipline)
 
 -- a whole tree
 abbrev pub pop : {M : Type 0} → Node M → Popping

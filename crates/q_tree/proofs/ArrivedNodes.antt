@@ -37,6 +37,7 @@ use Rattle.q_tree.proofs.Arriving.{same-shape, same-route}
 use Rattle.q_tree.proofs.PlacesLemmas.{kept-places, place-off, same-places, seen-places}
 use Rattle.q_tree.proofs.Puts.{IsDone, can-flow, here-lost, here-at, here-rises, on-into, on-lost, on-at, on-rises}
 use Rattle.q_tree.proofs.TreeLemmas.{root-back}
+use Rattle.q_tree.specs.Holding.{packet_held, since_held}
 
 -- a way looks at the filters of a node alone
 way-filters : (p : Descriptor) (own : Own) (filters : List Filter) (below : List Route) (d : spec.Discipline) → filters ≡ own.filters → way p (own_of None filters d) below d ≡ way p own below d
@@ -165,7 +166,7 @@ module _ (now : ℕ) (p : Descriptor) (a : Inside) (n : Node Kept) (k : IsKept a
           in_place = λ there.
               let same = h.in_place (place-within there) in
               (λ j. record {
-                own = record { handle = a.handle; discipline = h.is_placed.discipline j; held = a.held; filters = a.filters };
+                own = record { handle = a.handle; discipline = h.is_placed.discipline j; held = packet_held a.held; since = since_held a.held; filters = a.filters };
                 memory = record { counts = (seen a).memory.counts; places = same.places j };
                 below = side_by_side (same.children j);
               })
@@ -185,6 +186,6 @@ pub within-room : (a : Inside) (n : Node Kept) → seen a ≡ n → length (pack
 within-room a n view =
     let own : List Descriptor = packets_in (discipline_seen a.discipline) in
     let deep : List Descriptor = packets_beneath (children_seen a.discipline) in
-    let held : List Descriptor = option_to_list a.held in
+    let held : List Descriptor = option_to_list (packet_held a.held) in
     let waiting : beneath (seen a) ≡ held ++ own ++ deep = ap (λ (bs : List (List Descriptor)). held ++ own ++ flat_map (λ packets. packets) bs) (each-side beneath_own (children_seen a.discipline)) in
     omega (arith, ap (λ (xs : List Descriptor). length xs) waiting, ap (λ (m : Node Kept). length (beneath m)) view, length-append (held ++ own) deep, length-append held own, length-append own deep)

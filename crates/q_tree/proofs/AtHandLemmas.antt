@@ -12,6 +12,7 @@ use Rattle.q_model.specs.Pop.{first_shown}
 use Rattle.q_tree.specs.Kept.{Kept}
 use Rattle.q_tree.specs.Seen.{seen, discipline_seen, children_seen}
 use Rattle.q_tree.specs.declared.node.Node.TheInside.{Inside}
+use Rattle.q_tree.specs.Holding.{packet_held, since_held}
 
 next : (n : ℕ) → 1 + n ≡ suc n
 next n = omega arith
@@ -38,12 +39,12 @@ pub nobody : (ns : List (Node Kept)) (i : ℕ) → length ns ≤ i → first_sho
 nobody ns i past same = sym (ap (λ (xs : List (Node Kept)). first_shown (map pop xs)) (drop_all i ns past)) ∙ same
 
 -- a prio that holds nothing has what its bands have
-pub prio-shown : (a : Inside) (n : Node Kept) (ns : List (Node Kept)) (priomap : List ℕ) → seen a ≡ n → a.held ≡ None → discipline_seen a.discipline ≡ spec.Prio priomap → ns ≡ children_seen a.discipline → first_shown (map pop ns) ≡ (pop n).shown
+pub prio-shown : (a : Inside) (n : Node Kept) (ns : List (Node Kept)) (priomap : List ℕ) → seen a ≡ n → packet_held a.held ≡ None → discipline_seen a.discipline ≡ spec.Prio priomap → ns ≡ children_seen a.discipline → first_shown (map pop ns) ≡ (pop n).shown
 prio-shown a n ns priomap view none is kids =
     ap (λ xs. first_shown (map pop xs)) kids
     ∙ sym (ap first_shown (each-side pop_own (children_seen a.discipline)))
-    ∙ sym (ap (λ (o : Option Descriptor). (pop_own (record { handle = a.handle; discipline = spec.Prio priomap; held = o; filters = a.filters }) (each pop_own (side_by_side (children_seen a.discipline)))).shown) none)
-    ∙ sym (ap (λ d. (pop_own (record { handle = a.handle; discipline = d; held = a.held; filters = a.filters }) (each pop_own (side_by_side (children_seen a.discipline)))).shown) is)
+    ∙ sym (ap (λ (o : Option Descriptor). (pop_own (record { handle = a.handle; discipline = spec.Prio priomap; held = o; since = since_held a.held; filters = a.filters }) (each pop_own (side_by_side (children_seen a.discipline)))).shown) none)
+    ∙ sym (ap (λ d. (pop_own (record { handle = a.handle; discipline = d; held = packet_held a.held; since = since_held a.held; filters = a.filters }) (each pop_own (side_by_side (children_seen a.discipline)))).shown) is)
     ∙ ap (λ (m : Node Kept). (pop m).shown) view
 
 pub none-held : (o : Option Descriptor) → false ≡ is_some o → o ≡ None

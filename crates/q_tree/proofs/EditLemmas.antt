@@ -44,6 +44,7 @@ use Rattle.q_tree.proofs.Puts.{same-child}
 use Rattle.q_tree.proofs.DisciplineChangeLemmas.{IsConserved, conserved}
 use Rattle.q_tree.specs.DisciplineChanges.{IsChangedBy, children_after, discipline_after, lost_with}
 use Rattle.q_tree.proofs.Rows.{counts_in_row, plus-none, plus-with_packet, same-totals, weigh-bytes}
+use Rattle.q_tree.specs.Holding.{packet_held, since_held}
 
 -- the losses of a purge, as they are told
 pub told-purged : (packets : List Descriptor) → losses_in (losses_of Purged packets) ≡ purged packets
@@ -265,7 +266,7 @@ module _ (r : shapes.DisciplineChange) (e : Edit) (is : e ≡ DisciplineChange r
   module _ (d : Discipline) (after : IsChangedBy r a.discipline d) (row : Row) (booked : row ≡ with_dropped (totals_in goes) a.row) where
     is-changed : seen (record a { row = row; discipline = d }) ≡ changed_by r (seen a)
     is-changed = λ j. record {
-      own = record { handle = a.handle; discipline = (after.discipline ∙ ap (discipline_after r (discipline_seen a.discipline)) (sym kids)) j; held = a.held; filters = a.filters };
+      own = record { handle = a.handle; discipline = (after.discipline ∙ ap (discipline_after r (discipline_seen a.discipline)) (sym kids)) j; held = packet_held a.held; since = since_held a.held; filters = a.filters };
       memory = memory j;
       below = ap side_by_side (after.children ∙ ap (children_after r (discipline_seen a.discipline)) (sym kids)) j;
     }
@@ -332,7 +333,7 @@ module _ (e : Edit) (a : Inside) (n : Node Kept) (view : seen a ≡ n) (k : IsKe
 
       is-above : seen (record a { row = r; discipline = d }) ≡ above kept (notes_of e path on.child) i (edited_by e path on.child) (seen a)
       is-above = λ j. record {
-        own = record { handle = a.handle; discipline = edited.discipline j; held = a.held; filters = a.filters };
+        own = record { handle = a.handle; discipline = edited.discipline j; held = packet_held a.held; since = since_held a.held; filters = a.filters };
         memory = memory j;
         below = (ap side_by_side (edited.children ∙ ap (λ ns. set ns i (edited_by e path on.child)) (sym (nodes-side (children_seen a.discipline))))) j;
       }

@@ -332,32 +332,32 @@ module _ (mtu now t : ℕ) (least : 1 ≤ mtu) (low : t ≤ 2 ^ 62) (order : now
       ∙ ap (weigh one) empty ∙ weigh-nil one in
       nothing-left (ask t n).shown (omega (arith, h.peeks one, h.gives one, before))
 
-  own-foreseen : (handle : Option ℕ) (filters : List Filter) (held : Option Descriptor) (d : Discipline) (os : List Outlook) (below : List Asked) (packets : List (List Descriptor))
-      → (let own : Own = record { handle = handle; discipline = d; held = held; filters = filters } in
+  own-foreseen : (handle : Option ℕ) (filters : List Filter) (since : ℕ) (held : Option Descriptor) (d : Discipline) (os : List Outlook) (below : List Asked) (packets : List (List Descriptor))
+      → (let own : Own = record { handle = handle; discipline = d; held = held; since = since; filters = filters } in
       IsLawfulOwn mtu t own packets → (beneath_own own packets ≡ [] → (ask_own t own below).shown ≡ None) → AllForesee now t os below
       → Foresees now t (outlook_own now own os) (ask_own t own below).shown)
-  own-foreseen handle filters (Some p) d os below packets h quiet all = hand-foreseen now t p order
-  own-foreseen handle filters None (Fifo limit queue) os below packets h quiet all = fifo-foreseen now t (slice_get (packets_of queue) 0) order
-  own-foreseen handle filters None (Prio priomap) os below packets h quiet all =
-      subst (Foresees now t (with_bands no_packet os)) (sym (prio-shown (record { handle = handle; discipline = Prio priomap; held = None; filters = filters }) below))
+  own-foreseen handle filters since (Some p) d os below packets h quiet all = hand-foreseen now t p order
+  own-foreseen handle filters since None (Fifo limit queue) os below packets h quiet all = fifo-foreseen now t (slice_get (packets_of queue) 0) order
+  own-foreseen handle filters since None (Prio priomap) os below packets h quiet all =
+      subst (Foresees now t (with_bands no_packet os)) (sym (prio-shown (record { handle = handle; discipline = Prio priomap; held = None; since = since; filters = filters }) below))
       (bands-foreseen now t no_packet None (no_packet-foreseen now t) os below all)
-  own-foreseen handle filters None (Tbf b limit) [] [] packets h quiet all = no_packet-foreseen now t
-  own-foreseen handle filters None (Tbf b limit) [] (a ∷ below) packets h quiet all = absurd all
-  own-foreseen handle filters None (Tbf b limit) (o ∷ os) [] packets h quiet all = absurd all
-  own-foreseen handle filters None (Tbf b limit) (o ∷ os) (a ∷ below) packets h quiet all =
-      subst (Foresees now t (shaped b o)) (sym (tbf-shown t (record { handle = handle; discipline = Tbf b limit; held = None; filters = filters }) a below b limit))
+  own-foreseen handle filters since None (Tbf b limit) [] [] packets h quiet all = no_packet-foreseen now t
+  own-foreseen handle filters since None (Tbf b limit) [] (a ∷ below) packets h quiet all = absurd all
+  own-foreseen handle filters since None (Tbf b limit) (o ∷ os) [] packets h quiet all = absurd all
+  own-foreseen handle filters since None (Tbf b limit) (o ∷ os) (a ∷ below) packets h quiet all =
+      subst (Foresees now t (shaped b o)) (sym (tbf-shown t (record { handle = handle; discipline = Tbf b limit; held = None; since = since; filters = filters }) a below b limit))
       (shaped-foreseen now t b h.discipline.level h.discipline.last low o a.shown all.0)
-  own-foreseen handle filters None (Drr s) os below packets h quiet all =
-      drr-foreseen now t (record { handle = handle; discipline = Drr s; held = None; filters = filters }) s os below h.discipline.schedule all
-  own-foreseen handle filters None (FqCodel s) os below packets h quiet all =
-      let own : Own = record { handle = handle; discipline = FqCodel s; held = None; filters = filters } in
+  own-foreseen handle filters since None (Drr s) os below packets h quiet all =
+      drr-foreseen now t (record { handle = handle; discipline = Drr s; held = None; since = since; filters = filters }) s os below h.discipline.schedule all
+  own-foreseen handle filters since None (FqCodel s) os below packets h quiet all =
+      let own : Own = record { handle = handle; discipline = FqCodel s; held = None; since = since; filters = filters } in
       flows-foreseen now t (fq.packets_of s.flows) (ask_own t own below).shown order
       (λ idle. quiet (ap (λ ps. beneath_own own ps) h.discipline.none ∙ ap (λ (queue : List Stamped). packets_of queue ++ []) (nil_from_length (fq.all_packets s.flows) (sym (count-sum (fq.all_packets s.flows)) ∙ sym (packets-all s.flows) ∙ idle))))
 
   pub forest-foreseen : (x : Forest (Unit {0})) → AllLawful mtu t x → AllForesee now t (each (outlook_own now) x) (each (ask_own t) x)
   forest-foreseen none h = tt
   forest-foreseen (more own m below others) h = (
-    own-foreseen own.handle own.filters own.held own.discipline (each (outlook_own now) below) (each (ask_own t) below) (each beneath_own below) h.0
+    own-foreseen own.handle own.filters own.since own.held own.discipline (each (outlook_own now) below) (each (ask_own t) below) (each beneath_own below) h.0
         (silent (record { own = own; memory = m; below = below }) (h.0, h.1)) (forest-foreseen below h.1),
     forest-foreseen others h.2,
   )
@@ -366,5 +366,5 @@ module _ (mtu now t : ℕ) (least : 1 ≤ mtu) (low : t ≤ 2 ^ 62) (order : now
   foreseen n lawful =
       let h = lawful-with_memory mtu t (λ m. tt) n lawful in
       subst (λ (o : Outlook). Foresees now t o (ask t (shape n)).shown) (ap (outlook_own now n.own) (each-each_memory (outlook_own now) (λ m. tt) n.below))
-      (own-foreseen n.own.handle n.own.filters n.own.held n.own.discipline (each (outlook_own now) (shape n).below) (each (ask_own t) (shape n).below) (each beneath_own (shape n).below) h.0
+      (own-foreseen n.own.handle n.own.filters n.own.since n.own.held n.own.discipline (each (outlook_own now) (shape n).below) (each (ask_own t) (shape n).below) (each beneath_own (shape n).below) h.0
       (silent (shape n) h) (forest-foreseen (shape n).below h.1))

@@ -27,6 +27,7 @@ pub mod Foreseeing
 pub mod ForeseenAsks
 pub mod Forms
 pub mod GraftLemmas
+pub mod HeldLemmas
 pub mod HereLemmas
 pub mod IndexLemmas
 pub mod IndexOfFilterLemmas
@@ -38,6 +39,7 @@ pub mod MostPacketsPuts
 pub mod MostPacketsQueues
 pub mod MostPacketsTrees
 pub mod NodesLemmas
+pub mod OldestLemmas
 pub mod OtherSubtrees
 pub mod OutlookLemmas
 pub mod Peeks
@@ -57,6 +59,7 @@ pub mod SendForms
 pub mod SendLemmas
 pub mod ServeLemmas
 pub mod ShapeLemmas
+pub mod SinceLemmas
 pub mod ShowLemmas
 pub mod StatsLemmas
 pub mod TakeCounts

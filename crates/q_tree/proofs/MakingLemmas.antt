@@ -20,6 +20,7 @@ use Rattle.q_tree.specs.Kept.{Kept, kept}
 use Rattle.q_tree.specs.Making.{AreNew, IsNewDiscipline, IsNewNode}
 use Rattle.q_tree.specs.Seen.{IsCountedWithin, IsKept, children_seen, seen}
 use Rattle.q_tree.specs.declared.node.Node.TheInside.{Inside}
+use Rattle.q_tree.specs.Holding.{packet_held, since_held}
 
 -- one new node more
 pub more-new : (ns : List (Node Kept)) (n : Node Kept) (s : Shape) (k : ℕ) → AreNew ns (replicate k s) → IsNewNode n s → AreNew (ns ++ n ∷ []) (replicate (k + 1) s)
@@ -59,7 +60,7 @@ handed d now handle (kind.Tbf rate burst limit) = refl
 handed d now handle kind.Drr = refl
 handed d now handle (kind.FqCodel options) = refl
 
-empty-own : (d : Device) (now : ℕ) (k : Kind) → (made d now None k).own ≡ record { handle = None; discipline = (made d now None k).own.discipline; held = None; filters = [] }
+empty-own : (d : Device) (now : ℕ) (k : Kind) → (made d now None k).own ≡ record { handle = None; discipline = (made d now None k).own.discipline; held = None; since = 0; filters = [] }
 empty-own d now (kind.Pfifo limit) = refl
 empty-own d now (kind.Bfifo limit) = refl
 empty-own d now (kind.Prio s) = refl
@@ -71,7 +72,7 @@ module _ (d : Device) (now : ℕ) (handle : Option ℕ) (k : Kind) (a : Inside) 
     (handle_is : a.handle ≡ handle) (held : a.held ≡ None) (filters : a.filters ≡ []) (row : a.row ≡ no_row) where
   own-is : (seen a).own ≡ (made d now handle k).own
   own-is =
-      (λ i. record { handle = handle_is i; discipline = is.discipline i; held = held i; filters = filters i })
+      (λ i. record { handle = handle_is i; discipline = is.discipline i; held = packet_held (held i); since = since_held (held i); filters = filters i })
       ∙ sym (ap (λ (o : Own). record o { handle = handle }) (empty-own d now k))
       ∙ sym (ap (λ (s : Shape). s.own) (handed d now handle k))
 

@@ -11,7 +11,7 @@ use Rattle.q_packet.specs.declared.stamped.Stamped.{Stamped}
 use Rattle.q_codel.specs.declared.limit.Limit.{Limit}
 use Rattle.q_codel.specs.declared.taken.Taken.{Taken}
 use Rattle.q_fqcodel.specs.FqState.{FqState}
-use Rattle.q_fqcodel.specs.Take.{selected, sent_from, dropped_from, after_sending}
+use Rattle.q_fqcodel.specs.Take.{selected, sent_from, dropped_from, after_sending, head_sent}
 use Rattle.q_bucket.specs.Level.{TokenBucket, allows, after_spend}
 use Rattle.q_drr.specs.Schedule.{Class, Schedule}
 use Rattle.q_drr.specs.Take.{choice_of}
@@ -22,12 +22,13 @@ use Rattle.q_model.specs.Beneath.{packets_of, is_empty}
 use Rattle.q_model.specs.Grants.{asked_entries}
 use Rattle.q_model.specs.Quanta.{flow_notes}
 use Rattle.q_model.specs.Work.{Worked, worked, losses_of, settled_class}
-use Rattle.q_model.specs.Ask.{Asked, befores, Showing, showing, holding, Dequeue, dequeued, spends, waits, ask_fifo, ask_child, ask_tbf, ask_prio, is_among, head_of, Service, service_of, place_met, gives_nothing, class_gives, class_serves, ask_drr, marks_of, ask_fq_codel, ask_own, ask}
+use Rattle.q_model.specs.Ask.{Asked, befores, Showing, showing, holding, Dequeue, dequeued, spends, waits, ask_fifo, ask_child, ask_tbf, ask_prio, is_among, head_of, Service, service_of, place_met, gives_nothing, class_gives, class_serves, ask_drr, marks_of, ask_fq_codel, ask_own, ask, since_shown}
 use Rattle.q_invariants.proofs.AskClasses.{peeked_by}
 use Rattle.q_invariants.proofs.AskPrio.{peeked_to, taken_at, notes_to, packet_at}
 use Rattle.q_invariants.proofs.Forests.{each-side}
 use Rattle.q_tree.specs.MostPackets.{most_under, most_queued, most_held, most_own, most_packets}
 use Rattle.q_tree.proofs.MostPacketsQueues.{fifo-take-least, fq-take-least}
+use Rattle.q_model.specs.Since.{since_of}
 
 -- what the qdisc itself can hold
 abbrev pub most_in : Discipline → ℕ
@@ -81,8 +82,8 @@ less-worked own own_after notes notes_after ns ws here below =
 
 less-dequeued : (own : Own) (below : List Asked) (d : Dequeue) → most_in d.after.discipline ≤ most_in own.discipline → AreLess d.children (befores below) → IsLess (dequeued own below d)
 less-dequeued own below d here children = record {
-  peeked = less-worked own (record d.after { held = d.packet }) [] (dequeued own below d).peeked.memory (befores below) d.children here children;
-  taken = less-worked own (record d.after { held = None }) [] (dequeued own below d).taken.memory (befores below) d.children here children;
+  peeked = less-worked own (record d.after { held = d.packet; since = since_of d.packet d.since }) [] (dequeued own below d).peeked.memory (befores below) d.children here children;
+  taken = less-worked own (record d.after { held = None; since = 0 }) [] (dequeued own below d).taken.memory (befores below) d.children here children;
 }
 
 less-showing : (below : List Asked) (s : Showing) → most_in s.own_taken.discipline ≤ most_in s.own.discipline → AreLess s.peeked (befores below) → AreLess s.taken (befores below) → IsLess (showing below s)
@@ -122,9 +123,9 @@ less-first (b ∷ below) a all at =
     let first : IsLess a = subst IsLess is all.0 in
     ((omega (arith, first.peeked, ap (λ (x : Asked). most_packets x.before) is), tt), (omega (arith, first.taken, ap (λ (x : Asked). most_packets x.before) is), tt))
 
-module _ (now : ℕ) (handle : Option ℕ) (filters : List Filter) (below : List Asked) (all : AllLess below) where
+module _ (now : ℕ) (handle : Option ℕ) (filters : List Filter) (since : ℕ) (below : List Asked) (all : AllLess below) where
   abbrev own_of : Discipline → Own
-  own_of d = record { handle = handle; discipline = d; held = None; filters = filters }
+  own_of d = record { handle = handle; discipline = d; held = None; since = since; filters = filters }
 
   less-fifo : (limit : Limit) (queue : List Stamped) → IsLess (ask_fifo (own_of (Fifo limit queue)) below limit queue)
   less-fifo limit queue = less-showing below (record {
@@ -156,7 +157,7 @@ module _ (now : ℕ) (handle : Option ℕ) (filters : List Filter) (below : List
 
     less-waits : (a : Asked) → slice_get below 0 ≡ Some a → IsLess (waits tbf below a)
     less-waits a at =
-        less-dequeued tbf below (record { after = tbf; children = a.peeked ∷ []; rises = a.rises; mine = []; packet = None }) (omega arith) (less-first below a all at).0
+        less-dequeued tbf below (record { after = tbf; children = a.peeked ∷ []; rises = a.rises; mine = []; packet = None; since = 0 }) (omega arith) (less-first below a all at).0
 
     less-spends : (a : Asked) (p : Descriptor) → slice_get below 0 ≡ Some a → IsLess (spends tbf below b limit now a p)
     less-spends a p at = less-dequeued tbf below (record {
@@ -165,6 +166,7 @@ module _ (now : ℕ) (handle : Option ℕ) (filters : List Filter) (below : List
       rises = a.rises;
       mine = Spent p.len ∷ [];
       packet = Some p;
+      since = since_shown a;
     }) (omega arith) (less-first below a all at).1
 
     less-may : (a : Asked) (p : Descriptor) (may : Bool) → slice_get below 0 ≡ Some a → IsLess (if may then spends tbf below b limit now a p else waits tbf below a)
@@ -180,8 +182,8 @@ module _ (now : ℕ) (handle : Option ℕ) (filters : List Filter) (below : List
     less-tbf = by (slice_get below 0) refl
       where
         by : (o : Option Asked) → slice_get below 0 ≡ o
-            → IsLess (option_map_or (ask_child now tbf below b limit) o (dequeued tbf below (record { after = tbf; children = []; rises = []; mine = []; packet = None })))
-        by None at = less-dequeued tbf below (record { after = tbf; children = []; rises = []; mine = []; packet = None }) (omega arith) tt
+            → IsLess (option_map_or (ask_child now tbf below b limit) o (dequeued tbf below (record { after = tbf; children = []; rises = []; mine = []; packet = None; since = 0 })))
+        by None at = less-dequeued tbf below (record { after = tbf; children = []; rises = []; mine = []; packet = None; since = 0 }) (omega arith) tt
         by (Some a) at = less-child a a.shown at
 
   -- a drr
@@ -197,7 +199,7 @@ module _ (now : ℕ) (handle : Option ℕ) (filters : List Filter) (below : List
 
     less-nothing : IsLess (gives_nothing drr below service)
     less-nothing =
-        less-dequeued drr below (record { after = own_of (Drr service.schedule); children = service.below; rises = service.rises; mine = service.grants; packet = None }) (omega arith) looked
+        less-dequeued drr below (record { after = own_of (Drr service.schedule); children = service.below; rises = service.rises; mine = service.grants; packet = None; since = 0 }) (omega arith) looked
 
     less-gives : (i : ℕ) (a : Asked) (p : Descriptor) → slice_get below i ≡ Some a → IsLess (class_gives drr below service i a p)
     less-gives i a p at =
@@ -208,6 +210,7 @@ module _ (now : ℕ) (handle : Option ℕ) (filters : List Filter) (below : List
           rises = service.rises;
           mine = service.grants;
           packet = Some p;
+          since = since_shown a;
         }) (omega arith) (less-set service.below (befores below) i a.taken a.before looked there.1 there.0.taken)
 
     less-serves : (i : ℕ) (a : Asked) (o : Option Descriptor) → slice_get below i ≡ Some a → IsLess (option_map_or (class_gives drr below service i a) o (gives_nothing drr below service))
@@ -236,31 +239,32 @@ module _ (now : ℕ) (handle : Option ℕ) (filters : List Filter) (below : List
         rises = losses_of CoDel (packets_of (dropped_from now chosen)) ++ marks_of sent;
         mine = flow_notes s chosen sent;
         packet = option_map (λ (t : Taken). t.packet) sent;
+        since = option_map_or (λ (p : Stamped). p.at) (head_sent now chosen) 0;
       }) (omega (arith, fq-take-least s now)) (less-same (befores below))
 
 less-holding : (own : Own) (below : List Asked) (p : Descriptor) → IsLess (holding own below p)
 less-holding own below p = less-showing below (record {
   own = own;
-  own_taken = record own { held = None };
+  own_taken = record own { held = None; since = 0 };
   peeked = befores below;
   taken = befores below;
   notes = [];
   packet = Some p;
 }) (omega arith) (less-same (befores below)) (less-same (befores below))
 
-less-node : (now : ℕ) (handle : Option ℕ) (filters : List Filter) (held : Option Descriptor) (d : Discipline) (below : List Asked) → AllLess below
-    → IsLess (ask_own now (record { handle = handle; discipline = d; held = held; filters = filters }) below)
-less-node now handle filters (Some p) d below all = less-holding (record { handle = handle; discipline = d; held = Some p; filters = filters }) below p
-less-node now handle filters None (Fifo limit queue) below all = less-fifo now handle filters below all limit queue
-less-node now handle filters None (Prio priomap) below all = less-prio now handle filters below all priomap
-less-node now handle filters None (Tbf b limit) below all = less-tbf now handle filters below all b limit
-less-node now handle filters None (Drr s) below all = less-drr now handle filters below all s
-less-node now handle filters None (FqCodel s) below all = less-fq_codel now handle filters below all s
+less-node : (now : ℕ) (handle : Option ℕ) (filters : List Filter) (since : ℕ) (held : Option Descriptor) (d : Discipline) (below : List Asked) → AllLess below
+    → IsLess (ask_own now (record { handle = handle; discipline = d; held = held; since = since; filters = filters }) below)
+less-node now handle filters since (Some p) d below all = less-holding (record { handle = handle; discipline = d; held = Some p; since = since; filters = filters }) below p
+less-node now handle filters since None (Fifo limit queue) below all = less-fifo now handle filters since below all limit queue
+less-node now handle filters since None (Prio priomap) below all = less-prio now handle filters since below all priomap
+less-node now handle filters since None (Tbf b limit) below all = less-tbf now handle filters since below all b limit
+less-node now handle filters since None (Drr s) below all = less-drr now handle filters since below all s
+less-node now handle filters since None (FqCodel s) below all = less-fq_codel now handle filters since below all s
 
 less-forest : (now : ℕ) (x : Forest (Unit {0})) → AllLess (each (ask_own now) x)
 less-forest now none = tt
 less-forest now (more own m below others) =
-    (less-node now own.handle own.filters own.held own.discipline (each (ask_own now) below) (less-forest now below), less-forest now others)
+    (less-node now own.handle own.filters own.since own.held own.discipline (each (ask_own now) below) (less-forest now below), less-forest now others)
 
 pub asks-less : (now : ℕ) (s : Shape) → IsLess (ask now s)
-asks-less now s = less-node now s.own.handle s.own.filters s.own.held s.own.discipline (each (ask_own now) s.below) (less-forest now s.below)
+asks-less now s = less-node now s.own.handle s.own.filters s.own.since s.own.held s.own.discipline (each (ask_own now) s.below) (less-forest now s.below)

@@ -17,13 +17,14 @@ use Rattle.q_tree.specs.ReadyAt.{at_hand, no_packet, with_band, with_bands, paid
 use Rattle.q_tree.specs.Seen.{seen, discipline_seen, children_seen}
 use Rattle.q_tree.specs.declared.node.Node.TheInside.{Inside}
 use Rattle.q_tree.specs.declared.ready_at.Outlook.{Outlook}
+use Rattle.q_tree.specs.Holding.{packet_held}
 
 pub no-held : (o : Option Descriptor) → ((p : Descriptor) → o ≡ Some p → ⊥) → o ≡ None
 no-held None h = refl
 no-held (Some p) h = absurd (h p refl)
 
 -- a node that holds nothing, by its discipline and its children
-pub outlook-is : (now : ℕ) (a : Inside) (n : Node Kept) (ns : List (Node Kept)) (d : Discipline) → seen a ≡ n → a.held ≡ None → discipline_seen a.discipline ≡ d → ns ≡ children_seen a.discipline
+pub outlook-is : (now : ℕ) (a : Inside) (n : Node Kept) (ns : List (Node Kept)) (d : Discipline) → seen a ≡ n → packet_held a.held ≡ None → discipline_seen a.discipline ≡ d → ns ≡ children_seen a.discipline
     → outlook_in now (map (outlook now) ns) d ≡ outlook now n
 outlook-is now a n ns d view bare is kids =
     ap₂ (λ xs k. outlook_in now (map (outlook now) xs) k) kids (sym is)

@@ -1,6 +1,6 @@
 -- A node that is asked: what its discipline can rely on, what is booked, and what the node is then.
 use Rattle.std.proofs.Common.{◌≡◌, ℕ, ◌≤◌, ◌<◌, ◌^◌, ◌∙◌, List, [], ◌∷◌, ◌++◌, map, take, drop, length, refl, sym, ap, ap₂, subst, Option, Some, None, option_to_list, flat_map, arith}
-use Rattle.std.specs.Prelude.{Bool, true, is_some, if◌then◌else◌}
+use Rattle.std.specs.Prelude.{Bool, true, false, is_some, if◌then◌else◌, unwrap_or}
 use Rattle.std.specs.Option.{option_map_or}
 use Rattle.std.specs.List.{All}
 use Rattle.std.proofs.lemmas.List.{append-nil, drop_all, take_all, length-append, length-map}
@@ -37,12 +37,19 @@ use Rattle.q_tree.proofs.RowsOf.{IsRowOf, row-of, kept-of, can-show, row-shown}
 use Rattle.q_invariants.proofs.Weights.{IsQuiet}
 use Rattle.q_tree.proofs.PopLemmas.{set-within}
 use Rattle.q_tree.proofs.Asking.{asked-told, asked-weighs, all-before, side-all}
+use Rattle.q_tree.specs.Holding.{packet_held, held_with}
+use Rattle.q_packet.specs.declared.stamped.Stamped.{Stamped}
+use Rattle.q_model.specs.Since.{at_hand_since, since_own}
 
 -- one that was asked has at hand what it showed
 pub hand-asked : (now : ℕ) (n m : Node Kept) → CanAsk now n → m ≡ booked kept n (ask now (shape n)).peeked → (pop m).shown ≡ (ask now (shape n)).shown
 hand-asked now n m can new =
     let a : Asked = ask now (shape n) in
     ap (λ (x : Node Kept). (pop x).shown) new ∙ ap (λ (b : Popping). b.shown) (root-booked kept pop_own n a.peeked (asked-told now n can)) ∙ (ask-popped now (shape n)).shown
+
+-- and that packet arrived when the model says
+pub since-asked : (now : ℕ) (n m : Node Kept) → CanAsk now n → m ≡ booked kept n (ask now (shape n)).peeked → at_hand_since m ≡ at_hand_since (ask now (shape n)).peeked
+since-asked now n m can new = ap (λ (x : Node Kept). at_hand_since x) new ∙ root-booked kept since_own n (ask now (shape n)).peeked (asked-told now n can)
 
 -- one that was asked, and then gives the packet that it showed
 pub record IsGivenAsked (now : ℕ) (n m : Node Kept) (p : Descriptor) : Type 0 where
@@ -94,6 +101,50 @@ tbf-none now own b limit n m s new arrived shown none =
       within = λ t all. set-within (n ∷ []) 0 n m refl arrived t all;
       shown = record { packet = none; dropped = shown.dropped; marked = shown.marked };
     })
+
+-- when the packet arrived that a tbf then has
+pub tbf-gave-since : (now : ℕ) (own : Own) (b : TokenBucket) (limit : ℕ) (n m : Node Kept) (p : Descriptor) → CanAsk now n → m ≡ booked kept n (ask now (shape n)).peeked → (ask now (shape n)).shown ≡ Some p
+    → allows b now p.len ≡ true → unwrap_or (at_hand_since m) 0 ≡ (ask_child now own (ask now (shape n) ∷ []) b limit (ask now (shape n))).peeked.own.since
+tbf-gave-since now own b limit n m p can new shown may =
+    let a : Asked = ask now (shape n) in
+    let below : List Asked = a ∷ [] in
+    let is : ask_child now own below b limit a ≡ spends own below b limit now a p =
+    ap (λ (o : Option Descriptor). option_map_or (λ (p : Descriptor). if allows b now p.len then spends own below b limit now a p else waits own below a) o (waits own below a)) shown
+    ∙ ap (λ (t : Bool). if t then spends own below b limit now a p else waits own below a) may in
+    ap (λ (o : Option ℕ). unwrap_or o 0) (since-asked now n m can new) ∙ ap (λ (x : Asked). x.peeked.own.since) (sym is)
+
+-- and 0 where its child shows nothing
+pub tbf-none-since : (now : ℕ) (own : Own) (b : TokenBucket) (limit : ℕ) (n : Node Kept) → (ask now (shape n)).shown ≡ None
+    → 0 ≡ (ask_child now own (ask now (shape n) ∷ []) b limit (ask now (shape n))).peeked.own.since
+tbf-none-since now own b limit n silent =
+    let a : Asked = ask now (shape n) in
+    let below : List Asked = a ∷ [] in
+    ap (λ (o : Option Descriptor). (option_map_or (λ (p : Descriptor). if allows b now p.len then spends own below b limit now a p else waits own below a) o (waits own below a)).peeked.own.since) (sym silent)
+
+-- one whose bucket does not allow what its child shows
+pub tbf-waits : (now : ℕ) (own : Own) (b : TokenBucket) (limit : ℕ) (n m : Node Kept) (p : Descriptor) (r s : Shown) → m ≡ booked kept n (ask now (shape n)).peeked → m.memory.counts.arrived ≡ n.memory.counts.arrived → IsShown (ask now (shape n)) r
+    → (ask now (shape n)).shown ≡ Some p → allows b now p.len ≡ false → s.packet ≡ None → s.dropped ≡ r.dropped → s.marked ≡ r.marked
+    → AreAsked (ask_child now own (ask now (shape n) ∷ []) b limit (ask now (shape n))) (n ∷ []) (m ∷ []) s
+tbf-waits now own b limit n m p r s new arrived told shown may none dropped marked =
+    let a : Asked = ask now (shape n) in
+    let below : List Asked = a ∷ [] in
+    let is : ask_child now own below b limit a ≡ waits own below a =
+    ap (λ (o : Option Descriptor). option_map_or (λ (p : Descriptor). if allows b now p.len then spends own below b limit now a p else waits own below a) o (waits own below a)) shown
+    ∙ ap (λ (t : Bool). if t then spends own below b limit now a p else waits own below a) may in
+    subst (λ (x : Asked). AreAsked x (n ∷ []) (m ∷ []) s) (sym is) (record {
+      long = refl;
+      nodes = ap (λ (x : Node Kept). side_by_side (x ∷ [])) new;
+      within = λ t all. set-within (n ∷ []) 0 n m refl arrived t all;
+      shown = record { packet = none; dropped = dropped ∙ told.dropped; marked = marked ∙ told.marked };
+    })
+
+pub tbf-waits-since : (now : ℕ) (own : Own) (b : TokenBucket) (limit : ℕ) (n : Node Kept) (p : Descriptor) → (ask now (shape n)).shown ≡ Some p → allows b now p.len ≡ false
+    → 0 ≡ (ask_child now own (ask now (shape n) ∷ []) b limit (ask now (shape n))).peeked.own.since
+tbf-waits-since now own b limit n p shown may =
+    let a : Asked = ask now (shape n) in
+    let below : List Asked = a ∷ [] in
+    ap (λ (t : Bool). (if t then spends own below b limit now a p else waits own below a).peeked.own.since) (sym may)
+    ∙ ap (λ (o : Option Descriptor). (option_map_or (λ (p : Descriptor). if allows b now p.len then spends own below b limit now a p else waits own below a) o (waits own below a)).peeked.own.since) (sym shown)
 
 -- children of a discipline that can be asked
 abbrev each-here : (now : ℕ) (d : Discipline) → CanAskIn now d → CanAskEach now (children_seen d)
@@ -153,7 +204,7 @@ pub told-in : (now : ℕ) (handle : Option ℕ) (filters : List Filter) (d : Dis
 told-in now handle filters d k ns l l2 r r2 is kids h = subst (λ (a : Asked). IsToldOf a.rises l l2 r r2) (sym (answer-is now handle filters d k ns is kids)) h
 
 -- a node that holds a packet stays as it is
-pub holding-after : (now : ℕ) (a : Inside) (n : Node Kept) (p : Descriptor) → seen a ≡ n → a.held ≡ Some p → n ≡ booked kept n (ask now (shape n)).peeked
+pub holding-after : (now : ℕ) (a : Inside) (n : Node Kept) (p : Descriptor) → seen a ≡ n → packet_held a.held ≡ Some p → n ≡ booked kept n (ask now (shape n)).peeked
 holding-after now a n p view e =
     let ns : List (Node Kept) = children_seen a.discipline in
     let below : each_booked kept (side_by_side ns) (side_by_side (befores (answers now ns))) ≡ side_by_side ns = sym (side-all ns (befores (answers now ns))) ∙ ap side_by_side (all-before now ns) in
@@ -169,21 +220,21 @@ module _ (now : ℕ) (a : Inside) (n : Node Kept) (k : IsKept a) (view : seen a 
   can-here : CanAsk now (seen a)
   can-here = subst (CanAsk now) (sym view) can
 
-  same-waiting : beneath (seen a) ≡ option_to_list a.held ++ packets_in (discipline_seen a.discipline) ++ packets_beneath (children_seen a.discipline)
-  same-waiting = ap (λ (bs : List (List Descriptor)). option_to_list a.held ++ packets_in (discipline_seen a.discipline) ++ flat_map (λ packets. packets) bs) (each-side beneath_own (children_seen a.discipline))
+  same-waiting : beneath (seen a) ≡ option_to_list (packet_held a.held) ++ packets_in (discipline_seen a.discipline) ++ packets_beneath (children_seen a.discipline)
+  same-waiting = ap (λ (bs : List (List Descriptor)). option_to_list (packet_held a.held) ++ packets_in (discipline_seen a.discipline) ++ flat_map (λ packets. packets) bs) (each-side beneath_own (children_seen a.discipline))
 
   within-packets : length (packets_within a.discipline) ≤ length (beneath (seen a))
   within-packets =
       let own : List Descriptor = packets_in (discipline_seen a.discipline) in
       let deep : List Descriptor = packets_beneath (children_seen a.discipline) in
-      omega (arith, ap (λ (xs : List Descriptor). length xs) same-waiting, length-append (option_to_list a.held ++ own) deep, length-append (option_to_list a.held) own, length-append own deep)
+      omega (arith, ap (λ (xs : List Descriptor). length xs) same-waiting, length-append (option_to_list (packet_held a.held) ++ own) deep, length-append (option_to_list (packet_held a.held)) own, length-append own deep)
 
   within-bytes : (totals_in (packets_within a.discipline)).bytes ≤ (totals_in (beneath (seen a))).bytes
   within-bytes =
       let own : List Descriptor = packets_in (discipline_seen a.discipline) in
       let deep : List Descriptor = packets_beneath (children_seen a.discipline) in
       let len : Descriptor → ℕ = λ p. p.len in
-      omega (arith, ap (λ (xs : List Descriptor). (totals_in xs).bytes) same-waiting, sum_by-append len (option_to_list a.held ++ own) deep, sum_by-append len (option_to_list a.held) own, sum_by-append len own deep)
+      omega (arith, ap (λ (xs : List Descriptor). (totals_in xs).bytes) same-waiting, sum_by-append len (option_to_list (packet_held a.held) ++ own) deep, sum_by-append len (option_to_list (packet_held a.held)) own, sum_by-append len own deep)
 
   pub can-in : a.row.queued.packets < 2 ^ 64 → a.row.queued.bytes < 2 ^ 64 → CanAskIn now a.discipline
   can-in packets_fit bytes_fit =
@@ -205,7 +256,7 @@ module _ (now : ℕ) (a : Inside) (n : Node Kept) (k : IsKept a) (view : seen a 
   pub enough : (room : ℕ) → length (beneath n) ≤ room → length (packets_within a.discipline) ≤ room
   enough room h = omega (arith, h, within-packets, ap (λ (m : Node Kept). length (beneath m)) view)
 
-  module _ (none : a.held ≡ None) where
+  module _ (none : packet_held a.held ≡ None) where
     pub told-here : (l l2 : List Loss) (r r2 : ℕ) → IsToldOf (answer_of now a.handle a.filters a.discipline).rises l l2 r r2 → IsToldOf (ask now (shape n)).rises l l2 r r2
     told-here l l2 r r2 h = subst (λ (m : Node Kept). IsToldOf (ask now (shape m)).rises l l2 r r2) view (subst (λ (x : Asked). IsToldOf x.rises l l2 r r2) (sym (ask-none now a none)) h)
 
@@ -222,7 +273,8 @@ module _ (now : ℕ) (a : Inside) (n : Node Kept) (k : IsKept a) (view : seen a 
           can-show (seen a) a.row (row-of a k) (booked kept (seen a) x.peeked) x.rises s (asked-weighs now (seen a) can-here) shown-inside.dropped shown-inside.marked packets_fit bytes_fit
 
     module _ (d : Discipline) (s : Shown) (q : IsAskedIn (answer_of now a.handle a.filters a.discipline) a.discipline d s) where
-      pub peeked-done : (r : Row) (held : Option Descriptor) → CanShow s a.row → r ≡ with_shown s a.row → held ≡ held_in (discipline_seen d) s.packet → IsPeekedAs now n (record a { held = held; row = r; discipline = d })
+      pub peeked-done : (r : Row) (held : Option Stamped) → CanShow s a.row → r ≡ with_shown s a.row
+          → held ≡ held_with (held_in (discipline_seen d) s.packet) (answer_of now a.handle a.filters a.discipline).peeked.own.since → IsPeekedAs now n (record a { held = held; row = r; discipline = d })
       peeked-done r held fit row holds =
           let x : Asked = ask now (shape (seen a)) in
           let w = asked-weighs now (seen a) can-here in

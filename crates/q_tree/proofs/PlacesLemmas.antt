@@ -21,6 +21,7 @@ use Rattle.q_tree.specs.Seen.{seen, discipline_seen, children_seen, places_seen,
 use Rattle.q_tree.specs.declared.node.Discipline.{Discipline}
 use Rattle.q_tree.specs.declared.node.Node.TheInside.{Inside}
 use Rattle.q_tree.proofs.Puts.{same-child}
+use Rattle.q_tree.specs.Holding.{packet_held, since_held}
 
 pub on-ok : {A B : Type 0} {P Q : Type 0} (r : Result A B) → (P → Q) → OnOk r P → OnOk r Q
 on-ok (Ok x) f h = f h
@@ -97,7 +98,7 @@ module _ (t : Totals) where
 module _ (a : Inside) (d : Discipline) (same : discipline_seen d ≡ discipline_seen a.discipline) (kids : map unplaced (children_seen d) ≡ map unplaced (children_seen a.discipline)) where
   same-beneath : beneath (seen (record a { discipline = d })) ≡ beneath (seen a)
   same-beneath =
-      ap (λ x. beneath_own (record { handle = a.handle; discipline = x; held = a.held; filters = a.filters }) (each beneath_own (side_by_side (children_seen d)))) same
+      ap (λ x. beneath_own (record { handle = a.handle; discipline = x; held = packet_held a.held; since = since_held a.held; filters = a.filters }) (each beneath_own (side_by_side (children_seen d)))) same
       ∙ ap (beneath_own (seen a).own) (each-side beneath_own (children_seen d) ∙ sym (beneath-unplaced (children_seen d)) ∙ ap (map beneath) kids ∙ beneath-unplaced (children_seen a.discipline) ∙ sym (each-side beneath_own (children_seen a.discipline)))
 
   same-held : held_beneath (seen (record a { discipline = d })) ≡ held_beneath (seen a)
@@ -115,7 +116,7 @@ module _ (a : Inside) (d : Discipline) (same : discipline_seen d ≡ discipline_
   same-places n view =
       let below : each_memory (λ (k : Kept). k.counts) (side_by_side (children_seen d)) ≡ each_memory (λ (k : Kept). k.counts) (side_by_side (children_seen a.discipline)) =
       side-unplaced (children_seen d) ∙ ap side_by_side kids ∙ sym (side-unplaced (children_seen a.discipline)) in
-      (λ j. record { own = record { handle = a.handle; discipline = same j; held = a.held; filters = a.filters }; memory = (seen a).memory.counts; below = below j }) ∙ ap unplaced view
+      (λ j. record { own = record { handle = a.handle; discipline = same j; held = packet_held a.held; since = since_held a.held; filters = a.filters }; memory = (seen a).memory.counts; below = below j }) ∙ ap unplaced view
 
 -- the way of a node goes on in its children
 pub way-on : (i : ℕ) (rest path : List ℕ) (a : Inside) (n : Node Kept) → seen a ≡ n → path ≡ i ∷ rest → IsSome (node_at path n) → Leads rest i (children_seen a.discipline)

@@ -28,6 +28,9 @@ use Rattle.q_tree.proofs.AtHandLemmas.{front-of, first-some, first-none}
 use Rattle.q_tree.proofs.Forms.{noted-kept}
 use Rattle.q_tree.proofs.Rows.{counts_in_row}
 use Rattle.q_tree.proofs.RowsOf.{IsRowOf, row-of, kept-of, row-popped, row-still}
+use Rattle.q_tree.specs.Holding.{packet_held, since_held}
+use Rattle.q_packet.specs.declared.stamped.Stamped.{Stamped}
+use Rattle.q_tree.proofs.HeldLemmas.{empty-held}
 
 -- the bands before this place have nothing at hand
 abbrev pub NoneBefore : ℕ → List (Node Kept) → Type 0
@@ -124,7 +127,7 @@ pub record IsPoppedAs (n : Node Kept) (inside : Inside) (packet : Option Descrip
   pub stays : IsKept inside
   pub after : seen inside ≡ booked kept n (pop n).after
 
-pub popped : (a : Inside) (k : IsKept a) (p : Descriptor) → (pop (seen a)).shown ≡ Some p → (held : Option Descriptor) (d : Discipline) (r : Row) → r ≡ with_sent p a.row
+pub popped : (a : Inside) (k : IsKept a) (p : Descriptor) → (pop (seen a)).shown ≡ Some p → (held : Option Stamped) (d : Discipline) (r : Row) → r ≡ with_sent p a.row
     → seen (record a { held = held; row = r; discipline = d }) ≡ booked kept (seen a) (pop (seen a)).after
     → All (λ (child : Node Kept). IsCountedWithin child.memory.counts.arrived a.row.arrived) (children_seen d) → IsPoppedAs (seen a) (record a { held = held; row = r; discipline = d }) (Some p)
 popped a k p e held d r row value within =
@@ -137,20 +140,24 @@ popped a k p e held d r row value within =
     }
 
 -- a node that held its packet
-module _ (a : Inside) (p : Descriptor) (e : a.held ≡ Some p) where
+module _ (a : Inside) (p : Descriptor) (e : packet_held a.held ≡ Some p) where
   abbrev own_with : Option Descriptor → Own
-  own_with o = record { handle = a.handle; discipline = discipline_seen a.discipline; held = o; filters = a.filters }
+  own_with o = record { handle = a.handle; discipline = discipline_seen a.discipline; held = o; since = since_held a.held; filters = a.filters }
+
+  -- once the packet has left
+  abbrev own_gone : Own
+  own_gone = record (own_with None) { since = 0 }
 
   pub held-shown : (pop (seen a)).shown ≡ Some p
   held-shown = ap (λ (b : Popping). b.shown) (pop-is a) ∙ ap (λ (o : Option Descriptor). (pop_own (own_with o) (bands_of a)).shown) e
 
   pub held-after : (r : Row) → r ≡ with_sent p a.row → seen (record a { held = None; row = r }) ≡ booked kept (seen a) (pop (seen a)).after
   held-after r row =
-      let after : (pop (seen a)).after ≡ worked (own_with None) (Sent p ∷ []) (as_they_are (bands_of a)) =
+      let after : (pop (seen a)).after ≡ worked own_gone (Sent p ∷ []) (as_they_are (bands_of a)) =
       ap (λ (b : Popping). b.after) (pop-is a) ∙ ap (λ (o : Option Descriptor). (pop_own (own_with o) (bands_of a)).after) e in
       let below : side_by_side (children_seen a.discipline) ≡ each_booked kept (side_by_side (children_seen a.discipline)) (side_by_side (as_they_are (bands_of a))) = sym (side-still (children_seen a.discipline)) in
       let counts : counts_in_row r ≡ counts_in_row (with_sent p a.row) = ap counts_in_row row in
-      (λ i. record { own = own_with None; memory = record { counts = counts i; places = places_seen a.discipline }; below = below i })
+      (λ i. record { own = own_gone; memory = record { counts = counts i; places = places_seen a.discipline }; below = below i })
       ∙ ap (λ (w : Worked). booked kept (seen a) w) (sym after)
 
 -- one that had it in its own queue, or beneath
@@ -169,12 +176,15 @@ after-is handle filters (spec.Tbf b limit) bs = refl
 after-is handle filters (spec.Drr s) bs = refl
 after-is handle filters (spec.FqCodel s) bs = refl
 
-module _ (a : Inside) (none : a.held ≡ None) (d : Discipline) (packet : Option Descriptor) (shown : packet ≡ (popping_of a.discipline).shown) (q : IsPoppedIn a.discipline d) where
-  abbrev here : Option Descriptor → Own
-  here o = record { handle = a.handle; discipline = discipline_seen a.discipline; held = o; filters = a.filters }
+module _ (a : Inside) (none : packet_held a.held ≡ None) (d : Discipline) (packet : Option Descriptor) (shown : packet ≡ (popping_of a.discipline).shown) (q : IsPoppedIn a.discipline d) where
+  nothing : a.held ≡ None
+  nothing = empty-held a.held none
+
+  abbrev here : Option Stamped → Own
+  here o = record { handle = a.handle; discipline = discipline_seen a.discipline; held = packet_held o; since = since_held o; filters = a.filters }
 
   pub own-shown : (pop (seen a)).shown ≡ packet
-  own-shown = ap (λ (b : Popping). b.shown) (pop-is a) ∙ ap (λ (o : Option Descriptor). (pop_own (here o) (bands_of a)).shown) none ∙ shown-is a.handle a.filters (discipline_seen a.discipline) (bands_of a) ∙ sym shown
+  own-shown = ap (λ (b : Popping). b.shown) (pop-is a) ∙ ap (λ (o : Option Stamped). (pop_own (here o) (bands_of a)).shown) nothing ∙ shown-is a.handle a.filters (discipline_seen a.discipline) (bands_of a) ∙ sym shown
 
   pub own-after : (r : Row) → counts_in_row r ≡ noted totals (counts_in_row a.row) (map Sent (option_to_list packet)) → seen (record a { row = r; discipline = d }) ≡ booked kept (seen a) (pop (seen a)).after
   own-after r row =
@@ -182,20 +192,20 @@ module _ (a : Inside) (none : a.held ≡ None) (d : Discipline) (packet : Option
       let b : Popping = popping_of a.discipline in
       let left : Own = own_of a.handle a.filters b.after.own.discipline in
       let after : (pop (seen a)).after ≡ record { own = left; memory = notes; below = b.after.below } =
-      ap (λ (b : Popping). b.after) (pop-is a) ∙ ap (λ (o : Option Descriptor). (pop_own (here o) (bands_of a)).after) none ∙ after-is a.handle a.filters (discipline_seen a.discipline) (bands_of a)
+      ap (λ (b : Popping). b.after) (pop-is a) ∙ ap (λ (o : Option Stamped). (pop_own (here o) (bands_of a)).after) nothing ∙ after-is a.handle a.filters (discipline_seen a.discipline) (bands_of a)
       ∙ ap (λ (o : Option Descriptor). record { own = left; memory = map Sent (option_to_list o); below = b.after.below }) (sym shown) in
       let memory : record { counts = counts_in_row r; places = places_seen d } ≡ noted kept (seen a).memory notes = (λ i. record { counts = row i; places = q.places i }) ∙ sym (noted-kept (seen a).memory notes) in
-      (λ i. record { own = record { handle = a.handle; discipline = q.discipline i; held = none i; filters = a.filters }; memory = memory i; below = q.children i })
+      (λ i. record { own = record { handle = a.handle; discipline = q.discipline i; held = packet_held (nothing i); since = since_held (nothing i); filters = a.filters }; memory = memory i; below = q.children i })
       ∙ ap (λ (w : Worked). booked kept (seen a) w) (sym after)
 
   -- where there is none, all stays
   pub still-kept : IsKept a → packet ≡ None → IsPoppedAs (seen a) (record a { discipline = d }) None
   still-kept k e =
-      let nothing : (pop (seen a)).shown ≡ None = own-shown ∙ e in
+      let hidden : (pop (seen a)).shown ≡ None = own-shown ∙ e in
       let value : seen (record a { discipline = d }) ≡ booked kept (seen a) (pop (seen a)).after = own-after a.row (ap (λ (o : Option Descriptor). noted totals (counts_in_row a.row) (map Sent (option_to_list o))) (sym e)) in
       record {
-        shown = sym nothing;
-        stays = kept-of (record a { discipline = d }) (subst (IsRowOf a.row) (sym value) (row-still (seen a) a.row (row-of a k) nothing)) (q.within a.row.arrived k.within);
+        shown = sym hidden;
+        stays = kept-of (record a { discipline = d }) (subst (IsRowOf a.row) (sym value) (row-still (seen a) a.row (row-of a k) hidden)) (q.within a.row.arrived k.within);
         after = value;
       }
 

@@ -21,19 +21,20 @@ use Rattle.q_tree.specs.PutSteps.{packets_beneath}
 use Rattle.q_tree.specs.Seen.{seen, children_seen, discipline_seen}
 use Rattle.q_tree.specs.declared.node.Node.TheInside.{Inside}
 use Rattle.q_tree.proofs.FlowCounts.{lost-told, packets-all, packets-bare}
+use Rattle.q_tree.specs.Holding.{packet_held}
 
 -- the packets at a node and beneath it: the one that it holds, its own, and those of its children
-pub own-beneath : (a : Inside) (n : Node Kept) → seen a ≡ n → beneath n ≡ option_to_list a.held ++ packets_in (discipline_seen a.discipline) ++ packets_beneath (children_seen a.discipline)
+pub own-beneath : (a : Inside) (n : Node Kept) → seen a ≡ n → beneath n ≡ option_to_list (packet_held a.held) ++ packets_in (discipline_seen a.discipline) ++ packets_beneath (children_seen a.discipline)
 own-beneath a n view =
-    ap beneath (sym view) ∙ ap (λ bs. option_to_list a.held ++ packets_in (discipline_seen a.discipline) ++ flat_map (λ packets. packets) bs) (each-side beneath_own (children_seen a.discipline))
+    ap beneath (sym view) ∙ ap (λ bs. option_to_list (packet_held a.held) ++ packets_in (discipline_seen a.discipline) ++ flat_map (λ packets. packets) bs) (each-side beneath_own (children_seen a.discipline))
 
-pub own-count : (a : Inside) (n : Node Kept) → seen a ≡ n → length (beneath n) ≡ length (option_to_list a.held) + (length (packets_in (discipline_seen a.discipline)) + length (packets_beneath (children_seen a.discipline)))
+pub own-count : (a : Inside) (n : Node Kept) → seen a ≡ n → length (beneath n) ≡ length (option_to_list (packet_held a.held)) + (length (packets_in (discipline_seen a.discipline)) + length (packets_beneath (children_seen a.discipline)))
 own-count a n view =
     omega (
       arith,
       ap length (own-beneath a n view),
-      length-append (option_to_list a.held ++ packets_in (discipline_seen a.discipline)) (packets_beneath (children_seen a.discipline)),
-      length-append (option_to_list a.held) (packets_in (discipline_seen a.discipline)),
+      length-append (option_to_list (packet_held a.held) ++ packets_in (discipline_seen a.discipline)) (packets_beneath (children_seen a.discipline)),
+      length-append (option_to_list (packet_held a.held)) (packets_in (discipline_seen a.discipline)),
     )
 
 -- the packets of an fq_codel, as it counts them
@@ -69,11 +70,11 @@ queue-told queue a b r s lost room = subst (λ ls. IsTold ls a b r s) (queue-pur
 
 -- a node, whose own packets and those beneath its children these are
 pub node-told : (x : Inside) (n : Node Kept) → seen x ≡ n → (ps : List Descriptor) → packets_in (discipline_seen x.discipline) ++ packets_beneath (children_seen x.discipline) ≡ ps
-    → (a b c : List Loss) (r s t : ℕ) → IsTold (purged (option_to_list x.held)) a b r s → IsTold (purged ps) b c s t → IsTold (purged (beneath n)) a c r t
+    → (a b c : List Loss) (r s t : ℕ) → IsTold (purged (option_to_list (packet_held x.held))) a b r s → IsTold (purged ps) b c s t → IsTold (purged (beneath n)) a c r t
 node-told x n view ps is a b c r s t h k =
     subst (λ qs. IsTold (purged qs) a c r t)
-    (ap (λ qs. option_to_list x.held ++ qs) (sym is) ∙ sym (append_assoc (option_to_list x.held) (packets_in (discipline_seen x.discipline)) (packets_beneath (children_seen x.discipline))) ∙ sym (own-beneath x n view))
-    (told-both (option_to_list x.held) ps a b c r s t h k)
+    (ap (λ qs. option_to_list (packet_held x.held) ++ qs) (sym is) ∙ sym (append_assoc (option_to_list (packet_held x.held)) (packets_in (discipline_seen x.discipline)) (packets_beneath (children_seen x.discipline))) ∙ sym (own-beneath x n view))
+    (told-both (option_to_list (packet_held x.held)) ps a b c r s t h k)
 
 pub beneath-split : (xs ys : List (Node Kept)) → packets_beneath (xs ++ ys) ≡ packets_beneath xs ++ packets_beneath ys
 beneath-split [] ys = refl

@@ -48,6 +48,7 @@ use Rattle.q_tree.specs.declared.outcome.Outcome.{Outcome}
 use Rattle.q_tree.proofs.FlowCounts.{packets-all, bytes-all, packets-bare, bytes-bare}
 use Rattle.q_tree.proofs.Forms.{children-shape, child-shape, side-quiet, side-booked, noted-kept}
 use Rattle.q_tree.proofs.Rows.{counts_in_row, AreLosses, counted-arrival, outcome-weighs, IsShifted, lost-of, queued-after, balanced-after, weigh-bytes}
+use Rattle.q_tree.specs.Holding.{packet_held, since_held}
 
 -- what a node remembers is not looked at
 pub same-way : (p : Descriptor) (n : Node Kept) → route p (shape n) ≡ route p n
@@ -127,17 +128,17 @@ module _ (now : ℕ) (p : Descriptor) (a : Inside) (k : IsKept a) where
 
   own-packets : length (packets_in (discipline_seen a.discipline)) ≤ a.row.queued.packets
   unfolding deeper
-  own-packets = part-packets (option_to_list a.held) (packets_in (discipline_seen a.discipline)) deeper a.row.queued.packets (ap (λ (t : Totals). t.packets) k.queued)
+  own-packets = part-packets (option_to_list (packet_held a.held)) (packets_in (discipline_seen a.discipline)) deeper a.row.queued.packets (ap (λ (t : Totals). t.packets) k.queued)
 
   own-bytes : (totals_in (packets_in (discipline_seen a.discipline))).bytes ≤ a.row.queued.bytes
   unfolding deeper
-  own-bytes = part-bytes (option_to_list a.held) (packets_in (discipline_seen a.discipline)) deeper a.row.queued.bytes (ap (λ (t : Totals). t.bytes) k.queued)
+  own-bytes = part-bytes (option_to_list (packet_held a.held)) (packets_in (discipline_seen a.discipline)) deeper a.row.queued.bytes (ap (λ (t : Totals). t.bytes) k.queued)
 
   -- the queue at the end takes the packet
   pub can-flow : (mtu : ℕ) (s : FqState) → discipline_seen a.discipline ≡ spec.FqCodel s → IsLawfulOwn mtu now (seen a).own (each beneath_own (seen a).below) → CanCount a.row.arrived p → CanFlow p s
   can-flow mtu s e h counts =
-      let lawful : IsLawfulOwn mtu now (record { handle = a.handle; discipline = spec.FqCodel s; held = a.held; filters = a.filters }) (each beneath_own (seen a).below) =
-      subst (λ (d : spec.Discipline). IsLawfulOwn mtu now (record { handle = a.handle; discipline = d; held = a.held; filters = a.filters }) (each beneath_own (seen a).below)) e h in
+      let lawful : IsLawfulOwn mtu now (record { handle = a.handle; discipline = spec.FqCodel s; held = packet_held a.held; since = since_held a.held; filters = a.filters }) (each beneath_own (seen a).below) =
+      subst (λ (d : spec.Discipline). IsLawfulOwn mtu now (record { handle = a.handle; discipline = d; held = packet_held a.held; since = since_held a.held; filters = a.filters }) (each beneath_own (seen a).below)) e h in
       let law = lawful.discipline in
       let balanced = k.balanced in
       record {
@@ -170,7 +171,7 @@ module _ (a : Inside) (r : Row) (d : Discipline) (own2 : spec.Discipline) (notes
   seen-after discipline places counts below =
       let memory : (seen (record a { row = r; discipline = d })).memory ≡ noted kept (seen a).memory notes =
       (λ j. record { counts = counts j; places = places j }) ∙ sym (noted-kept (seen a).memory notes) in
-      λ j. record { own = record { handle = a.handle; discipline = discipline j; held = a.held; filters = a.filters }; memory = memory j; below = below j }
+      λ j. record { own = record { handle = a.handle; discipline = discipline j; held = packet_held a.held; since = since_held a.held; filters = a.filters }; memory = memory j; below = below j }
 
 -- what a put leaves of a node
 pub record IsDone (now : ℕ) (p : Descriptor) (path : List ℕ) (refusal : Option Cause) (n : Node Kept) (inside : Inside) (o : Outcome) : Type 0 where

@@ -44,10 +44,12 @@ use Rattle.q_tree.proofs.Rows.{counts_in_row}
 use Rattle.q_tree.proofs.RowsOf.{IsRowOf, row-of, kept-of, row-shown, row-popped, among}
 use Rattle.q_tree.proofs.SendLemmas.{left-some, left-none}
 use Rattle.q_tree.proofs.TreeLemmas.{noted-push}
+use Rattle.q_tree.specs.Holding.{packet_held, since_held, held_with}
+use Rattle.q_tree.proofs.HeldLemmas.{empty-held}
 
 -- a node that has given its packet, apart from its discipline and its children: it holds none, and has noted that for itself
 record IsTaken (handle : Option ℕ) (filters : List Filter) (a : Asked) : Type 0 where
-  own : a.taken.own ≡ record { handle = handle; discipline = a.taken.own.discipline; held = None; filters = filters }
+  own : a.taken.own ≡ record { handle = handle; discipline = a.taken.own.discipline; held = None; since = 0; filters = filters }
   mine : List Note
   silent : IsSilent mine
   noted : a.taken.memory ≡ a.rises ++ mine ++ map Sent (option_to_list a.shown)
@@ -77,7 +79,7 @@ module _ (now : ℕ) (handle : Option ℕ) (filters : List Filter) (below : List
       packet a (Some p) = allowed a p (allows b now p.len)
 
       child : (o : Option Asked)
-          → IsGiven handle filters (option_map_or (ask_child now (own_of handle filters (spec.Tbf b limit)) below b limit) o (dequeued (own_of handle filters (spec.Tbf b limit)) below (record { after = own_of handle filters (spec.Tbf b limit); children = []; rises = []; mine = []; packet = None })))
+          → IsGiven handle filters (option_map_or (ask_child now (own_of handle filters (spec.Tbf b limit)) below b limit) o (dequeued (own_of handle filters (spec.Tbf b limit)) below (record { after = own_of handle filters (spec.Tbf b limit); children = []; rises = []; mine = []; packet = None; since = 0 })))
       child None = (record { own = refl; mine = []; silent = silent-nil; noted = refl }, record { discipline = refl; below = refl })
       child (Some a) = packet a a.shown
 
@@ -182,12 +184,12 @@ pub record IsHeldAnswer (now : ℕ) (n : Node Kept) (p : Descriptor) : Type 0 wh
   pub packet : (ask now (shape n)).shown ≡ Some p
   pub rises : (ask now (shape n)).rises ≡ []
 
-pub held-answer : (now : ℕ) (a : Inside) (n : Node Kept) (p : Descriptor) → seen a ≡ n → a.held ≡ Some p → IsHeldAnswer now n p
+pub held-answer : (now : ℕ) (a : Inside) (n : Node Kept) (p : Descriptor) → seen a ≡ n → packet_held a.held ≡ Some p → IsHeldAnswer now n p
 held-answer now a n p view e =
     subst (λ (m : Node Kept). IsHeldAnswer now m p) view
     (record { packet = ap (λ (x : Asked). x.shown) (ask-holding now a p e); rises = ap (λ (x : Asked). x.rises) (ask-holding now a p e) })
 
-pub held-shows : (now : ℕ) (a : Inside) (n : Node Kept) (p : Descriptor) → seen a ≡ n → a.held ≡ Some p → (s : Shown) → s ≡ record { packet = Some p; dropped = no_totals; marked = no_totals } → IsShown (ask now (shape n)) s
+pub held-shows : (now : ℕ) (a : Inside) (n : Node Kept) (p : Descriptor) → seen a ≡ n → packet_held a.held ≡ Some p → (s : Shown) → s ≡ record { packet = Some p; dropped = no_totals; marked = no_totals } → IsShown (ask now (shape n)) s
 held-shows now a n p view e s is =
     let h = held-answer now a n p view e in
     record {
@@ -207,7 +209,7 @@ pub record IsSentAs (now : ℕ) (n : Node Kept) (inside : Inside) : Type 0 where
   pub stays : IsKept inside
   pub after : seen inside ≡ booked kept n (take_from now (shape n)).node
 
-module _ (now : ℕ) (a : Inside) (n : Node Kept) (k : IsKept a) (view : seen a ≡ n) (can : CanAsk now n) (none : a.held ≡ None) (d : Discipline) (s : Shown) (q : IsSentIn (answer_of now a.handle a.filters a.discipline) a.discipline d s) where
+module _ (now : ℕ) (a : Inside) (n : Node Kept) (k : IsKept a) (view : seen a ≡ n) (can : CanAsk now n) (none : packet_held a.held ≡ None) (d : Discipline) (s : Shown) (q : IsSentIn (answer_of now a.handle a.filters a.discipline) a.discipline d s) where
   here : CanAsk now (seen a)
   here = subst (CanAsk now) (sym view) can
 
@@ -231,7 +233,7 @@ module _ (now : ℕ) (a : Inside) (n : Node Kept) (k : IsKept a) (view : seen a 
           };
           places = q.places;
         } in
-        let done = peeked-done now a n k view can none d s asked r a.held fit row (none ∙ sym (held-nothing (discipline_seen d)) ∙ ap (held_in (discipline_seen d)) (sym empty)) in
+        let done = peeked-done now a n k view can none d s asked r a.held fit row (empty-held a.held none ∙ ap (λ o. held_with o x.peeked.own.since) (sym (held-nothing (discipline_seen d)) ∙ ap (held_in (discipline_seen d)) (sym empty))) in
         record { stays = done.stays; after = done.after ∙ ap (λ (w : Worked). booked kept n w) (sym (left-none now n (sym (shown-here now a n k view can none s q.children.shown).packet ∙ empty))) }
 
     -- where it sends a packet: first that was at hand
@@ -270,8 +272,8 @@ module _ (now : ℕ) (a : Inside) (n : Node Kept) (k : IsKept a) (view : seen a 
           let memory : record { counts = counts_in_row r2; places = places_seen d } ≡ noted kept (seen a).memory x.taken.memory =
           (λ i. record { counts = counts i; places = q.places i }) ∙ sym (noted-kept (seen a).memory x.taken.memory) in
           let discipline : discipline_seen d ≡ x.taken.own.discipline = q.discipline ∙ ap (λ (w : Worked). w.own.discipline) left in
-          let own : record { handle = a.handle; discipline = discipline_seen d; held = a.held; filters = a.filters } ≡ x.taken.own =
-          (λ i. record { handle = a.handle; discipline = discipline i; held = none i; filters = a.filters }) ∙ sym form.own in
+          let own : record { handle = a.handle; discipline = discipline_seen d; held = packet_held a.held; since = since_held a.held; filters = a.filters } ≡ x.taken.own =
+          (λ i. record { handle = a.handle; discipline = discipline i; held = packet_held (empty-held a.held none i); since = since_held (empty-held a.held none i); filters = a.filters }) ∙ sym form.own in
           let below : side_by_side (children_seen d) ≡ each_booked kept (side_by_side (children_seen a.discipline)) x.taken.below =
           q.children.nodes ∙ ap (λ (w : Worked). each_booked kept (side_by_side (children_seen a.discipline)) w.below) left in
           let value : seen (record a { row = r2; discipline = d }) ≡ booked kept (seen a) (ask now (shape (seen a))).taken =

@@ -1,10 +1,10 @@
 -- The classes of a drr that are asked in turn, until one is met that can send its packet, or shows none.
 use Rattle.std.proofs.Common.{◌≡◌, ℕ, zero, suc, ◌-◌, ◌≤◌, ◌<◌, ◌∙◌, List, [], ◌∷◌, ◌++◌, take, set, length, refl, sym, ap, ap₂, subst, inl, inr, ◌||◌, eq-eqb, Option, Some, None, option_and_then, option_map, arith}
-use Rattle.std.specs.Prelude.{true, false, is_some, nat_lt, ◌==◌, slice_get, slice_index_or}
+use Rattle.std.specs.Prelude.{Bool, true, false, is_some, nat_lt, ◌==◌, slice_get, slice_index_or, unwrap_or}
 use Rattle.std.specs.List.{All, sum_by}
 use Rattle.std.specs.Option.{option_map_or}
 use Rattle.std.proofs.lemmas.Bool.{cases_lt, cases_Bool, eqb-true, ltb-true, ltb-false, false≢true}
-use Rattle.std.proofs.lemmas.List.{length-map, length-set, take_all}
+use Rattle.std.proofs.lemmas.List.{length-map, length-set, take_all, get_or-set_same}
 use Rattle.std.proofs.lemmas.List.Elements.{All-head, All-set}
 use Rattle.std.proofs.lemmas.Option.{same_Some, slice_get-map, slice_get_within, get_or_from_slice_get}
 use Rattle.q_packet.specs.Descriptor.{Descriptor}
@@ -41,7 +41,8 @@ use Rattle.q_tree.proofs.AskBands.{get-there}
 use Rattle.q_tree.proofs.RouteLemmas.{child-size}
 use Rattle.q_tree.proofs.AskOnce.{IsCounted, can-ask, can-ask-once, counted-then, told-nothing, told-then}
 use Rattle.q_tree.proofs.Asking.{IsAsking, answered, taken-told, lawful-at, asking-starts, asking-goes, still-there, booked_all, side-all, all-at, all-set}
-use Rattle.q_tree.proofs.Peeks.{popped-asked, hand-asked}
+use Rattle.q_tree.proofs.Peeks.{popped-asked, hand-asked, since-asked}
+use Rattle.q_model.specs.Since.{at_hand_since, since_of}
 
 -- the head that each class shows, by its name
 abbrev pub heads_of : ℕ → Schedule → List (Node Kept) → ℕ → Option ℕ
@@ -341,6 +342,9 @@ module _ {now : ℕ} {first s : Schedule} {ns ms : List (Node Kept)} {unasked : 
           ap spec.Drr (served_nothing (heads_of now first ns) first s met.class met.front (shown-head None silent) (ready None silent uncovered))
           ∙ ap (λ (x : Asked). x.peeked.own.discipline) (sym (drr-answer None silent uncovered own))
 
+      pub nothing-since : (own : Own) → 0 ≡ (ask_drr own (answers now ns) first).peeked.own.since
+      nothing-since own = ap (λ (x : Asked). x.peeked.own.since) (sym (drr-answer None silent uncovered own))
+
       pub nothing-told : (own : Own) → IsToldOf (ask_drr own (answers now ns) first).rises k.losses l2 k.room r2
       nothing-told own = subst (λ notes. IsToldOf notes k.losses l2 k.room r2) (sym (ap (λ (x : Asked). x.rises) (drr-answer None silent uncovered own) ∙ service-rises None silent uncovered)) shows.told
 
@@ -375,6 +379,21 @@ module _ {now : ℕ} {first s : Schedule} {ns ms : List (Node Kept)} {unasked : 
       offered-head : heads_of now first ns met.class ≡ Some len
       offered-head = shown-head (Some offer.0) offers ∙ ap Some offer.2
 
+      -- what was told, and when the packet arrived, where it can send it
+      module _ (send : Send ≡ turn_answer len s.active) {s1 : Schedule} (turn : s1 ≡ turned len s) where
+        enough : (m : ℕ) → option_map (λ (x : Descriptor). x.len) (Some offer.0) ≡ Some m → m ≤ met.front.first.deficit
+        enough m e = subst (λ m. m ≤ met.front.first.deficit) (sym offer.2 ∙ same_Some offer.0.len m e) (covers s met.class len met.front send)
+
+        pub given-since : (own : Own) → since_of result.packet (unwrap_or (at_hand_since d) 0) ≡ (ask_drr own (answers now ns) first).peeked.own.since
+        given-since own =
+            ap (λ (o : Option Descriptor). since_of o (unwrap_or (at_hand_since d) 0)) offer.1
+            ∙ ap (λ (o : Option ℕ). unwrap_or o 0) (since-asked now met.at.child d child-can shows.peeked)
+            ∙ ap (λ (y : Asked). y.peeked.own.since) (sym (drr-answer (Some offer.0) offers enough own))
+
+        pub given-told : (own : Own) → IsToldOf (ask_drr own (answers now ns) first).rises k.losses l2 k.room r2
+        given-told own =
+            subst (λ notes. IsToldOf notes k.losses l2 k.room r2) (sym (ap (λ (y : Asked). y.rises) (drr-answer (Some offer.0) offers enough own) ∙ service-rises (Some offer.0) offers enough)) shows.told
+
       -- gives it where it can send it
       module _ (send : Send ≡ turn_answer len s.active) {s1 s2 : Schedule} {ms2 : List (Node Kept)} (turn : s1 ≡ turned len s) (given : (c : Node Kept) → slice_get (set ms place d) place ≡ Some c → IsGivenBy place c s1 s2 (set ms place d) ms2) where
         pays : len ≤ met.front.first.deficit
@@ -401,9 +420,6 @@ module _ {now : ℕ} {first s : Schedule} {ns ms : List (Node Kept)} {unasked : 
         given-schedule own =
             ap spec.Drr (gift.schedule ∙ ap₂ (λ b t. settled_class place b t) emptied (served_head (heads_of now first ns) first s met.class len met.front offered-head pays (ready (Some offer.0) offers covered)))
             ∙ ap (λ (y : Asked). y.peeked.own.discipline) (sym (answer own))
-
-        pub given-told : (own : Own) → IsToldOf (ask_drr own (answers now ns) first).rises k.losses l2 k.room r2
-        given-told own = subst (λ notes. IsToldOf notes k.losses l2 k.room r2) (sym (ap (λ (y : Asked). y.rises) (answer own) ∙ service-rises (Some offer.0) offers covered)) shows.told
 
         pub given-asked : (own : Own) → AreAsked (ask_drr own (answers now ns) first) ns ms2 result
         given-asked own =
@@ -478,6 +494,9 @@ module _ {now : ℕ} {first s : Schedule} {ns ms : List (Node Kept)} {unasked : 
   pub idle-schedule : (own : Own) → spec.Drr s ≡ (ask_drr own (answers now ns) first).peeked.own.discipline
   idle-schedule own = ap spec.Drr (served_nobody (heads_of now first ns) first s nobody no-turn) ∙ ap (λ (x : Asked). x.peeked.own.discipline) (sym (idle-answer own))
 
+  pub idle-since : (own : Own) → 0 ≡ (ask_drr own (answers now ns) first).peeked.own.since
+  idle-since own = ap (λ (x : Asked). x.peeked.own.since) (sym (idle-answer own))
+
   pub idle-told : (own : Own) → IsToldOf (ask_drr own (answers now ns) first).rises k.losses k.losses_now k.room k.room_now
   idle-told own = subst (λ notes. IsToldOf notes k.losses k.losses_now k.room k.room_now) (sym (idle-rises own)) h.told
 
@@ -496,3 +515,22 @@ module _ {now : ℕ} {first s : Schedule} {ns ms : List (Node Kept)} {unasked : 
           marked = counted.marked ∙ ap (λ notes. (counts_in notes).marked) (sym (idle-rises own ∙ rises));
         };
       }
+
+-- the class in a place that is there
+pub class-there : (ns : List (Node Kept)) (i : ℕ) → i < length ns → (c : Node Kept) × (slice_get ns i ≡ Some c)
+class-there [] i inside = absurd (omega (arith, inside))
+class-there (n ∷ ns) zero inside = (n, refl)
+class-there (n ∷ ns) (suc i) inside = class-there ns i (omega (arith, inside))
+
+-- which has handed out its packet, after which the schedule was settled
+pub class-given : (ns : List (Node Kept)) (i : ℕ) (class x y z : Node Kept) (before after : Schedule) (e : Bool) → slice_get ns i ≡ Some class
+    → y ≡ booked kept (slice_index_or ns i x) (pop (slice_index_or ns i x)).after → y.memory.counts.arrived ≡ (slice_index_or ns i x).memory.counts.arrived
+    → e ≡ is_empty (slice_index_or (set ns i y) i z) → after ≡ settled_class i e before → IsGivenBy i class before after ns (set ns i y)
+class-given ns i class x y z before after e at left arrived empty settled =
+    let here : slice_index_or ns i x ≡ class = get_or_from_slice_get ns i class x at in
+    let new : y ≡ booked kept class (pop class).after = left ∙ ap (λ (n : Node Kept). booked kept n (pop n).after) here in
+    record {
+      classes = ap (set ns i) new;
+      schedule = settled ∙ ap (λ b. settled_class i b before) (empty ∙ ap (λ (n : Node Kept). is_empty n) (get_or-set_same ns i y z (slice_get_within ns i class at) ∙ new));
+      arrived = sym (ap (λ (n : Node Kept). n.memory.counts.arrived) new) ∙ arrived ∙ ap (λ (n : Node Kept). n.memory.counts.arrived) here;
+    }

@@ -91,7 +91,7 @@ IsToldOf rises = IsTold (losses_in rises)
 
 -- a node that holds no packet
 abbrev pub own_of : Option ℕ → List Filter → spec.Discipline → Own
-own_of handle filters d = record { handle = handle; discipline = d; held = None; filters = filters }
+own_of handle filters d = record { handle = handle; discipline = d; held = None; since = 0; filters = filters }
 
 -- what such a node answers, from its discipline
 abbrev pub answer_of : ℕ → Option ℕ → List Filter → Discipline → Asked

@@ -15,6 +15,7 @@ pub mod FiltersSeen
 pub mod Finding
 pub mod Flows
 pub mod Grafting
+pub mod Holding
 pub mod Index
 pub mod IndexOfFilters
 pub mod IndexSeen
@@ -23,10 +24,12 @@ pub mod Lanes
 pub mod Laws
 pub mod Making
 pub mod Matching
+pub mod Meeting
 pub mod MostPackets
 pub mod NodeCode
 pub mod NodeFalls
 pub mod Nodes
+pub mod Oldest
 pub mod NodesCode
 pub mod NodesSeen
 pub mod Places

@@ -65,10 +65,10 @@ discipline_code =
 
 abbrev pub own_code : Coded Own
 own_code =
-    code_by (Option ℕ × (Discipline × (Option Descriptor × List Filter)))
-    (coded× (coded_option coded_ℕ) (coded× discipline_code (coded× (coded_option packet.the_row.coded) (coded_list filter.the_row.coded))))
-    (λ o. (o.handle, (o.discipline, (o.held, o.filters))))
-    (λ p. record { handle = p.0; discipline = p.1.0; held = p.1.1.0; filters = p.1.1.1 })
+    code_by (Option ℕ × (Discipline × (Option Descriptor × (ℕ × List Filter))))
+    (coded× (coded_option coded_ℕ) (coded× discipline_code (coded× (coded_option packet.the_row.coded) (coded× coded_ℕ (coded_list filter.the_row.coded)))))
+    (λ o. (o.handle, (o.discipline, (o.held, (o.since, o.filters)))))
+    (λ p. record { handle = p.0; discipline = p.1.0; held = p.1.1.0; since = p.1.1.1.0; filters = p.1.1.1.1 })
     (λ _. refl)
 
 abbrev pub counts_code : Coded Counts

@@ -5,6 +5,7 @@ use Rattle.q_model.specs.declared.totals.Totals.{Totals}
 use Rattle.q_model.specs.Beneath.{beneath, totals_in}
 use Rattle.q_model.specs.Conserved.{held_beneath, IsBalanced, AreMarksBounded}
 use Rattle.q_model.specs.Node as spec
+use Rattle.q_tree.specs.Holding.{packet_held, since_held}
 use Rattle.q_tree.specs.Kept.{Kept}
 use Rattle.q_tree.specs.declared.node.Discipline.{Discipline}
 use Rattle.q_tree.specs.declared.node.Discipline.TheVariants.{Fifo, Prio, Tbf, Drr, FqCodel}
@@ -33,7 +34,7 @@ children_seen (FqCodel q) = []
 
 abbrev pub seen : Inside → spec.Node Kept
 seen a = record {
-  own = record { handle = a.handle; discipline = discipline_seen a.discipline; held = a.held; filters = a.filters };
+  own = record { handle = a.handle; discipline = discipline_seen a.discipline; held = packet_held a.held; since = since_held a.held; filters = a.filters };
   memory = record {
     counts = record { arrived = a.row.arrived; sent = a.row.sent; refused = a.row.refused; dropped = a.row.dropped; marked = a.row.marked };
     places = places_seen a.discipline;

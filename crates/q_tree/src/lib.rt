@@ -2,7 +2,7 @@
 //!
 //! - [`Tree`] has the qdiscs of a device: packets are routed, put, peeked at and taken. [`Tree::arrive`] routes and puts a packet in
 //!   one call, [`Tree::send`] takes one into the caller's place, and [`Tree::ready_at`] is when the next take may give one.
-//!   [`Tree::most_packets`] is how many it can hold.
+//!   [`Tree::most_packets`] is how many it can hold, and [`Tree::oldest`] since when the oldest packet of a place waits.
 //! - [`Route`] is the way of a packet down from the root, and [`Way`] that of a class: [`Link`] is the tbf at its root, and
 //!   [`Share`] a class of a drr on it, in numbers. A [`Lane`] is a fifo whose packets no other packet passes.
 //! - [`Command`] is a change of the tree, [`Kind`] a qdisc with its options, [`Place`] where it goes.
@@ -40,6 +40,7 @@ mod node;
 mod node_ref;
 mod node_route;
 mod nodes;
+mod oldest;
 mod outcome;
 mod peek;
 mod prepare;

@@ -9,15 +9,17 @@ ghost use Rattle.q_model.specs.Ask.{ask};
 ghost use Rattle.q_model.specs.Beneath.{beneath};
 ghost use Rattle.q_model.specs.Node.{shape};
 ghost use Rattle.q_model.specs.Pop.{pop};
+ghost use Rattle.q_model.specs.Since.{at_hand_since};
 ghost use Rattle.q_model.specs.declared.filter.Filter.{Filter};
 ghost use Rattle.q_tree.specs.AskSteps.{CanAsk, CanAskIn, IsAskedIn, IsPeeked, IsToldOf, answer_of, held_in, no_signals, packets_within, signals_of};
+ghost use Rattle.q_tree.specs.Holding.{held_with};
 ghost use Rattle.q_tree.specs.Seen.{discipline_seen};
 
 use crate::booking::book_shown;
 use crate::disciplines::drr::peek_classes;
-use crate::disciplines::fifo::first_packet;
+use crate::disciplines::fifo::{first_arrival, first_packet};
 use crate::disciplines::fq_codel::peek_flow;
-use crate::disciplines::prio::{first_at_hand, peek_bands, ready_band};
+use crate::disciplines::prio::{first_at_hand, first_since, peek_bands, ready_band};
 use crate::disciplines::tbf::peek_child;
 use crate::held::Held;
 use crate::node::{Discipline, Node};
@@ -93,6 +95,24 @@ impl Node {
         }
     }
 
+    /// When the packet arrived that the node has at hand. It is asked for only where another node is to hold that packet.
+    #[cycle(at_hand_since)]
+    #[inline(always)]
+    pub(crate) fn at_hand_since(&self) -> Option<Moment>
+        ensures { result ≡ at_hand_since self.now }
+    {
+        if self.held.is_some() {
+            return self.held.arrival();
+        }
+        match &self.discipline {
+            Discipline::Fifo(fifo) => return first_arrival(fifo),
+            Discipline::Prio { bands, .. } => return first_since(bands),
+            Discipline::Tbf { .. } | Discipline::Drr { .. } | Discipline::FqCodel(_) => {
+                return None;
+            }
+        }
+    }
+
     /// Whether the node has a packet at hand. None is copied for that.
     #[cycle(has_packet)]
     pub(crate) fn has_packet(&self) -> bool
@@ -127,7 +147,7 @@ impl Discipline {
         requires sink { length (packets_within self.old) ≤ S.room sink.old }
         requires clean { signals.old ≡ no_signals }
         ensures after { (handle : Option ℕ) (filters : List Filter) → IsAskedIn (answer_of now handle filters self.old) self.old self.new result }
-        ensures held { held.new ≡ held_in (discipline_seen self.new) result.packet }
+        ensures held { (handle : Option ℕ) (filters : List Filter) → held.new ≡ held_with (held_in (discipline_seen self.new) result.packet) (answer_of now handle filters self.old).peeked.own.since }
         ensures told { (handle : Option ℕ) (filters : List Filter) → IsToldOf (answer_of now handle filters self.old).rises (S.losses sink.old) (S.losses sink.new) (S.room sink.old) (S.room sink.new) }
         ensures signals { signals.new ≡ signals_of result }
         ensures kept { S.keeps sink.old sink.new }

@@ -55,6 +55,8 @@ pub enum Call {
     Losses(u64),
     // How many packets the tree can hold.
     Most(u64),
+    // When the oldest packet of a place arrived, in nanoseconds.
+    Oldest(Spot, Option<u64>),
 }
 
 impl Call {
@@ -320,6 +322,10 @@ impl Bench {
         Ok(self.bytes(spot.place()?) == bytes)
     }
 
+    fn has_oldest(&self, spot: Spot, ns: Option<u64>) -> Result<bool, Fail> {
+        Ok(self.tree.oldest(spot.place()?).map(|at| at.ns()) == ns)
+    }
+
     fn has_totals(&self) -> bool {
         self.tree.stats(Place::Top) == Some(self.tree.totals())
     }
@@ -388,6 +394,7 @@ impl Bench {
             Call::Flows(i, flows) => Ok(self.has_flows(i, flows)),
             Call::Losses(count) => Ok(self.losses.count() == count),
             Call::Most(count) => Ok(self.tree.most_packets() == count),
+            Call::Oldest(spot, ns) => self.has_oldest(spot, ns),
             _ => self.is_done(alloc, call),
         }
     }

@@ -1,9 +1,11 @@
 //! Ten thousand scripts, whose numbers come from a fixed seed: after each poll that gives nothing though something is queued, the next
 //! one goes a nanosecond before the time that the device reports, and the next one at it. Of 53,480 polls at it 645 give none: what the
-//! time was reported for is not known then of an fq_codel, of a drr's front class, or below a tbf over a prio.
+//! time was reported for is not known then of an fq_codel, of a drr's front class, or below a tbf over a prio. After each fourth
+//! step the device is asked when its oldest packet arrived, which a plain list of the packets that wait has to say too.
 use crate::device_bench::{Ask, set_up};
 use crate::lines::{New, Spot, at, packet};
-use q_device::{Device, Polled, Settings};
+use q_device::{Device, Place, Polled, Settings};
+use q_packet::Moment;
 use std::alloc::Global;
 use std::test::Fail;
 
@@ -36,6 +38,8 @@ struct Told {
     broken: u64,
     // Times that were not after the poll that gave nothing.
     not_later: u64,
+    // Answers for the oldest packet that were not those of the list.
+    not_oldest: u64,
 }
 
 const NOTHING_TOLD: Told = Told {
@@ -43,12 +47,38 @@ const NOTHING_TOLD: Told = Told {
     gave_none: 0,
     broken: 0,
     not_later: 0,
+    not_oldest: 0,
 };
+
+// When the packet of each number arrived, as long as it waits.
+type Waiting = [Option<u64>; 40];
+
+// The packet of this number waits since then, or no longer.
+fn note(waiting: &mut Waiting, number: u64, since: Option<u64>) {
+    let place = usize::try_from(number).unwrap_or(0);
+    if let Some(noted) = waiting.get_mut(place) {
+        *noted = since;
+    }
+}
+
+// When the first of those arrived that wait.
+fn first_of(waiting: &Waiting) -> Option<u64> {
+    let mut first: Option<u64> = None;
+    for since in waiting {
+        first = match (first, *since) {
+            (Some(a), Some(b)) => Some(a.min(b)),
+            (a, None) => a,
+            (None, b) => b,
+        };
+    }
+    first
+}
 
 #[derive(Drop)]
 struct Script {
     device: Device,
     now: u64,
+    waiting: Waiting,
     told: Told,
 }
 
@@ -128,6 +158,7 @@ impl Script {
         Ok(Script {
             device: Device::open(alloc, settings)?,
             now: 0,
+            waiting: [None; 40],
             told: NOTHING_TOLD,
         })
     }
@@ -144,6 +175,9 @@ impl Script {
         self.graft(dice)?;
         for number in 0..40 {
             self.step(number, dice)?;
+            if number % 4 == 3 {
+                self.compare();
+            }
         }
         Ok(())
     }
@@ -155,14 +189,35 @@ impl Script {
             let len = u16::try_from(dice.below(1_400)).unwrap_or(0);
             let prio = u8::try_from(dice.below(3)).unwrap_or(0);
             let packet = packet(number, len.saturating_add(64), prio)?;
+            note(&mut self.waiting, number, Some(self.now));
             if self.device.arrive(packet, at(self.now)?).is_err() {
                 return Err(Fail::from("memory"));
             }
             return Ok(());
         }
-        match self.device.poll(at(self.now)?) {
+        match self.poll(at(self.now)?) {
             Polled::Later => self.wait(),
             Polled::Packet(_) | Polled::Idle => Ok(()),
+        }
+    }
+
+    // A poll; what it gives waits no longer.
+    fn poll(&mut self, now: Moment) -> Polled {
+        let polled = self.device.poll(now);
+        if let Polled::Packet(packet) = polled {
+            note(&mut self.waiting, packet.number, None);
+        }
+        polled
+    }
+
+    // Whether the device and the list say the same of the oldest packet, once what was lost waits no longer.
+    fn compare(&mut self) {
+        while let Some(lost) = self.device.reap() {
+            note(&mut self.waiting, lost.packet.number, None);
+        }
+        let oldest = self.device.oldest(Place::Top).map(|at| at.ns());
+        if oldest != first_of(&self.waiting) {
+            self.told.not_oldest = self.told.not_oldest.saturating_add(1);
         }
     }
 
@@ -175,7 +230,7 @@ impl Script {
         if ns <= self.now {
             self.told.not_later = self.told.not_later.saturating_add(1);
         } else {
-            let polled = self.device.poll(at(ns.saturating_sub(1))?);
+            let polled = self.poll(at(ns.saturating_sub(1))?);
             let sooner = match self.device.ready_at() {
                 Some(then) => then < ready,
                 None => false,
@@ -185,7 +240,7 @@ impl Script {
             }
         }
         self.now = self.now.max(ns);
-        match self.device.poll(ready) {
+        match self.poll(ready) {
             Polled::Packet(_) => self.told.gave = self.told.gave.saturating_add(1),
             Polled::Later | Polled::Idle => {
                 self.told.gave_none = self.told.gave_none.saturating_add(1)
@@ -215,6 +270,7 @@ fn played(alloc: Global, seed: u64, scripts: u64) -> Result<Told, Fail> {
         all.gave_none = all.gave_none.saturating_add(told.gave_none);
         all.broken = all.broken.saturating_add(told.broken);
         all.not_later = all.not_later.saturating_add(told.not_later);
+        all.not_oldest = all.not_oldest.saturating_add(told.not_oldest);
     }
     Ok(all)
 }
@@ -240,6 +296,7 @@ fn try_seed(alloc: Global, seed: u64, gave: u64, gave_none: u64) -> Result<(), F
         gave_none,
         broken: 0,
         not_later: 0,
+        not_oldest: 0,
     };
     if result == wanted {
         Ok(())

@@ -65,6 +65,8 @@ mod tree_filters;
 #[cfg(test)]
 mod tree_handles;
 #[cfg(test)]
+mod tree_oldest;
+#[cfg(test)]
 mod tree_refusals;
 #[cfg(test)]
 mod tree_views;

@@ -26,6 +26,7 @@ mod MadeValues
 mod MarkingValues
 mod MostPacketsValues
 mod NoteScripts
+mod OldestValues
 mod PacketValues
 mod PeekScripts
 mod ReadBackRows

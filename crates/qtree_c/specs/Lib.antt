@@ -14,6 +14,7 @@ pub mod Promised
 pub mod Names
 pub mod Nodes
 pub mod Noting
+pub mod Oldest
 pub mod Readiness
 pub mod Sample
 pub mod Scripts

@@ -43,6 +43,7 @@ mod names;
 mod nodes;
 mod noting;
 mod offers;
+mod oldest;
 mod opened;
 mod opening;
 mod polls;

@@ -343,6 +343,27 @@ impl Device {
         (code == sys::QTREE_DONE).then(|| Row::of(row))
     }
 
+    /// When the packet arrived that has been queued longest in a place, in nanoseconds; `None` where none is queued there, or nothing
+    /// stands there. The time of the last call less this is how long it has waited. It looks at each node in that place once, and at
+    /// each flow of an fq_codel.
+    ///
+    /// ```
+    /// # use qtree::{Device, Error, Packet, Place, Settings};
+    /// let mut device = Device::open(Settings::default())?;
+    /// assert_eq!(device.oldest(Place::Root), None);
+    /// device.arrive(&Packet::builder(1000).buf(1).build()?, 5)?;
+    /// device.arrive(&Packet::builder(1000).buf(2).build()?, 9)?;
+    /// assert_eq!(device.oldest(Place::Root), Some(5));
+    /// device.poll(9)?;
+    /// assert_eq!(device.oldest(Place::Root), Some(9));
+    /// # Ok::<(), Error>(())
+    /// ```
+    #[must_use]
+    pub fn oldest(&self, place: Place) -> Option<u64> {
+        let (code, moment) = self.0.oldest(place.to_c());
+        (code == sys::QTREE_DONE).then_some(moment)
+    }
+
     /// What the class in a place is promised; `None` where it is no class of a drr, or where something other than drrs stands between it
     /// and the root, a tbf at the root apart; or where that tbf has another beneath it, or a burst without room for a packet of the
     /// mtu and what its rate brings in a nanosecond.

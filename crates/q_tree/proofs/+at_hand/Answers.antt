@@ -1,8 +1,9 @@
 use Rattle.std.proofs.Common.{◌∙◌, refl, sym, ap, arith}
 use Rattle.q_tree.specs.Seen.{children_seen, discipline_seen}
-use Rattle.q_tree.proofs.AtHandLemmas.{found, passed, nobody, prio-shown, none-held, there-at}
+use Rattle.q_tree.proofs.AtHandLemmas.{found, passed, nobody, prio-shown, there-at}
 use Rattle.q_tree.proofs.RouteLemmas.{child-size, children-size}
 use Rattle.q_tree.proofs.+at_hand.Goals as goal
+use Rattle.q_tree.proofs.HeldLemmas.{none-kept}
 
 pub disciplines::prio::first_at_hand-loop-band-init : goal.disciplines::prio::first_at_hand-loop-band-init
 disciplines::prio::first_at_hand-loop-band-init t c = refl
@@ -26,7 +27,7 @@ node::Node::at_hand-first_at_hand-requires t c =
 pub node::Node::at_hand-returns-in-Prio : goal.node::Node::at_hand-returns-in-Prio
 node::Node::at_hand-returns-in-Prio t c =
     c.first_at_hand.ensures
-    ∙ prio-shown c.self.inside c.args.self.now c.deref.result.now c.in-Prio.priomap c.self.view_is (none-held c.self.inside.held c.if-is_some.ensures) (ap discipline_seen c.in-Prio.is) (c.deref.ensures.value ∙ sym (ap children_seen c.in-Prio.is))
+    ∙ prio-shown c.self.inside c.args.self.now c.deref.result.now c.in-Prio.priomap c.self.view_is (none-kept c.self.inside.held c.if-is_some.ensures) (ap discipline_seen c.in-Prio.is) (c.deref.ensures.value ∙ sym (ap children_seen c.in-Prio.is))
 
 pub disciplines::prio::first_at_hand-at_hand-requires : goal.disciplines::prio::first_at_hand-at_hand-requires
 disciplines::prio::first_at_hand-at_hand-requires t c = (

@@ -3,10 +3,11 @@ use Rattle.std.specs.Prelude.{is_some}
 use Rattle.std.proofs.lemmas.List.{length-map}
 use Rattle.q_model.specs.Pop.{pop}
 use Rattle.q_tree.specs.Seen.{children_seen, discipline_seen}
-use Rattle.q_tree.proofs.AtHandLemmas.{prio-shown, none-held, there-at}
+use Rattle.q_tree.proofs.AtHandLemmas.{prio-shown, there-at}
 use Rattle.q_tree.proofs.PopLemmas.{ready-here, ready-next, ready-none, ready-some}
 use Rattle.q_tree.proofs.RouteLemmas.{child-size, children-size}
 use Rattle.q_tree.proofs.+has_packet.Goals as goal
+use Rattle.q_tree.proofs.HeldLemmas.{none-kept}
 
 pub disciplines::prio::ready_band-loop-place-init : goal.disciplines::prio::ready_band-loop-place-init
 disciplines::prio::ready_band-loop-place-init t c = omega arith
@@ -40,4 +41,4 @@ pub node::Node::has_packet-returns-in-Prio : goal.node::Node::has_packet-returns
 node::Node::has_packet-returns-in-Prio t c =
     c.is_some-in-Prio.ensures
     ∙ ready-some c.deref.result.now c.ready_band.result c.ready_band.ensures
-    ∙ ap is_some (prio-shown c.self.inside c.args.self.now c.deref.result.now c.in-Prio.priomap c.self.view_is (none-held c.self.inside.held c.if-is_some.ensures) (ap discipline_seen c.in-Prio.is) (c.deref.ensures.value ∙ sym (ap children_seen c.in-Prio.is)))
+    ∙ ap is_some (prio-shown c.self.inside c.args.self.now c.deref.result.now c.in-Prio.priomap c.self.view_is (none-kept c.self.inside.held c.if-is_some.ensures) (ap discipline_seen c.in-Prio.is) (c.deref.ensures.value ∙ sym (ap children_seen c.in-Prio.is)))

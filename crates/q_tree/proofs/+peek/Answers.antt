@@ -1,15 +1,15 @@
-use Rattle.std.proofs.Common.{◌∙◌, [], ◌∷◌, set, length, add-one, refl, sym, ap, subst, arith, rules}
-use Rattle.std.specs.Prelude.{slice_index_or, unwrap_or}
+use Rattle.std.proofs.Common.{◌∙◌, [], ◌∷◌, set, length, add-one, refl, sym, ap, ap₂, subst, arith, rules, Option, Some}
+use Rattle.std.specs.Prelude.{is_some, slice_index_or, unwrap_or, slice_get}
 use Rattle.std.proofs.lemmas.List.{length-set}
 use Rattle.std.specs.Box.{with_value}
 use Rattle.std.specs.Vec.{with_items}
 use Rattle.q_bucket.specs.Level.{allows}
 use Rattle.q_fqcodel.specs.FqState.{FqView}
-use Rattle.q_model.specs.Ask.{ask}
+use Rattle.q_model.specs.Ask.{ask, ask_tbf, ask_drr}
 use Rattle.q_model.specs.Node as spec
 use Rattle.q_model.specs.Node.{Node, shape, side_by_side}
 use Rattle.q_model.specs.Pop.{pop}
-use Rattle.q_tree.specs.AskSteps.{IsToldOf, answers, held_in, own_of, signals_of}
+use Rattle.q_tree.specs.AskSteps.{IsToldOf, answers, held_in, own_of, signals_of, answer_of}
 use Rattle.q_tree.specs.Kept.{Kept}
 use Rattle.q_tree.specs.NodeCode.{forest_size}
 use Rattle.q_tree.specs.Seen.{children_seen, discipline_seen, places_seen}
@@ -17,14 +17,19 @@ use Rattle.q_tree.specs.declared.node.Discipline.TheVariants as code
 use Rattle.q_tree.specs.Shown.{Shown}
 use Rattle.q_tree.proofs.AskBands.{AreBandsAsked, told_to, band-at, band-once, band-shown, band-rises, band-passed, band-told, bands-start, bands-end, bands-rises}
 use Rattle.q_tree.proofs.AskOnce.{fits-beside, told-nothing, told-then}
-use Rattle.q_tree.proofs.AtHandLemmas.{none-held, some-held, shown-len}
+use Rattle.q_tree.proofs.AtHandLemmas.{none-held, some-held, shown-len, there-at}
 use Rattle.q_tree.proofs.HereLemmas.{flow-packets}
-use Rattle.q_tree.proofs.Peeks.{asked-in, told-in, each-of, room-of, own-room, items-are, serve-of, holding-after, can-in, enough, can-book, peeked-done, shown-here, told-here, tbf-gave, tbf-none, hand-asked}
-use Rattle.q_tree.proofs.ServeLemmas.{classes-go-on, classes-start, class-once, class-shown, class-size, fewer-grants, front-met, given-asked, given-packet, given-schedule, given-told, idle-asked, idle-schedule, idle-told, nothing-asked, nothing-schedule, nothing-told, place-within, short-enough}
+use Rattle.q_tree.proofs.Peeks.{asked-in, told-in, each-of, room-of, own-room, items-are, serve-of, holding-after, can-in, enough, can-book, peeked-done, shown-here, told-here, tbf-gave, tbf-none, hand-asked, tbf-gave-since, tbf-none-since, tbf-waits, tbf-waits-since}
+use Rattle.q_tree.proofs.ServeLemmas.{classes-go-on, classes-start, class-once, class-shown, class-size, fewer-grants, front-met, given-asked, given-packet, given-schedule, given-told, idle-asked, idle-schedule, idle-told, nothing-asked, nothing-schedule, nothing-told, place-within, short-enough, nothing-since, given-since, idle-since, class-given}
 use Rattle.q_tree.proofs.Quiet.{shown-nothing}
 use Rattle.q_tree.proofs.RouteLemmas.{child-size, children-size}
 use Rattle.q_tree.proofs.TakeCounts.{flow-told}
 use Rattle.q_tree.proofs.+peek.Goals as goal
+use Rattle.q_tree.proofs.HeldLemmas.{none-kept, some-kept, some-there, none-there, empty-held, held-with}
+use Rattle.q_tree.specs.Holding.{held_with}
+use Rattle.q_model.specs.Since.{at_hand_since, since_of}
+use Rattle.q_packet.specs.Descriptor.{Descriptor}
+use Rattle.std.proofs.lemmas.Option.{none-some, same_Some}
 
 pub disciplines::drr::peek_class_further-then-requires-clause-dropped_packets : goal.disciplines::drr::peek_class_further-then-requires-clause-dropped_packets
 disciplines::drr::peek_class_further-then-requires-clause-dropped_packets g t c = (fits-beside c.args.now c.args.class.now c.args.so_far c.peek-next.result (g.S.Sink.room c.args.sink.now) c.requires.ready c.peek-next.ensures.peeked.shown).dropped_packets
@@ -38,165 +43,250 @@ disciplines::drr::peek_class_further-then-requires-clause-marked_packets g t c =
 pub disciplines::drr::peek_class_further-then-requires-clause-marked_bytes : goal.disciplines::drr::peek_class_further-then-requires-clause-marked_bytes
 disciplines::drr::peek_class_further-then-requires-clause-marked_bytes g t c = (fits-beside c.args.now c.args.class.now c.args.so_far c.peek-next.result (g.S.Sink.room c.args.sink.now) c.requires.ready c.peek-next.ensures.peeked.shown).marked_bytes
 
-pub disciplines::tbf::dequeue_child-returns-in_default-clause-after :
-    goal.disciplines::tbf::dequeue_child-returns-in_default-clause-after
-disciplines::tbf::dequeue_child-returns-in_default-clause-after g t c = λ own limit.
-    tbf-none c.args.now own c.args.bucket.now limit c.args.child.now c.peek-shown.new.self c.peek-shown.result c.peek-shown.ensures.peeked.after c.peek-shown.ensures.peeked.arrived c.peek-shown.ensures.peeked.shown (c.packet_len.ensures.none c.in_default.is)
+pub disciplines::tbf::allow_child-returns-in_default-clause-allowed : goal.disciplines::tbf::allow_child-returns-in_default-clause-allowed
+disciplines::tbf::allow_child-returns-in_default-clause-allowed g t c = λ p is. absurd (none-some p (sym (c.packet_len.ensures.none c.in_default.is) ∙ is))
 
-pub disciplines::tbf::dequeue_child-returns-clause-after : goal.disciplines::tbf::dequeue_child-returns-clause-after
-disciplines::tbf::dequeue_child-returns-clause-after g t c = λ own limit.
+pub disciplines::tbf::allow_child-returns-in_default-clause-waits : goal.disciplines::tbf::allow_child-returns-in_default-clause-waits
+disciplines::tbf::allow_child-returns-in_default-clause-waits g t c = λ none own limit. record {
+  since = tbf-none-since c.args.now own c.args.bucket.now limit c.args.child.now (sym c.peek-shown.ensures.peeked.shown.packet ∙ none);
+  asked = tbf-none c.args.now own c.args.bucket.now limit c.args.child.now c.peek-shown.new.self c.peek-shown.result c.peek-shown.ensures.peeked.after c.peek-shown.ensures.peeked.arrived c.peek-shown.ensures.peeked.shown none;
+}
+
+pub disciplines::tbf::allow_child-returns-then-not-spend-clause-allowed : goal.disciplines::tbf::allow_child-returns-then-not-spend-clause-allowed
+disciplines::tbf::allow_child-returns-then-not-spend-clause-allowed g t c = λ p is. absurd (none-some p (sym (ap (λ (s : Shown). s.packet) c.showing.ensures) ∙ is))
+
+pub disciplines::tbf::allow_child-returns-then-not-spend-clause-waits : goal.disciplines::tbf::allow_child-returns-then-not-spend-clause-waits
+disciplines::tbf::allow_child-returns-then-not-spend-clause-waits g t c = λ none own limit.
     let offer = shown-len c.peek-shown.result.packet c.packet_len.result c.in-Some.len c.packet_len.ensures.some c.in-Some.is in
     let shown = sym c.peek-shown.ensures.peeked.shown.packet ∙ offer.1 in
+    let may = ap (allows c.args.bucket.now c.args.now) offer.2 ∙ sym c.spend.ensures.answer ∙ c.if-not-spend.true in
+    record {
+      since = tbf-waits-since c.args.now own c.args.bucket.now limit c.args.child.now offer.0 shown may;
+      asked = tbf-waits c.args.now own c.args.bucket.now limit c.args.child.now c.peek-shown.new.self offer.0 c.peek-shown.result c.showing.result c.peek-shown.ensures.peeked.after c.peek-shown.ensures.peeked.arrived c.peek-shown.ensures.peeked.shown
+          shown may none (ap (λ (s : Shown). s.dropped) c.showing.ensures) (ap (λ (s : Shown). s.marked) c.showing.ensures);
+    }
+
+pub disciplines::tbf::allow_child-returns-then-not-spend-clause-signals : goal.disciplines::tbf::allow_child-returns-then-not-spend-clause-signals
+disciplines::tbf::allow_child-returns-then-not-spend-clause-signals g t c = c.peek-shown.ensures.peeked.signals ∙ sym (ap signals_of c.showing.ensures)
+
+pub disciplines::tbf::allow_child-returns-clause-allowed : goal.disciplines::tbf::allow_child-returns-clause-allowed
+disciplines::tbf::allow_child-returns-clause-allowed g t c = λ p is.
+    let offer = shown-len c.peek-shown.result.packet c.packet_len.result c.in-Some.len c.packet_len.ensures.some c.in-Some.is in
+    let shown = sym c.peek-shown.ensures.peeked.shown.packet ∙ offer.1 in
+    let may = ap (allows c.args.bucket.now c.args.now) offer.2 ∙ sym c.spend.ensures.answer ∙ c.if-not-spend.false in
     let given = hand-asked c.args.now c.args.child.now c.peek-shown.new.self c.requires.ready c.peek-shown.ensures.peeked.after in
-    tbf-gave c.args.now own c.args.bucket.now limit c.args.child.now c.peek-shown.new.self c.dequeue_at_hand.new.self offer.0 c.peek-shown.result
-    c.requires.ready c.peek-shown.ensures.peeked.after shown (ap (allows c.args.bucket.now c.args.now) offer.2 ∙ sym c.spend.ensures.answer ∙ c.if-not-spend.false) c.dequeue_at_hand.ensures.after (c.dequeue_at_hand.ensures.arrived ∙ c.peek-shown.ensures.peeked.arrived) (c.peek-shown.ensures.peeked.shown.packet ∙ sym given) c.peek-shown.ensures.peeked.shown.dropped c.peek-shown.ensures.peeked.shown.marked
+    record {
+      shown = given ∙ sym c.peek-shown.ensures.peeked.shown.packet ∙ is;
+      since = λ own limit. tbf-gave-since c.args.now own c.args.bucket.now limit c.args.child.now c.peek-shown.new.self offer.0 c.requires.ready c.peek-shown.ensures.peeked.after shown may;
+      asked = λ child after arrived own limit.
+          tbf-gave c.args.now own c.args.bucket.now limit c.args.child.now c.peek-shown.new.self child offer.0 c.peek-shown.result
+          c.requires.ready c.peek-shown.ensures.peeked.after shown may after (arrived ∙ c.peek-shown.ensures.peeked.arrived) (c.peek-shown.ensures.peeked.shown.packet ∙ sym given) c.peek-shown.ensures.peeked.shown.dropped c.peek-shown.ensures.peeked.shown.marked;
+    }
 
-pub disciplines::tbf::dequeue_child-returns-clause-packet : goal.disciplines::tbf::dequeue_child-returns-clause-packet
-disciplines::tbf::dequeue_child-returns-clause-packet g t c =
-    c.dequeue_at_hand.ensures.packet
-    ∙ ap (λ o. unwrap_or o c.args.out.now) (hand-asked c.args.now c.args.child.now c.peek-shown.new.self c.requires.ready c.peek-shown.ensures.peeked.after ∙ sym c.peek-shown.ensures.peeked.shown.packet)
+pub disciplines::tbf::allow_child-returns-clause-waits : goal.disciplines::tbf::allow_child-returns-clause-waits
+disciplines::tbf::allow_child-returns-clause-waits g t c = λ none own limit.
+    let offer = shown-len c.peek-shown.result.packet c.packet_len.result c.in-Some.len c.packet_len.ensures.some c.in-Some.is in
+    absurd (none-some offer.0 (sym none ∙ offer.1))
 
-pub disciplines::tbf::dequeue_child-returns-in_default-clause-packet : goal.disciplines::tbf::dequeue_child-returns-in_default-clause-packet
-disciplines::tbf::dequeue_child-returns-in_default-clause-packet g t c = ap (λ o. unwrap_or o c.args.out.now) (sym (c.packet_len.ensures.none c.in_default.is))
+pub disciplines::tbf::peek_child-hold-requires : goal.disciplines::tbf::peek_child-hold-requires
+disciplines::tbf::peek_child-hold-requires g t c =
+    let there = some-there c.allow_child-shown.result.packet (sym c.has_packet.ensures ∙ c.if-has_packet.true) in
+    ap is_some (c.allow_child-shown.ensures.allowed there.0 there.1).shown
 
-pub disciplines::tbf::dequeue_child-returns-then-not-spend-clause-packet : goal.disciplines::tbf::dequeue_child-returns-then-not-spend-clause-packet
-disciplines::tbf::dequeue_child-returns-then-not-spend-clause-packet g t c = ap (λ (s : Shown). unwrap_or s.packet c.args.out.now) (sym c.showing.ensures)
+pub disciplines::tbf::peek_child-returns-then-has_packet-clause-after : goal.disciplines::tbf::peek_child-returns-then-has_packet-clause-after
+disciplines::tbf::peek_child-returns-then-has_packet-clause-after g t c = λ own limit.
+    let there = some-there c.allow_child-shown.result.packet (sym c.has_packet.ensures ∙ c.if-has_packet.true) in
+    (c.allow_child-shown.ensures.allowed there.0 there.1).asked c.hold.new.child c.hold.ensures.after c.hold.ensures.arrived own limit
 
-pub disciplines::tbf::dequeue_child-returns-then-not-spend-clause-signals : goal.disciplines::tbf::dequeue_child-returns-then-not-spend-clause-signals
-disciplines::tbf::dequeue_child-returns-then-not-spend-clause-signals g t c = c.peek-shown.ensures.peeked.signals ∙ sym (ap signals_of c.showing.ensures)
+pub disciplines::tbf::peek_child-returns-then-has_packet-clause-held : goal.disciplines::tbf::peek_child-returns-then-has_packet-clause-held
+disciplines::tbf::peek_child-returns-then-has_packet-clause-held g t c = λ own limit.
+    let there = some-there c.allow_child-shown.result.packet (sym c.has_packet.ensures ∙ c.if-has_packet.true) in
+    let allowed = c.allow_child-shown.ensures.allowed there.0 there.1 in
+    c.hold.ensures.held ∙ ap₂ held_with (allowed.shown ∙ sym there.1) (allowed.since own limit)
 
-pub disciplines::drr::dequeue_class-loop-place-init : goal.disciplines::drr::dequeue_class-loop-place-init
-disciplines::drr::dequeue_class-loop-place-init g t c = (
+pub disciplines::tbf::peek_child-returns-clause-after : goal.disciplines::tbf::peek_child-returns-clause-after
+disciplines::tbf::peek_child-returns-clause-after g t c = λ own limit.
+    (c.allow_child-shown.ensures.waits (none-there c.allow_child-shown.result.packet (sym c.has_packet.ensures ∙ c.if-has_packet.false)) own limit).asked
+
+pub disciplines::tbf::peek_child-returns-clause-held : goal.disciplines::tbf::peek_child-returns-clause-held
+disciplines::tbf::peek_child-returns-clause-held g t c = λ own limit.
+    c.requires.none
+    ∙ ap (λ (o : Option Descriptor). held_with o (ask_tbf c.args.now own (answers c.args.now (c.args.child.now ∷ [])) c.args.bucket.now limit).peeked.own.since)
+        (sym (none-there c.allow_child-shown.result.packet (sym c.has_packet.ensures ∙ c.if-has_packet.false)))
+
+pub disciplines::drr::meet_class-loop-place-init : goal.disciplines::drr::meet_class-loop-place-init
+disciplines::drr::meet_class-loop-place-init g t c = (
   classes-start c.args.now c.args.active.now c.args.classes.now c.active_count-unasked.result c.at_hand-shown.result (g.S.Sink.losses c.args.sink.now) (g.S.Sink.room c.args.sink.now) c.requires.ready c.active_count-unasked.ensures
       (record { dropped = ap (λ (s : Shown). s.dropped) c.at_hand-shown.ensures; marked = ap (λ (s : Shown). s.marked) c.at_hand-shown.ensures }),
   g.met.S.Sink.keeps_same c.args.sink.now,
-  refl,
   c.requires.clean ∙ sym (ap signals_of c.at_hand-shown.ensures),
 )
 
-pub disciplines::drr::dequeue_class-offset_bounds-classes-place : goal.disciplines::drr::dequeue_class-offset_bounds-classes-place
-disciplines::drr::dequeue_class-offset_bounds-classes-place g t c =
+pub disciplines::drr::meet_class-offset_bounds-classes-place : goal.disciplines::drr::meet_class-offset_bounds-classes-place
+disciplines::drr::meet_class-offset_bounds-classes-place g t c =
     let met = front-met c.requires.ready c.loop-place.invariant.0 c.front_place.ensures.lawful c.in-Some.place (sym c.in-Some.is ∙ c.front_place.ensures.place) in
     omega (arith, place-within met, c.loop-place.auto.classes)
 
-pub disciplines::drr::dequeue_class-bounds-classes-place : goal.disciplines::drr::dequeue_class-bounds-classes-place
-disciplines::drr::dequeue_class-bounds-classes-place g t c =
+pub disciplines::drr::meet_class-bounds-classes-place : goal.disciplines::drr::meet_class-bounds-classes-place
+disciplines::drr::meet_class-bounds-classes-place g t c =
     place-within (front-met c.requires.ready c.loop-place.invariant.0 c.front_place.ensures.lawful c.in-Some.place (sym c.in-Some.is ∙ c.front_place.ensures.place))
 
-pub disciplines::drr::dequeue_class-peek_class-shown-requires : goal.disciplines::drr::dequeue_class-peek_class-shown-requires
-disciplines::drr::dequeue_class-peek_class-shown-requires g t c κs within =
+pub disciplines::drr::meet_class-peek_class-shown-requires : goal.disciplines::drr::meet_class-peek_class-shown-requires
+disciplines::drr::meet_class-peek_class-shown-requires g t c κs within =
     let met = front-met c.requires.ready c.loop-place.invariant.0 c.front_place.ensures.lawful c.in-Some.place (sym c.in-Some.is ∙ c.front_place.ensures.place) in (
       omega (arith, class-size met c.index-classes-place.result, c.decreases),
-      (within, ((λ some. class-once met c.index-classes-place.result some c.requires.sink), c.loop-place.invariant.3)),
+      (within, ((λ some. class-once met c.index-classes-place.result some c.requires.sink), c.loop-place.invariant.2)),
     )
 
-pub disciplines::drr::dequeue_class-returns-in_default-packet_len-clause-active : goal.disciplines::drr::dequeue_class-returns-in_default-packet_len-clause-active
-disciplines::drr::dequeue_class-returns-in_default-packet_len-clause-active g t c =
-    let met = front-met c.requires.ready c.loop-place.invariant.0 c.front_place.ensures.lawful c.in-Some.place (sym c.in-Some.is ∙ c.front_place.ensures.place) in
-    let shows = class-shown met c.index-classes-place.result c.peek_class-shown.ensures.asked c.peek_class-shown.ensures.told c.peek_class-shown.ensures.at_hand c.peek_class-shown.ensures.not_lost in
-    nothing-schedule met shows (c.packet_len.ensures.none c.in_default-packet_len.is)
-
-pub disciplines::drr::dequeue_class-returns-in_default-packet_len-clause-after : goal.disciplines::drr::dequeue_class-returns-in_default-packet_len-clause-after
-disciplines::drr::dequeue_class-returns-in_default-packet_len-clause-after g t c =
-    let met = front-met c.requires.ready c.loop-place.invariant.0 c.front_place.ensures.lawful c.in-Some.place (sym c.in-Some.is ∙ c.front_place.ensures.place) in
-    let shows = class-shown met c.index-classes-place.result c.peek_class-shown.ensures.asked c.peek_class-shown.ensures.told c.peek_class-shown.ensures.at_hand c.peek_class-shown.ensures.not_lost in
-    nothing-asked met shows (c.packet_len.ensures.none c.in_default-packet_len.is)
-
-pub disciplines::drr::dequeue_class-returns-in_default-packet_len-clause-told : goal.disciplines::drr::dequeue_class-returns-in_default-packet_len-clause-told
-disciplines::drr::dequeue_class-returns-in_default-packet_len-clause-told g t c =
+pub disciplines::drr::meet_class-returns-in_default-packet_len-clause-told : goal.disciplines::drr::meet_class-returns-in_default-packet_len-clause-told
+disciplines::drr::meet_class-returns-in_default-packet_len-clause-told g t c =
     let met = front-met c.requires.ready c.loop-place.invariant.0 c.front_place.ensures.lawful c.in-Some.place (sym c.in-Some.is ∙ c.front_place.ensures.place) in
     let shows = class-shown met c.index-classes-place.result c.peek_class-shown.ensures.asked c.peek_class-shown.ensures.told c.peek_class-shown.ensures.at_hand c.peek_class-shown.ensures.not_lost in
     nothing-told met shows (c.packet_len.ensures.none c.in_default-packet_len.is)
 
-pub disciplines::drr::dequeue_class-returns-in_default-packet_len-clause-kept : goal.disciplines::drr::dequeue_class-returns-in_default-packet_len-clause-kept
-disciplines::drr::dequeue_class-returns-in_default-packet_len-clause-kept g t c =
+pub disciplines::drr::meet_class-returns-in_default-packet_len-clause-kept : goal.disciplines::drr::meet_class-returns-in_default-packet_len-clause-kept
+disciplines::drr::meet_class-returns-in_default-packet_len-clause-kept g t c =
     g.met.S.Sink.keeps_on c.args.sink.now c.loop-place.sink c.peek_class-shown.new.sink c.loop-place.invariant.1 c.peek_class-shown.ensures.kept
 
-pub disciplines::drr::dequeue_class-returns-in_default-packet_len-clause-packet : goal.disciplines::drr::dequeue_class-returns-in_default-packet_len-clause-packet
-disciplines::drr::dequeue_class-returns-in_default-packet_len-clause-packet g t c = c.loop-place.invariant.2 ∙ ap (λ o. unwrap_or o c.args.out.now) (sym (c.packet_len.ensures.none c.in_default-packet_len.is))
-
-pub disciplines::drr::dequeue_class-turn-requires-clause-in_range : goal.disciplines::drr::dequeue_class-turn-requires-clause-in_range
-disciplines::drr::dequeue_class-turn-requires-clause-in_range g t c =
+pub disciplines::drr::meet_class-turn-requires-clause-in_range : goal.disciplines::drr::meet_class-turn-requires-clause-in_range
+disciplines::drr::meet_class-turn-requires-clause-in_range g t c =
     let met = front-met c.requires.ready c.loop-place.invariant.0 c.front_place.ensures.lawful c.in-Some.place (sym c.in-Some.is ∙ c.front_place.ensures.place) in
     let shows = class-shown met c.index-classes-place.result c.peek_class-shown.ensures.asked c.peek_class-shown.ensures.told c.peek_class-shown.ensures.at_hand c.peek_class-shown.ensures.not_lost in
     let offer = shown-len c.peek_class-shown.result.packet c.packet_len.result c.in-Some-packet_len.len c.packet_len.ensures.some c.in-Some-packet_len.is in
     short-enough met shows offer
 
-pub disciplines::drr::dequeue_class-dequeue_class_at_hand-requires : goal.disciplines::drr::dequeue_class-dequeue_class_at_hand-requires
-disciplines::drr::dequeue_class-dequeue_class_at_hand-requires g t c =
-    let met = front-met c.requires.ready c.loop-place.invariant.0 c.front_place.ensures.lawful c.in-Some.place (sym c.in-Some.is ∙ c.front_place.ensures.place) in
-    omega (arith, place-within met, length-set c.loop-place.classes c.in-Some.place c.peek_class-shown.new.class)
-
-pub disciplines::drr::dequeue_class-returns-in-Send-clause-active : goal.disciplines::drr::dequeue_class-returns-in-Send-clause-active
-disciplines::drr::dequeue_class-returns-in-Send-clause-active g t c =
+pub disciplines::drr::meet_class-returns-in-Send-clause-told : goal.disciplines::drr::meet_class-returns-in-Send-clause-told
+disciplines::drr::meet_class-returns-in-Send-clause-told g t c =
     let met = front-met c.requires.ready c.loop-place.invariant.0 c.front_place.ensures.lawful c.in-Some.place (sym c.in-Some.is ∙ c.front_place.ensures.place) in
     let shows = class-shown met c.index-classes-place.result c.peek_class-shown.ensures.asked c.peek_class-shown.ensures.told c.peek_class-shown.ensures.at_hand c.peek_class-shown.ensures.not_lost in
     let offer = shown-len c.peek_class-shown.result.packet c.packet_len.result c.in-Some-packet_len.len c.packet_len.ensures.some c.in-Some-packet_len.is in
-    given-schedule met shows offer (sym c.in-Send.is ∙ c.turn.ensures.answer) c.turn.ensures.after c.dequeue_class_at_hand.ensures.given
+    given-told met shows offer (sym c.in-Send.is ∙ c.turn.ensures.answer) c.turn.ensures.after
 
-pub disciplines::drr::dequeue_class-returns-in-Send-clause-after : goal.disciplines::drr::dequeue_class-returns-in-Send-clause-after
-disciplines::drr::dequeue_class-returns-in-Send-clause-after g t c =
-    let met = front-met c.requires.ready c.loop-place.invariant.0 c.front_place.ensures.lawful c.in-Some.place (sym c.in-Some.is ∙ c.front_place.ensures.place) in
-    let shows = class-shown met c.index-classes-place.result c.peek_class-shown.ensures.asked c.peek_class-shown.ensures.told c.peek_class-shown.ensures.at_hand c.peek_class-shown.ensures.not_lost in
-    let offer = shown-len c.peek_class-shown.result.packet c.packet_len.result c.in-Some-packet_len.len c.packet_len.ensures.some c.in-Some-packet_len.is in
-    given-asked met shows offer (sym c.in-Send.is ∙ c.turn.ensures.answer) c.turn.ensures.after c.dequeue_class_at_hand.ensures.given
-
-pub disciplines::drr::dequeue_class-returns-in-Send-clause-told : goal.disciplines::drr::dequeue_class-returns-in-Send-clause-told
-disciplines::drr::dequeue_class-returns-in-Send-clause-told g t c =
-    let met = front-met c.requires.ready c.loop-place.invariant.0 c.front_place.ensures.lawful c.in-Some.place (sym c.in-Some.is ∙ c.front_place.ensures.place) in
-    let shows = class-shown met c.index-classes-place.result c.peek_class-shown.ensures.asked c.peek_class-shown.ensures.told c.peek_class-shown.ensures.at_hand c.peek_class-shown.ensures.not_lost in
-    let offer = shown-len c.peek_class-shown.result.packet c.packet_len.result c.in-Some-packet_len.len c.packet_len.ensures.some c.in-Some-packet_len.is in
-    given-told met shows offer (sym c.in-Send.is ∙ c.turn.ensures.answer) c.turn.ensures.after c.dequeue_class_at_hand.ensures.given
-
-pub disciplines::drr::dequeue_class-returns-in-Send-clause-packet : goal.disciplines::drr::dequeue_class-returns-in-Send-clause-packet
-disciplines::drr::dequeue_class-returns-in-Send-clause-packet g t c =
-    let met = front-met c.requires.ready c.loop-place.invariant.0 c.front_place.ensures.lawful c.in-Some.place (sym c.in-Some.is ∙ c.front_place.ensures.place) in
-    let shows = class-shown met c.index-classes-place.result c.peek_class-shown.ensures.asked c.peek_class-shown.ensures.told c.peek_class-shown.ensures.at_hand c.peek_class-shown.ensures.not_lost in
-    c.dequeue_class_at_hand.ensures.packet c.peek_class-shown.new.class shows.stored
-    ∙ ap (λ o. unwrap_or (pop c.peek_class-shown.new.class).shown o) c.loop-place.invariant.2
-    ∙ ap (λ o. unwrap_or o c.args.out.now) (given-packet met shows)
-
-pub disciplines::drr::dequeue_class-returns-in-Send-clause-kept : goal.disciplines::drr::dequeue_class-returns-in-Send-clause-kept
-disciplines::drr::dequeue_class-returns-in-Send-clause-kept g t c =
+pub disciplines::drr::meet_class-returns-in-Send-clause-kept : goal.disciplines::drr::meet_class-returns-in-Send-clause-kept
+disciplines::drr::meet_class-returns-in-Send-clause-kept g t c =
     g.met.S.Sink.keeps_on c.args.sink.now c.loop-place.sink c.peek_class-shown.new.sink c.loop-place.invariant.1 c.peek_class-shown.ensures.kept
 
-pub disciplines::drr::dequeue_class-loop-place-smaller : goal.disciplines::drr::dequeue_class-loop-place-smaller
-disciplines::drr::dequeue_class-loop-place-smaller g t c =
+pub disciplines::drr::meet_class-loop-place-smaller : goal.disciplines::drr::meet_class-loop-place-smaller
+disciplines::drr::meet_class-loop-place-smaller g t c =
     let met = front-met c.requires.ready c.loop-place.invariant.0 c.front_place.ensures.lawful c.in-Some.place (sym c.in-Some.is ∙ c.front_place.ensures.place) in
     let shows = class-shown met c.index-classes-place.result c.peek_class-shown.ensures.asked c.peek_class-shown.ensures.told c.peek_class-shown.ensures.at_hand c.peek_class-shown.ensures.not_lost in
     let offer = shown-len c.peek_class-shown.result.packet c.packet_len.result c.in-Some-packet_len.len c.packet_len.ensures.some c.in-Some-packet_len.is in
     fewer-grants met shows offer (sym c.in-Granted.is ∙ c.turn.ensures.answer) c.turn.ensures.after
 
-pub disciplines::drr::dequeue_class-loop-place-preserved : goal.disciplines::drr::dequeue_class-loop-place-preserved
-disciplines::drr::dequeue_class-loop-place-preserved g t c =
+pub disciplines::drr::meet_class-loop-place-preserved : goal.disciplines::drr::meet_class-loop-place-preserved
+disciplines::drr::meet_class-loop-place-preserved g t c =
     let met = front-met c.requires.ready c.loop-place.invariant.0 c.front_place.ensures.lawful c.in-Some.place (sym c.in-Some.is ∙ c.front_place.ensures.place) in
     let shows = class-shown met c.index-classes-place.result c.peek_class-shown.ensures.asked c.peek_class-shown.ensures.told c.peek_class-shown.ensures.at_hand c.peek_class-shown.ensures.not_lost in
     let offer = shown-len c.peek_class-shown.result.packet c.packet_len.result c.in-Some-packet_len.len c.packet_len.ensures.some c.in-Some-packet_len.is in (
       classes-go-on met shows offer (sym c.in-Granted.is ∙ c.turn.ensures.answer) c.turn.ensures.after c.saturating_sub-unasked.ensures,
       g.met.S.Sink.keeps_on c.args.sink.now c.loop-place.sink c.peek_class-shown.new.sink c.loop-place.invariant.1 c.peek_class-shown.ensures.kept,
-      c.loop-place.invariant.2,
       c.peek_class-shown.ensures.signals,
     )
 
-pub disciplines::drr::dequeue_class-returns-clause-active : goal.disciplines::drr::dequeue_class-returns-clause-active
-disciplines::drr::dequeue_class-returns-clause-active g t c = idle-schedule c.requires.ready c.loop-place.invariant.0 c.front_place.ensures.lawful _ c.in_default.is c.front_place.ensures.found
+pub disciplines::drr::meet_class-returns-clause-told : goal.disciplines::drr::meet_class-returns-clause-told
+disciplines::drr::meet_class-returns-clause-told g t c = idle-told c.requires.ready c.loop-place.invariant.0 c.front_place.ensures.lawful _ c.in_default.is c.front_place.ensures.found
 
-pub disciplines::drr::dequeue_class-returns-clause-after : goal.disciplines::drr::dequeue_class-returns-clause-after
-disciplines::drr::dequeue_class-returns-clause-after g t c =
-    idle-asked c.requires.ready c.loop-place.invariant.0 c.front_place.ensures.lawful _ c.in_default.is c.front_place.ensures.found (ap (λ (s : Shown). s.packet) c.at_hand.ensures)
-    (record { dropped = ap (λ (s : Shown). s.dropped) c.at_hand.ensures; marked = ap (λ (s : Shown). s.marked) c.at_hand.ensures })
+pub disciplines::drr::meet_class-returns-clause-kept : goal.disciplines::drr::meet_class-returns-clause-kept
+disciplines::drr::meet_class-returns-clause-kept g t c = c.loop-place.invariant.1
 
-pub disciplines::drr::dequeue_class-returns-clause-packet : goal.disciplines::drr::dequeue_class-returns-clause-packet
-disciplines::drr::dequeue_class-returns-clause-packet g t c = c.loop-place.invariant.2 ∙ ap (λ o. unwrap_or o c.args.out.now) (sym (ap (λ (s : Shown). s.packet) c.at_hand.ensures))
+pub disciplines::drr::meet_class-returns-clause-signals : goal.disciplines::drr::meet_class-returns-clause-signals
+disciplines::drr::meet_class-returns-clause-signals g t c = sym (ap signals_of c.at_hand.ensures)
 
-pub disciplines::drr::dequeue_class-returns-clause-told : goal.disciplines::drr::dequeue_class-returns-clause-told
-disciplines::drr::dequeue_class-returns-clause-told g t c = idle-told c.requires.ready c.loop-place.invariant.0 c.front_place.ensures.lawful _ c.in_default.is c.front_place.ensures.found
+pub disciplines::drr::meet_class-returns-in_default-packet_len-clause-nothing : goal.disciplines::drr::meet_class-returns-in_default-packet_len-clause-nothing
+disciplines::drr::meet_class-returns-in_default-packet_len-clause-nothing g t c = λ none.
+    let met = front-met c.requires.ready c.loop-place.invariant.0 c.front_place.ensures.lawful c.in-Some.place (sym c.in-Some.is ∙ c.front_place.ensures.place) in
+    let shows = class-shown met c.index-classes-place.result c.peek_class-shown.ensures.asked c.peek_class-shown.ensures.told c.peek_class-shown.ensures.at_hand c.peek_class-shown.ensures.not_lost in
+    let empty = c.packet_len.ensures.none c.in_default-packet_len.is in
+    record {
+      empty = empty;
+      since = nothing-since met shows empty;
+      schedule = nothing-schedule met shows empty;
+      asked = nothing-asked met shows empty;
+    }
 
-pub disciplines::drr::dequeue_class-returns-clause-kept : goal.disciplines::drr::dequeue_class-returns-clause-kept
-disciplines::drr::dequeue_class-returns-clause-kept g t c = c.loop-place.invariant.1
+pub disciplines::drr::meet_class-returns-clause-nothing : goal.disciplines::drr::meet_class-returns-clause-nothing
+disciplines::drr::meet_class-returns-clause-nothing g t c = λ none.
+    let empty = ap (λ (s : Shown). s.packet) c.at_hand.ensures in
+    record {
+      empty = empty;
+      since = idle-since c.requires.ready c.loop-place.invariant.0 c.front_place.ensures.lawful _ c.in_default.is c.front_place.ensures.found;
+      schedule = idle-schedule c.requires.ready c.loop-place.invariant.0 c.front_place.ensures.lawful _ c.in_default.is c.front_place.ensures.found;
+      asked = idle-asked c.requires.ready c.loop-place.invariant.0 c.front_place.ensures.lawful _ c.in_default.is c.front_place.ensures.found empty
+          (record { dropped = ap (λ (s : Shown). s.dropped) c.at_hand.ensures; marked = ap (λ (s : Shown). s.marked) c.at_hand.ensures });
+    }
 
-pub disciplines::drr::dequeue_class-returns-clause-signals : goal.disciplines::drr::dequeue_class-returns-clause-signals
-disciplines::drr::dequeue_class-returns-clause-signals g t c = sym (ap signals_of c.at_hand.ensures)
+pub disciplines::drr::meet_class-returns-in_default-packet_len-clause-met : goal.disciplines::drr::meet_class-returns-in_default-packet_len-clause-met
+disciplines::drr::meet_class-returns-in_default-packet_len-clause-met g t c = λ p is. absurd (none-some p (sym (c.packet_len.ensures.none c.in_default-packet_len.is) ∙ is))
+
+pub disciplines::drr::meet_class-returns-clause-met : goal.disciplines::drr::meet_class-returns-clause-met
+disciplines::drr::meet_class-returns-clause-met g t c = λ p is. absurd (none-some p (sym (ap (λ (s : Shown). s.packet) c.at_hand.ensures) ∙ is))
+
+pub disciplines::drr::meet_class-returns-in-Send-clause-nothing : goal.disciplines::drr::meet_class-returns-in-Send-clause-nothing
+disciplines::drr::meet_class-returns-in-Send-clause-nothing g t c = λ none.
+    let offer = shown-len c.peek_class-shown.result.packet c.packet_len.result c.in-Some-packet_len.len c.packet_len.ensures.some c.in-Some-packet_len.is in
+    absurd (none-some offer.0 (sym none ∙ offer.1))
+
+pub disciplines::drr::meet_class-returns-in-Send-clause-met : goal.disciplines::drr::meet_class-returns-in-Send-clause-met
+disciplines::drr::meet_class-returns-in-Send-clause-met g t c = λ p is.
+    let met = front-met c.requires.ready c.loop-place.invariant.0 c.front_place.ensures.lawful c.in-Some.place (sym c.in-Some.is ∙ c.front_place.ensures.place) in
+    let shows = class-shown met c.index-classes-place.result c.peek_class-shown.ensures.asked c.peek_class-shown.ensures.told c.peek_class-shown.ensures.at_hand c.peek_class-shown.ensures.not_lost in
+    let offer = shown-len c.peek_class-shown.result.packet c.packet_len.result c.in-Some-packet_len.len c.packet_len.ensures.some c.in-Some-packet_len.is in
+    let send = sym c.in-Send.is ∙ c.turn.ensures.answer in
+    let here = λ (class : Node Kept) (at : slice_get (set c.loop-place.classes c.in-Some.place c.peek_class-shown.new.class) c.in-Some.place ≡ Some class). same_Some class c.peek_class-shown.new.class (sym at ∙ shows.stored) in
+    record {
+      inside = omega (arith, place-within met, length-set c.loop-place.classes c.in-Some.place c.peek_class-shown.new.class);
+      some = ap is_some offer.1;
+      shown = λ class at. ap (λ (n : Node Kept). (pop n).shown) (here class at) ∙ given-packet met shows;
+      since = λ class at own. ap (λ (n : Node Kept). since_of c.peek_class-shown.result.packet (unwrap_or (at_hand_since n) 0)) (here class at) ∙ given-since met shows offer send c.turn.ensures.after own;
+      schedule = λ given ks gift own. given-schedule met shows offer send c.turn.ensures.after gift own;
+      asked = λ given ks gift own. given-asked met shows offer send c.turn.ensures.after gift own;
+    }
+
+pub disciplines::drr::peek_classes-bounds-classes-place : goal.disciplines::drr::peek_classes-bounds-classes-place
+disciplines::drr::peek_classes-bounds-classes-place g t c = 
+    let there = some-there c.meet_class-shown.result.packet (sym c.has_packet.ensures ∙ c.if-has_packet.true) in
+    let met = c.meet_class-shown.ensures.met there.0 there.1 in
+    met.inside
+
+pub disciplines::drr::peek_classes-hold-requires : goal.disciplines::drr::peek_classes-hold-requires
+disciplines::drr::peek_classes-hold-requires g t c = 
+    let there = some-there c.meet_class-shown.result.packet (sym c.has_packet.ensures ∙ c.if-has_packet.true) in
+    let met = c.meet_class-shown.ensures.met there.0 there.1 in
+    ap is_some (met.shown c.index-classes-place.result (there-at c.meet_class-shown.new.classes c.meet_class-shown.new.met c.index-classes-place.result met.inside c.index-classes-place.is) ∙ there.1)
+
+pub disciplines::drr::peek_classes-returns-then-has_packet-clause-active : goal.disciplines::drr::peek_classes-returns-then-has_packet-clause-active
+disciplines::drr::peek_classes-returns-then-has_packet-clause-active g t c = λ own.
+    let there = some-there c.meet_class-shown.result.packet (sym c.has_packet.ensures ∙ c.if-has_packet.true) in
+    let met = c.meet_class-shown.ensures.met there.0 there.1 in
+    let given = λ class at. class-given c.meet_class-shown.new.classes c.meet_class-shown.new.met class c.index-classes-place.result c.hold.new.child c.index-classes-place-2.result c.meet_class-shown.new.active c.settle.new.active c.is_empty.result
+        at c.hold.ensures.after c.hold.ensures.arrived c.is_empty.ensures c.settle.ensures in
+    met.schedule c.settle.new.active (set c.meet_class-shown.new.classes c.meet_class-shown.new.met c.hold.new.child) given own
+
+pub disciplines::drr::peek_classes-returns-then-has_packet-clause-after : goal.disciplines::drr::peek_classes-returns-then-has_packet-clause-after
+disciplines::drr::peek_classes-returns-then-has_packet-clause-after g t c = λ own.
+    let there = some-there c.meet_class-shown.result.packet (sym c.has_packet.ensures ∙ c.if-has_packet.true) in
+    let met = c.meet_class-shown.ensures.met there.0 there.1 in
+    let given = λ class at. class-given c.meet_class-shown.new.classes c.meet_class-shown.new.met class c.index-classes-place.result c.hold.new.child c.index-classes-place-2.result c.meet_class-shown.new.active c.settle.new.active c.is_empty.result
+        at c.hold.ensures.after c.hold.ensures.arrived c.is_empty.ensures c.settle.ensures in
+    met.asked c.settle.new.active (set c.meet_class-shown.new.classes c.meet_class-shown.new.met c.hold.new.child) given own
+
+pub disciplines::drr::peek_classes-returns-then-has_packet-clause-held : goal.disciplines::drr::peek_classes-returns-then-has_packet-clause-held
+disciplines::drr::peek_classes-returns-then-has_packet-clause-held g t c = λ own.
+    let there = some-there c.meet_class-shown.result.packet (sym c.has_packet.ensures ∙ c.if-has_packet.true) in
+    let met = c.meet_class-shown.ensures.met there.0 there.1 in
+    let at = there-at c.meet_class-shown.new.classes c.meet_class-shown.new.met c.index-classes-place.result met.inside c.index-classes-place.is in
+    c.hold.ensures.held ∙ ap (λ (o : Option Descriptor). held_with o (unwrap_or (at_hand_since c.index-classes-place.result) 0)) (met.shown c.index-classes-place.result at)
+    ∙ held-with c.meet_class-shown.result.packet (unwrap_or (at_hand_since c.index-classes-place.result) 0) _ (met.since c.index-classes-place.result at own)
+
+pub disciplines::drr::peek_classes-returns-clause-active : goal.disciplines::drr::peek_classes-returns-clause-active
+disciplines::drr::peek_classes-returns-clause-active g t c = λ own. (c.meet_class-shown.ensures.nothing (none-there c.meet_class-shown.result.packet (sym c.has_packet.ensures ∙ c.if-has_packet.false))).schedule own
+
+pub disciplines::drr::peek_classes-returns-clause-after : goal.disciplines::drr::peek_classes-returns-clause-after
+disciplines::drr::peek_classes-returns-clause-after g t c = λ own. (c.meet_class-shown.ensures.nothing (none-there c.meet_class-shown.result.packet (sym c.has_packet.ensures ∙ c.if-has_packet.false))).asked own
+
+pub disciplines::drr::peek_classes-returns-clause-held : goal.disciplines::drr::peek_classes-returns-clause-held
+disciplines::drr::peek_classes-returns-clause-held g t c = λ own.
+    c.requires.none ∙ ap (λ (o : Option Descriptor). held_with o (ask_drr own (answers c.args.now c.args.classes.now) c.args.active.now).peeked.own.since) (sym (none-there c.meet_class-shown.result.packet (sym c.has_packet.ensures ∙ c.if-has_packet.false)))
 
 pub node::Discipline::ask-peek_bands-requires : goal.node::Discipline::ask-peek_bands-requires
 node::Discipline::ask-peek_bands-requires g t c κs within =
@@ -284,7 +374,7 @@ node::Discipline::ask-returns-in-FqCodel-clause-told g t c = λ handle filters.
 
 pub node::Node::peek-returns-then-is_some-clause-peeked : goal.node::Node::peek-returns-then-is_some-clause-peeked
 node::Node::peek-returns-then-is_some-clause-peeked g t c = record {
-  after = (let held = some-held c.self.inside.held (c.if-is_some.ensures) in
+  after = (let held = some-kept c.self.inside.held (c.if-is_some.ensures) in
       holding-after c.args.now c.self.inside c.args.self.now held.0 c.self.view_is held.1);
   arrived = search rules;
   shown = search rules;
@@ -293,13 +383,13 @@ node::Node::peek-returns-then-is_some-clause-peeked g t c = record {
 
 pub node::Node::peek-returns-in-Fifo-clause-peeked : goal.node::Node::peek-returns-in-Fifo-clause-peeked
 node::Node::peek-returns-in-Fifo-clause-peeked g t c = record {
-  after = sym c.self.view_is ∙ (peeked-done c.args.now c.self.inside c.args.self.now c.self.invariant c.self.view_is c.requires.ready (none-held c.self.inside.held c.if-is_some.ensures) c.self.inside.discipline c.at_hand-in-Fifo.result (asked-in c.args.now c.self.inside.handle c.self.inside.filters c.self.inside.discipline c.self.inside.discipline (spec.Fifo c.in-Fifo.fifo.limit c.in-Fifo.fifo.packets) (spec.Fifo c.in-Fifo.fifo.limit c.in-Fifo.fifo.packets) [] [] c.at_hand-in-Fifo.result
+  after = sym c.self.view_is ∙ (peeked-done c.args.now c.self.inside c.args.self.now c.self.invariant c.self.view_is c.requires.ready (none-kept c.self.inside.held c.if-is_some.ensures) c.self.inside.discipline c.at_hand-in-Fifo.result (asked-in c.args.now c.self.inside.handle c.self.inside.filters c.self.inside.discipline c.self.inside.discipline (spec.Fifo c.in-Fifo.fifo.limit c.in-Fifo.fifo.packets) (spec.Fifo c.in-Fifo.fifo.limit c.in-Fifo.fifo.packets) [] [] c.at_hand-in-Fifo.result
       (ap discipline_seen c.in-Fifo.is) (ap children_seen c.in-Fifo.is) (ap discipline_seen c.in-Fifo.is) (ap children_seen c.in-Fifo.is) refl refl
-      (record { long = refl; nodes = refl; within = λ t h. h; shown = record { packet = ap (λ (s : Shown). s.packet) c.at_hand-in-Fifo.ensures ∙ c.first_packet.ensures; dropped = ap (λ (s : Shown). s.dropped) c.at_hand-in-Fifo.ensures; marked = ap (λ (s : Shown). s.marked) c.at_hand-in-Fifo.ensures } })) c.self.inside.row c.self.inside.held (can-book c.args.now c.self.inside c.args.self.now c.self.invariant c.self.view_is c.requires.ready (none-held c.self.inside.held c.if-is_some.ensures) c.at_hand-in-Fifo.result (asked-in c.args.now c.self.inside.handle c.self.inside.filters c.self.inside.discipline c.self.inside.discipline (spec.Fifo c.in-Fifo.fifo.limit c.in-Fifo.fifo.packets) (spec.Fifo c.in-Fifo.fifo.limit c.in-Fifo.fifo.packets) [] [] c.at_hand-in-Fifo.result
+      (record { long = refl; nodes = refl; within = λ t h. h; shown = record { packet = ap (λ (s : Shown). s.packet) c.at_hand-in-Fifo.ensures ∙ c.first_packet.ensures; dropped = ap (λ (s : Shown). s.dropped) c.at_hand-in-Fifo.ensures; marked = ap (λ (s : Shown). s.marked) c.at_hand-in-Fifo.ensures } })) c.self.inside.row c.self.inside.held (can-book c.args.now c.self.inside c.args.self.now c.self.invariant c.self.view_is c.requires.ready (none-kept c.self.inside.held c.if-is_some.ensures) c.at_hand-in-Fifo.result (asked-in c.args.now c.self.inside.handle c.self.inside.filters c.self.inside.discipline c.self.inside.discipline (spec.Fifo c.in-Fifo.fifo.limit c.in-Fifo.fifo.packets) (spec.Fifo c.in-Fifo.fifo.limit c.in-Fifo.fifo.packets) [] [] c.at_hand-in-Fifo.result
       (ap discipline_seen c.in-Fifo.is) (ap children_seen c.in-Fifo.is) (ap discipline_seen c.in-Fifo.is) (ap children_seen c.in-Fifo.is) refl refl
-      (record { long = refl; nodes = refl; within = λ t h. h; shown = record { packet = ap (λ (s : Shown). s.packet) c.at_hand-in-Fifo.ensures ∙ c.first_packet.ensures; dropped = ap (λ (s : Shown). s.dropped) c.at_hand-in-Fifo.ensures; marked = ap (λ (s : Shown). s.marked) c.at_hand-in-Fifo.ensures } })).children.shown (omega (arith, c.self.ranges, c.fit.ensures.packets, c.fit.ensures.bytes)) (omega (arith, c.self.ranges, c.fit.ensures.packets, c.fit.ensures.bytes))) (shown-nothing c.at_hand-in-Fifo.result c.self.inside.row (ap (λ (s : Shown). s.dropped) c.at_hand-in-Fifo.ensures) (ap (λ (s : Shown). s.marked) c.at_hand-in-Fifo.ensures)) (none-held c.self.inside.held c.if-is_some.ensures ∙ sym (ap (λ k. held_in k c.at_hand-in-Fifo.result.packet) (ap discipline_seen c.in-Fifo.is)))).after;
+      (record { long = refl; nodes = refl; within = λ t h. h; shown = record { packet = ap (λ (s : Shown). s.packet) c.at_hand-in-Fifo.ensures ∙ c.first_packet.ensures; dropped = ap (λ (s : Shown). s.dropped) c.at_hand-in-Fifo.ensures; marked = ap (λ (s : Shown). s.marked) c.at_hand-in-Fifo.ensures } })).children.shown (omega (arith, c.self.ranges, c.fit.ensures.packets, c.fit.ensures.bytes)) (omega (arith, c.self.ranges, c.fit.ensures.packets, c.fit.ensures.bytes))) (shown-nothing c.at_hand-in-Fifo.result c.self.inside.row (ap (λ (s : Shown). s.dropped) c.at_hand-in-Fifo.ensures) (ap (λ (s : Shown). s.marked) c.at_hand-in-Fifo.ensures)) (empty-held c.self.inside.held (none-kept c.self.inside.held c.if-is_some.ensures) ∙ sym (ap (λ k. held_with (held_in k c.at_hand-in-Fifo.result.packet) (answer_of c.args.now c.self.inside.handle c.self.inside.filters c.self.inside.discipline).peeked.own.since) (ap discipline_seen c.in-Fifo.is)))).after;
   arrived = search rules;
-  shown = shown-here c.args.now c.self.inside c.args.self.now c.self.invariant c.self.view_is c.requires.ready (none-held c.self.inside.held c.if-is_some.ensures) c.at_hand-in-Fifo.result (asked-in c.args.now c.self.inside.handle c.self.inside.filters c.self.inside.discipline c.self.inside.discipline (spec.Fifo c.in-Fifo.fifo.limit c.in-Fifo.fifo.packets) (spec.Fifo c.in-Fifo.fifo.limit c.in-Fifo.fifo.packets) [] [] c.at_hand-in-Fifo.result
+  shown = shown-here c.args.now c.self.inside c.args.self.now c.self.invariant c.self.view_is c.requires.ready (none-kept c.self.inside.held c.if-is_some.ensures) c.at_hand-in-Fifo.result (asked-in c.args.now c.self.inside.handle c.self.inside.filters c.self.inside.discipline c.self.inside.discipline (spec.Fifo c.in-Fifo.fifo.limit c.in-Fifo.fifo.packets) (spec.Fifo c.in-Fifo.fifo.limit c.in-Fifo.fifo.packets) [] [] c.at_hand-in-Fifo.result
       (ap discipline_seen c.in-Fifo.is) (ap children_seen c.in-Fifo.is) (ap discipline_seen c.in-Fifo.is) (ap children_seen c.in-Fifo.is) refl refl
       (record { long = refl; nodes = refl; within = λ t h. h; shown = record { packet = ap (λ (s : Shown). s.packet) c.at_hand-in-Fifo.ensures ∙ c.first_packet.ensures; dropped = ap (λ (s : Shown). s.dropped) c.at_hand-in-Fifo.ensures; marked = ap (λ (s : Shown). s.marked) c.at_hand-in-Fifo.ensures } })).children.shown;
   signals = c.requires.clean ∙ sym (ap signals_of c.at_hand-in-Fifo.ensures);
@@ -307,7 +397,7 @@ node::Node::peek-returns-in-Fifo-clause-peeked g t c = record {
 
 pub node::Node::peek-returns-in-Fifo-clause-told : goal.node::Node::peek-returns-in-Fifo-clause-told
 node::Node::peek-returns-in-Fifo-clause-told g t c =
-    told-here c.args.now c.self.inside c.args.self.now c.self.invariant c.self.view_is c.requires.ready (none-held c.self.inside.held c.if-is_some.ensures) (g.S.Sink.losses c.args.sink.now) (g.S.Sink.losses c.args.sink.now) (g.S.Sink.room c.args.sink.now) (g.S.Sink.room c.args.sink.now)
+    told-here c.args.now c.self.inside c.args.self.now c.self.invariant c.self.view_is c.requires.ready (none-kept c.self.inside.held c.if-is_some.ensures) (g.S.Sink.losses c.args.sink.now) (g.S.Sink.losses c.args.sink.now) (g.S.Sink.room c.args.sink.now) (g.S.Sink.room c.args.sink.now)
     (told-in c.args.now c.self.inside.handle c.self.inside.filters c.self.inside.discipline (spec.Fifo c.in-Fifo.fifo.limit c.in-Fifo.fifo.packets) [] (g.S.Sink.losses c.args.sink.now) (g.S.Sink.losses c.args.sink.now) (g.S.Sink.room c.args.sink.now) (g.S.Sink.room c.args.sink.now) (ap discipline_seen c.in-Fifo.is) (ap children_seen c.in-Fifo.is) (told-nothing (g.S.Sink.losses c.args.sink.now) (g.S.Sink.room c.args.sink.now)))
 
 pub node::Node::peek_further-ask-shown-requires : goal.node::Node::peek_further-ask-shown-requires
@@ -316,7 +406,7 @@ node::Node::peek_further-ask-shown-requires g t c κs within = (
   (
     within,
     (
-      ap (λ (n : Node Kept). n.own.held) c.self.view_is ∙ c.requires.none,
+      empty-held c.self.inside.held (ap (λ (n : Node Kept). n.own.held) c.self.view_is ∙ c.requires.none),
       (
         can-in c.args.now c.self.inside c.args.self.now c.self.invariant c.self.view_is c.requires.ready (omega (arith, c.self.ranges, c.fit.ensures.packets, c.fit.ensures.bytes)) (omega (arith, c.self.ranges, c.fit.ensures.packets, c.fit.ensures.bytes)),
         (enough c.args.now c.self.inside c.args.self.now c.self.invariant c.self.view_is c.requires.ready (g.S.Sink.room c.args.sink.now) c.requires.sink, c.requires.clean),
@@ -335,13 +425,13 @@ pub node::Node::peek_further-invariant_of-self :
 node::Node::peek_further-invariant_of-self g t c =
     (peeked-done c.args.now c.self.inside c.args.self.now c.self.invariant c.self.view_is c.requires.ready (ap (λ (n : Node Kept). n.own.held) c.self.view_is ∙ c.requires.none) c.ask-shown.new.self c.ask-shown.result (c.ask-shown.ensures.after c.self.inside.handle c.self.inside.filters) c.book_shown.new.row c.ask-shown.new.held
     (can-book c.args.now c.self.inside c.args.self.now c.self.invariant c.self.view_is c.requires.ready (ap (λ (n : Node Kept). n.own.held) c.self.view_is ∙ c.requires.none) c.ask-shown.result (c.ask-shown.ensures.after c.self.inside.handle c.self.inside.filters).children.shown (omega (arith, c.self.ranges, c.fit.ensures.packets, c.fit.ensures.bytes)) (omega (arith, c.self.ranges, c.fit.ensures.packets, c.fit.ensures.bytes)))
-    c.book_shown.ensures c.ask-shown.ensures.held).stays
+    c.book_shown.ensures (c.ask-shown.ensures.held c.self.inside.handle c.self.inside.filters)).stays
 
 pub node::Node::peek_further-returns-clause-peeked : goal.node::Node::peek_further-returns-clause-peeked
 node::Node::peek_further-returns-clause-peeked g t c = record {
   after = (peeked-done c.args.now c.self.inside c.args.self.now c.self.invariant c.self.view_is c.requires.ready (ap (λ (n : Node Kept). n.own.held) c.self.view_is ∙ c.requires.none) c.ask-shown.new.self c.ask-shown.result (c.ask-shown.ensures.after c.self.inside.handle c.self.inside.filters) c.book_shown.new.row c.ask-shown.new.held
       (can-book c.args.now c.self.inside c.args.self.now c.self.invariant c.self.view_is c.requires.ready (ap (λ (n : Node Kept). n.own.held) c.self.view_is ∙ c.requires.none) c.ask-shown.result (c.ask-shown.ensures.after c.self.inside.handle c.self.inside.filters).children.shown (omega (arith, c.self.ranges, c.fit.ensures.packets, c.fit.ensures.bytes)) (omega (arith, c.self.ranges, c.fit.ensures.packets, c.fit.ensures.bytes)))
-      c.book_shown.ensures c.ask-shown.ensures.held).after;
+      c.book_shown.ensures (c.ask-shown.ensures.held c.self.inside.handle c.self.inside.filters)).after;
   arrived = search rules;
   shown = shown-here c.args.now c.self.inside c.args.self.now c.self.invariant c.self.view_is c.requires.ready (ap (λ (n : Node Kept). n.own.held) c.self.view_is ∙ c.requires.none) c.ask-shown.result (c.ask-shown.ensures.after c.self.inside.handle c.self.inside.filters).children.shown;
   signals = search rules;

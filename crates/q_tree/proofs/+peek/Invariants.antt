@@ -10,17 +10,16 @@ use Rattle.q_tree.proofs.AskBands.{AreBandsAsked, told_to}
 use Rattle.q_tree.proofs.ServeLemmas.{AreClassesAsked, heads_of}
 use Rattle.q_tree.proofs.+peek.Given as goal
 
-abbrev pub invariant-disciplines::drr::dequeue_class-loop-place : goal.invariant-disciplines::drr::dequeue_class-loop-place
-invariant-disciplines::drr::dequeue_class-loop-place g l =
+abbrev pub invariant-disciplines::drr::meet_class-loop-place : goal.invariant-disciplines::drr::meet_class-loop-place
+invariant-disciplines::drr::meet_class-loop-place g l =
     AreClassesAsked l.fn.now l.fn.active l.active l.fn.classes l.classes l.unasked l.shown
     (record { losses = g.S.Sink.losses l.fn.sink; losses_now = g.S.Sink.losses l.sink; room = g.S.Sink.room l.fn.sink; room_now = g.S.Sink.room l.sink })
     × g.S.Sink.keeps l.fn.sink l.sink
-    × (l.out ≡ l.fn.out)
     × (l.signals ≡ signals_of l.shown)
 
 -- each grant lowers one class's need of grants by one
-abbrev pub decreases-disciplines::drr::dequeue_class-loop-place : goal.decreases-disciplines::drr::dequeue_class-loop-place
-decreases-disciplines::drr::dequeue_class-loop-place g l = sum_by (need (λ m. quantum_of m l.active.classes) (heads_of l.fn.now l.fn.active l.fn.classes)) l.active.active
+abbrev pub decreases-disciplines::drr::meet_class-loop-place : goal.decreases-disciplines::drr::meet_class-loop-place
+decreases-disciplines::drr::meet_class-loop-place g l = sum_by (need (λ m. quantum_of m l.active.classes) (heads_of l.fn.now l.fn.active l.fn.classes)) l.active.active
 
 abbrev pub invariant-disciplines::prio::peek_bands-loop-place : goal.invariant-disciplines::prio::peek_bands-loop-place
 invariant-disciplines::prio::peek_bands-loop-place g l =
@@ -45,6 +44,9 @@ decreases-disciplines::prio::peek_bands g l = 4 * forest_size (side_by_side l.ba
 abbrev pub decreases-disciplines::tbf::peek_child : goal.decreases-disciplines::tbf::peek_child
 decreases-disciplines::tbf::peek_child g l = 4 * node_size l.child.now + 3
 
+abbrev pub decreases-disciplines::tbf::allow_child : goal.decreases-disciplines::tbf::allow_child
+decreases-disciplines::tbf::allow_child g l = 4 * node_size l.child.now + 2
+
 abbrev pub decreases-disciplines::drr::peek_classes : goal.decreases-disciplines::drr::peek_classes
 decreases-disciplines::drr::peek_classes g l = 4 * forest_size (side_by_side l.classes.now) + 2
 
@@ -54,8 +56,5 @@ decreases-disciplines::drr::peek_class g l = 4 * node_size l.class.now + 3
 abbrev pub decreases-disciplines::drr::peek_class_further : goal.decreases-disciplines::drr::peek_class_further
 decreases-disciplines::drr::peek_class_further g l = 4 * node_size l.class.now + 2
 
-abbrev pub decreases-disciplines::drr::dequeue_class : goal.decreases-disciplines::drr::dequeue_class
-decreases-disciplines::drr::dequeue_class g l = 4 * forest_size (side_by_side l.classes.now) + 1
-
-abbrev pub decreases-disciplines::tbf::dequeue_child : goal.decreases-disciplines::tbf::dequeue_child
-decreases-disciplines::tbf::dequeue_child g l = 4 * node_size l.child.now + 2
+abbrev pub decreases-disciplines::drr::meet_class : goal.decreases-disciplines::drr::meet_class
+decreases-disciplines::drr::meet_class g l = 4 * forest_size (side_by_side l.classes.now) + 1

@@ -9,6 +9,7 @@ use Rattle.q_tree.specs.PutSteps.{packets_beneath}
 use Rattle.q_tree.specs.Seen.{children_seen, discipline_seen}
 use Rattle.q_tree.proofs.PurgeLemmas.{own-count, own-size, flows-count, flows-length, room-taken, queue-told, node-told, left-count, left-size}
 use Rattle.q_tree.proofs.+purge.Goals as goal
+use Rattle.q_tree.specs.Holding.{packet_held}
 
 pub node::Node::purge-returns-in-Fifo-clause-told : goal.node::Node::purge-returns-in-Fifo-clause-told
 node::Node::purge-returns-in-Fifo-clause-told g t c =
@@ -20,7 +21,7 @@ node::Node::purge-purge-requires-in-FqCodel g t c =
     omega (
       arith,
       c.requires,
-      room-taken (option_to_list c.self.inside.held) (g.S.Sink.losses c.args.sink.now) (g.S.Sink.losses c.purge_held.new.sink) (g.S.Sink.room c.args.sink.now) (g.S.Sink.room c.purge_held.new.sink) c.purge_held.ensures.told,
+      room-taken (option_to_list (packet_held c.self.inside.held)) (g.S.Sink.losses c.args.sink.now) (g.S.Sink.losses c.purge_held.new.sink) (g.S.Sink.room c.args.sink.now) (g.S.Sink.room c.purge_held.new.sink) c.purge_held.ensures.told,
       own-count c.self.inside c.args.self c.self.view_is,
       ap (λ d. length (packets_in (discipline_seen d))) c.in-FqCodel.is,
       ap (λ (q : FqView). length (packets_in (FqCodel q.state))) c.deref_mut.ensures.value,
@@ -39,7 +40,7 @@ node::Node::purge-purge_each-requires g t c κs within = (
   omega (arith, own-size c.self.inside c.args.self c.self.view_is, ap (λ d. forest_size (side_by_side (children_seen d))) c.in-Prio.is, c.decreases),
   (
     within,
-    omega (arith, c.requires, room-taken (option_to_list c.self.inside.held) (g.S.Sink.losses c.args.sink.now) (g.S.Sink.losses c.purge_held.new.sink) (g.S.Sink.room c.args.sink.now) (g.S.Sink.room c.purge_held.new.sink) c.purge_held.ensures.told, own-count c.self.inside c.args.self c.self.view_is, ap (λ d. length (packets_beneath (children_seen d))) c.in-Prio.is),
+    omega (arith, c.requires, room-taken (option_to_list (packet_held c.self.inside.held)) (g.S.Sink.losses c.args.sink.now) (g.S.Sink.losses c.purge_held.new.sink) (g.S.Sink.room c.args.sink.now) (g.S.Sink.room c.purge_held.new.sink) c.purge_held.ensures.told, own-count c.self.inside c.args.self c.self.view_is, ap (λ d. length (packets_beneath (children_seen d))) c.in-Prio.is),
   ),
 )
 
@@ -53,7 +54,7 @@ node::Node::purge-purge_each-requires-in-Drr g t c κs within = (
   omega (arith, own-size c.self.inside c.args.self c.self.view_is, ap (λ d. forest_size (side_by_side (children_seen d))) c.in-Drr.is, c.decreases),
   (
     within,
-    omega (arith, c.requires, room-taken (option_to_list c.self.inside.held) (g.S.Sink.losses c.args.sink.now) (g.S.Sink.losses c.purge_held.new.sink) (g.S.Sink.room c.args.sink.now) (g.S.Sink.room c.purge_held.new.sink) c.purge_held.ensures.told, own-count c.self.inside c.args.self c.self.view_is, ap (λ d. length (packets_beneath (children_seen d))) c.in-Drr.is),
+    omega (arith, c.requires, room-taken (option_to_list (packet_held c.self.inside.held)) (g.S.Sink.losses c.args.sink.now) (g.S.Sink.losses c.purge_held.new.sink) (g.S.Sink.room c.args.sink.now) (g.S.Sink.room c.purge_held.new.sink) c.purge_held.ensures.told, own-count c.self.inside c.args.self c.self.view_is, ap (λ d. length (packets_beneath (children_seen d))) c.in-Drr.is),
   ),
 )
 

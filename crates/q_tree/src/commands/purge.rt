@@ -2,6 +2,7 @@ ghost use Rattle.std.specs.Prelude.{◌≤◌, length};
 ghost use Rattle.std.specs.Option.{option_to_list};
 ghost use Rattle.q_model.specs.Beneath.{beneath};
 ghost use Rattle.q_tree.specs.AskSteps.{IsTold};
+ghost use Rattle.q_tree.specs.Holding.{packet_held};
 ghost use Rattle.q_tree.specs.Purging.{purged};
 ghost use Rattle.q_tree.specs.PutSteps.{packets_beneath};
 
@@ -37,8 +38,8 @@ impl Node {
 
 // Loses the packet that a node holds, if it holds one.
 fn purge_held<S: Sink>(held: Held, sink: &mut S)
-    requires { length (option_to_list held) ≤ S.room sink.old }
-    ensures told { IsTold (purged (option_to_list held)) (S.losses sink.old) (S.losses sink.new) (S.room sink.old) (S.room sink.new) }
+    requires { length (option_to_list (packet_held held)) ≤ S.room sink.old }
+    ensures told { IsTold (purged (option_to_list (packet_held held))) (S.losses sink.old) (S.losses sink.new) (S.room sink.old) (S.room sink.new) }
     ensures kept { S.keeps sink.old sink.new }
 {
     if let Some(packet) = held.packet() {

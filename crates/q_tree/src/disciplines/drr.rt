@@ -1,6 +1,7 @@
 //! drr: how one chooses a class, dequeues, shows its packet, is ready, and changes (tc-drr(8)).
 ghost use Rattle.std.specs.Prelude.{◌≡◌, ◌<◌, ◌≤◌, None, OnErr, OnOk, Some, false, length, map, option_and_then, slice_get, true, unwrap_or};
 ghost use Rattle.q_drr.specs.Schedule.{place_of};
+ghost use Rattle.q_packet.specs.Descriptor.{Descriptor};
 ghost use Rattle.q_model.specs.Ask.{ask, ask_drr};
 ghost use Rattle.q_model.specs.Beneath.{totals_in};
 ghost use Rattle.q_model.specs.Filters.{named_class};
@@ -10,7 +11,9 @@ ghost use Rattle.q_model.specs.Pop.{pop};
 ghost use Rattle.q_model.specs.Work.{settled_class};
 ghost use Rattle.q_tree.specs.AskSteps.{AreAsked, CanAskOnce, CanServe, IsAskedOnce, IsGivenBy, IsTold, IsToldOf, answers, no_signals, signals_of};
 ghost use Rattle.q_tree.specs.Changing.{drr_same};
+ghost use Rattle.q_tree.specs.Holding.{held_with};
 ghost use Rattle.q_tree.specs.Kept.{Kept};
+ghost use Rattle.q_tree.specs.Meeting.{AreUnserved, IsMet};
 ghost use Rattle.q_tree.specs.Purging.{purged};
 ghost use Rattle.q_tree.specs.PutSteps.{packets_beneath};
 ghost use Rattle.q_tree.specs.ReadyAt.{of_class, outlook, paid};
@@ -74,7 +77,6 @@ pub(crate) fn settle(active: &mut Active, place: usize, is_empty: bool)
 
 /// Asks the classes of the active list in turn, and grants to each whose packet is longer than its deficit, until one is met
 /// that can send its packet, which it writes to `out`, or that shows none (tc-drr(8)).
-#[cycle(peek)]
 pub(crate) fn dequeue_class<S: Sink>(
     active: &mut Active,
     classes: &mut [Node],
@@ -93,6 +95,35 @@ pub(crate) fn dequeue_class<S: Sink>(
     ensures signals { signals.new ≡ signals_of result }
     ensures kept { S.keeps sink.old sink.new }
 {
+    let mut place = 0;
+    let shown = meet_class(active, classes, &mut place, now, signals, sink);
+    if shown.has_packet() {
+        // What is handed out is what was shown.
+        dequeue_class_at_hand(active, classes, place, out);
+    }
+    shown
+}
+
+// The same up to where the packet is handed out: the class that can send it, whose place is written to `met`, still has it at hand.
+#[cycle(peek)]
+#[inline(always)]
+fn meet_class<S: Sink>(
+    active: &mut Active,
+    classes: &mut [Node],
+    met: &mut usize,
+    now: Moment,
+    signals: &mut Signals,
+    sink: &mut S,
+) -> Shown
+    requires ready { CanServe now active.old classes.old }
+    requires sink { length (packets_beneath classes.old) ≤ S.room sink.old }
+    requires clean { signals.old ≡ no_signals }
+    ensures met { (p : Descriptor) → result.packet ≡ Some p → IsMet now met.new active.old active.new classes.old classes.new result }
+    ensures nothing { result.packet ≡ None → AreUnserved now active.old active.new classes.old classes.new result }
+    ensures told { (own : Own) → IsToldOf (ask_drr own (answers now classes.old) active.old).rises (S.losses sink.old) (S.losses sink.new) (S.room sink.old) (S.room sink.new) }
+    ensures signals { signals.new ≡ signals_of result }
+    ensures kept { S.keeps sink.old sink.new }
+{
     let mut shown = Shown::at_hand(&None);
     // In the first round each class is asked once; in a later one it has at hand what it showed.
     let mut unasked = active.active_count();
@@ -104,8 +135,7 @@ pub(crate) fn dequeue_class<S: Sink>(
         };
         match active.turn(len) {
             Turn::Send => {
-                // What is handed out is what was shown.
-                dequeue_class_at_hand(active, classes, place, out);
+                *met = place;
                 return shown;
             }
             Turn::Granted => {}
@@ -148,13 +178,17 @@ pub(crate) fn peek_classes<S: Sink>(
     requires clean { signals.old ≡ no_signals }
     ensures active { (own : Own) → spec.Drr active.new ≡ (ask_drr own (answers now classes.old) active.old).peeked.own.discipline }
     ensures after { (own : Own) → AreAsked (ask_drr own (answers now classes.old) active.old) classes.old classes.new result }
-    ensures held { held.new ≡ result.packet }
+    ensures held { (own : Own) → held.new ≡ held_with result.packet (ask_drr own (answers now classes.old) active.old).peeked.own.since }
     ensures told { (own : Own) → IsToldOf (ask_drr own (answers now classes.old) active.old).rises (S.losses sink.old) (S.losses sink.new) (S.room sink.old) (S.room sink.new) }
     ensures signals { signals.new ≡ signals_of result }
     ensures kept { S.keeps sink.old sink.new }
 {
-    let shown = dequeue_class(active, classes, &mut held.place, now, signals, sink);
-    held.holds = shown.has_packet();
+    let mut place = 0;
+    let shown = meet_class(active, classes, &mut place, now, signals, sink);
+    if shown.has_packet() {
+        held.hold(&mut classes[place]);
+        settle(active, place, classes[place].is_empty());
+    }
     shown
 }
 

@@ -1,6 +1,7 @@
 //! pfifo and bfifo: how one is made, enqueues, dequeues, shows its packet, is ready, and changes (tc-pfifo(8), tc-bfifo(8)).
 ghost use Rattle.std.specs.Prelude.{◌≡◌, ◌<◌, ◌≤◌, ◌*◌, [], IfOk, IsOk, List, OnErr, drop, length, option_map, slice_get, true, unwrap_or};
 ghost use Rattle.q_codel.specs.FifoState.{takes};
+ghost use Rattle.q_fqcodel.specs.Oldest.{first_arrival};
 ghost use Rattle.q_model.specs.Beneath.{packets_of};
 ghost use Rattle.q_model.specs.Make.{implicit_pfifo};
 ghost use Rattle.q_model.specs.Tally.{no_totals};
@@ -119,6 +120,13 @@ pub(crate) fn first_packet(fifo: &Fifo) -> Option<KeptPacket>
     ensures { result ≡ slice_get (packets_of fifo.now.packets) 0 }
 {
     fifo.first()
+}
+
+/// When the packet at the head of a fifo arrived.
+pub(crate) fn first_arrival(fifo: &Fifo) -> Option<Moment>
+    ensures { result ≡ first_arrival fifo.now.packets }
+{
+    Some(fifo.front()?.at)
 }
 
 /// A fifo shows its head.

@@ -3,7 +3,8 @@ ghost use Rattle.std.specs.Prelude.{◌≡◌, ◌<◌, ◌≤◌, ◌+◌, IfOk
 ghost use Rattle.q_codel.specs.Losses.{losses_of};
 ghost use Rattle.q_fqcodel.specs.FqState.{first_state, packets_of};
 ghost use Rattle.q_codel.specs.declared.taken.Taken.{Taken};
-ghost use Rattle.q_fqcodel.specs.Take.{IsFrontLate, after_sending, dropped_from, selected, sent_from};
+ghost use Rattle.q_fqcodel.specs.Take.{IsFrontLate, after_sending, dropped_from, head_sent, selected, sent_from};
+ghost use Rattle.q_packet.specs.declared.stamped.Stamped.{Stamped};
 ghost use Rattle.q_fqcodel.specs.Turns.{IsSettled};
 ghost use Rattle.std.specs.Option.{option_map_or};
 ghost use Rattle.q_model.specs.Ask.{Asked, ask_fq_codel};
@@ -15,6 +16,7 @@ ghost use Rattle.q_model.specs.Tally.{no_totals, with_packet};
 ghost use Rattle.q_tree.specs.ArriveSteps.{IsPutInFlow, nothing_lost};
 ghost use Rattle.q_tree.specs.AskSteps.{IsShown, IsTold, no_signals, signals_of};
 ghost use Rattle.q_tree.specs.Changing.{fq_codel_answer};
+ghost use Rattle.q_tree.specs.Holding.{held_with};
 ghost use Rattle.q_tree.specs.PutSteps.{CanFlow};
 ghost use Rattle.q_tree.specs.ReadyAt.{of_flows};
 ghost use Rattle.q_tree.specs.DisciplineChanges.{IsChangedBy};
@@ -160,17 +162,22 @@ pub(crate) fn dequeue_flow<S: Sink>(
     match queue.pass_into(now, out) {
         // CoDel drops none of an empty fq_codel.
         Ok(None) => return Shown::at_hand(&None),
-        Ok(Some(len)) => return Shown::quiet(out, len),
-        Err(_) => return dequeue_late(queue, out, now, signals, sink),
+        Ok(Some(front)) => return Shown::quiet(out, front.len),
+        Err(_) => {
+            // Nobody holds the packet, so that nobody asks when it arrived.
+            let mut since = Moment::zero();
+            return dequeue_late(queue, out, &mut since, now, signals, sink);
+        }
     }
 }
 
-// The same where CoDel found the packet in front late. A call by itself, so that the usual path counts nothing and saves no registers.
+// The same where CoDel found the packet in front late; when the packet arrived goes to `since`. A call by itself, so that the usual path counts nothing and saves no registers.
 #[cold]
 #[inline(never)]
 fn dequeue_late<S: Sink>(
     queue: &mut FqCodel,
     out: &mut KeptPacket,
+    since: &mut Moment,
     now: Moment,
     signals: &mut Signals,
     sink: &mut S,
@@ -184,6 +191,7 @@ fn dequeue_late<S: Sink>(
     ensures given { result.packet ≡ option_map (λ (t : Taken). t.packet) (sent_from now queue.old.state) }
     ensures dropped { result.dropped ≡ beneath.totals_in (beneath.packets_of (dropped_from now queue.old.state)) }
     ensures marked { result.marked ≡ option_map_or (λ (t : Taken). if t.marked then with_packet no_totals t.packet else no_totals) (sent_from now queue.old.state) no_totals }
+    ensures since { Some since.new ≡ option_map (λ (s : Stamped). s.at) (head_sent now queue.old.state) }
     ensures packet { out.new ≡ unwrap_or result.packet out.old }
     ensures told { IsTold (losses_of Cause.CoDel (dropped_from now queue.old.state)) (S.losses sink.old) (S.losses sink.new) (S.room sink.old) (S.room sink.new) }
     ensures signals { signals.new ≡ signals_of result }
@@ -191,6 +199,7 @@ fn dequeue_late<S: Sink>(
 {
     let (packets, bytes) = queue.queued();
     let sent = queue.take_late_into(now, out, sink);
+    *since = sent.at;
     if !sent.dropped {
         return show_marked(sent.marked, out, signals);
     }
@@ -249,13 +258,21 @@ pub(crate) fn peek_flow<S: Sink>(
     ensures after { queue.new.state ≡ after_sending now (selected queue.old.state) }
     ensures places { queue.new.places ≡ queue.old.places }
     ensures shown { (own : Own) (below : List Asked) → IsShown (ask_fq_codel now own below queue.old.state) result }
-    ensures held { held.new ≡ result.packet }
+    ensures held { held.new ≡ held_with result.packet (option_map_or (λ (s : Stamped). s.at) (head_sent now (selected queue.old.state)) 0) }
     ensures told { IsTold (losses_of Cause.CoDel (dropped_from now (selected queue.old.state))) (S.losses sink.old) (S.losses sink.new) (S.room sink.old) (S.room sink.new) }
     ensures signals { signals.new ≡ signals_of result }
     ensures kept { S.keeps sink.old sink.new }
 {
-    let shown = dequeue_flow(queue, &mut held.place, now, signals, sink);
-    held.holds = shown.has_packet();
+    let place = &mut held.place;
+    let shown = match queue.pass_into(now, place) {
+        Ok(None) => return Shown::at_hand(&None),
+        Ok(Some(front)) => {
+            held.since = front.at;
+            Shown::quiet(place, front.len)
+        }
+        Err(_) => dequeue_late(queue, place, &mut held.since, now, signals, sink),
+    };
+    held.holds = true;
     shown
 }
 

@@ -9,6 +9,7 @@ ghost use Rattle.q_model.specs.Filters.{named_class};
 ghost use Rattle.q_model.specs.Find.{count_nodes};
 ghost use Rattle.q_model.specs.Make.{implicit_pfifo};
 ghost use Rattle.q_model.specs.Node.{Own, shape};
+ghost use Rattle.q_model.specs.Since.{at_hand_since, first_since};
 ghost use Rattle.q_model.specs.Pop.{first_shown, pop};
 ghost use Rattle.q_model.specs.Refusals.{most_nodes};
 ghost use Rattle.q_model.specs.declared.filter.Filter.{Filter};
@@ -190,6 +191,19 @@ pub(crate) fn first_at_hand(bands: &[Node]) -> Option<KeptPacket>
     for band in bands {
         if let Some(packet) = band.at_hand() {
             return Some(packet);
+        }
+    }
+    None
+}
+
+/// When that packet arrived.
+#[cycle(at_hand_since)]
+pub(crate) fn first_since(bands: &[Node]) -> Option<Moment>
+    ensures { result ≡ first_since (map at_hand_since bands.now) }
+{
+    for band in bands {
+        if let Some(since) = band.at_hand_since() {
+            return Some(since);
         }
     }
     None

@@ -1,5 +1,5 @@
 //! tbf: how one is made, dequeues, shows its packet, is ready, and changes (tc-tbf(8)).
-ghost use Rattle.std.specs.Prelude.{◌≡◌, ◌≤◌, [], ◌∷◌, IfOk, None, length, unwrap_or, ℕ};
+ghost use Rattle.std.specs.Prelude.{◌≡◌, ◌≤◌, [], ◌∷◌, IfOk, None, Some, length, unwrap_or, ℕ};
 ghost use Rattle.q_invariants.proofs.Kept.{IsLawfulRoot};
 ghost use Rattle.q_model.specs.Ask.{ask_tbf};
 ghost use Rattle.q_model.specs.Beneath.{beneath};
@@ -7,7 +7,10 @@ ghost use Rattle.q_model.specs.Make.{limit_bytes};
 ghost use Rattle.q_model.specs.Node.{Own, Tbf, shape};
 ghost use Rattle.q_tree.specs.AskSteps.{AreAsked, CanAsk, IsToldOf, answers, no_signals, signals_of};
 ghost use Rattle.q_tree.specs.Changing.{tbf_answer};
+ghost use Rattle.q_tree.specs.Holding.{held_with};
+ghost use Rattle.q_packet.specs.Descriptor.{Descriptor};
 ghost use Rattle.q_tree.specs.Making.{IsNewTbf};
+ghost use Rattle.q_tree.specs.Meeting.{IsAllowed, IsWaiting};
 ghost use Rattle.q_tree.specs.ReadyAt.{covers_at, shaped, shaped_after};
 ghost use Rattle.q_tree.specs.DisciplineChanges.{IsChangedBy, leaf_limited};
 ghost use Rattle.q_tree.specs.declared.commands.discipline_change.DisciplineChange.TheVariants.{SetBucket};
@@ -56,7 +59,6 @@ pub(crate) fn limit_bytes(rate: Rate, burst: Burst, limit: TbfLimit) -> u64
 const UNITS_IN_BYTE: u128 = 8_000_000_000;
 
 /// Asks the child of a tbf, and writes the packet that it shows to `out` where the bucket allows it (tc-tbf(8)).
-#[cycle(peek)]
 pub(crate) fn dequeue_child<S: Sink>(
     bucket: &mut Bucket,
     child: &mut Node,
@@ -76,6 +78,35 @@ pub(crate) fn dequeue_child<S: Sink>(
     ensures signals { signals.new ≡ signals_of result }
     ensures kept { S.keeps sink.old sink.new }
 {
+    let shown = allow_child(bucket, child, now, signals, sink);
+    if shown.has_packet() {
+        // What is handed out is what was shown.
+        child.dequeue_at_hand(out);
+    }
+    shown
+}
+
+// The same up to where the packet is handed out: the child still has it at hand.
+#[cycle(peek)]
+#[inline(always)]
+fn allow_child<S: Sink>(
+    bucket: &mut Bucket,
+    child: &mut Node,
+    now: Moment,
+    signals: &mut Signals,
+    sink: &mut S,
+) -> Shown
+    requires ready { CanAsk now child.old }
+    requires order { bucket.old.last ≤ now }
+    requires sink { length (beneath child.old) ≤ S.room sink.old }
+    requires clean { signals.old ≡ no_signals }
+    ensures bucket { (own : Own) (limit : ℕ) → own.discipline ≡ Tbf bucket.old limit → Tbf bucket.new limit ≡ (ask_tbf now own (answers now (child.old ∷ [])) bucket.old limit).peeked.own.discipline }
+    ensures allowed { (p : Descriptor) → result.packet ≡ Some p → IsAllowed now p bucket.old child.old child.new result }
+    ensures waits { result.packet ≡ None → (own : Own) (limit : ℕ) → IsWaiting now own limit bucket.old child.old child.new result }
+    ensures told { (own : Own) (limit : ℕ) → IsToldOf (ask_tbf now own (answers now (child.old ∷ [])) bucket.old limit).rises (S.losses sink.old) (S.losses sink.new) (S.room sink.old) (S.room sink.new) }
+    ensures signals { signals.new ≡ signals_of result }
+    ensures kept { S.keeps sink.old sink.new }
+{
     let shown = child.peek(now, signals, sink);
     let Some(len) = shown.packet_len() else {
         return shown;
@@ -83,8 +114,6 @@ pub(crate) fn dequeue_child<S: Sink>(
     if !bucket.spend(now, len) {
         return shown.showing(&None);
     }
-    // What is handed out is what was shown.
-    child.dequeue_at_hand(out);
     shown
 }
 
@@ -107,12 +136,14 @@ pub(crate) fn peek_child<S: Sink>(
     ensures bucket { (own : Own) (limit : ℕ) → own.discipline ≡ Tbf bucket.old limit → Tbf bucket.new limit ≡ (ask_tbf now own (answers now (child.old ∷ [])) bucket.old limit).peeked.own.discipline }
     ensures after { (own : Own) (limit : ℕ) → AreAsked (ask_tbf now own (answers now (child.old ∷ [])) bucket.old limit) (child.old ∷ []) (child.new ∷ []) result }
     ensures told { (own : Own) (limit : ℕ) → IsToldOf (ask_tbf now own (answers now (child.old ∷ [])) bucket.old limit).rises (S.losses sink.old) (S.losses sink.new) (S.room sink.old) (S.room sink.new) }
-    ensures held { held.new ≡ result.packet }
+    ensures held { (own : Own) (limit : ℕ) → held.new ≡ held_with result.packet (ask_tbf now own (answers now (child.old ∷ [])) bucket.old limit).peeked.own.since }
     ensures signals { signals.new ≡ signals_of result }
     ensures kept { S.keeps sink.old sink.new }
 {
-    let shown = dequeue_child(bucket, child, &mut held.place, now, signals, sink);
-    held.holds = shown.has_packet();
+    let shown = allow_child(bucket, child, now, signals, sink);
+    if shown.has_packet() {
+        held.hold(child);
+    }
     shown
 }
 

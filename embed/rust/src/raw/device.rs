@@ -177,6 +177,13 @@ impl RawDevice {
         (code, row)
     }
 
+    pub(crate) fn oldest(&self, (place, major, minor): (u32, u16, u16)) -> (u32, u64) {
+        let mut moment = 0;
+        // SAFETY: the device is open, and `moment` is another place.
+        let code = unsafe { sys::qtree_oldest(&self.0, place, major, minor, &mut moment) };
+        (code, moment)
+    }
+
     pub(crate) fn service(&self, (place, major, minor): (u32, u16, u16)) -> (u32, sys::Promise) {
         let mut promise = sys::Promise::default();
         // SAFETY: the device is open, and `promise` is another place.

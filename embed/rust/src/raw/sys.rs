@@ -354,6 +354,13 @@ unsafe extern "C" {
         minor: u16,
         row: *mut Row,
     ) -> u32;
+    pub fn qtree_oldest(
+        device: *const Device,
+        place: u32,
+        major: u16,
+        minor: u16,
+        moment: *mut u64,
+    ) -> u32;
     pub fn qtree_totals(device: *const Device, row: *mut Row) -> u32;
     pub fn qtree_service(
         device: *const Device,

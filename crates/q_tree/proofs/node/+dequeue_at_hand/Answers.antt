@@ -17,6 +17,7 @@ use Rattle.q_tree.proofs.PopLemmas.{prio-gave, prio-children, prio-kept, none-po
 use Rattle.q_tree.proofs.RowsOf.{row-of, among}
 use Rattle.q_tree.proofs.SendLemmas.{given-some, given-none}
 use Rattle.q_tree.proofs.node.+dequeue_at_hand.Goals as goal
+use Rattle.q_packet.specs.declared.stamped.Stamped.{Stamped}
 
 pub Discipline::dequeue_at_hand_further-returns-in_default-clause-after : goal.Discipline::dequeue_at_hand_further-returns-in_default-clause-after
 Discipline::dequeue_at_hand_further-returns-in_default-clause-after t c =
@@ -64,7 +65,7 @@ Discipline::dequeue_at_hand_further-returns-in-Drr-clause-after t c =
 
 pub Node::dequeue_at_hand-returns-in-Some-clause-after : goal.Node::dequeue_at_hand-returns-in-Some-clause-after
 Node::dequeue_at_hand-returns-in-Some-clause-after t c =
-    ap (λ (h : Option Descriptor). seen (record c.self.inside { held = h; row = c.book_sent.new.row })) c.clear.ensures ∙ held-after c.self.inside c.in-Some.packet (sym c.packet.ensures ∙ c.in-Some.is) c.book_sent.new.row c.book_sent.ensures ∙ ap (λ n. booked kept n (pop n).after) c.self.view_is
+    ap (λ (h : Option Stamped). seen (record c.self.inside { held = h; row = c.book_sent.new.row })) c.clear.ensures ∙ held-after c.self.inside c.in-Some.packet (sym c.packet.ensures ∙ c.in-Some.is) c.book_sent.new.row c.book_sent.ensures ∙ ap (λ n. booked kept n (pop n).after) c.self.view_is
 
 pub Node::dequeue_at_hand-returns-in-Some-clause-given : goal.Node::dequeue_at_hand-returns-in-Some-clause-given
 Node::dequeue_at_hand-returns-in-Some-clause-given t c =

@@ -1,9 +1,9 @@
-use Rattle.std.proofs.Common.{◌≡◌, ℕ, ◌-◌, ◌<◌, List, [], length, take, drop, get_or, set, sym, ap, ap₂, ◌∙◌, arith, subst, Option, IfSome, Some, true, false}
+use Rattle.std.proofs.Common.{◌≡◌, ℕ, ◌-◌, ◌<◌, List, [], length, take, drop, get_or, set, sym, ap, ap₂, ◌∙◌, arith, subst, Option, IfSome, Some, option_map, true, false}
 use Rattle.std.specs.Prelude.{slice_get}
 use Rattle.std.proofs.lemmas.List.{length-set, get_or_default, get_or-set_same}
 use Rattle.q_packet.specs.Totals.{count, size}
 use Rattle.q_packet.specs.declared.stamped.Stamped.{Stamped}
-use Rattle.q_codel.specs.Codel.{CodelState, CodelVars, joined, is_late}
+use Rattle.q_codel.specs.Codel.{CodelState, CodelVars, joined, sent, is_late}
 use Rattle.q_fqcodel.specs.Cleared.{adjust}
 use Rattle.q_fqcodel.specs.FlowsState.{FlowsState}
 use Rattle.q_fqcodel.specs.FqState.{Flow, queue_of}
@@ -115,6 +115,12 @@ unfolding packet_sent
 returns-clause-sent c =
     let d = goal.at.returns-clause-sent c in
     subst (λ (o : Option Flow). IfSome o (λ f. taken_as c.take_of_into.new.out false ≡ packet_sent c.args.now f)) (sym (there d.After-index-codel)) (passes d.After-take_of_into).sent
+
+pub returns-clause-at : goal.returns-clause-at
+returns-clause-at c =
+    let d = goal.at.returns-clause-at c in
+    subst (λ (o : Option Flow). IfSome o (λ f. Some c.peek-front.result.0.at ≡ option_map (λ (s : Stamped). s.at) (sent f.codel c.args.now f.queue))) (sym (there d.After-index-codel))
+    (passes d.After-take_of_into).at
 
 pub returns-clause-some : goal.returns-clause-some
 returns-clause-some c = omega (arith, (passes (goal.at.returns-clause-some c).After-take_of_into).len, c.take_of_into.ensures.some)

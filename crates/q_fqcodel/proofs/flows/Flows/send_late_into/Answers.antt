@@ -2,21 +2,21 @@ use Rattle.std.proofs.Common.{◌≡◌, ℕ, ◌+◌, ◌-◌, ◌<◌, ◌==�
 use Rattle.q_packet.specs.Totals.{count}
 use Rattle.q_packet.specs.declared.stamped.Stamped.{Stamped}
 use Rattle.std.specs.Prelude.{slice_get}
-use Rattle.q_codel.specs.Codel.{CodelState, joined, taken, is_late}
+use Rattle.q_codel.specs.Codel.{CodelState, joined, sent, taken, is_late}
 use Rattle.q_fqcodel.specs.Cleared.{adjust}
 use Rattle.q_fqcodel.specs.FlowsState.{FlowsState}
 use Rattle.q_fqcodel.specs.FqState.{Flow, queue_of}
 use Rattle.q_fqcodel.specs.Pool.{flows_from, codels_in}
 use Rattle.q_fqcodel.proofs.PooledLemmas.{length-flows_from, flow_read, queue_there, flow_written, length-sizes, sizes_renewed, length-codels_in, codel_at, codels_in-set}
 use Rattle.std.proofs.lemmas.List.{length-set}
-use Rattle.std.proofs.Common.{Option, Some, IfSome, IsSome, true}
+use Rattle.std.proofs.Common.{Option, Some, IfSome, IsSome, option_map, true}
 use Rattle.q_packet.specs.declared.cause.Cause.TheVariants.{CoDel}
 use Rattle.q_codel.specs.Losses.{losses_of}
 use Rattle.q_codel.specs.declared.taken.Taken.{Taken}
 use Rattle.q_fqcodel.proofs.SentLemmas.{count_dropped, rest_count, drops_told}
 use Rattle.q_fqcodel.specs.Take.{taken_as, packet_sent, packets_dropped, flow_after}
 use Rattle.q_fqcodel.proofs.flows.Flows.send_late_into.Goals as goal
-use Rattle.q_fqcodel.proofs.flows.Flows.send_late_into.Goals.{After-index_mut-codel, After-send_late_from-marked}
+use Rattle.q_fqcodel.proofs.flows.Flows.send_late_into.Goals.{After-index_mut-codel, After-send_late_from-leaving}
 
 pub index_mut-codel-requires : goal.index_mut-codel-requires
 index_mut-codel-requires g c =
@@ -58,20 +58,20 @@ pub count_at-rest-requires : goal.count_at-rest-requires
 count_at-rest-requires g c =
     let d = (goal.at.count_at-rest-requires g c).After-index_mut-codel in
     let qs : List (List Stamped) = c.self.inside.pool.queues in
-    omega (arith, omega_within g d, c.self.invariant.0, ap length c.send_late_from-marked.ensures.others, length-set qs c.args.flow (get_or c.send_late_from-marked.new.pool.queues c.args.flow []))
+    omega (arith, omega_within g d, c.self.invariant.0, ap length c.send_late_from-leaving.ensures.others, length-set qs c.args.flow (get_or c.send_late_from-leaving.new.pool.queues c.args.flow []))
 
 pub bytes_at-bytes-requires : goal.bytes_at-bytes-requires
 bytes_at-bytes-requires g c =
     let d = (goal.at.bytes_at-bytes-requires g c).After-index_mut-codel in
     let qs : List (List Stamped) = c.self.inside.pool.queues in
-    omega (arith, omega_within g d, c.self.invariant.0, ap length c.send_late_from-marked.ensures.others, length-set qs c.args.flow (get_or c.send_late_from-marked.new.pool.queues c.args.flow []))
+    omega (arith, omega_within g d, c.self.invariant.0, ap length c.send_late_from-leaving.ensures.others, length-set qs c.args.flow (get_or c.send_late_from-leaving.new.pool.queues c.args.flow []))
 
-pub send_late_from-marked-requires-clause-late : goal.send_late_from-marked-requires-clause-late
-send_late_from-marked-requires-clause-late g c =
-    subst (λ (o : Option Flow). IfSome o (λ f. is_late f.codel c.args.now f.queue ≡ true)) (there g (goal.at.send_late_from-marked-requires-clause-late g c).After-index_mut-codel) c.requires.late
+pub send_late_from-leaving-requires-clause-late : goal.send_late_from-leaving-requires-clause-late
+send_late_from-leaving-requires-clause-late g c =
+    subst (λ (o : Option Flow). IfSome o (λ f. is_late f.codel c.args.now f.queue ≡ true)) (there g (goal.at.send_late_from-leaving-requires-clause-late g c).After-index_mut-codel) c.requires.late
 
-pub send_late_from-marked-requires-clause-room : goal.send_late_from-marked-requires-clause-room
-send_late_from-marked-requires-clause-room g c =
+pub send_late_from-leaving-requires-clause-room : goal.send_late_from-leaving-requires-clause-room
+send_late_from-leaving-requires-clause-room g c =
     let same = ap (λ (f : FlowsState). f.flows) c.self.view_is in
     omega (
       arith,
@@ -81,37 +81,43 @@ send_late_from-marked-requires-clause-room g c =
     )
 
 -- what CoDel knew of the flow, and its queue
-abbrev was : (g : _) → After-send_late_from-marked g → CodelState
+abbrev was : (g : _) → After-send_late_from-leaving g → CodelState
 was g c = joined c.self.inside.parameters c.index_mut-codel.result.now
 
-abbrev queue : (g : _) → After-send_late_from-marked g → List Stamped
+abbrev queue : (g : _) → After-send_late_from-leaving g → List Stamped
 queue g c = get_or c.self.inside.pool.queues c.args.flow []
 
-sends : (g : _) (c : After-send_late_from-marked g) → IsSome (taken (was g c) c.args.now (queue g c))
-sends g c = subst (λ (o : Option Taken). IsSome o) c.send_late_from-marked.ensures.sent refl
+sends : (g : _) (c : After-send_late_from-leaving g) → IsSome (taken (was g c) c.args.now (queue g c))
+sends g c = subst (λ (o : Option Taken). IsSome o) c.send_late_from-leaving.ensures.sent refl
 
 pub overflow_sub-result : goal.overflow_sub-result
 overflow_sub-result g c =
-    let d = (goal.at.overflow_sub-result g c).After-send_late_from-marked in
+    let d = (goal.at.overflow_sub-result g c).After-send_late_from-leaving in
     omega (
       arith,
-      rest_count c.count_at-held.result c.count_at-rest.result (was g d) c.args.now (queue g d) (get_or c.send_late_from-marked.new.pool.queues c.args.flow [])
-          c.count_at-held.ensures c.count_at-rest.ensures c.send_late_from-marked.ensures.left (sends g d),
+      rest_count c.count_at-held.result c.count_at-rest.result (was g d) c.args.now (queue g d) (get_or c.send_late_from-leaving.new.pool.queues c.args.flow [])
+          c.count_at-held.ensures c.count_at-rest.ensures c.send_late_from-leaving.ensures.left (sends g d),
     )
 
 pub returns-clause-sent : goal.returns-clause-sent
 unfolding packet_sent
 returns-clause-sent g c =
-    subst (λ (o : Option Flow). IfSome o (λ f. taken_as c.send_late_from-marked.new.out c.send_late_from-marked.result ≡ packet_sent c.args.now f))
+    subst (λ (o : Option Flow). IfSome o (λ f. taken_as c.send_late_from-leaving.new.out c.send_late_from-leaving.result.marked ≡ packet_sent c.args.now f))
     (sym (there g (goal.at.returns-clause-sent g c).After-index_mut-codel))
-    c.send_late_from-marked.ensures.sent
+    c.send_late_from-leaving.ensures.sent
+
+pub returns-clause-at : goal.returns-clause-at
+returns-clause-at g c =
+    subst (λ (o : Option Flow). IfSome o (λ f. Some c.send_late_from-leaving.result.at ≡ option_map (λ (s : Stamped). s.at) (sent f.codel c.args.now f.queue)))
+    (sym (there g (goal.at.returns-clause-at g c).After-index_mut-codel))
+    c.send_late_from-leaving.ensures.at
 
 pub returns-clause-dropped : goal.returns-clause-dropped
 unfolding packets_dropped
 returns-clause-dropped g c =
-    let d = (goal.at.returns-clause-dropped g c).After-send_late_from-marked in
-    let rest = rest_count c.count_at-held.result c.count_at-rest.result (was g d) c.args.now (queue g d) (get_or c.send_late_from-marked.new.pool.queues c.args.flow [])
-    c.count_at-held.ensures c.count_at-rest.ensures c.send_late_from-marked.ensures.left (sends g d) in
+    let d = (goal.at.returns-clause-dropped g c).After-send_late_from-leaving in
+    let rest = rest_count c.count_at-held.result c.count_at-rest.result (was g d) c.args.now (queue g d) (get_or c.send_late_from-leaving.new.pool.queues c.args.flow [])
+    c.count_at-held.ensures c.count_at-rest.ensures c.send_late_from-leaving.ensures.left (sends g d) in
     subst (λ (o : Option Flow). IfSome o (λ f. nat_lt 1 (c.count_at-held.result - c.count_at-rest.result) ≡ not (count (packets_dropped c.args.now f) == 0)))
     (sym (there g (goal.at.returns-clause-dropped g c).After-index_mut-codel))
     (drops_told c.count_at-held.result c.count_at-rest.result (was g d) c.args.now (queue g d) rest (sends g d))
@@ -125,31 +131,31 @@ returns-clause-flows g c =
     let n = c.args.flow in
     let qs : List (List Stamped) = c.self.inside.pool.queues in
     let was : CodelState = joined p c.index_mut-codel.result.now in
-    let now : CodelState = joined p c.send_late_from-marked.new.codel in
+    let now : CodelState = joined p c.send_late_from-leaving.new.codel in
     let q : List Stamped = get_or qs n [] in
-    let left : List Stamped = get_or c.send_late_from-marked.new.pool.queues n [] in
+    let left : List Stamped = get_or c.send_late_from-leaving.new.pool.queues n [] in
     let here : flow_after c.args.now (record { queue = q; codel = get_or cs n was }) ≡ record { queue = left; codel = now } =
     ap (λ (s : CodelState). flow_after c.args.now (record { queue = q; codel = s })) (sym (read g (goal.at.returns-clause-flows g c).After-index_mut-codel))
-    ∙ ap₂ (λ (l : List Stamped) (s : CodelState). record { queue = l; codel = s }) (sym c.send_late_from-marked.ensures.left) (sym c.send_late_from-marked.ensures.state) in
-    ap₂ (λ (l : List (List Stamped)) (k : List CodelState). flows_from l k) c.send_late_from-marked.ensures.others (codels_in-set p vs n c.send_late_from-marked.new.codel)
+    ∙ ap₂ (λ (l : List Stamped) (s : CodelState). record { queue = l; codel = s }) (sym c.send_late_from-leaving.ensures.left) (sym c.send_late_from-leaving.ensures.state) in
+    ap₂ (λ (l : List (List Stamped)) (k : List CodelState). flows_from l k) c.send_late_from-leaving.ensures.others (codels_in-set p vs n c.send_late_from-leaving.new.codel)
     ∙ flow_written n qs left cs now was (flow_after c.args.now) here
     ∙ ap (λ (f : FlowsState). adjust (flow_after c.args.now) n f.flows) c.self.view_is
 
 pub returns-clause-lost : goal.returns-clause-lost
 unfolding packets_dropped
 returns-clause-lost g c =
-    subst (λ (o : Option Flow). IfSome o (λ f. g.S.Sink.losses c.send_late_from-marked.new.sink ≡ g.S.Sink.losses c.args.sink.now ++ losses_of CoDel (packets_dropped c.args.now f)))
+    subst (λ (o : Option Flow). IfSome o (λ f. g.S.Sink.losses c.send_late_from-leaving.new.sink ≡ g.S.Sink.losses c.args.sink.now ++ losses_of CoDel (packets_dropped c.args.now f)))
     (sym (there g (goal.at.returns-clause-lost g c).After-index_mut-codel))
-    c.send_late_from-marked.ensures.lost
+    c.send_late_from-leaving.ensures.lost
 
 pub returns-clause-room : goal.returns-clause-room
 unfolding packets_dropped
 returns-clause-room g c =
     let q : List Stamped = get_or c.self.inside.pool.queues c.args.flow [] in
-    let n = count_dropped (joined c.self.inside.parameters c.index_mut-codel.result.now) c.args.now q (λ _. sends g (goal.at.returns-clause-room g c).After-send_late_from-marked) in
-    subst (λ (o : Option Flow). IfSome o (λ f. g.S.Sink.room c.send_late_from-marked.new.sink + count (packets_dropped c.args.now f) ≡ g.S.Sink.room c.args.sink.now))
+    let n = count_dropped (joined c.self.inside.parameters c.index_mut-codel.result.now) c.args.now q (λ _. sends g (goal.at.returns-clause-room g c).After-send_late_from-leaving) in
+    subst (λ (o : Option Flow). IfSome o (λ f. g.S.Sink.room c.send_late_from-leaving.new.sink + count (packets_dropped c.args.now f) ≡ g.S.Sink.room c.args.sink.now))
     (sym (there g (goal.at.returns-clause-room g c).After-index_mut-codel))
-    (ap (λ (m : ℕ). g.S.Sink.room c.send_late_from-marked.new.sink + m) n ∙ c.send_late_from-marked.ensures.room)
+    (ap (λ (m : ℕ). g.S.Sink.room c.send_late_from-leaving.new.sink + m) n ∙ c.send_late_from-leaving.ensures.room)
 
 pub renew-requires-clause-in_range : goal.renew-requires-clause-in_range
 renew-requires-clause-in_range g c =
@@ -160,14 +166,14 @@ pub invariant_of-self : goal.invariant_of-self
 invariant_of-self g c =
     let p = c.self.inside.parameters in
     let vs = c.self.inside.states.items in
-    let v = c.send_late_from-marked.new.codel in
+    let v = c.send_late_from-leaving.new.codel in
     let qs : List (List Stamped) = c.self.inside.pool.queues in
     let n : ℕ = c.args.flow in
     let d = (goal.at.invariant_of-self g c).After-index_mut-codel in
-    let new : List (List Stamped) = c.send_late_from-marked.new.pool.queues in (
-      ap length c.send_late_from-marked.ensures.others ∙ length-set qs n (get_or new n []) ∙ c.self.invariant.0 ∙ length-codels_in p vs ∙ sym (length-set vs n v) ∙ sym (length-codels_in p (set vs n v)),
+    let new : List (List Stamped) = c.send_late_from-leaving.new.pool.queues in (
+      ap length c.send_late_from-leaving.ensures.others ∙ length-set qs n (get_or new n []) ∙ c.self.invariant.0 ∙ length-codels_in p vs ∙ sym (length-set vs n v) ∙ sym (length-codels_in p (set vs n v)),
       omega (arith, c.self.invariant.1, length-set vs n v),
-      sizes_renewed qs new n (get_or new n []) c.renew.new.self c.bytes_at-bytes.result c.send_late_from-marked.ensures.others (omega (arith, omega_within g d, c.self.invariant.0))
+      sizes_renewed qs new n (get_or new n []) c.renew.new.self c.bytes_at-bytes.result c.send_late_from-leaving.ensures.others (omega (arith, omega_within g d, c.self.invariant.0))
           (c.renew.ensures ∙ ap (λ (l : List ℕ). set l n c.bytes_at-bytes.result) c.self.invariant.2) c.bytes_at-bytes.ensures.value,
       c.self.invariant.3,
     )

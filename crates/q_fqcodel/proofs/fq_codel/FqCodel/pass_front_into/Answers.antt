@@ -2,6 +2,8 @@ use Rattle.std.proofs.Common.{◌≡◌, ℕ, ◌<◌, false, true, pos, ◌-ℤ
 use Rattle.std.proofs.lemmas.Bool.{eqb-false}
 use Rattle.std.specs.Option.{option_map_or}
 use Rattle.q_packet.specs.Totals.{count}
+use Rattle.q_packet.specs.declared.stamped.Stamped.{Stamped}
+use Rattle.q_codel.specs.Codel as codel
 use Rattle.q_codel.specs.Codel.{is_late}
 use Rattle.q_codel.specs.declared.taken.Taken.{Taken}
 use Rattle.q_fqcodel.specs.Cleared.{adjust}
@@ -10,11 +12,11 @@ use Rattle.q_fqcodel.specs.FlowsState.{state_of}
 use Rattle.q_fqcodel.specs.FqState.{Flow, FqState, FqView, queue_of, is_idle}
 use Rattle.q_fqcodel.specs.Lawful.{IsLawful}
 use Rattle.q_fqcodel.specs.Links.{ListsState}
-use Rattle.q_fqcodel.specs.Take.{IsFrontLate, taken_as, front, sender as sending_flow, packet_sent, packets_dropped, flow_after, paid, sent_from, dropped_from, after_sending}
+use Rattle.q_fqcodel.specs.Take.{IsFrontLate, taken_as, front, sender as sending_flow, packet_sent, packets_dropped, flow_after, paid, head_sent, sent_from, dropped_from, after_sending}
 use Rattle.q_fqcodel.proofs.FlowLemmas.{packets_at}
 use Rattle.q_fqcodel.proofs.KeptLemmas.{lawful_after_sending}
 use Rattle.q_fqcodel.proofs.LawfulLemmas.{front_within, none_waits}
-use Rattle.q_fqcodel.proofs.SentLemmas.{front_is, front_none, sender_found, slice_there, sent_is, sent_none, dropped_is, dropped_none, after_none, after_sending_written, written, paid_is}
+use Rattle.q_fqcodel.proofs.SentLemmas.{front_is, front_none, sender_found, slice_there, head_is, head_none, sent_is, sent_none, dropped_is, dropped_none, after_none, after_sending_written, written, paid_is}
 use Rattle.q_fqcodel.proofs.fq_codel.FqCodel.pass_front_into.Goals as goal
 use Rattle.q_fqcodel.proofs.fq_codel.FqCodel.pass_front_into.Goals.{After-queued, After-pass_into, After-write_front}
 
@@ -28,6 +30,9 @@ no_one c = sym (sent_none c.args.self.now.state c.args.now (none_in_front c).0 (
 
 pub returns-in_default-clause-len : goal.returns-in_default-clause-len
 returns-in_default-clause-len c = ap (λ (o : Option Taken). option_map (λ (t : Taken). t.packet.len) o) (no_one c)
+
+pub returns-in_default-clause-at : goal.returns-in_default-clause-at
+returns-in_default-clause-at c = sym (ap (λ (o : Option Stamped). option_map (λ (s : Stamped). s.at) o) (head_none c.args.self.now.state c.args.now (none_in_front c).0 (none_in_front c).1))
 
 pub returns-in_default-clause-some : goal.returns-in_default-clause-some
 returns-in_default-clause-some c = (
@@ -87,16 +92,16 @@ gone c = record { packet = c.pass_into.new.out; marked = false }
 sent : (c : After-write_front) → sent_from c.args.now (opened (met c)) ≡ Some (gone c)
 sent c =
     sent_is (opened (met c)) (sender (met c)) (behind (met c)) c.args.now (Some (gone c)) (first (met c)) (within (met c))
-    (of_sender (met c) (λ f. taken_as c.pass_into.new.out false ≡ packet_sent c.args.now f) c.in_ok-len.ensures.sent)
+    (of_sender (met c) (λ f. taken_as c.pass_into.new.out false ≡ packet_sent c.args.now f) c.in_ok-passed.ensures.sent)
 
 paying : (c : After-write_front) → paid (sent_from c.args.now (opened (met c))) (sender (met c)) ≡ c.charged.result
 paying c =
     paid_is (sent_from c.args.now (opened (met c))) (gone c) (sender (met c)) (sent c)
-    ∙ ap (λ (n : ℕ). record (sender (met c)) { credits = (sender (met c)).credits -ℤ pos n }) (sym c.in_ok-len.ensures.len)
+    ∙ ap (λ (n : ℕ). record (sender (met c)) { credits = (sender (met c)).credits -ℤ pos n }) (sym c.in_ok-passed.ensures.len)
     ∙ sym c.charged.ensures
 
 flows_sent : (c : After-write_front) → c.pass_into.new.self.flows ≡ adjust (flow_after c.args.now) (sender (met c)).flow (opened (met c)).flows
-flows_sent c = c.in_ok-len.ensures.flows ∙ ap (λ (e : Entry). adjust (flow_after c.args.now) e.flow (opened (met c)).flows) c.front.view_is
+flows_sent c = c.in_ok-passed.ensures.flows ∙ ap (λ (e : Entry). adjust (flow_after c.args.now) e.flow (opened (met c)).flows) c.front.view_is
 
 pub write_front-requires-clause-own : goal.write_front-requires-clause-own
 write_front-requires-clause-own c =
@@ -125,7 +130,14 @@ here : (c : After-write_front) → Some (gone c) ≡ sent_from c.args.now c.args
 here c = sym (sent c) ∙ ap (sent_from c.args.now) (opened_is (met c))
 
 pub returns-clause-len : goal.returns-clause-len
-returns-clause-len c = ap (λ (n : ℕ). Some n) c.in_ok-len.ensures.len ∙ ap (λ (o : Option Taken). option_map (λ (t : Taken). t.packet.len) o) (here c)
+returns-clause-len c = ap (λ (n : ℕ). Some n) c.in_ok-passed.ensures.len ∙ ap (λ (o : Option Taken). option_map (λ (t : Taken). t.packet.len) o) (here c)
+
+pub returns-clause-at : goal.returns-clause-at
+returns-clause-at c =
+    let P : Option Stamped → Type 0 = λ o. Some c.in_ok-passed.passed.at ≡ option_map (λ (s : Stamped). s.at) o in
+    subst (λ (s : FqState). P (head_sent c.args.now s)) (opened_is (met c))
+    (head_is (opened (met c)) (sender (met c)) (behind (met c)) c.args.now P (first (met c)) (within (met c))
+    (of_sender (met c) (λ f. P (codel.sent f.codel c.args.now f.queue)) c.in_ok-passed.ensures.at))
 
 pub returns-clause-some : goal.returns-clause-some
 returns-clause-some c =
@@ -146,7 +158,7 @@ returns-clause-marked c = sym (ap (λ (o : Option Taken). option_map_or (λ (t :
 pub returns-clause-dropped : goal.returns-clause-dropped
 returns-clause-dropped c =
     subst (λ (s : FqState). dropped_from c.args.now s ≡ []) (opened_is (met c))
-    (dropped_is (opened (met c)) (sender (met c)) (behind (met c)) c.args.now (λ l. l ≡ []) (first (met c)) (within (met c)) (of_sender (met c) (λ f. packets_dropped c.args.now f ≡ []) c.in_ok-len.ensures.dropped))
+    (dropped_is (opened (met c)) (sender (met c)) (behind (met c)) c.args.now (λ l. l ≡ []) (first (met c)) (within (met c)) (of_sender (met c) (λ f. packets_dropped c.args.now f ≡ []) c.in_ok-passed.ensures.dropped))
 
 pub returns-clause-after : goal.returns-clause-after
 returns-clause-after c = after c ∙ ap (after_sending c.args.now) (opened_is (met c))
@@ -161,13 +173,13 @@ on_err : {A B : Type 0} (r : Result A B) (P : Type 0) → P → OnErr r P
 on_err (Ok x) P p = tt
 on_err (Err x) P p = p
 
-pub returns-in_err-len-clause-late : goal.returns-in_err-len-clause-late
-returns-in_err-len-clause-late c =
-    let d = (goal.at.returns-in_err-len-clause-late c).After-pass_into in
+pub returns-in_err-passed-clause-late : goal.returns-in_err-passed-clause-late
+returns-in_err-passed-clause-late c =
+    let d = (goal.at.returns-in_err-passed-clause-late c).After-pass_into in
     let s = opened d in
     let found : sending_flow s ≡ slice_get s.flows (sender d).flow = sender_found s (sender d) (behind d) (first d) in
     on_err c.from_residual.result (IsFrontLate c.args.now c.args.self.now.state)
     (subst (λ (t : FqState). IsFrontLate c.args.now t) (opened_is d)
     (subst (λ (o : Option Flow). IsSomeAnd o (λ f. is_late f.codel c.args.now f.queue ≡ true)) (sym found)
     (some_and (slice_get s.flows (sender d).flow) (λ f. is_late f.codel c.args.now f.queue ≡ true) (slice_there s.flows (sender d).flow (within d))
-    (of_sender d (λ f. is_late f.codel c.args.now f.queue ≡ true) c.in_err-len.ensures.late))))
+    (of_sender d (λ f. is_late f.codel c.args.now f.queue ≡ true) c.in_err-passed.ensures.late))))

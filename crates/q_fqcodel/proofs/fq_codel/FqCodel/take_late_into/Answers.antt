@@ -1,9 +1,10 @@
-use Rattle.std.proofs.Common.{◌≡◌, ℕ, ◌+◌, ◌<◌, ◌==◌, not, false, true, pos, ◌-ℤ◌, Option, None, List, ◌∷◌, ◌++◌, length, set, drop, IfSome, IsSome, IsSomeAnd, Some, slice_get, option_and_then, refl, sym, ap, ◌∙◌, arith, subst}
+use Rattle.std.proofs.Common.{◌≡◌, ℕ, ◌+◌, ◌<◌, ◌==◌, not, false, true, pos, ◌-ℤ◌, Option, None, List, ◌∷◌, ◌++◌, length, set, drop, IfSome, IsSome, IsSomeAnd, Some, slice_get, option_map, option_and_then, refl, sym, ap, ◌∙◌, arith, subst}
 use Rattle.std.proofs.lemmas.Bool.{eqb-false}
 use Rattle.std.specs.Option.{option_map_or}
 use Rattle.q_packet.specs.Totals.{count}
 use Rattle.q_packet.specs.declared.stamped.Stamped.{Stamped}
 use Rattle.q_packet.specs.declared.cause.Cause.TheVariants.{CoDel}
+use Rattle.q_codel.specs.Codel as codel
 use Rattle.q_codel.specs.Codel.{is_late}
 use Rattle.q_codel.specs.Losses.{losses_of}
 use Rattle.q_codel.specs.declared.taken.Taken.{Taken}
@@ -13,11 +14,11 @@ use Rattle.q_fqcodel.specs.FlowsState.{state_of}
 use Rattle.q_fqcodel.specs.FqState.{Flow, FqState, FqView, queue_of, is_idle, packets_of}
 use Rattle.q_fqcodel.specs.Lawful.{IsLawful}
 use Rattle.q_fqcodel.specs.Links.{ListsState}
-use Rattle.q_fqcodel.specs.Take.{IsFrontLate, taken_as, front, sender as sending_flow, packet_sent, packets_dropped, flow_after, paid, sent_from, dropped_from, after_sending}
+use Rattle.q_fqcodel.specs.Take.{IsFrontLate, taken_as, front, sender as sending_flow, packet_sent, packets_dropped, flow_after, paid, head_sent, sent_from, dropped_from, after_sending}
 use Rattle.q_fqcodel.proofs.FlowLemmas.{packets_at}
 use Rattle.q_fqcodel.proofs.KeptLemmas.{lawful_after_sending}
 use Rattle.q_fqcodel.proofs.LawfulLemmas.{front_within}
-use Rattle.q_fqcodel.proofs.SentLemmas.{front_is, sender_found, sent_is, dropped_is, after_sending_written, written, paid_is}
+use Rattle.q_fqcodel.proofs.SentLemmas.{front_is, sender_found, head_is, sent_is, dropped_is, after_sending_written, written, paid_is}
 use Rattle.q_fqcodel.proofs.fq_codel.FqCodel.take_late_into.Goals as goal
 use Rattle.q_fqcodel.proofs.fq_codel.FqCodel.take_late_into.Goals.{After-front, After-write_front}
 
@@ -134,6 +135,13 @@ here g c = sym (sent g c) ∙ ap (sent_from c.args.now) (opened_is g (met g c))
 
 pub returns-clause-len : goal.returns-clause-len
 returns-clause-len g c = c.send_late_into-sent.ensures.len ∙ ap (λ (o : Option Taken). option_map_or (λ (t : Taken). t.packet.len) o 0) (here g c)
+
+pub returns-clause-at : goal.returns-clause-at
+returns-clause-at g c =
+    let P : Option Stamped → Type 0 = λ o. Some c.send_late_into-sent.result.at ≡ option_map (λ (s : Stamped). s.at) o in
+    subst (λ (s : FqState). P (head_sent c.args.now s)) (opened_is g (met g c))
+    (head_is (opened g (met g c)) (sender g (met g c)) (behind g (met g c)) c.args.now P (first g (met g c)) (within g (met g c))
+    (of_sender g (met g c) (λ f. P (codel.sent f.codel c.args.now f.queue)) c.send_late_into-sent.ensures.at))
 
 pub returns-clause-some : goal.returns-clause-some
 returns-clause-some g c =

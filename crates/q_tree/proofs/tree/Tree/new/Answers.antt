@@ -19,8 +19,8 @@ use Rattle.q_tree.proofs.tree.Tree.new.Goals as goal
 pub invariant_of-result : goal.invariant_of-result
 invariant_of-result c =
     let d : Device = record { mtu = c.args.mtu; txqueuelen = c.args.txqueuelen } in
-    let own : c.fifo.result.own ≡ record { handle = None; discipline = spec.Fifo (Packets c.args.txqueuelen) []; held = None; filters = [] } =
-    c.fifo.ensures.own ∙ ap (λ n. record { handle = None; discipline = spec.Fifo (Packets n) []; held = None; filters = [] }) c.from.ensures in
+    let own : c.fifo.result.own ≡ record { handle = None; discipline = spec.Fifo (Packets c.args.txqueuelen) []; held = None; since = 0; filters = [] } =
+    c.fifo.ensures.own ∙ ap (λ n. record { handle = None; discipline = spec.Fifo (Packets n) []; held = None; since = 0; filters = [] }) c.from.ensures in
     let empty : beneath c.fifo.result ≡ [] = ap₂ (λ (o : Own) (x : Forest Kept). beneath_own o (each beneath_own x)) own c.fifo.ensures.alone in
     let most : c.args.mtu < 2 ^ 16 = omega (arith, c.ranges) in
     record {

@@ -1,0 +1,45 @@
+use Rattle.std.proofs.Common.{◌∙◌, [], ◌∷◌, map, refl, sym, ap, ap₂, arith, Option}
+use Rattle.std.proofs.Common.{ℕ}
+use Rattle.q_fqcodel.specs.Oldest.{earlier}
+use Rattle.q_model.specs.Node.{Node}
+use Rattle.q_model.specs.Oldest.{oldest}
+use Rattle.q_tree.specs.Kept.{Kept}
+use Rattle.q_tree.specs.Seen.{children_seen, discipline_seen}
+use Rattle.q_tree.specs.ReadyAt.{sooner}
+use Rattle.q_tree.proofs.AtHandLemmas.{there-at}
+use Rattle.q_tree.proofs.OldestLemmas.{all-order, child-oldest, each-order, fifo-oldest, fq-oldest, held-arrival, inside-order, kids-oldest, node-oldest, oldest-end, oldest-next, one-order, sooner-earlier}
+use Rattle.q_tree.proofs.RouteLemmas.{child-size, children-size}
+use Rattle.q_tree.proofs.+oldest.Goals as goal
+
+-- nodes side by side
+pub oldest::oldest_of-loop-node-init : goal.oldest::oldest_of-loop-node-init
+oldest::oldest_of-loop-node-init t c = refl
+
+pub oldest::oldest_of-oldest-requires : goal.oldest::oldest_of-oldest-requires
+oldest::oldest_of-oldest-requires t c =
+    let at = there-at c.args.nodes.now c.loop-node.node-index c.node-item.result c.loop-node-test.true c.node-item.is in
+    (omega (arith, child-size c.args.nodes.now c.loop-node.node-index c.node-item.result at, c.decreases), each-order c.args.nodes.now c.loop-node.node-index c.node-item.result at c.requires)
+
+pub oldest::oldest_of-loop-node-preserved : goal.oldest::oldest_of-loop-node-preserved
+oldest::oldest_of-loop-node-preserved t c =
+    ap (λ (o : Option ℕ). earlier o _) (c.sooner-first.ensures ∙ sooner-earlier c.loop-node.first c.oldest.result ∙ ap (earlier c.loop-node.first) c.oldest.ensures)
+    ∙ sym (oldest-next c.args.nodes.now c.loop-node.node-index c.node-item.result c.loop-node.first c.loop-node-test.true c.node-item.is)
+    ∙ c.loop-node.invariant
+
+pub oldest::oldest_of-returns : goal.oldest::oldest_of-returns
+oldest::oldest_of-returns t c = sym (oldest-end c.args.nodes.now c.loop-node.node-index c.loop-node.first c.loop-node-test.false) ∙ c.loop-node.invariant
+
+-- a node
+pub node::Node::oldest-oldest-requires : goal.node::Node::oldest-oldest-requires
+node::Node::oldest-oldest-requires t c = (
+  omega (arith, children-size c.self.inside c.args.self.now (children_seen c.self.inside.discipline) c.self.view_is refl, c.decreases),
+  inside-order c.self.inside c.args.self.now c.self.view_is c.requires,
+)
+
+pub node::Node::oldest-returns : goal.node::Node::oldest-returns
+node::Node::oldest-returns t c =
+    c.sooner.ensures
+    ∙ sooner-earlier c.arrival.result c.oldest.result
+    ∙ ap₂ earlier (c.arrival.ensures ∙ held-arrival c.self.inside) c.oldest.ensures
+    ∙ sym (node-oldest c.self.inside)
+    ∙ ap (λ (n : Node Kept). oldest n) c.self.view_is

@@ -1,0 +1,37 @@
+use Rattle.std.proofs.Common.{◌∙◌, sym, ap}
+use Rattle.std.specs.Prelude.{unwrap_or}
+use Rattle.q_tree.proofs.HeldLemmas.{some-there, none-there}
+use Rattle.q_tree.proofs.ServeLemmas.{class-there}
+use Rattle.q_tree.proofs.disciplines.drr.dequeue_class.Goals as goal
+
+pub dequeue_class_at_hand-requires : goal.dequeue_class_at_hand-requires
+dequeue_class_at_hand-requires g c =
+    let there = some-there c.meet_class-shown.result.packet (sym c.has_packet.ensures ∙ c.if-has_packet.true) in
+    (c.meet_class-shown.ensures.met there.0 there.1).inside
+
+pub returns-then-has_packet-clause-active : goal.returns-then-has_packet-clause-active
+returns-then-has_packet-clause-active g c = λ own.
+    let there = some-there c.meet_class-shown.result.packet (sym c.has_packet.ensures ∙ c.if-has_packet.true) in
+    (c.meet_class-shown.ensures.met there.0 there.1).schedule c.dequeue_class_at_hand.new.active c.dequeue_class_at_hand.new.classes c.dequeue_class_at_hand.ensures.given own
+
+pub returns-then-has_packet-clause-after : goal.returns-then-has_packet-clause-after
+returns-then-has_packet-clause-after g c = λ own.
+    let there = some-there c.meet_class-shown.result.packet (sym c.has_packet.ensures ∙ c.if-has_packet.true) in
+    (c.meet_class-shown.ensures.met there.0 there.1).asked c.dequeue_class_at_hand.new.active c.dequeue_class_at_hand.new.classes c.dequeue_class_at_hand.ensures.given own
+
+pub returns-then-has_packet-clause-packet : goal.returns-then-has_packet-clause-packet
+returns-then-has_packet-clause-packet g c =
+    let there = some-there c.meet_class-shown.result.packet (sym c.has_packet.ensures ∙ c.if-has_packet.true) in
+    let met = c.meet_class-shown.ensures.met there.0 there.1 in
+    let class = class-there c.meet_class-shown.new.classes c.meet_class-shown.new.met met.inside in
+    c.dequeue_class_at_hand.ensures.packet class.0 class.1 ∙ ap (λ o. unwrap_or o c.args.out.now) (met.shown class.0 class.1)
+
+pub returns-clause-active : goal.returns-clause-active
+returns-clause-active g c = λ own. (c.meet_class-shown.ensures.nothing (none-there c.meet_class-shown.result.packet (sym c.has_packet.ensures ∙ c.if-has_packet.false))).schedule own
+
+pub returns-clause-after : goal.returns-clause-after
+returns-clause-after g c = λ own. (c.meet_class-shown.ensures.nothing (none-there c.meet_class-shown.result.packet (sym c.has_packet.ensures ∙ c.if-has_packet.false))).asked own
+
+pub returns-clause-packet : goal.returns-clause-packet
+returns-clause-packet g c =
+    ap (λ o. unwrap_or o c.args.out.now) (sym (none-there c.meet_class-shown.result.packet (sym c.has_packet.ensures ∙ c.if-has_packet.false)))
