@@ -1,4 +1,4 @@
-"""Mutants, as the files of mutants/ and must-fail/ have them, and the places that they change."""
+"""Mutants, as the files of mutants/ have them, and the places that they change."""
 import collections
 import functools
 import glob
@@ -107,10 +107,8 @@ def lines_of(path):
 
 
 def mutants_in(path):
-    """The mutants of a file: one that has its name in must-fail/, else each from a line `mutant:` to the next, all of one source."""
+    """The mutants of a file: each from a line `mutant:` to the next, all of one source."""
     lines = lines_of(path)
-    if path.endswith(".edit"):
-        return [Mutant(os.path.basename(path).removesuffix(".edit"), None, lines)]
     starts = [at for at, (word, _) in enumerate(lines) if word == "mutant"]
     source = next((rest.strip() for word, rest in lines[: starts[0] if starts else 0] if word == "file"), None)
     return [Mutant(lines[at][1].strip(), source, lines[at + 1 : end]) for at, end in zip(starts, [*starts[1:], None])]
@@ -119,5 +117,5 @@ def mutants_in(path):
 @functools.cache
 def mutants_of_folder(at):
     """The mutants of the crate in a folder."""
-    paths = glob.glob(f"{at}/must-fail/*.edit") + glob.glob(f"{at}/mutants/**/*.mutants", recursive=True)
+    paths = glob.glob(f"{at}/mutants/**/*.mutants", recursive=True)
     return [mutant for path in sorted(paths) for mutant in mutants_in(path)]

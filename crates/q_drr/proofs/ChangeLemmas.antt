@@ -12,13 +12,10 @@ use Rattle.q_drr.proofs.DifferLemmas.{ClassesDiffer, differ_from_pairs, pairs_fr
 use Rattle.q_drr.proofs.KeyLemmas.{has_push, find_push, differ_push, has_others, find_others, has_map, differ_map}
 use Rattle.q_drr.proofs.LookupLemmas.{quantum_here, quantum_behind}
 use Rattle.q_drr.proofs.StretchLemmas.{list_differ}
+use Rattle.q_drr.proofs.NameLemmas.{or_left}
 
 classes_apart : (classes : List Class) → AllPairs (λ (a b : Class). a.name ≢ b.name) classes → ClassesDiffer classes
 classes_apart classes h = differ_from_pairs (λ (c : Class). c.name) classes h
-
-or_known : (x y : Bool) → x ≡ true → (x || y) ≡ true
-or_known true y e = refl
-or_known false y e = absurd (false≢true e)
 
 -- an entry whose class is still there, with the same quantum
 entry_kept : (max_len : ℕ) (old new : List Class) (e : Entry) → has_class e.class new ≡ has_class e.class old → quantum_of e.class new ≡ quantum_of e.class old
@@ -42,7 +39,7 @@ added_lawful s n quantum h absent positive =
     let new : List Class = s.classes ++ c ∷ [] in
     let kept : (e : Entry) → IsEntry s.max_len s.classes e → IsEntry s.max_len new e = λ e i.
     entry_kept s.max_len s.classes new e
-    (has_push (λ (c : Class). c.name) e.class c s.classes ∙ or_known (has_class e.class s.classes) (eqb e.class n) i.there ∙ sym i.there)
+    (has_push (λ (c : Class). c.name) e.class c s.classes ∙ or_left (has_class e.class s.classes) (eqb e.class n) i.there ∙ sym i.there)
     (ap (λ (o : Option Class). option_map_or (λ (c : Class). c.quantum) o 0) (find_push (λ (c : Class). c.name) e.class c s.classes i.there)) i in
     record {
       classes_differ = pairs_from_differ (λ (c : Class). c.name) new (differ_push (λ (c : Class). c.name) c s.classes (classes_apart s.classes h.classes_differ) absent);

@@ -1,5 +1,5 @@
 -- A circle of links once a place that is no member is gone, and those above it have moved down by one.
-use Rattle.std.proofs.Common.{◌≡◌, ◌≢◌, ℕ, zero, suc, ◌+◌, ◌-◌, ◌<◌, Bool, true, false, eqb, ◌||◌, List, [], ◌∷◌, map, length, refl, sym, ap, ◌∙◌, subst, inl, inr, arith}
+use Rattle.std.proofs.Common.{◌≡◌, ◌≢◌, ℕ, zero, suc, ◌+◌, ◌-◌, ◌<◌, true, false, eqb, List, [], ◌∷◌, map, length, refl, sym, ap, ◌∙◌, subst, inl, inr, arith}
 use Rattle.std.specs.Prelude.{slice_index_or}
 use Rattle.std.specs.List.{All, remove}
 use Rattle.std.proofs.lemmas.Bool.{or_parts, cases_lt}
@@ -8,18 +8,9 @@ use Rattle.std.proofs.lemmas.List.Edits.{get_or-remove_below, get_or-remove_abov
 use Rattle.q_drr.specs.declared.ring.Link.{Link}
 use Rattle.q_drr.specs.Links.{no_link, is_among, moved_down, walk, IsPath, IsClosed, IsCircle, HaveMovedDown, next_of, before_of, here_of}
 use Rattle.q_drr.proofs.DifferLemmas.{AllDiffer, numbers_apart, numbers_differ_from}
-use Rattle.q_drr.proofs.NameLemmas.{among_itself, each_at}
+use Rattle.q_drr.proofs.NameLemmas.{among_itself, each_at, or_right, or_middle}
 use Rattle.q_drr.proofs.PlaceLemmas.{down_above, down_below, other_place, all_down, among_down}
 use Rattle.q_drr.proofs.RingLemmas.{circle_walks, length-walk}
-
-or_right : (x y : Bool) → y ≡ true → (x || y) ≡ true
-or_right true y e = refl
-or_right false y e = e
-
-or_middle : (x y z : Bool) → (x || z) ≡ true → (x || (y || z)) ≡ true
-or_middle true y z h = refl
-or_middle false true z h = refl
-or_middle false false z h = h
 
 abbrev pub link_moved : ℕ → Link → Link
 link_moved gap l = record { next = moved_down gap l.next; before = moved_down gap l.before; here = l.here }

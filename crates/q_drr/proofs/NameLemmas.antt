@@ -31,6 +31,19 @@ or_false : (a : Bool) → (a || false) ≡ a
 or_false true = refl
 or_false false = refl
 
+pub or_left : (x y : Bool) → x ≡ true → (x || y) ≡ true
+or_left true y e = refl
+or_left false y e = absurd (false≢true e)
+
+pub or_right : (x y : Bool) → y ≡ true → (x || y) ≡ true
+or_right true y e = refl
+or_right false y e = e
+
+pub or_middle : (x y z : Bool) → (x || z) ≡ true → (x || (y || z)) ≡ true
+or_middle true y z h = refl
+or_middle false true z h = refl
+or_middle false false z h = h
+
 or_comm : (a b : Bool) → (a || b) ≡ (b || a)
 or_comm true true = refl
 or_comm true false = refl

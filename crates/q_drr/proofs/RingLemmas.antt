@@ -9,7 +9,7 @@ use Rattle.std.proofs.lemmas.List.Elements.{All-head, All-tail, All-push, All-we
 use Rattle.q_drr.specs.declared.ring.Link.{Link}
 use Rattle.q_drr.specs.Links.{Circle, no_link, without, is_among, walk, IsPath, IsClosed, IsCircle, IsJoined, IsMarked, next_of, before_of}
 use Rattle.q_drr.proofs.DifferLemmas.{AllDiffer, numbers_apart, numbers_differ_from}
-use Rattle.q_drr.proofs.NameLemmas.{differ_by_member, eqb_swap, among_itself, among_rotated, differ_push, differ_rotated, each_at, place_of, is_among-append}
+use Rattle.q_drr.proofs.NameLemmas.{differ_by_member, eqb_swap, among_itself, among_rotated, differ_push, differ_rotated, each_at, place_of, is_among-append, or_right, or_middle}
 
 if_true : (t : Bool) (x y z : ℕ) → z ≡ (if t then x else y) → t ≡ true → z ≡ x
 if_true true x y z e p = e
@@ -18,10 +18,6 @@ if_true false x y z e p = absurd (false≢true p)
 if_false : (t : Bool) (x y z : ℕ) → z ≡ (if t then x else y) → t ≡ false → z ≡ y
 if_false true x y z e p = absurd (false≢true (sym p))
 if_false false x y z e p = e
-
-or_right : (x y : Bool) → y ≡ true → (x || y) ≡ true
-or_right true y e = refl
-or_right false y e = e
 
 last_of : ℕ → List ℕ → ℕ
 last_of a [] = a
@@ -46,11 +42,6 @@ IsPath_joined : (nx bf : ℕ → ℕ) (a : ℕ) (ns : List ℕ) (c : ℕ) (ms : 
 IsPath_joined nx bf a [] c ms b p q = (p.0, p.1, q)
 IsPath_joined nx bf a (n ∷ ns) c ms b p q = (p.0, p.1, IsPath_joined nx bf n ns c ms b p.2 q)
 
-widen : (x y z : Bool) → (x || z) ≡ true → (x || (y || z)) ≡ true
-widen true y z h = refl
-widen false true z h = refl
-widen false false z h = h
-
 -- links that agree at each member lead the same way
 path_same : (nx bf nx' bf' : ℕ → ℕ) (a : ℕ) (ns : List ℕ) (b : ℕ)
     → ((m : ℕ) → is_among m (a ∷ ns) ≡ true → nx' m ≡ nx m) → ((m : ℕ) → is_among m (b ∷ ns) ≡ true → bf' m ≡ bf m)
@@ -59,7 +50,7 @@ path_same nx bf nx' bf' a [] b nexts befores p = (nexts a (among_itself a []) �
 path_same nx bf nx' bf' a (n ∷ ns) b nexts befores p = (
   nexts a (among_itself a (n ∷ ns)) ∙ p.0,
   befores n (or_right (eqb n b) _ (among_itself n ns)) ∙ p.1,
-  path_same nx bf nx' bf' n ns b (λ m h. nexts m (or_right (eqb m a) _ h)) (λ m h. befores m (widen (eqb m b) (eqb m n) (is_among m ns) h)) p.2,
+  path_same nx bf nx' bf' n ns b (λ m h. nexts m (or_right (eqb m a) _ h)) (λ m h. befores m (or_middle (eqb m b) (eqb m n) (is_among m ns) h)) p.2,
 )
 
 -- the last of a path is led to another number than before

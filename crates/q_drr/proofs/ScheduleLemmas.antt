@@ -13,12 +13,8 @@ use Rattle.q_drr.proofs.DifferLemmas.{AllDiffer, StatesDiffer, ClassesDiffer, En
 use Rattle.q_drr.proofs.KeyLemmas.{has_push, find_push, has_others, find_others}
 use Rattle.q_drr.proofs.KeyLemmas as keys
 use Rattle.q_drr.proofs.LookupLemmas.{state_here, state_behind, quantum_here, quantum_behind, deficit_here, deficit_behind, granted_here, granted_behind}
-use Rattle.q_drr.proofs.NameLemmas.{each_at, differ_by_member, differ_push, differ_rotated, without_absent}
+use Rattle.q_drr.proofs.NameLemmas.{each_at, differ_by_member, differ_push, differ_rotated, without_absent, or_left, or_right}
 use Rattle.q_drr.proofs.StateLemmas.{with_absent}
-
-or_true : (x y : Bool) → y ≡ true → (x || y) ≡ true
-or_true true y e = refl
-or_true false y e = e
 
 same_class : (new c : NamedState) → new.name ≡ c.name → new.quantum ≡ c.quantum → class_in new ≡ class_in c
 same_class new c name quantum = cc
@@ -134,7 +130,7 @@ known_by old new [] same known = All-nil (λ n. has_state n new ≡ true)
 known_by old new (n ∷ order) same known =
     All-cons (λ n. has_state n new ≡ true) n order
     (same n (ap (λ t. t || is_among n order) (eq-eqb n n refl)) ∙ All-head (λ n. has_state n old ≡ true) n order known)
-    (known_by old new order (λ m h. same m (or_true (eqb m n) (is_among m order) h)) (All-tail (λ n. has_state n old ≡ true) n order known))
+    (known_by old new order (λ m h. same m (or_right (eqb m n) (is_among m order) h)) (All-tail (λ n. has_state n old ≡ true) n order known))
 
 pub known_with : (new : NamedState) (states : List NamedState) (order : List ℕ) → All (λ n. has_state n states ≡ true) order → All (λ n. has_state n (with_state new states) ≡ true) order
 known_with new states order known = All-weaker (λ n. has_state n states ≡ true) (λ n. has_state n (with_state new states) ≡ true) (λ n h. has_with n new states ∙ h) order known
@@ -156,7 +152,7 @@ entries_by : (old new : List NamedState) (order : List ℕ) → ((n : ℕ) → i
 entries_by old new [] same = refl
 entries_by old new (n ∷ order) same =
     ap (λ (c : NamedState). record { class = n; deficit = c.deficit; granted = c.granted } ∷ map (entry_in new) order) (same n (ap (λ t. t || is_among n order) (eq-eqb n n refl)))
-    ∙ ap (λ es. entry_in old n ∷ es) (entries_by old new order (λ m h. same m (or_true (eqb m n) (is_among m order) h)))
+    ∙ ap (λ es. entry_in old n ∷ es) (entries_by old new order (λ m h. same m (or_right (eqb m n) (is_among m order) h)))
 
 pub entries_with : (new : NamedState) (states : List NamedState) (order : List ℕ) → is_among new.name order ≡ false → map (entry_in (with_state new states)) order ≡ map (entry_in states) order
 entries_with new states order absent = entries_by states (with_state new states) order (λ n there. state_of_other n new states (differ_by_member new.name n order there absent))
@@ -338,10 +334,6 @@ one_class : (new c : NamedState) (q : ℕ) → new.name ≡ c.name → new.quant
 one_class new c q name quantum = cc
 
 -- `add`
-or_known : (x y : Bool) → x ≡ true → (x || y) ≡ true
-or_known true y e = refl
-or_known false y e = absurd (false≢true e)
-
 has_added : (n : ℕ) (new : NamedState) (states : List NamedState) → has_state n (states ++ new ∷ []) ≡ (has_state n states || eqb n new.name)
 has_added n new states = has_push (λ (c : NamedState). c.name) n new states
 
@@ -359,7 +351,7 @@ kept_added max_len states order new absent p h = record {
   positive = h.positive;
   each = All-push (IsState max_len) states new h.each p;
   states_differ = states_differ_from (states ++ new ∷ []) (keys.differ_push (λ (c : NamedState). c.name) new states (states_apart states h.states_differ) absent);
-  known = known_by states (states ++ new ∷ []) order (λ n there. has_added n new states ∙ or_known (has_state n states) (eqb n new.name) (each_at (λ m. has_state m states ≡ true) n order h.known there)
+  known = known_by states (states ++ new ∷ []) order (λ n there. has_added n new states ∙ or_left (has_state n states) (eqb n new.name) (each_at (λ m. has_state m states ≡ true) n order h.known there)
       ∙ sym (each_at (λ m. has_state m states ≡ true) n order h.known there)) h.known;
   order_differs = h.order_differs;
 }

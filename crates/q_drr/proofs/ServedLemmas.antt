@@ -1,5 +1,5 @@
 -- A whole take as turns: how often each class is granted and what it sends, turn by turn and at once.
-use Rattle.std.proofs.Common.{◌≡◌, ◌≢◌, ◌⊎◌, ℕ, zero, suc, ◌+◌, ◌*◌, ◌<◌, ◌≤◌, Bool, true, false, List, [], ◌∷◌, ◌++◌, map, length, get_or, take, drop, Option, Some, None, IfSome, IsSomeAnd, MatchOption, refl, sym, ap, ◌∙◌, subst, inl, inr, arith, eq-eqb}
+use Rattle.std.proofs.Common.{◌≡◌, ◌≢◌, ◌⊎◌, ℕ, zero, suc, ◌+◌, ◌*◌, ◌<◌, ◌≤◌, Bool, List, [], ◌∷◌, ◌++◌, map, length, get_or, take, drop, Option, Some, None, IfSome, IsSomeAnd, MatchOption, refl, sym, ap, ◌∙◌, subst, inl, inr, arith, eq-eqb}
 use Rattle.std.specs.Prelude.{◌==◌, if◌then◌else◌, nat_lt, nat_le, slice_get, option_map, option_and_then, unwrap_or}
 use Rattle.std.specs.List.{sum_by}
 use Rattle.std.proofs.Math.Seq.{get_or-append_seam}
@@ -17,6 +17,7 @@ use Rattle.q_drr.proofs.ChangeLemmas.{turned_lawful}
 use Rattle.q_drr.proofs.DifferLemmas.{EntriesDiffer, entries_apart, nowhere}
 use Rattle.q_drr.proofs.LookupLemmas.{deficit_here}
 use Rattle.q_drr.proofs.TakeLemmas.{Front, once, need_at, choice_ready, choice_within, choice_before, choice_after, prepared_ready, prepared_empty, prepared_granted, turned_granted, served_nothing, served_head, served_nobody, front_quantum, measure_falls}
+use Rattle.q_drr.proofs.StretchLemmas.{if_same}
 
 -- ---- a choice at a place
 
@@ -87,12 +88,8 @@ grant_here len m e es same short =
 grant_other : (len m : ℕ) (e : Entry) (es : List Entry) → m ≢ e.class → grant_in m len (e ∷ es) ≡ 0
 grant_other len m e es apart = cond-false (m == e.class) (if nat_le len e.deficit then 0 else 1) 0 (ne_eqb m e.class apart)
 
-both_none : (t : Bool) → ◌≡◌ {A = ℕ} (if t then 0 else 0) 0
-both_none true = refl
-both_none false = refl
-
 grant_covered : (len m : ℕ) (e : Entry) (es : List Entry) → len ≤ e.deficit → grant_in m len (e ∷ es) ≡ 0
-grant_covered len m e es covers = ap (λ (t : Bool). if m == e.class then (if t then 0 else 1) else 0) (le-leb len e.deficit covers) ∙ both_none (m == e.class)
+grant_covered len m e es covers = ap (λ (t : Bool). if m == e.class then (if t then 0 else 1) else 0) (le-leb len e.deficit covers) ∙ if_same (m == e.class)
 
 bytes_here : (len m : ℕ) (e : Entry) (es : List Entry) → m ≡ e.class → len ≤ e.deficit → bytes_in m len (e ∷ es) ≡ len
 bytes_here len m e es same covers =
@@ -102,7 +99,7 @@ bytes_elsewhere : (len m : ℕ) (e : Entry) (es : List Entry) → m ≢ e.class 
 bytes_elsewhere len m e es apart = cond-false (m == e.class) (if nat_le len e.deficit then len else 0) 0 (ne_eqb m e.class apart)
 
 bytes_short : (len m : ℕ) (e : Entry) (es : List Entry) → e.deficit < len → bytes_in m len (e ∷ es) ≡ 0
-bytes_short len m e es short = ap (λ (t : Bool). if m == e.class then (if t then len else 0) else 0) (lt-leb len e.deficit short) ∙ both_none (m == e.class)
+bytes_short len m e es short = ap (λ (t : Bool). if m == e.class then (if t then len else 0) else 0) (lt-leb len e.deficit short) ∙ if_same (m == e.class)
 
 -- those behind the front have other names
 behind_differs : (s : Schedule) (n : ℕ) (f : Front n s) → IsLawful s → (j : ℕ) (d : Entry) → j < length f.rest → (get_or f.rest j d).class ≢ f.first.class

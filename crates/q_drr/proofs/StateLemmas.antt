@@ -9,14 +9,10 @@ use Rattle.q_drr.specs.Links.{is_among}
 use Rattle.q_drr.specs.States.{NamedState, no_state, name_in, has_state, place_of_state, state_of, with_state, without_state}
 use Rattle.q_drr.proofs.DifferLemmas.{AllDiffer, StatesDiffer}
 use Rattle.q_drr.proofs.LookupLemmas.{state_here, state_behind}
-use Rattle.q_drr.proofs.NameLemmas.{length_le_from_differ}
+use Rattle.q_drr.proofs.NameLemmas.{length_le_from_differ, or_right}
 
 pub names : List NamedState → List ℕ
 names states = map (λ c. c.name) states
-
-or_true : (x y : Bool) → y ≡ true → (x || y) ≡ true
-or_true true y e = refl
-or_true false y e = e
 
 -- where a class stands that is there
 pub record Found (n : ℕ) (states : List NamedState) : Type 0 where
@@ -71,7 +67,7 @@ stands_in (c ∷ states) (suc place) d lt =
     record {
       within = lt;
       name = refl;
-      there = or_true (eqb n c.name) (has_state n states) s.there;
+      there = or_right (eqb n c.name) (has_state n states) s.there;
       is = state_behind n c states apart ∙ s.is;
       only = behind c states place d.0 s.within s.only;
     }

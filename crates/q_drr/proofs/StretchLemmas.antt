@@ -65,7 +65,7 @@ counted_none g k q none range = omega (arith, ap (λ k. k * q) none)
 counted_twice : (g k l q : ℕ) → counted (counted (g + k * q) + l * q) ≡ counted (g + (k + l) * q)
 counted_twice g k l q = omega (arith, add-mul k l q)
 
-if_same : (t : Bool) → ◌≡◌ {A = ℕ} (if t then 0 else 0) 0
+pub if_same : (t : Bool) → ◌≡◌ {A = ℕ} (if t then 0 else 0) 0
 if_same true = refl
 if_same false = refl
 

@@ -26,6 +26,7 @@ use Rattle.q_line.specs.declared.line.Line.TheVariants.{Blank}
 use Rattle.q_line.specs.Reading.{key_has}
 use Rattle.q_line.proofs.OptionOrder.{left_false, read_from, right_false}
 use Rattle.q_line.proofs.OptionSteps.{utf8_after, word_fits, word_fitted}
+use Rattle.q_line.proofs.OptionEntries.{crossed, either, not_given, not_some}
 
 abbrev entries : List (List ℕ × KeyName)
 entries =
@@ -143,10 +144,6 @@ key_with_as key.Class h d word = by_value (class_of word)
     by_value (Ok n) = refl
     by_value (Err e) = refl
 
-either : {A : Type 0} (a b : Option A) → is_some (option_or a b) ≡ (is_some a || is_some b)
-either None b = refl
-either (Some a) b = refl
-
 has_over : (f : KeyName) (e d : KeyDraft) → key_has f (over e d) ≡ (key_has f e || key_has f d)
 has_over key.IpProto e d = either e.keys.ip_proto d.keys.ip_proto
 has_over key.SrcIp e d = either e.keys.src_ip d.keys.src_ip
@@ -175,10 +172,6 @@ says_apart key.SrcPort v e h = record { ip_proto = refl; src_ip = refl; dst_ip =
 says_apart key.DstPort v e h = record { ip_proto = refl; src_ip = refl; dst_ip = refl; src_port = refl; dst_port = ap not h; class = refl }
 says_apart key.Class v e h = record { ip_proto = refl; src_ip = refl; dst_ip = refl; src_port = refl; dst_port = refl; class = ap not h }
 
-not_given : {A : Type 0} (a : A) (b : Option A) → apart (Some a) b ≡ true → is_some b ≡ false
-not_given a None h = refl
-not_given a (Some b) h = sym h
-
 said_apart : (f : KeyName) (v : Val f) (d : KeyDraft) → Apart (says f v) d → key_has f d ≡ false
 said_apart key.IpProto v d h = not_given v d.keys.ip_proto h.ip_proto
 said_apart key.SrcIp v d h = not_given v d.keys.src_ip h.src_ip
@@ -186,11 +179,6 @@ said_apart key.DstIp v d h = not_given v d.keys.dst_ip h.dst_ip
 said_apart key.SrcPort v d h = not_given v d.keys.src_port h.src_port
 said_apart key.DstPort v d h = not_given v d.keys.dst_port h.dst_port
 said_apart key.Class v d h = not_given v d.class h.class
-
-crossed : {A : Type 0} (a b c : Option A) → apart a b ≡ true → option_or b (option_or a c) ≡ option_or a (option_or b c)
-crossed None b c h = refl
-crossed (Some a) None c h = refl
-crossed (Some a) (Some b) c h = absurd (let k : false ≡ true = h in cc)
 
 over_either : (a b d : KeyDraft) → Apart a b → over b (over a d) ≡ over a (over b d)
 over_either a b d h =
@@ -203,7 +191,7 @@ over_either a b d h =
     cc
 
 -- two addresses of one version
-same_either : (a b : IpVersion) → same_version a b ≡ same_version b a
+pub same_either : (a b : IpVersion) → same_version a b ≡ same_version b a
 same_either V4 V4 = refl
 same_either V4 V6 = refl
 same_either V6 V4 = refl
@@ -213,10 +201,6 @@ same_either V6 V6 = refl
 record BothAgree (f g : KeyName) (v : Val f) (x : Val g) (h : HeadDraft) (d : KeyDraft) : Type 0 where
   other_first : agrees g x h d ≡ true
   one_behind : agrees f v h (over (says g x) d) ≡ true
-
-not_some : {A : Type 0} (a : Option A) → is_some a ≡ false → a ≡ None
-not_some None h = refl
-not_some (Some a) h = absurd (let k : true ≡ false = h in cc)
 
 -- the version that is wanted: that of the protocol, else of an address
 abbrev wanted : Option IpVersion → Option Prefix → Option Prefix → Option IpVersion

@@ -18,7 +18,7 @@ use Rattle.q_line.specs.declared.kind_name.KindName.{KindName}
 use Rattle.q_line.specs.declared.kind_name.KindName.TheVariants as kind_name
 use Rattle.q_line.specs.declared.line.Line.{Line}
 use Rattle.q_line.specs.declared.qdisc_verb.QdiscVerb.{QdiscVerb}
-use Rattle.q_line.proofs.OptionEntries.{Entry, valued, flag, numbers, Value, number, entries, entry_in, entered, found, has, behind, says, over, reading, option_fits_as}
+use Rattle.q_line.proofs.OptionEntries.{Entry, valued, flag, numbers, Value, number, entries, entry_in, entered, found, has, behind, says, over, reading, option_fits_as, not_some}
 use Rattle.q_line.proofs.OptionSteps.{named, utf8_after, word_fits, word_fitted}
 use Rattle.q_line.proofs.Steps.{continued, rest_of-cons}
 
@@ -39,10 +39,6 @@ next_of v h k o b = if length b.numbers == 16 then Positions.options v h k (with
 abbrev pub stepped : QdiscVerb → HeadDraft → KindName → OptionDraft → Bands → List ℕ → Result Position Wrong
 stepped v h k o b w = if is_numeral 10 w then Ok (next_of v h k o (more b (band_number w))) else Err wrong.BadNumber
 
-not_some : {A : Type 0} (a : Option A) → is_some a ≡ false → a ≡ None
-not_some None h = refl
-not_some (Some a) h = absurd (let k : true ≡ false = h in cc)
-
 -- before its first number it is as with none
 pub started : (v : QdiscVerb) (h : HeadDraft) (k : KindName) (o : OptionDraft) (i : ℕ) (ws : List (List ℕ)) → is_some o.priomap ≡ false
     → rest_of (Positions.priomap v h k o) i ws ≡ rest_of (Positions.priomap v h k (with_map o (record { from = i; numbers = [] }))) i ws
@@ -60,7 +56,7 @@ append_false n h = by_test (n == 16) refl
     by_test true e = absurd (h (eqb-true n 16 e))
     by_test false e = e
 
-both_true : (a b : Bool) → (a && b) ≡ true → (a ≡ true) × (b ≡ true)
+pub both_true : (a b : Bool) → (a && b) ≡ true → (a ≡ true) × (b ≡ true)
 both_true true b h = (refl, h)
 both_true false b h = absurd (let k : false ≡ true = h in cc)
 

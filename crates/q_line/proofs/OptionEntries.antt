@@ -190,7 +190,7 @@ option_fits_as Positions.interval v h k o word = refl
 option_fits_as Positions.drop_batch v h k o word = refl
 
 -- what is given stays, and nothing else is given but what is said
-either : {A : Type 0} (a b : Option A) → is_some (option_or a b) ≡ (is_some a || is_some b)
+pub either : {A : Type 0} (a b : Option A) → is_some (option_or a b) ≡ (is_some a || is_some b)
 either None b = refl
 either (Some a) b = refl
 
@@ -252,7 +252,7 @@ says_apart (valued Positions.drop_batch) k val d h = record { limit = refl; tbf_
 says_apart (flag b) k val d h = record { limit = refl; tbf_limit = refl; bands = refl; priomap = refl; rate = refl; burst = refl; fq_limit = refl; fq_flows = refl; fq_quantum = refl; fq_target = refl; fq_interval = refl; fq_ecn = ap not h; fq_drop_batch = refl }
 says_apart numbers k val d h = record { limit = refl; tbf_limit = refl; bands = refl; priomap = ap not h; rate = refl; burst = refl; fq_limit = refl; fq_flows = refl; fq_quantum = refl; fq_target = refl; fq_interval = refl; fq_ecn = refl; fq_drop_batch = refl }
 
-not_given : {A : Type 0} (a : A) (b : Option A) → apart (Some a) b ≡ true → is_some b ≡ false
+pub not_given : {A : Type 0} (a : A) (b : Option A) → apart (Some a) b ≡ true → is_some b ≡ false
 not_given a None h = refl
 not_given a (Some b) h = sym h
 
@@ -275,8 +275,12 @@ said_apart (valued Positions.drop_batch) k val d h = not_given (val.number) d.fq
 said_apart (flag b) k val d h = not_given (b) d.fq_codel.ecn h.fq_ecn
 said_apart numbers k val d h = not_given val.bands d.priomap h.priomap
 
+pub not_some : {A : Type 0} (a : Option A) → is_some a ≡ false → a ≡ None
+not_some None h = refl
+not_some (Some a) h = absurd (let k : true ≡ false = h in cc)
+
 -- what is apart goes over a draft in either order
-crossed : {A : Type 0} (a b c : Option A) → apart a b ≡ true → option_or b (option_or a c) ≡ option_or a (option_or b c)
+pub crossed : {A : Type 0} (a b c : Option A) → apart a b ≡ true → option_or b (option_or a c) ≡ option_or a (option_or b c)
 crossed None b c h = refl
 crossed (Some a) None c h = refl
 crossed (Some a) (Some b) c h = absurd (let k : false ≡ true = h in cc)

@@ -19,7 +19,7 @@ use Rattle.q_line.specs.declared.kind_name.KindName.{KindName}
 use Rattle.q_line.specs.declared.kind_name.KindName.TheVariants as kind_name
 use Rattle.q_line.specs.declared.line.Line.TheVariants.{Blank}
 use Rattle.q_line.specs.declared.qdisc_verb.QdiscVerb.{QdiscVerb}
-use Rattle.q_line.proofs.MovedBands.{Spot, list, value_at, bands_at, at, next_of, more, numeral_of, stepped, with_map}
+use Rattle.q_line.proofs.MovedBands.{Spot, list, value_at, bands_at, at, next_of, more, numeral_of, stepped, with_map, both_true}
 use Rattle.q_line.proofs.OptionEntries.{Entry, valued, flag, numbers, Value, number, entries, entry_in, entered, found, has, behind, says, over, reading, option_fits_as, has_over}
 use Rattle.q_line.proofs.OptionOrder.{begins, commented, reached_reads, read_from}
 use Rattle.q_line.proofs.OptionSteps.{named, utf8_after}
@@ -115,10 +115,6 @@ tells kind_name.FqCodel = (
     ),
   ),
 )
-
-both_true : (a b : Bool) → (a && b) ≡ true → (a ≡ true) × (b ≡ true)
-both_true true b h = (refl, h)
-both_true false b h = absurd (let k : false ≡ true = h in cc)
 
 member : (P : List ℕ → Type 0) (names : List (List ℕ)) (a : List ℕ) → AllByRecursion P names → list_any (λ name. bytes_eq a name) names ≡ true → P a
 member P [] a all h = absurd (let k : false ≡ true = h in cc)

@@ -24,6 +24,8 @@ use Rattle.q_line.specs.declared.line.Line.TheVariants.{Blank}
 use Rattle.q_line.specs.Reading.{packet_has}
 use Rattle.q_line.proofs.OptionOrder.{left_false, read_from, right_false}
 use Rattle.q_line.proofs.OptionSteps.{utf8_after, word_fits, word_fitted}
+use Rattle.q_line.proofs.OptionEntries.{crossed, either, not_given, not_some}
+use Rattle.q_line.proofs.KeyOrder.{same_either}
 
 abbrev entries : List (List ℕ × PacketField)
 entries =
@@ -159,10 +161,6 @@ packet_with_as field.Ecn d word = by_value (number_in 0 3 word)
     by_value (Ok n) = refl
     by_value (Err e) = refl
 
-either : {A : Type 0} (a b : Option A) → is_some (option_or a b) ≡ (is_some a || is_some b)
-either None b = refl
-either (Some a) b = refl
-
 has_over : (f : PacketField) (e d : PacketDraft) → packet_has f (over e d) ≡ (packet_has f e || packet_has f d)
 has_over field.Hash e d = either e.hash d.hash
 has_over field.Prio e d = either e.prio d.prio
@@ -197,10 +195,6 @@ says_apart field.SrcPort v e h = record { hash = refl; prio = refl; ip_proto = r
 says_apart field.DstPort v e h = record { hash = refl; prio = refl; ip_proto = refl; src_ip = refl; dst_ip = refl; src_port = refl; dst_port = ap not h; ecn = refl }
 says_apart field.Ecn v e h = record { hash = refl; prio = refl; ip_proto = refl; src_ip = refl; dst_ip = refl; src_port = refl; dst_port = refl; ecn = ap not h }
 
-not_given : {A : Type 0} (a : A) (b : Option A) → apart (Some a) b ≡ true → is_some b ≡ false
-not_given a None h = refl
-not_given a (Some b) h = sym h
-
 said_apart : (f : PacketField) (v : Val f) (d : PacketDraft) → Apart (says f v) d → packet_has f d ≡ false
 said_apart field.Hash v d h = not_given (v) d.hash h.hash
 said_apart field.Prio v d h = not_given (v) d.prio h.prio
@@ -210,11 +204,6 @@ said_apart field.DstIp v d h = not_given (v) d.dst_ip h.dst_ip
 said_apart field.SrcPort v d h = not_given (v) d.src_port h.src_port
 said_apart field.DstPort v d h = not_given (v) d.dst_port h.dst_port
 said_apart field.Ecn v d h = not_given (ecn_of v) d.ecn h.ecn
-
-crossed : {A : Type 0} (a b c : Option A) → apart a b ≡ true → option_or b (option_or a c) ≡ option_or a (option_or b c)
-crossed None b c h = refl
-crossed (Some a) None c h = refl
-crossed (Some a) (Some b) c h = absurd (let k : false ≡ true = h in cc)
 
 over_either : (a b d : PacketDraft) → Apart a b → over b (over a d) ≡ over a (over b d)
 over_either a b d h =
@@ -229,20 +218,10 @@ over_either a b d h =
     cc
 
 -- two addresses of one version
-same_either : (a b : IpVersion) → same_version a b ≡ same_version b a
-same_either V4 V4 = refl
-same_either V4 V6 = refl
-same_either V6 V4 = refl
-same_either V6 V6 = refl
-
 -- what two options ask of the drafts before them, in either order
 record BothAgree (f g : PacketField) (v : Val f) (x : Val g) (d : PacketDraft) : Type 0 where
   other_first : agrees g x d ≡ true
   one_behind : agrees f v (over (says g x) d) ≡ true
-
-not_some : {A : Type 0} (a : Option A) → is_some a ≡ false → a ≡ None
-not_some None h = refl
-not_some (Some a) h = absurd (let k : true ≡ false = h in cc)
 
 abbrev version : Address → IpVersion
 version a = a.version

@@ -18,15 +18,11 @@ use Rattle.q_words.specs.Values.{is_colon, is_numeral}
 use Rattle.q_words.specs.declared.wrong.Wrong.{Wrong}
 use Rattle.q_words.specs.declared.wrong.Wrong.TheVariants.{BadNumber, OutOfRange}
 use Rattle.q_line.specs.Spelling.{octets}
-use Rattle.q_line.proofs.SpelledWords.{both, digits_from_numeral, every_digit, left_of, right_of}
-use Rattle.q_line.proofs.SpelledValues.{drop_past, none_of, prefix_to}
+use Rattle.q_line.proofs.SpelledWords.{both, digits_from_numeral, every_digit, left_of, right_of, not_true}
+use Rattle.q_line.proofs.SpelledValues.{drop_past, none_of, prefix_to, digit_no_point}
 
 abbrev pub Plain : (ℕ → Bool) → List ℕ → Type 0
 Plain p bytes = list_all (λ c. not (p c)) bytes ≡ true
-
-pub not_true : (b : Bool) → not b ≡ true → b ≡ false
-not_true true e = cc
-not_true false e = refl
 
 -- parts that are joined by a byte that stands in none of them are split there
 
@@ -52,9 +48,6 @@ all_joined p sep (x ∷ y ∷ parts) e h = list_all-append p x (sep ∷ join_wit
 -- digits are no points, colons or slashes
 pub digit_plain : (p : ℕ → Bool) (base : ℕ) → ((c : ℕ) → is_digit c base ≡ true → not (p c) ≡ true) → (ds : List ℕ) → is_numeral base ds ≡ true → Plain p ds
 digit_plain p base other ds h = every_digit base (λ c. not (p c)) other ds (right_of (ltb 0 (length ds)) _ h)
-
-no_point : (c : ℕ) → is_digit c 10 ≡ true → not (is_point c) ≡ true
-no_point c h = grind (arith, nat_tests)
 
 pub no_slash : (c : ℕ) → is_digit c 16 ≡ true → not (is_slash c) ≡ true
 no_slash c h = grind (arith, nat_tests)
@@ -109,7 +102,7 @@ address4_read a h =
     let word = join_with_byte 46 (octets a) in
     let colons : list_any is_colon word ≡ false = none_of is_colon word (all_joined (λ c. not (is_colon c)) 46 (octets a) refl (octets_all (λ c. not (is_colon c)) no_colon a)) in
     ap (λ (b : Bool). if b then ipv6_of (groups_in (take (gap_at word) word)) (groups_in (drop (suc (suc (gap_at word))) word)) (ltb (gap_at word) (length word)) else ipv4_of (slice_split is_point word)) colons
-    ∙ ap ipv4_of (split_joined is_point 46 (decimal (a / 2 ^ 24 % 256)) (decimal (a / 2 ^ 16 % 256) ∷ decimal (a / 2 ^ 8 % 256) ∷ decimal (a % 256) ∷ []) refl (octets_all (λ c. not (is_point c)) no_point a))
+    ∙ ap ipv4_of (split_joined is_point 46 (decimal (a / 2 ^ 24 % 256)) (decimal (a / 2 ^ 16 % 256) ∷ decimal (a / 2 ^ 8 % 256) ∷ decimal (a % 256) ∷ []) refl (octets_all (λ c. not (is_point c)) digit_no_point a))
     ∙ ipv4_read _ _ _ _ (octet (a / 2 ^ 24 % 256) (omega arith)) (octet (a / 2 ^ 16 % 256) (omega arith)) (octet (a / 2 ^ 8 % 256) (omega arith)) (octet (a % 256) (omega arith))
     ∙ ap (λ n. Ok (record { version = V4; address = n })) (octets_value a h)
 

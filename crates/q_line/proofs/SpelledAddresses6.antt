@@ -12,10 +12,10 @@ use Rattle.q_model.specs.Options.{bits_of}
 use Rattle.q_words.specs.Addresses.{address_of, begins_with_two, gap_at, groups_in, ipv4_of, ipv6_of, joined}
 use Rattle.q_words.specs.Units.{is_point}
 use Rattle.q_words.specs.Values.{is_colon}
-use Rattle.q_line.proofs.SpelledWords.{both, digit_not_blank, digit_not_colon, digit_small, every_digit, left_of, right_of}
+use Rattle.q_line.proofs.SpelledWords.{both, digit_not_blank, digit_not_colon, digit_small, every_digit, left_of, right_of, not_true, wider}
 use Rattle.q_line.proofs.SpelledSteps.{Word}
 use Rattle.q_words.specs.Words.{is_blank, is_filled}
-use Rattle.q_line.proofs.SpelledAddresses.{Plain, address4_read, all_joined, any_at, digit_plain, not_true, octets_all, split_joined}
+use Rattle.q_line.proofs.SpelledAddresses.{Plain, address4_read, all_joined, any_at, digit_plain, octets_all, split_joined}
 use Rattle.q_line.specs.Spelling.{address_word, groups, hex, octets}
 use Rattle.q_line.proofs.SpelledValues.{Hex, hex_of, not_below_itself}
 
@@ -145,9 +145,6 @@ address6_read a h =
 pub address_read : (v : IpVersion) (a : ℕ) → a < 2 ^ bits_of v → address_of (address_word v a) ≡ Ok (record { version = v; address = a })
 address_read V4 a h = address4_read a h
 address_read V6 a h = address6_read a h
-
-wider : (c : ℕ) → is_digit c 10 ≡ true → is_digit c 16 ≡ true
-wider c h = grind (arith, nat_tests)
 
 -- the bytes of an address are digits, points and colons
 pub address_passes : (t : ℕ → Bool) → ((c : ℕ) → is_digit c 16 ≡ true → t c ≡ true) → t 46 ≡ true → t 58 ≡ true → (v : IpVersion) (a : ℕ) → list_all t (address_word v a) ≡ true

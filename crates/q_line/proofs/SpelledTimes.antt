@@ -18,7 +18,7 @@ use Rattle.q_words.specs.Values.{is_digits, is_numeral}
 use Rattle.q_words.specs.Words.{is_blank}
 use Rattle.q_words.specs.declared.wrong.Wrong.{Wrong}
 use Rattle.q_words.specs.declared.wrong.Wrong.TheVariants.{BadNumber, OutOfRange}
-use Rattle.q_line.proofs.SpelledWords.{both, digit_not_blank, digit_small, digits_from_numeral, every_digit, right_of}
+use Rattle.q_line.proofs.SpelledWords.{both, digit_not_blank, digit_small, digits_from_numeral, every_digit, right_of, wider}
 use Rattle.q_line.specs.Spelling.{last_three, time_word}
 use Rattle.q_line.proofs.SpelledAddresses.{any_at}
 use Rattle.q_line.proofs.SpelledSteps.{Word, decimal_word, word_more}
@@ -93,9 +93,6 @@ pub time_read : (low high n : ℕ) → low ≤ n → n ≤ high → high < 2 ^ 6
 time_read low high n above below few =
     let d = decimal_is_IsNumeral (n / 1000) (omega arith) in
     time_gives low high n (decimal (n / 1000)) (both (lt-ltb _ _ d.0.0) (digits_from_numeral 10 (decimal (n / 1000)) d.0.1)) d.1 above below
-
-wider : (c : ℕ) → is_digit c 10 ≡ true → is_digit c 16 ≡ true
-wider c h = grind (arith, nat_tests)
 
 pub time_is_word : (n : ℕ) → n < 2 ^ 64 → Word (time_word n)
 time_is_word n few =

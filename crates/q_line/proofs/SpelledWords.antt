@@ -32,7 +32,7 @@ right_of false b e = cc
 abbrev no_blank : List ℕ → Bool
 no_blank bytes = list_all (λ b. not (is_blank b)) bytes
 
-not_true : (b : Bool) → not b ≡ true → b ≡ false
+pub not_true : (b : Bool) → not b ≡ true → b ≡ false
 not_true true e = cc
 not_true false e = refl
 
@@ -156,7 +156,7 @@ handle_read n low high =
 
 -- numbers and handles as words
 
-wider : (c : ℕ) → is_digit c 10 ≡ true → is_digit c 16 ≡ true
+pub wider : (c : ℕ) → is_digit c 10 ≡ true → is_digit c 16 ≡ true
 wider c h = grind (arith, nat_tests)
 
 filled : (bytes : List ℕ) → 0 < length bytes → is_filled bytes ≡ true
