@@ -182,9 +182,9 @@ module _ (mtu now : ℕ) (low : now ≤ 2 ^ 62) (handle : Option ℕ) (filters :
     where
       stays : (o : Option Descriptor) → option_map (λ (t : Taken). t.packet) (sent_from now (selected s)) ≡ o
           → lost one (losses_of CoDel (packets_of (dropped_from now (selected s))) ++ marks_of (sent_from now (selected s))) ≡ weigh one (packets_of (dropped_from now (selected s)))
-          → weigh one (waiting (fq_codel s None since) (befores below)) ≡ lost one (losses_of CoDel (packets_of (dropped_from now (selected s))) ++ marks_of (sent_from now (selected s))) + weigh one (waiting (fq_codel (after_sending now (selected s)) (option_map (λ (t : Taken). t.packet) (sent_from now (selected s)))) (befores below))
-          → weigh one (waiting (fq_codel (after_sending now (selected s)) (option_map (λ (t : Taken). t.packet) (sent_from now (selected s)))) (befores below)) ≡ weigh one (option_to_list (option_map (λ (t : Taken). t.packet) (sent_from now (selected s)))) + weigh one (packets_of (all_packets (after_sending now (selected s)).flows)) + in_children one (befores below)
-          → weigh one (waiting (fq_codel (after_sending now (selected s)) (option_map (λ (t : Taken). t.packet) (sent_from now (selected s)))) (befores below)) ≡ 0 → weigh one (waiting (fq_codel s None since) (befores below)) ≡ 0
+          → weigh one (waiting (fq_codel s None since) (befores below)) ≡ lost one (losses_of CoDel (packets_of (dropped_from now (selected s))) ++ marks_of (sent_from now (selected s))) + weigh one (waiting (fq_codel (after_sending now (selected s)) (option_map (λ (t : Taken). t.packet) (sent_from now (selected s))) 0) (befores below))
+          → weigh one (waiting (fq_codel (after_sending now (selected s)) (option_map (λ (t : Taken). t.packet) (sent_from now (selected s))) 0) (befores below)) ≡ weigh one (option_to_list (option_map (λ (t : Taken). t.packet) (sent_from now (selected s)))) + weigh one (packets_of (all_packets (after_sending now (selected s)).flows)) + in_children one (befores below)
+          → weigh one (waiting (fq_codel (after_sending now (selected s)) (option_map (λ (t : Taken). t.packet) (sent_from now (selected s))) 0) (befores below)) ≡ 0 → weigh one (waiting (fq_codel s None since) (befores below)) ≡ 0
       stays None e losses peeks peeked none =
           let nothing : weigh one (packets_of (dropped_from now (selected s))) ≡ 0 = ap (λ (q : List Stamped). weigh one (packets_of q)) (nothing-dropped now (selected s) e) ∙ weigh-nil one in
           omega (arith, losses, peeks, none, nothing)

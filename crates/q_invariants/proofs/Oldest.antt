@@ -3,7 +3,7 @@ use Rattle.std.proofs.Common.{◌≡◌, ℕ, ◌≤◌, ◌∙◌, List, [], �
 use Rattle.std.specs.Prelude.{All, min}
 use Rattle.std.specs.List.{flat_map}
 use Rattle.std.specs.Option.{option_to_list}
-use Rattle.std.proofs.lemmas.List.{append-nil, map-append}
+use Rattle.std.proofs.lemmas.List.{append_assoc, append-nil, map-append}
 use Rattle.std.proofs.lemmas.List.Elements.{All-head, All-tail}
 use Rattle.q_packet.specs.Descriptor.{Descriptor}
 use Rattle.q_packet.specs.declared.stamped.Stamped.{Stamped}
@@ -47,5 +47,6 @@ flows-oldest clock (f ∷ flows) h =
 pub own-oldest : (own : Own) (below : List (Option ℕ))
     → oldest_own own below ≡ earlier (arrival_held own) (earliest (arrivals_in own.discipline ++ flat_map (λ (o : Option ℕ). option_to_list o) below))
 own-oldest own below =
-    earliest-append (option_to_list (arrival_held own)) (arrivals_in own.discipline ++ flat_map (λ (o : Option ℕ). option_to_list o) below)
+    ap earliest (append_assoc (option_to_list (arrival_held own)) (arrivals_in own.discipline) (flat_map (λ (o : Option ℕ). option_to_list o) below))
+    ∙ earliest-append (option_to_list (arrival_held own)) (arrivals_in own.discipline ++ flat_map (λ (o : Option ℕ). option_to_list o) below)
     ∙ ap (λ (o : Option ℕ). earlier o (earliest (arrivals_in own.discipline ++ flat_map (λ (o : Option ℕ). option_to_list o) below))) (earliest-one (arrival_held own))

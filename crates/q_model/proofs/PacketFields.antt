@@ -1,5 +1,5 @@
 -- A packet in the ranges of its type is in that of the laws.
-use Rattle.std.proofs.Common.{◌≡◌, ◌<◌, ◌^◌, ℕ, refl, arith, subst}
+use Rattle.std.proofs.Common.{◌<◌, ◌^◌, ℕ, arith}
 use Rattle.std.specs.Prelude.{Bool, true, false, ◌==◌, if◌then◌else◌}
 use Rattle.q_packet.specs.Descriptor.{Descriptor}
 use Rattle.q_packet.specs.Key.{Key, IsKey, address_bits}
