@@ -20,6 +20,7 @@ use Rattle.q_model.specs.Tally.{Note, no_totals, with_packet}
 use Rattle.q_model.specs.Work.{booked}
 use Rattle.q_tree.specs.Arrivals.{minus}
 use Rattle.q_tree.specs.Bursts.{AreGiven, polled_each, taken_all, with_sends, with_taken}
+use Rattle.q_tree.specs.Holding.{packet_held}
 use Rattle.q_tree.specs.Kept.{Kept, kept}
 use Rattle.q_tree.specs.PopSteps.{HasHead, HasHeadIn, with_sent}
 use Rattle.q_tree.specs.Seen.{IsKept, discipline_seen, seen}
@@ -77,7 +78,7 @@ module _ (a : inside.Inside) (f : FifoState) (is : a.discipline ≡ code.Fifo f)
     pub heads-kept : IsKept a → IsKept (record a { row = row; discipline = code.Fifo f2 })
     heads-kept k0 =
         let k : IsKept (record a { discipline = code.Fifo f }) = subst (λ d. IsKept (record a { discipline = d })) is k0 in
-        let hs : List Descriptor = option_to_list a.held in
+        let hs : List Descriptor = option_to_list (packet_held a.held) in
         let left : List Descriptor = packets_of (drop count f.packets) in
         let q1 : List Descriptor = hs ++ packets_of f.packets in
         let q2 : List Descriptor = hs ++ left in

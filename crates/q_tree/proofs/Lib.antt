@@ -22,6 +22,7 @@ pub mod FifoHead
 pub mod FilterIndexValues
 pub mod FindLemmas
 pub mod FlowCounts
+pub mod FlowHeld
 pub mod GivenInto
 pub mod Foreseeing
 pub mod ForeseenAsks

@@ -160,9 +160,13 @@ pub(crate) fn dequeue_flow<S: Sink>(
     ensures kept { S.keeps sink.old sink.new }
 {
     match queue.pass_into(now, out) {
-        // CoDel drops none of an empty fq_codel.
-        Ok(None) => return Shown::at_hand(&None),
-        Ok(Some(front)) => return Shown::quiet(out, front.len),
+        Ok(passed) => {
+            // CoDel drops none of an empty fq_codel.
+            let Some(front) = passed else {
+                return Shown::at_hand(&None);
+            };
+            return Shown::quiet(out, front.len);
+        }
         Err(_) => {
             // Nobody holds the packet, so that nobody asks when it arrived.
             let mut since = Moment::zero();
@@ -171,7 +175,8 @@ pub(crate) fn dequeue_flow<S: Sink>(
     }
 }
 
-// The same where CoDel found the packet in front late; when the packet arrived goes to `since`. A call by itself, so that the usual path counts nothing and saves no registers.
+// The same where CoDel found the packet in front late; when the packet arrived goes to `since`. A call by itself, so that the usual path
+// counts nothing and saves no registers.
 #[cold]
 #[inline(never)]
 fn dequeue_late<S: Sink>(
@@ -263,17 +268,27 @@ pub(crate) fn peek_flow<S: Sink>(
     ensures signals { signals.new ≡ signals_of result }
     ensures kept { S.keeps sink.old sink.new }
 {
-    let place = &mut held.place;
-    let shown = match queue.pass_into(now, place) {
-        Ok(None) => return Shown::at_hand(&None),
-        Ok(Some(front)) => {
+    match queue.pass_into(now, &mut held.place) {
+        Ok(passed) => {
+            let Some(front) = passed else {
+                return Shown::at_hand(&None);
+            };
             held.since = front.at;
-            Shown::quiet(place, front.len)
+            held.holds = true;
+            return Shown::quiet(&held.place, front.len);
         }
-        Err(_) => dequeue_late(queue, place, &mut held.since, now, signals, sink),
-    };
-    held.holds = true;
-    shown
+        Err(_) => {
+            held.holds = true;
+            return dequeue_late(
+                queue,
+                &mut held.place,
+                &mut held.since,
+                now,
+                signals,
+                sink,
+            );
+        }
+    }
 }
 
 /// An fq_codel with packets shows one, but CoDel decides which when it is asked.

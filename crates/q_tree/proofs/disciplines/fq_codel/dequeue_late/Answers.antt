@@ -60,6 +60,9 @@ returns-clause-marked g c =
     let d = (goal.at.returns-clause-marked g c).After-take_late_into-sent in
     ap (λ (s : Shown). s.marked) c.sending.ensures ∙ c.marking.ensures ∙ sym (ap marked_of (sent g d)) ∙ marked_is (sent_from c.args.now c.args.queue.now.state)
 
+pub returns-clause-since : goal.returns-clause-since
+returns-clause-since g c = c.take_late_into-sent.ensures.at
+
 pub returns-clause-packet : goal.returns-clause-packet
 returns-clause-packet g c = ap (λ (s : Shown). unwrap_or s.packet c.args.out.now) (sym c.sending.ensures)
 
@@ -84,6 +87,9 @@ pub returns-then-not-sent-clause-marked : goal.returns-then-not-sent-clause-mark
 returns-then-not-sent-clause-marked g c =
     let d = (goal.at.returns-then-not-sent-clause-marked g c).After-take_late_into-sent in
     ap (λ (s : Shown). s.marked) c.show_marked.ensures.shown ∙ sym (ap marked_of (sent g d)) ∙ marked_is (sent_from c.args.now c.args.queue.now.state)
+
+pub returns-then-not-sent-clause-since : goal.returns-then-not-sent-clause-since
+returns-then-not-sent-clause-since g c = c.take_late_into-sent.ensures.at
 
 pub returns-then-not-sent-clause-packet : goal.returns-then-not-sent-clause-packet
 returns-then-not-sent-clause-packet g c = ap (λ (s : Shown). unwrap_or s.packet c.args.out.now) (sym c.show_marked.ensures.shown)
