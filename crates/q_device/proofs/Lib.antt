@@ -16,6 +16,7 @@ pub mod LawfulLemmas
 pub mod Moved
 pub mod MovedAsks
 pub mod MovedTrees
+pub mod OldestStands
 pub mod PlayLemmas
 pub mod PlaceLemmas
 pub mod PollLemmas

@@ -21,7 +21,7 @@ module _ {M N : Type 0} (t : Tally M) (u : Tally N) (f : M → N) (same : (m : M
   row-stands : (n : Node M) → row t n ≡ row u (with_memory f n)
   row-stands n = ap₂ row_of (same n.memory) (sym (beneath-stands n))
 
-  node_at-stands : (path : List ℕ) (n : Node M) → node_at path (with_memory f n) ≡ option_map (with_memory f) (node_at path n)
+  pub node_at-stands : (path : List ℕ) (n : Node M) → node_at path (with_memory f n) ≡ option_map (with_memory f) (node_at path n)
   node_at-stands [] n = refl
   node_at-stands (i ∷ path) n = ap (option_and_then (node_at path)) (child-with_memory f n i) ∙ by (slice_get (children n) i) (λ c. node_at-stands path c)
     where

@@ -7,10 +7,11 @@ use Rattle.std.proofs.lemmas.Option.{none-some}
 use Rattle.q_packet.specs.Descriptor.{Descriptor}
 use Rattle.q_packet.specs.declared.cause.Cause.{Cause}
 use Rattle.q_packet.specs.declared.cause.Cause.TheVariants.{CoDel}
+use Rattle.q_packet.specs.declared.stamped.Stamped.{Stamped}
 use Rattle.q_bucket.specs.Level.{TokenBucket, allows}
 use Rattle.q_codel.specs.declared.taken.Taken.{Taken}
 use Rattle.q_drr.specs.Schedule.{Schedule}
-use Rattle.q_fqcodel.specs.Take.{selected, sent_from, dropped_from, after_sending}
+use Rattle.q_fqcodel.specs.Take.{selected, head_sent, sent_from, dropped_from, after_sending}
 use Rattle.q_model.specs.declared.event.Event.{Event}
 use Rattle.q_model.specs.declared.event.Event.TheVariants as event
 use Rattle.q_model.specs.declared.filter.Filter.{Filter}
@@ -44,19 +45,19 @@ use Rattle.q_device.specs.Sharing.{device_after}
 abbrev IsFree : Asked → Type 0
 IsFree a = (if is_some a.shown then a.taken else a.peeked).own.held ≡ None
 
-free-dequeued : (own : Own) (below : List Asked) (after : Own) (left : List Worked) (rises mine : List Note) (o : Option Descriptor)
-    → IsFree (dequeued own below (record { after = after; children = left; rises = rises; mine = mine; packet = o }))
-free-dequeued own below after left rises mine None = refl
-free-dequeued own below after left rises mine (Some p) = refl
+free-dequeued : (own : Own) (below : List Asked) (after : Own) (left : List Worked) (rises mine : List Note) (o : Option Descriptor) (at : ℕ)
+    → IsFree (dequeued own below (record { after = after; children = left; rises = rises; mine = mine; packet = o; since = at }))
+free-dequeued own below after left rises mine None at = refl
+free-dequeued own below after left rises mine (Some p) at = refl
 
 -- whether it gives its packet or keeps it, a node that shows what stays where it is holds none
 free-shown : (t : Bool) (a : Asked) → a.taken.own.held ≡ None → a.peeked.own.held ≡ None → (if t then a.taken else a.peeked).own.held ≡ None
 free-shown true a taken peeked = taken
 free-shown false a taken peeked = peeked
 
-module _ (now : ℕ) (handle : Option ℕ) (filters : List Filter) (below : List Asked) where
+module _ (now : ℕ) (handle : Option ℕ) (filters : List Filter) (since : ℕ) (below : List Asked) where
   abbrev node : Discipline → Option Descriptor → Own
-  node d held = record { handle = handle; discipline = d; held = held; filters = filters }
+  node d held = record { handle = handle; discipline = d; held = held; since = since; filters = filters }
 
   free-tbf : (b : TokenBucket) (limit : ℕ) → IsFree (ask_tbf now (node (Tbf b limit) None) below b limit)
   free-tbf b limit = by (slice_get below 0)
@@ -72,7 +73,7 @@ module _ (now : ℕ) (handle : Option ℕ) (filters : List Filter) (below : List
       child a None = refl
       child a (Some p) = may a p (allows b now p.len)
 
-      by : (o : Option Asked) → IsFree (option_map_or (ask_child now own below b limit) o (dequeued own below (record { after = own; children = []; rises = []; mine = []; packet = None })))
+      by : (o : Option Asked) → IsFree (option_map_or (ask_child now own below b limit) o (dequeued own below (record { after = own; children = []; rises = []; mine = []; packet = None; since = 0 })))
       by None = refl
       by (Some a) = child a a.shown
 
@@ -111,7 +112,7 @@ module _ (now : ℕ) (handle : Option ℕ) (filters : List Filter) (below : List
       let sent = sent_from now chosen in
       let own : Own = node (FqCodel s) None in
       free-dequeued own below (record own { discipline = FqCodel (after_sending now chosen) }) (befores below) (losses_of CoDel (packets_of (dropped_from now chosen)) ++ marks_of sent) (flow_notes s chosen sent)
-      (option_map (λ (t : Taken). t.packet) sent)
+      (option_map (λ (t : Taken). t.packet) sent) (option_map_or (λ (p : Stamped). p.at) (head_sent now chosen) 0)
 
 -- ---- an arrival
 
@@ -159,7 +160,7 @@ step-holds : (d : DeviceState (List Note)) (e : Event) → IsKept d → IsEvent 
 step-holds d (event.Arrive p moment) kept range h = puts-held (max d.clock moment) p (device_route p d.tree.device.mtu (shape d.tree.root)) (shape d.tree.root) ∙ h
 step-holds d (event.Poll moment) kept range h =
     let own : Own = d.tree.root.own in
-    free-own (max d.clock moment) own.handle own.filters (each (ask_own (max d.clock moment)) (shape d.tree.root).below) own.held own.discipline h
+    free-own (max d.clock moment) own.handle own.filters own.since (each (ask_own (max d.clock moment)) (shape d.tree.root).below) own.held own.discipline h
 step-holds d (event.Command c moment) kept range h = by (plan d.tree.device (max d.clock moment) c (shape d.tree.root)) refl
   where
     by : (answer : Result Edit Refusal) → plan d.tree.device (max d.clock moment) c (shape d.tree.root) ≡ answer → HoldsNone (answered history answer (max d.clock moment) d).device

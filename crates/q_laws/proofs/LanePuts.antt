@@ -81,9 +81,9 @@ module _ (mtu now : ℕ) (p : Descriptor) (short : p.len ≤ mtu) where
       let fits : size queue + p.len ≤ most = leb-true (size queue + p.len) most e in
       omega (arith, fits, queue-bytes queue)
 
-  module _ (handle : Option ℕ) (filters : List Filter) (below : Forest (Unit {0})) where
+  module _ (handle : Option ℕ) (filters : List Filter) (since : ℕ) (below : Forest (Unit {0})) where
     abbrev node : Discipline → Option Descriptor → Shape
-    node d held = record { own = record { handle = handle; discipline = d; held = held; filters = filters }; memory = tt; below = below }
+    node d held = record { own = record { handle = handle; discipline = d; held = held; since = since; filters = filters }; memory = tt; below = below }
 
     abbrev ways : List Route
     ways = each (λ own below. way p own below own.discipline) below
@@ -152,7 +152,7 @@ module _ (mtu now : ℕ) (p : Descriptor) (short : p.len ≤ mtu) where
 
   pub lane-puts : (path : List ℕ) (s : Shape) (limit : Limit) → IsLawfulRoot mtu now s → limit_along path s ≡ Some limit → route p s ≡ record { path = path; refusal = None }
       → IsPutLast (most_bytes mtu limit) p (line s) (line (put_along now p None path s).node)
-  lane-puts [] s limit h is e = here-puts s.own.handle s.own.filters s.below s.own.held s.own.discipline limit is h e
+  lane-puts [] s limit h is e = here-puts s.own.handle s.own.filters s.own.since s.below s.own.held s.own.discipline limit is h e
   lane-puts (i ∷ path) s limit h is e = along (is-first i path s limit is) (route-goes p s i path None e) (λ c law rest goes. lane-puts path c limit law rest goes)
     where
       along : IsFirst i path s limit → IsOn p s i path None
@@ -164,7 +164,7 @@ module _ (mtu now : ℕ) (p : Descriptor) (short : p.len ≤ mtu) where
           let put = beneath on.child (child-lawful mtu now s.below i on.child h.1 on.there) rest on.way in
           subst (λ (o : Option Shape). IsPutLast (most_bytes mtu limit) p (line s) (line (option_map_or (λ (child : Shape). put_beneath p i s (put_along now p None path child)) o (put_here now p None s)).node)) (sym on.there)
           (subst (λ (k : ℕ). IsPutLast (most_bytes mtu limit) p (line s) (line (put_beneath p k s (put_along now p None path on.child)).node)) (sym f.first)
-          (prio-puts s.own.handle s.own.filters s.below (most_bytes mtu limit) path s.own.held s.own.discipline on.child f.prio there h put))
+          (prio-puts s.own.handle s.own.filters s.own.since s.below (most_bytes mtu limit) path s.own.held s.own.discipline on.child f.prio there h put))
 
   -- beneath a tbf that holds no packet
   pub link-puts : (path : List ℕ) (s : Shape) (b : TokenBucket) (most : ℕ) (limit : Limit) (c : Shape) → IsLawfulRoot mtu now s → s.own.discipline ≡ Tbf b most → s.own.held ≡ None

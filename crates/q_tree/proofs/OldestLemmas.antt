@@ -1,5 +1,5 @@
 -- The oldest packet of a node of the code: of what it holds, of its own queues, and of its children.
-use Rattle.std.proofs.Common.{◌≡◌, ℕ, zero, suc, ◌+◌, ◌≤◌, ◌<◌, ◌∙◌, List, [], ◌∷◌, ◌++◌, map, drop, length, refl, sym, ap, ap₂, subst, Option, Some, None, option_map, arith}
+use Rattle.std.proofs.Common.{◌≡◌, ℕ, zero, suc, ◌+◌, ◌≤◌, ◌<◌, ◌∙◌, List, [], ◌∷◌, ◌++◌, map, drop, length, refl, sym, ap, ap₂, subst, Option, Some, None, option_map, option_and_then, arith}
 use Rattle.std.specs.Prelude.{All, slice_get, slice_index_or}
 use Rattle.std.specs.List.{flat_map}
 use Rattle.std.specs.Option.{option_to_list}
@@ -15,9 +15,14 @@ use Rattle.q_fqcodel.proofs.OldestLemmas.{earlier_assoc, earliest-append, earlie
 use Rattle.q_model.specs.Beneath.{beneath, beneath_own}
 use Rattle.q_model.specs.Lawful.{IsStampedBy, IsLawfulFlow, IsLawfulDiscipline}
 use Rattle.q_model.specs.Node as spec
-use Rattle.q_model.specs.Node.{Node, side_by_side}
-use Rattle.q_model.specs.Oldest.{arrivals_in, arrival_held, oldest_own, oldest}
-use Rattle.q_invariants.proofs.Forests.{each-side, AreLawful}
+use Rattle.q_model.specs.declared.class_id.ClassId.{ClassId}
+use Rattle.q_model.specs.declared.place.Place.{Place}
+use Rattle.q_model.specs.declared.place.Place.TheVariants as place
+use Rattle.q_model.specs.Find.{node_at, class_path}
+use Rattle.q_model.specs.TreeState.{TreeState}
+use Rattle.q_model.specs.Node.{Node, children, side_by_side}
+use Rattle.q_model.specs.Oldest.{arrivals_in, arrival_held, oldest_own, oldest, oldest_at}
+use Rattle.q_invariants.proofs.Forests.{each-side, AreLawful, are-lawful, lawful-nodes}
 use Rattle.q_invariants.proofs.Kept.{AllLawful, IsLawfulRoot}
 use Rattle.q_invariants.proofs.Oldest.{first-oldest, flows-oldest, own-oldest}
 use Rattle.q_tree.specs.Holding.{packet_held, since_held}
@@ -27,6 +32,11 @@ use Rattle.q_tree.specs.ReadyAt.{sooner}
 use Rattle.q_tree.specs.Seen.{seen, discipline_seen, children_seen}
 use Rattle.q_tree.specs.declared.node.Discipline.{Discipline}
 use Rattle.q_tree.specs.declared.node.Node.TheInside.{Inside}
+use Rattle.q_tree.specs.declared.tree.Tree.TheInside as tree
+use Rattle.q_tree.specs.Finding.{qdisc_with, class_with}
+use Rattle.q_tree.specs.TreeSeen.{IsKeptDevice}
+use Rattle.q_tree.proofs.StatsLemmas.{in-class}
+use Rattle.q_tree.proofs.TreeLemmas.{lawful-root}
 
 pub sooner-earlier : (a b : Option ℕ) → sooner a b ≡ earlier a b
 sooner-earlier None b = refl
@@ -117,3 +127,33 @@ each-order ns i x at h = record { mtu = h.mtu; clock = h.clock; lawful = found n
     found [] i at law = absurd (none-some x at)
     found (n ∷ ns) zero at law = subst (IsLawfulRoot h.mtu h.clock) (same_Some n x at) law.0
     found (n ∷ ns) (suc i) at law = found ns i at law.1
+
+-- a node further down
+pub order-at : (path : List ℕ) (n m : Node Kept) → node_at path n ≡ Some m → IsInOrder n → IsInOrder m
+order-at [] n m e h = subst IsInOrder (same_Some n m e) h
+order-at (i ∷ path) n m e h = by (slice_get (children n) i) (order-at path) refl e
+  where
+    kids : AreAllInOrder (children n)
+    kids = record { mtu = h.mtu; clock = h.clock; lawful = are-lawful h.mtu h.clock (children n) (lawful-nodes h.mtu h.clock n.below h.lawful.1) }
+
+    by : (o : Option (Node Kept)) → ((c m : Node Kept) → node_at path c ≡ Some m → IsInOrder c → IsInOrder m) → slice_get (children n) i ≡ o → option_and_then (node_at path) o ≡ Some m
+        → IsInOrder m
+    by None further at e = absurd (none-some m e)
+    by (Some c) further at e = further c m e (each-order (children n) i c at kids)
+
+-- the root of a tree, and the node in a class
+pub root-order : (a : tree.Inside) → IsKeptDevice a → IsInOrder a.root
+root-order a k = record { mtu = a.mtu; clock = a.clock; lawful = lawful-root a k a.clock (omega arith) k.keeps.moment }
+
+pub class-order : (id : ClassId) (root n m : Node Kept) → qdisc_with id.major root ≡ Some n → class_with id.minor n ≡ Some m → IsInOrder root → IsInOrder m
+class-order id root n m parent child h = by (class_path id root) (sym (in-class id root) ∙ ap (option_and_then (class_with id.minor)) parent ∙ child)
+  where
+    by : (o : Option (List ℕ)) → option_and_then (λ path. node_at path root) o ≡ Some m → IsInOrder m
+    by None e = absurd (none-some m e)
+    by (Some path) e = order-at path root m e h
+
+pub class-oldest : (s : TreeState Kept) (p : Place) (id : ClassId) (n : Node Kept) (m : Option (Node Kept)) → p ≡ place.Class id → qdisc_with id.major s.root ≡ Some n → class_with id.minor n ≡ m
+    → option_and_then (λ (c : Node Kept). oldest c) m ≡ oldest_at p s
+class-oldest s p id n m is parent child =
+    ap (option_and_then (λ (c : Node Kept). oldest c)) (sym (ap (option_and_then (class_with id.minor)) parent ∙ child) ∙ in-class id s.root)
+    ∙ sym (ap (λ (q : Place). oldest_at q s) is)

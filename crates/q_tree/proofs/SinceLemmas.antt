@@ -1,5 +1,5 @@
 -- When the packet arrived that a node has at hand, and that an fq_codel sends.
-use Rattle.std.proofs.Common.{◌≡◌, ℕ, suc, ◌+◌, ◌≤◌, ◌<◌, ◌∙◌, List, [], ◌∷◌, map, drop, length, refl, sym, ap, Option, Some, None, option_map, option_and_then, arith}
+use Rattle.std.proofs.Common.{◌≡◌, ℕ, zero, suc, ◌+◌, ◌≤◌, ◌<◌, ◌∙◌, List, [], ◌∷◌, map, drop, length, refl, sym, ap, Option, Some, None, option_map, option_and_then, arith}
 use Rattle.std.specs.Prelude.{Bool, true, false, not, cond, is_some, slice_get, slice_index_or}
 use Rattle.std.proofs.lemmas.List.{drop_more, drop_all}
 use Rattle.std.specs.List.{position_or_len}
@@ -45,7 +45,7 @@ first-alike (t ∷ ts) [] h = absurd h
 at-alike : (ts : List (Option ℕ)) (bs : List Popping) (k : ℕ) → AreTimed ts bs
     → is_some (option_and_then (λ (o : Option ℕ). o) (slice_get ts k)) ≡ is_some (option_and_then (λ (b : Popping). b.shown) (slice_get bs k))
 at-alike [] [] k h = refl
-at-alike (t ∷ ts) (b ∷ bs) 0 h = h.0
+at-alike (t ∷ ts) (b ∷ bs) zero h = h.0
 at-alike (t ∷ ts) (b ∷ bs) (suc k) h = at-alike ts bs k h.1
 at-alike [] (b ∷ bs) k h = absurd h
 at-alike (t ∷ ts) [] k h = absurd h
@@ -97,9 +97,9 @@ prio-none-since ns priomap e =
 -- what an fq_codel sends
 pub sent-since : (o : Option Descriptor) (head : Option Stamped) (at : ℕ) → (o ≡ None → head ≡ None) → Some at ≡ option_map (λ (s : Stamped). s.at) head
     → since_of o at ≡ option_map_or (λ (s : Stamped). s.at) head 0
-sent-since o None at none e = absurd (none-some at (sym e))
-sent-since None (Some s) at none e = absurd (none-some s (sym (none refl)))
-sent-since (Some p) (Some s) at none e = time (Some at) (Some s.at) e
+sent-since o None at unsent e = absurd (none-some at (sym e))
+sent-since None (Some s) at unsent e = absurd (none-some s (sym (unsent refl)))
+sent-since (Some p) (Some s) at unsent e = time (Some at) (Some s.at) e
   where
     or_zero : Option ℕ → ℕ
     or_zero None = 0
@@ -173,7 +173,7 @@ nobody-since ns i past same = sym (ap (λ (xs : List (Node Kept)). first_since (
 -- what a discipline has, of a node that holds none
 pub kind-since : (a : Inside) (d : Discipline) (ns : List (Node Kept)) → packet_held a.held ≡ None → discipline_seen a.discipline ≡ d → ns ≡ children_seen a.discipline
     → since_in (map at_hand_since ns) d ≡ at_hand_since (seen a)
-kind-since a d ns none is kids =
+kind-since a d ns empty is kids =
     ap (λ (xs : List (Node Kept)). since_in (map at_hand_since xs) d) kids
     ∙ sym (ap (since_in (map at_hand_since (children_seen a.discipline))) is)
-    ∙ own-since a none
+    ∙ own-since a empty

@@ -22,7 +22,7 @@ at-end (j ∷ path) i n parent e = by (slice_get (children n) j) (λ c. at-end p
   by None on there = absurd (none-some parent there)
   by (Some c) on there = on c there
 
-in-class : (id : ClassId) (n : Node Kept) → option_and_then (class_with id.minor) (qdisc_with id.major n) ≡ option_and_then (λ path. node_at path n) (class_path id n)
+pub in-class : (id : ClassId) (n : Node Kept) → option_and_then (class_with id.minor) (qdisc_with id.major n) ≡ option_and_then (λ path. node_at path n) (class_path id n)
 in-class id n = by (path_of id.major n) where
   class-at : (path : List ℕ) (o : Option (Node Kept)) → node_at path n ≡ o → option_and_then (class_with id.minor) o ≡ option_and_then (λ p. node_at p n) (option_and_then (λ parent. option_map (λ i. path ++ i ∷ []) (class_place id.minor parent)) o)
   class-at path None e = refl
