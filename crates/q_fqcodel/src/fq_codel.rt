@@ -137,11 +137,7 @@ impl FqCodel {
     /// [`Late`] where CoDel finds that packet late, so that it has to drop or mark: the flow that sends is in front then, and
     /// [`FqCodel::take_late_into`] goes on.
     #[inline(always)]
-    pub fn pass_into(
-        &mut self,
-        now: Moment,
-        out: &mut KeptPacket,
-    ) -> Result<Option<Front>, Late>
+    pub fn pass_into(&mut self, now: Moment, out: &mut KeptPacket) -> Result<Option<Front>, Late>
         ensures len { IfOk result (λ passed. option_map (λ (f : Read). f.len) passed ≡ option_map (λ (t : Taken). t.packet.len) (sent_from now (selected self.old.state))) }
         ensures at { IfOk result (λ passed. option_map (λ (f : Read). f.at) passed ≡ option_map (λ (s : Stamped). s.at) (head_sent now (selected self.old.state))) }
         ensures some { IfOk result (λ passed. IsSome passed ↔ (0 < packets_of self.old.state.flows)) }
