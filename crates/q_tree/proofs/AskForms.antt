@@ -88,7 +88,7 @@ module _ (now : ℕ) (handle : Option ℕ) (filters : List Filter) (below : List
       let own : Own = own_of handle filters (spec.FqCodel s) in
       let a : Asked = ask_discipline now own below (spec.FqCodel s) in
       let at : ℕ = option_map_or (λ (p : Stamped). p.at) (head_sent now (selected s)) 0 in
-      record { own = λ i. record a.peeked.own { since = since-twice a.shown at (~ i) }; mine = flow_notes s (selected s) (sent_from now (selected s)); silent = flow-silent s (selected s) (sent_from now (selected s)); noted = refl }
+      record { own = ap (λ (t : ℕ). record a.peeked.own { since = t }) (sym (since-twice a.shown at)); mine = flow_notes s (selected s) (sent_from now (selected s)); silent = flow-silent s (selected s) (sent_from now (selected s)); noted = refl }
 
 -- a node of the code that is asked
 ask-is : (now : ℕ) (a : Inside) → ask now (shape (seen a)) ≡ ask_own now (seen a).own (answers now (children_seen a.discipline))

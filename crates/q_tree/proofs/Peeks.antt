@@ -187,6 +187,11 @@ items-are items new len is same =
 pub answer-is : (now : ℕ) (handle : Option ℕ) (filters : List Filter) (d : Discipline) (k : spec.Discipline) (ns : List (Node Kept)) → discipline_seen d ≡ k → children_seen d ≡ ns → answer_of now handle filters d ≡ ask_discipline now (own_of handle filters k) (answers now ns) k
 answer-is now handle filters d k ns is kids = ap₂ (λ x xs. ask_discipline now (own_of handle filters x) (answers now xs) x) is kids
 
+-- what a node with this discipline holds of the packet that it shows
+pub held-of : (now : ℕ) (handle : Option ℕ) (filters : List Filter) (d : Discipline) (k : spec.Discipline) (ns : List (Node Kept)) (held : Option Stamped) (o : Option Descriptor) → discipline_seen d ≡ k → children_seen d ≡ ns
+    → held ≡ held_with o (ask_discipline now (own_of handle filters k) (answers now ns) k).peeked.own.since → held ≡ held_with o (answer_of now handle filters d).peeked.own.since
+held-of now handle filters d k ns held o is kids holds = holds ∙ ap (λ (a : Asked). held_with o a.peeked.own.since) (sym (answer-is now handle filters d k ns is kids))
+
 pub asked-in : (now : ℕ) (handle : Option ℕ) (filters : List Filter) (before after : Discipline) (k k2 : spec.Discipline) (ns ns2 : List (Node Kept)) (s : Shown) → discipline_seen before ≡ k → children_seen before ≡ ns
     → discipline_seen after ≡ k2 → children_seen after ≡ ns2 → places_seen after ≡ places_seen before → k2 ≡ (ask_discipline now (own_of handle filters k) (answers now ns) k).peeked.own.discipline
     → AreAsked (ask_discipline now (own_of handle filters k) (answers now ns) k) ns ns2 s → IsAskedIn (answer_of now handle filters before) before after s

@@ -1,11 +1,12 @@
-use Rattle.std.proofs.Common.{◌∙◌, [], ◌∷◌, set, length, add-one, refl, sym, ap, ap₂, subst, arith, rules, Option, Some}
+use Rattle.std.proofs.Common.{◌≡◌, ◌∙◌, [], ◌∷◌, set, length, add-one, refl, sym, ap, ap₂, subst, arith, rules, Option, Some}
 use Rattle.std.specs.Prelude.{is_some, slice_index_or, unwrap_or, slice_get}
 use Rattle.std.proofs.lemmas.List.{length-set}
 use Rattle.std.specs.Box.{with_value}
 use Rattle.std.specs.Vec.{with_items}
 use Rattle.q_bucket.specs.Level.{allows}
 use Rattle.q_fqcodel.specs.FqState.{FqView}
-use Rattle.q_model.specs.Ask.{ask, ask_tbf, ask_drr}
+use Rattle.q_fqcodel.specs.Take.{head_sent, selected}
+use Rattle.q_model.specs.Ask.{ask, ask_tbf, ask_drr, ask_fq_codel}
 use Rattle.q_model.specs.Node as spec
 use Rattle.q_model.specs.Node.{Node, shape, side_by_side}
 use Rattle.q_model.specs.Pop.{pop}
@@ -19,7 +20,7 @@ use Rattle.q_tree.proofs.AskBands.{AreBandsAsked, told_to, band-at, band-once, b
 use Rattle.q_tree.proofs.AskOnce.{fits-beside, told-nothing, told-then}
 use Rattle.q_tree.proofs.AtHandLemmas.{none-held, some-held, shown-len, there-at}
 use Rattle.q_tree.proofs.HereLemmas.{flow-packets}
-use Rattle.q_tree.proofs.Peeks.{asked-in, told-in, each-of, room-of, own-room, items-are, serve-of, holding-after, can-in, enough, can-book, peeked-done, shown-here, told-here, tbf-gave, tbf-none, hand-asked, tbf-gave-since, tbf-none-since, tbf-waits, tbf-waits-since}
+use Rattle.q_tree.proofs.Peeks.{asked-in, held-of, told-in, each-of, room-of, own-room, items-are, serve-of, holding-after, can-in, enough, can-book, peeked-done, shown-here, told-here, tbf-gave, tbf-none, hand-asked, tbf-gave-since, tbf-none-since, tbf-waits, tbf-waits-since}
 use Rattle.q_tree.proofs.ServeLemmas.{classes-go-on, classes-start, class-once, class-shown, class-size, fewer-grants, front-met, given-asked, given-packet, given-schedule, given-told, idle-asked, idle-schedule, idle-told, nothing-asked, nothing-schedule, nothing-told, place-within, short-enough, nothing-since, given-since, idle-since, class-given}
 use Rattle.q_tree.proofs.Quiet.{shown-nothing}
 use Rattle.q_tree.proofs.RouteLemmas.{child-size, children-size}
@@ -29,7 +30,9 @@ use Rattle.q_tree.proofs.HeldLemmas.{none-kept, some-kept, some-there, none-ther
 use Rattle.q_tree.specs.Holding.{held_with}
 use Rattle.q_model.specs.Since.{at_hand_since, since_of}
 use Rattle.q_packet.specs.Descriptor.{Descriptor}
-use Rattle.std.proofs.lemmas.Option.{none-some, same_Some}
+use Rattle.q_packet.specs.declared.stamped.Stamped.{Stamped}
+use Rattle.std.specs.Option.{option_map_or}
+use Rattle.std.proofs.lemmas.Option.{none-some, same_Some, slice_get-get_or}
 
 pub disciplines::drr::peek_class_further-then-requires-clause-dropped_packets : goal.disciplines::drr::peek_class_further-then-requires-clause-dropped_packets
 disciplines::drr::peek_class_further-then-requires-clause-dropped_packets g t c = (fits-beside c.args.now c.args.class.now c.args.so_far c.peek-next.result (g.S.Sink.room c.args.sink.now) c.requires.ready c.peek-next.ensures.peeked.shown).dropped_packets
@@ -104,15 +107,15 @@ disciplines::tbf::peek_child-returns-then-has_packet-clause-held g t c = λ own 
     let allowed = c.allow_child-shown.ensures.allowed there.0 there.1 in
     c.hold.ensures.held ∙ ap₂ held_with (allowed.shown ∙ sym there.1) (allowed.since own limit)
 
-pub disciplines::tbf::peek_child-returns-clause-after : goal.disciplines::tbf::peek_child-returns-clause-after
-disciplines::tbf::peek_child-returns-clause-after g t c = λ own limit.
+pub disciplines::tbf::peek_child-returns-else-has_packet-clause-after : goal.disciplines::tbf::peek_child-returns-else-has_packet-clause-after
+disciplines::tbf::peek_child-returns-else-has_packet-clause-after g t c = λ own limit.
     (c.allow_child-shown.ensures.waits (none-there c.allow_child-shown.result.packet (sym c.has_packet.ensures ∙ c.if-has_packet.false)) own limit).asked
 
-pub disciplines::tbf::peek_child-returns-clause-held : goal.disciplines::tbf::peek_child-returns-clause-held
-disciplines::tbf::peek_child-returns-clause-held g t c = λ own limit.
+pub disciplines::tbf::peek_child-returns-else-has_packet-clause-held : goal.disciplines::tbf::peek_child-returns-else-has_packet-clause-held
+disciplines::tbf::peek_child-returns-else-has_packet-clause-held g t c = λ own limit.
     c.requires.none
     ∙ ap (λ (o : Option Descriptor). held_with o (ask_tbf c.args.now own (answers c.args.now (c.args.child.now ∷ [])) c.args.bucket.now limit).peeked.own.since)
-        (sym (none-there c.allow_child-shown.result.packet (sym c.has_packet.ensures ∙ c.if-has_packet.false)))
+    (sym (none-there c.allow_child-shown.result.packet (sym c.has_packet.ensures ∙ c.if-has_packet.false)))
 
 pub disciplines::drr::meet_class-loop-place-init : goal.disciplines::drr::meet_class-loop-place-init
 disciplines::drr::meet_class-loop-place-init g t c = (
@@ -243,49 +246,51 @@ disciplines::drr::meet_class-returns-in-Send-clause-met g t c = λ p is.
     }
 
 pub disciplines::drr::peek_classes-bounds-classes-place : goal.disciplines::drr::peek_classes-bounds-classes-place
-disciplines::drr::peek_classes-bounds-classes-place g t c = 
+disciplines::drr::peek_classes-bounds-classes-place g t c =
     let there = some-there c.meet_class-shown.result.packet (sym c.has_packet.ensures ∙ c.if-has_packet.true) in
     let met = c.meet_class-shown.ensures.met there.0 there.1 in
     met.inside
 
 pub disciplines::drr::peek_classes-hold-requires : goal.disciplines::drr::peek_classes-hold-requires
-disciplines::drr::peek_classes-hold-requires g t c = 
+disciplines::drr::peek_classes-hold-requires g t c =
     let there = some-there c.meet_class-shown.result.packet (sym c.has_packet.ensures ∙ c.if-has_packet.true) in
     let met = c.meet_class-shown.ensures.met there.0 there.1 in
-    ap is_some (met.shown c.index-classes-place.result (there-at c.meet_class-shown.new.classes c.meet_class-shown.new.met c.index-classes-place.result met.inside c.index-classes-place.is) ∙ there.1)
+    let class : Node Kept = slice_index_or c.meet_class-shown.new.classes c.meet_class-shown.new.met c.index-classes-place.result in
+    ap is_some (met.shown class (slice_get-get_or c.meet_class-shown.new.classes c.meet_class-shown.new.met c.index-classes-place.result met.inside) ∙ there.1)
 
 pub disciplines::drr::peek_classes-returns-then-has_packet-clause-active : goal.disciplines::drr::peek_classes-returns-then-has_packet-clause-active
 disciplines::drr::peek_classes-returns-then-has_packet-clause-active g t c = λ own.
     let there = some-there c.meet_class-shown.result.packet (sym c.has_packet.ensures ∙ c.if-has_packet.true) in
     let met = c.meet_class-shown.ensures.met there.0 there.1 in
-    let given = λ class at. class-given c.meet_class-shown.new.classes c.meet_class-shown.new.met class c.index-classes-place.result c.hold.new.child c.index-classes-place-2.result c.meet_class-shown.new.active c.settle.new.active c.is_empty.result
-        at c.hold.ensures.after c.hold.ensures.arrived c.is_empty.ensures c.settle.ensures in
+    let given = λ (class : Node Kept) (at : slice_get c.meet_class-shown.new.classes c.meet_class-shown.new.met ≡ Some class). class-given c.meet_class-shown.new.classes c.meet_class-shown.new.met class c.index-classes-place.result c.hold.new.child c.index-classes-place-then-has_packet.result c.meet_class-shown.new.active c.settle.new.active c.is_empty.result
+    at c.hold.ensures.after c.hold.ensures.arrived c.is_empty.ensures c.settle.ensures in
     met.schedule c.settle.new.active (set c.meet_class-shown.new.classes c.meet_class-shown.new.met c.hold.new.child) given own
 
 pub disciplines::drr::peek_classes-returns-then-has_packet-clause-after : goal.disciplines::drr::peek_classes-returns-then-has_packet-clause-after
 disciplines::drr::peek_classes-returns-then-has_packet-clause-after g t c = λ own.
     let there = some-there c.meet_class-shown.result.packet (sym c.has_packet.ensures ∙ c.if-has_packet.true) in
     let met = c.meet_class-shown.ensures.met there.0 there.1 in
-    let given = λ class at. class-given c.meet_class-shown.new.classes c.meet_class-shown.new.met class c.index-classes-place.result c.hold.new.child c.index-classes-place-2.result c.meet_class-shown.new.active c.settle.new.active c.is_empty.result
-        at c.hold.ensures.after c.hold.ensures.arrived c.is_empty.ensures c.settle.ensures in
+    let given = λ (class : Node Kept) (at : slice_get c.meet_class-shown.new.classes c.meet_class-shown.new.met ≡ Some class). class-given c.meet_class-shown.new.classes c.meet_class-shown.new.met class c.index-classes-place.result c.hold.new.child c.index-classes-place-then-has_packet.result c.meet_class-shown.new.active c.settle.new.active c.is_empty.result
+    at c.hold.ensures.after c.hold.ensures.arrived c.is_empty.ensures c.settle.ensures in
     met.asked c.settle.new.active (set c.meet_class-shown.new.classes c.meet_class-shown.new.met c.hold.new.child) given own
 
 pub disciplines::drr::peek_classes-returns-then-has_packet-clause-held : goal.disciplines::drr::peek_classes-returns-then-has_packet-clause-held
 disciplines::drr::peek_classes-returns-then-has_packet-clause-held g t c = λ own.
     let there = some-there c.meet_class-shown.result.packet (sym c.has_packet.ensures ∙ c.if-has_packet.true) in
     let met = c.meet_class-shown.ensures.met there.0 there.1 in
-    let at = there-at c.meet_class-shown.new.classes c.meet_class-shown.new.met c.index-classes-place.result met.inside c.index-classes-place.is in
-    c.hold.ensures.held ∙ ap (λ (o : Option Descriptor). held_with o (unwrap_or (at_hand_since c.index-classes-place.result) 0)) (met.shown c.index-classes-place.result at)
-    ∙ held-with c.meet_class-shown.result.packet (unwrap_or (at_hand_since c.index-classes-place.result) 0) _ (met.since c.index-classes-place.result at own)
+    let class : Node Kept = slice_index_or c.meet_class-shown.new.classes c.meet_class-shown.new.met c.index-classes-place.result in
+    let at = slice_get-get_or c.meet_class-shown.new.classes c.meet_class-shown.new.met c.index-classes-place.result met.inside in
+    c.hold.ensures.held ∙ ap (λ (o : Option Descriptor). held_with o (unwrap_or (at_hand_since class) 0)) (met.shown class at)
+    ∙ held-with c.meet_class-shown.result.packet (unwrap_or (at_hand_since class) 0) (ask_drr own (answers c.args.now c.args.classes.now) c.args.active.now).peeked.own.since (met.since class at own)
 
-pub disciplines::drr::peek_classes-returns-clause-active : goal.disciplines::drr::peek_classes-returns-clause-active
-disciplines::drr::peek_classes-returns-clause-active g t c = λ own. (c.meet_class-shown.ensures.nothing (none-there c.meet_class-shown.result.packet (sym c.has_packet.ensures ∙ c.if-has_packet.false))).schedule own
+pub disciplines::drr::peek_classes-returns-else-has_packet-clause-active : goal.disciplines::drr::peek_classes-returns-else-has_packet-clause-active
+disciplines::drr::peek_classes-returns-else-has_packet-clause-active g t c = λ own. (c.meet_class-shown.ensures.nothing (none-there c.meet_class-shown.result.packet (sym c.has_packet.ensures ∙ c.if-has_packet.false))).schedule own
 
-pub disciplines::drr::peek_classes-returns-clause-after : goal.disciplines::drr::peek_classes-returns-clause-after
-disciplines::drr::peek_classes-returns-clause-after g t c = λ own. (c.meet_class-shown.ensures.nothing (none-there c.meet_class-shown.result.packet (sym c.has_packet.ensures ∙ c.if-has_packet.false))).asked own
+pub disciplines::drr::peek_classes-returns-else-has_packet-clause-after : goal.disciplines::drr::peek_classes-returns-else-has_packet-clause-after
+disciplines::drr::peek_classes-returns-else-has_packet-clause-after g t c = λ own. (c.meet_class-shown.ensures.nothing (none-there c.meet_class-shown.result.packet (sym c.has_packet.ensures ∙ c.if-has_packet.false))).asked own
 
-pub disciplines::drr::peek_classes-returns-clause-held : goal.disciplines::drr::peek_classes-returns-clause-held
-disciplines::drr::peek_classes-returns-clause-held g t c = λ own.
+pub disciplines::drr::peek_classes-returns-else-has_packet-clause-held : goal.disciplines::drr::peek_classes-returns-else-has_packet-clause-held
+disciplines::drr::peek_classes-returns-else-has_packet-clause-held g t c = λ own.
     c.requires.none ∙ ap (λ (o : Option Descriptor). held_with o (ask_drr own (answers c.args.now c.args.classes.now) c.args.active.now).peeked.own.since) (sym (none-there c.meet_class-shown.result.packet (sym c.has_packet.ensures ∙ c.if-has_packet.false)))
 
 pub node::Discipline::ask-peek_bands-requires : goal.node::Discipline::ask-peek_bands-requires
@@ -316,6 +321,13 @@ node::Discipline::ask-returns-in-Tbf-clause-after g t c = λ handle filters.
     asked-in c.args.now handle filters c.args.self.now (code.Tbf c.peek_child.new.bucket c.in-Tbf.limit (with_value c.in-Tbf.child c.peek_child.new.child)) (spec.Tbf c.in-Tbf.bucket c.in-Tbf.limit) (spec.Tbf c.peek_child.new.bucket c.in-Tbf.limit) (c.deref_mut-in-Tbf.result.now ∷ []) (c.peek_child.new.child ∷ []) c.peek_child.result
     (ap discipline_seen c.in-Tbf.is) kids refl refl (sym (ap places_seen c.in-Tbf.is)) (c.peek_child.ensures.bucket own c.in-Tbf.limit refl) (c.peek_child.ensures.after own c.in-Tbf.limit)
 
+pub node::Discipline::ask-returns-in-Tbf-clause-held : goal.node::Discipline::ask-returns-in-Tbf-clause-held
+node::Discipline::ask-returns-in-Tbf-clause-held g t c = λ handle filters.
+    let own = own_of handle filters (spec.Tbf c.in-Tbf.bucket c.in-Tbf.limit) in
+    let kids = ap children_seen c.in-Tbf.is ∙ ap (λ x. x ∷ []) (sym c.deref_mut-in-Tbf.ensures.value) in
+    held-of c.args.now handle filters c.args.self.now (spec.Tbf c.in-Tbf.bucket c.in-Tbf.limit) (c.deref_mut-in-Tbf.result.now ∷ []) c.peek_child.new.held c.peek_child.result.packet
+    (ap discipline_seen c.in-Tbf.is) kids (c.peek_child.ensures.held own c.in-Tbf.limit)
+
 pub node::Discipline::ask-returns-in-Tbf-clause-told :
     goal.node::Discipline::ask-returns-in-Tbf-clause-told
 node::Discipline::ask-returns-in-Tbf-clause-told g t c = λ handle filters.
@@ -336,6 +348,13 @@ node::Discipline::ask-returns-in-Drr-clause-after g t c = λ handle filters.
     asked-in c.args.now handle filters c.args.self.now (code.Drr c.peek_classes.new.active (with_items c.in-Drr.classes c.peek_classes.new.classes)) (spec.Drr c.in-Drr.active) (spec.Drr c.peek_classes.new.active) c.deref_mut-in-Drr.result.now c.peek_classes.new.classes c.peek_classes.result
     (ap discipline_seen c.in-Drr.is) kids refl (items-are c.in-Drr.classes.items c.peek_classes.new.classes c.in-Drr.classes.len (sym c.in-Drr.classes.ok.0) ((c.peek_classes.ensures.after own).long ∙ ap (λ xs. length xs) c.deref_mut-in-Drr.ensures.value))
     (sym (ap places_seen c.in-Drr.is)) (c.peek_classes.ensures.active own) (c.peek_classes.ensures.after own)
+
+pub node::Discipline::ask-returns-in-Drr-clause-held : goal.node::Discipline::ask-returns-in-Drr-clause-held
+node::Discipline::ask-returns-in-Drr-clause-held g t c = λ handle filters.
+    let own = own_of handle filters (spec.Drr c.in-Drr.active) in
+    let kids = sym (c.deref_mut-in-Drr.ensures.value ∙ sym (ap children_seen c.in-Drr.is)) in
+    held-of c.args.now handle filters c.args.self.now (spec.Drr c.in-Drr.active) c.deref_mut-in-Drr.result.now c.peek_classes.new.held c.peek_classes.result.packet
+    (ap discipline_seen c.in-Drr.is) kids (c.peek_classes.ensures.held own)
 
 pub node::Discipline::ask-returns-in-Drr-clause-told :
     goal.node::Discipline::ask-returns-in-Drr-clause-told
@@ -360,6 +379,16 @@ node::Discipline::ask-returns-in-FqCodel-clause-after g t c = λ handle filters.
     asked-in c.args.now handle filters c.args.self.now (code.FqCodel (with_value c.in-FqCodel.queue c.peek_flow.new.queue)) (spec.FqCodel state) (spec.FqCodel c.peek_flow.new.queue.state) [] [] c.peek_flow.result
     is (ap children_seen c.in-FqCodel.is) refl refl places (ap spec.FqCodel e.after)
     (record { long = refl; nodes = refl; within = λ t h. h; shown = e.shown own [] })
+
+pub node::Discipline::ask-returns-in-FqCodel-clause-held : goal.node::Discipline::ask-returns-in-FqCodel-clause-held
+node::Discipline::ask-returns-in-FqCodel-clause-held g t c = λ handle filters.
+    let e = c.peek_flow.ensures in
+    let state = c.deref_mut-in-FqCodel.result.now.state in
+    let own = own_of handle filters (spec.FqCodel state) in
+    let is = ap discipline_seen c.in-FqCodel.is ∙ ap (λ (q : FqView). spec.FqCodel q.state) (sym c.deref_mut-in-FqCodel.ensures.value) in
+    let at = option_map_or (λ (s : Stamped). s.at) (head_sent c.args.now (selected state)) 0 in
+    held-of c.args.now handle filters c.args.self.now (spec.FqCodel state) [] c.peek_flow.new.held c.peek_flow.result.packet is (ap children_seen c.in-FqCodel.is)
+    (e.held ∙ held-with c.peek_flow.result.packet at (ask_fq_codel c.args.now own [] state).peeked.own.since (ap (λ (o : Option Descriptor). since_of o at) (e.shown own []).packet))
 
 pub node::Discipline::ask-returns-in-FqCodel-clause-told :
     goal.node::Discipline::ask-returns-in-FqCodel-clause-told

@@ -279,14 +279,7 @@ pub(crate) fn peek_flow<S: Sink>(
         }
         Err(_) => {
             held.holds = true;
-            return dequeue_late(
-                queue,
-                &mut held.place,
-                &mut held.since,
-                now,
-                signals,
-                sink,
-            );
+            return dequeue_late(queue, &mut held.place, &mut held.since, now, signals, sink);
         }
     }
 }

@@ -26,12 +26,12 @@ returns-then-has_packet-clause-packet g c =
     let class = class-there c.meet_class-shown.new.classes c.meet_class-shown.new.met met.inside in
     c.dequeue_class_at_hand.ensures.packet class.0 class.1 ∙ ap (λ o. unwrap_or o c.args.out.now) (met.shown class.0 class.1)
 
-pub returns-clause-active : goal.returns-clause-active
-returns-clause-active g c = λ own. (c.meet_class-shown.ensures.nothing (none-there c.meet_class-shown.result.packet (sym c.has_packet.ensures ∙ c.if-has_packet.false))).schedule own
+pub returns-else-has_packet-clause-active : goal.returns-else-has_packet-clause-active
+returns-else-has_packet-clause-active g c = λ own. (c.meet_class-shown.ensures.nothing (none-there c.meet_class-shown.result.packet (sym c.has_packet.ensures ∙ c.if-has_packet.false))).schedule own
 
-pub returns-clause-after : goal.returns-clause-after
-returns-clause-after g c = λ own. (c.meet_class-shown.ensures.nothing (none-there c.meet_class-shown.result.packet (sym c.has_packet.ensures ∙ c.if-has_packet.false))).asked own
+pub returns-else-has_packet-clause-after : goal.returns-else-has_packet-clause-after
+returns-else-has_packet-clause-after g c = λ own. (c.meet_class-shown.ensures.nothing (none-there c.meet_class-shown.result.packet (sym c.has_packet.ensures ∙ c.if-has_packet.false))).asked own
 
-pub returns-clause-packet : goal.returns-clause-packet
-returns-clause-packet g c =
+pub returns-else-has_packet-clause-packet : goal.returns-else-has_packet-clause-packet
+returns-else-has_packet-clause-packet g c =
     ap (λ o. unwrap_or o c.args.out.now) (sym (none-there c.meet_class-shown.result.packet (sym c.has_packet.ensures ∙ c.if-has_packet.false)))

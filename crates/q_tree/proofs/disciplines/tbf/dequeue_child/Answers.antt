@@ -13,10 +13,10 @@ returns-then-has_packet-clause-packet g c =
     let there = some-there c.allow_child-shown.result.packet (sym c.has_packet.ensures ∙ c.if-has_packet.true) in
     c.dequeue_at_hand.ensures.packet ∙ ap (λ o. unwrap_or o c.args.out.now) ((c.allow_child-shown.ensures.allowed there.0 there.1).shown ∙ sym there.1)
 
-pub returns-clause-after : goal.returns-clause-after
-returns-clause-after g c = λ own limit.
+pub returns-else-has_packet-clause-after : goal.returns-else-has_packet-clause-after
+returns-else-has_packet-clause-after g c = λ own limit.
     (c.allow_child-shown.ensures.waits (none-there c.allow_child-shown.result.packet (sym c.has_packet.ensures ∙ c.if-has_packet.false)) own limit).asked
 
-pub returns-clause-packet : goal.returns-clause-packet
-returns-clause-packet g c =
+pub returns-else-has_packet-clause-packet : goal.returns-else-has_packet-clause-packet
+returns-else-has_packet-clause-packet g c =
     ap (λ o. unwrap_or o c.args.out.now) (sym (none-there c.allow_child-shown.result.packet (sym c.has_packet.ensures ∙ c.if-has_packet.false)))
