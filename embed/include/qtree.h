@@ -28,8 +28,8 @@
  *     no other pointer of the same call overlaps. A pointer whose length is 0 may be null. A bool is false or true.
  *   - Structs. A program may place a qtree_device, a qtree_port or a qtree_outlet wherever it likes, and initializes
  *     it with QTREE_CLOSED (all bytes 0). From then on only the functions of this header read and write it. It may be
- *     moved, that is copied if the old one is never used again: of two copies of an open one only one may be used. It
- *     is closed before its memory is released.
+ *     moved: copied, if the old one is never used again. Of two copies of an open one, only one may be used. It is
+ *     closed before its memory is released.
  *   - Threads. Only one call at a time may use a given qtree_device, qtree_port or qtree_outlet. That includes calls
  *     that take a pointer to a const one. Each of the three may go from one thread to another if the calls are
  *     ordered by a lock, by the start or the join of a thread, or by a sequentially consistent atomic. Devices are
@@ -333,8 +333,9 @@ qtree_code qtree_set_up(qtree_device *device, const uint8_t *text, size_t text_l
 
 /* Reads the IP header of a packet, and the ports behind it, into a qtree_packet, and hashes its flow.
  *
- * bytes   the first count bytes of the packet, from its IP header on
- * seed    the seed of the hash: with another seed, an fq_codel puts the same flows into other queues
+ * bytes   the first count bytes of the packet, from its IP header on; the whole header and the 4 bytes behind it,
+ *         which may be ports, are enough
+ * seed    the seed of the hash: any number; docs/SETTINGS.md says how to choose it
  * packet  family, proto, addresses, ports, prio, ecn and hash are filled in. number, port, buf and len stay as they
  *         are.
  *
@@ -353,8 +354,8 @@ void qtree_read_fields_hashed(const uint8_t *bytes, size_t count, uint32_t hash,
 /* Finds the IP header in the first count bytes of an Ethernet frame.
  *
  * Returns the index of the header's first byte: 14, or 18 or 22 behind one or two VLAN tags (IEEE 802.1Q, 802.1ad).
- * Returns 0 if the frame has another type, such as ARP, or more tags, or if it ends before its type does. Whether a
- * whole header follows is not checked here: the functions that read it say so. */
+ * Returns 0 if the frame has another type, such as ARP, or more tags, or if it ends before its type does. This
+ * function does not check whether a whole header follows. If none does, the functions that read it set family to 0. */
 size_t qtree_ip_at(const uint8_t *bytes, size_t count);
 
 /* Computes the hash of a packet's flow from family, proto, addresses and ports, with this seed, and writes it into
@@ -591,9 +592,10 @@ typedef struct qtree_promise {
  *   QTREE_OUT_OF_RANGE  place, major or minor is out of its range
  *   QTREE_IS_CLOSED     the device is closed
  *
- * For example, with a tbf of 20mbit and burst 1640 at the root, and below it a drr 2: whose classes 2:1 and 2:2 have
- * the quanta 3000 and 1500, qtree_service(&device, QTREE_CLASS, 2, 1, &promise) writes the rate 13333333 and the
- * slack 5532: in each second between two such polls the class sends more than 1666666 - 5532 bytes. */
+ * For example, with an mtu of 1514, a tbf with rate 20mbit and burst 1640 at the root, and below it a drr 2: whose
+ * classes 2:1 and 2:2 have the quanta 3000 and 1500, qtree_service(&device, QTREE_CLASS, 2, 1, &promise) writes the
+ * rate 13333333 and the slack 5532: in each second between two such polls the class sends more than 1666666 - 5532
+ * bytes. */
 qtree_code qtree_service(const qtree_device *device, uint32_t place, uint16_t major, uint16_t minor,
                          qtree_promise *promise);
 
