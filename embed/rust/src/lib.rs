@@ -79,8 +79,16 @@
 //!
 //! # What is proved
 //!
-//! The library is proved: its functions do what the definitions of the qdiscs say, for every call.
-//! This crate is plain Rust over them, which is tested and not proved.
+//! What each function of the library does to a device, and what it returns, is proved for every call
+//! that keeps to the library's rules. This crate is plain Rust over these functions, which is tested
+//! and not proved. It keeps to the rules about pointers, structs and threads. These are up to the
+//! program:
+//!
+//! - No call is made from a signal handler, or in the child of a fork of a program with threads.
+//! - A thread that makes a call has at least 64 KB of stack left.
+//! - `malloc`, `realloc` and `free` are those of the C library, or behave as those have to.
+//! - The system is Linux on a processor with pointers of 64 bits and little-endian byte order. The
+//!   library that Rattle's kit builds for x86-64 needs x86-64-v2 or later (SSE4.2 and POPCNT).
 //!
 //! # Linking
 //!
