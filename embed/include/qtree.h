@@ -17,7 +17,10 @@
  *     qtree_close(&device);
  *
  * The comment of each function says what the function does, what it takes, what it returns, and what happens on an
- * error. docs/EMBEDDING.md has whole programs, and docs/LANGUAGE.md has the lines of tc.
+ * error. In the repository, docs/EMBEDDING.md has whole programs, and docs/LANGUAGE.md has the lines of tc. Once the
+ * library is installed, this command compiles and links a program:
+ *
+ *     cc program.c $(pkg-config --cflags --libs qtree)
  *
  * What a program has to keep to
  *
@@ -87,7 +90,7 @@ extern "C" {
 /* Returns the version of the library: the major number in the high 16 bits, and the minor number in the low 16 bits. */
 uint32_t qtree_version(void);
 
-/* The latest time that a call takes: 2^62 nanoseconds. */
+/* The latest time that a call accepts: 2^62 nanoseconds. */
 #define QTREE_MOMENT_MAX (UINT64_C(1) << 62)
 
 /* What a function returns.
@@ -186,12 +189,12 @@ typedef struct qtree_settings {
 
 /* The descriptor of a packet. The packet's bytes stay with the program. A field that a packet lacks is 0. */
 typedef struct qtree_packet {
-    uint64_t src_high; /* the source address; an IPv4 address is in the low 32 bits, and all other bits are 0 */
-    uint64_t src_low;
+    uint64_t src_high; /* the source address; an IPv4 address is in the low 32 bits of src_low, and all other bits */
+    uint64_t src_low;  /* are 0: 10.0.0.1 is 0x0a000001 */
     uint64_t dst_high; /* the destination address, likewise */
     uint64_t dst_low;
-    uint64_t number; /* the packet's number among those of its port; otherwise the program's own */
-    uint32_t port;   /* the index of the port by which it came; otherwise the program's own */
+    uint64_t number; /* the packet's number among those of the port by which it came; otherwise the program's own */
+    uint32_t port;   /* the index of that port; otherwise the program's own */
     uint32_t buf;    /* the program's own number for the packet's bytes, which comes back with the packet */
     uint32_t hash;   /* by this an fq_codel chooses the packet's flow */
     uint16_t len;    /* the length, by which all qdiscs count: 1 to 65535 bytes */
@@ -218,12 +221,12 @@ typedef struct qtree_count {
 /* Counters, as tc -s prints them. In packets and in bytes, what arrived is what was sent, refused or dropped, or is
  * queued. */
 typedef struct qtree_row {
-    qtree_count arrived;
+    qtree_count arrived; /* including what was refused */
     qtree_count sent;
     qtree_count refused; /* lost on arrival */
     qtree_count dropped; /* lost later */
-    qtree_count queued;
-    qtree_count marked; /* by CoDel; these packets are part of the other counters too */
+    qtree_count queued;  /* now */
+    qtree_count marked;  /* by CoDel; it is part of no sum */
 } qtree_row;
 
 /* What is wrong with a line. */
@@ -274,7 +277,12 @@ void qtree_close(qtree_device *device);
  *   QTREE_OUT_OF_RANGE  the time is out of its range
  *   QTREE_IS_CLOSED     the device is closed
  *   QTREE_MEMORY        an allocation failed
- * The device changes only if QTREE_DONE is returned. qtree_explain writes out what is wrong with a line. */
+ * The device changes only if QTREE_DONE is returned. qtree_explain writes out what is wrong with a line.
+ *
+ * For example, these two lines limit a link to 20 Mbit/s, and keep delays low while the link is full:
+ *
+ *     tc qdisc add dev wan root handle 1: tbf rate 20mbit burst 3028 latency 50ms
+ *     tc qdisc add dev wan parent 1:1 handle 10: fq_codel */
 qtree_code qtree_command(qtree_device *device, const uint8_t *line, size_t line_len, uint64_t now, qtree_fault *fault);
 
 /* Does what qtree_command does, with a line that ends with a zero byte. Here fault may be null. */
@@ -337,7 +345,7 @@ qtree_code qtree_set_up(qtree_device *device, const uint8_t *text, size_t text_l
  *         which may be ports, are enough
  * seed    the seed of the hash: any number; docs/SETTINGS.md says how to choose it
  * packet  family, proto, addresses, ports, prio, ecn and hash are filled in. number, port, buf and len stay as they
- *         are.
+ *         are, so the program sets len and buf itself.
  *
  * If the bytes are not an IP header, the fields that are read are 0. In an Ethernet frame, qtree_ip_at finds the IP
  * header. This function uses no device. */
@@ -374,7 +382,8 @@ qtree_code qtree_hash(uint32_t seed, qtree_packet *packet);
  * 0. Otherwise no byte is written. */
 bool qtree_mark_head(uint8_t *bytes, size_t count);
 
-/* A packet arrives at the device, which queues it or loses it. A lost packet is also handed out by qtree_reap.
+/* A packet arrives at the device, which queues it or loses it. A lost packet is also handed out by qtree_reap: its
+ * buffer is released then, and not before.
  *
  * packet  the descriptor; the device copies it
  * now     the time
@@ -497,7 +506,16 @@ qtree_code qtree_poll_bufs(qtree_device *device, uint64_t now, qtree_sent *sent,
  * Returns
  *   QTREE_DONE       *moment is that time
  *   QTREE_NOTHING    no poll will ever return a packet: none is queued, or no token bucket will ever hold enough
- *   QTREE_IS_CLOSED  the device is closed */
+ *   QTREE_IS_CLOSED  the device is closed
+ *
+ * For example, a program that has just read its clock sends what is due:
+ *
+ *     while (qtree_ready_at(&device, &again) == QTREE_DONE && again <= now) {
+ *         if (qtree_poll(&device, now, &packet) == QTREE_DONE) transmit(packet.buf);
+ *     }
+ *
+ * Then it sleeps until the time again, or until a packet comes in, if qtree_ready_at returned QTREE_DONE. Otherwise
+ * it sleeps until a packet comes in. */
 qtree_code qtree_ready_at(const qtree_device *device, uint64_t *moment);
 
 /* Tells how many packets can be queued in the device at most, now and as long as no command changes it.
