@@ -495,8 +495,8 @@ typedef struct qtree_sent {
 qtree_code qtree_poll_buf(qtree_device *device, uint64_t now, qtree_sent *sent);
 qtree_code qtree_poll_bufs(qtree_device *device, uint64_t now, qtree_sent *sent, size_t room, size_t *count);
 
-/* Tells until when a program may sleep: the time before which no poll returns a packet, as long as no packet arrives
- * and no command comes.
+/* Computes until when a program may sleep: the time before which no poll returns a packet, as long as no packet
+ * arrives and no command comes.
  *
  * moment  the time, if QTREE_DONE is returned; it is no earlier than the latest time that counted
  *
@@ -518,7 +518,7 @@ qtree_code qtree_poll_bufs(qtree_device *device, uint64_t now, qtree_sent *sent,
  * it sleeps until a packet comes in. */
 qtree_code qtree_ready_at(const qtree_device *device, uint64_t *moment);
 
-/* Tells how many packets can be queued in the device at most, now and as long as no command changes it.
+/* Computes how many packets can be queued in the device at most, now and as long as no command changes it.
  *
  * packets  the sum of the limits of all queues, and one packet for each tbf, drr and fq_codel, which may hold the
  *          packet that goes next. If a queue's limit was set below what it has queued, what it has queued counts in
@@ -597,7 +597,7 @@ typedef struct qtree_promise {
     uint64_t slack; /* the most bytes that the class can fall short of its share */
 } qtree_promise;
 
-/* Tells what the class in a place is promised.
+/* Computes what the class in a place is promised.
  *
  * place, major, minor  as for qtree_stats
  * promise              the promise, if QTREE_DONE is returned
@@ -617,12 +617,13 @@ typedef struct qtree_promise {
 qtree_code qtree_service(const qtree_device *device, uint32_t place, uint16_t major, uint16_t minor,
                          qtree_promise *promise);
 
-/* Tells how late polls may be while the promise of qtree_service holds.
+/* Computes how late polls may be while the promise of qtree_service holds.
  *
  * place, major, minor  as for qtree_stats
- * late                 how many nanoseconds after the time of qtree_ready_at a poll may come: as many as the burst of
- *                      the tbf at the root has room, beside a packet of the mtu, for what the rate brings. UINT64_MAX
- *                      if a drr is at the root: then polls may come at any time.
+ * late                 how many nanoseconds after the time of qtree_ready_at a poll may come: the longest time for
+ *                      which the burst of the tbf at the root has room for a packet of the mtu and what the rate
+ *                      brings in that time and a nanosecond. UINT64_MAX if a drr is at the root: then polls may come
+ *                      at any time.
  *
  * Returns
  *   QTREE_DONE          *late is that number
@@ -648,7 +649,7 @@ typedef struct qtree_delay {
     uint64_t late;  /* nanoseconds */
 } qtree_delay;
 
-/* Tells how long a packet waits at most in the pfifo or bfifo in a place.
+/* Computes how long a packet waits at most in the pfifo or bfifo in a place.
  *
  * place, major, minor  as for qtree_stats
  * delay                the longest wait, if QTREE_DONE is returned
@@ -674,8 +675,8 @@ enum { QTREE_SHOW_QDISCS = 0, QTREE_SHOW_COUNTERS = 1, QTREE_SHOW_CLASSES = 2, Q
  *
  * Returns
  *   QTREE_DONE          the text is written
- *   QTREE_ROOM          room is less than *needed, and nothing is written to text: a call with a room of 0 asks for
- *                       the length
+ *   QTREE_ROOM          room is less than *needed, and nothing is written to text: a call with a room of 0, in which
+ *                       text may be null, asks for the length
  *   QTREE_OUT_OF_RANGE  what is out of its range
  *   QTREE_IS_CLOSED     the device is closed
  *   QTREE_MEMORY        an allocation failed */
@@ -737,7 +738,7 @@ typedef struct qtree_class_view {
  * view   the class, if QTREE_DONE is returned
  *
  * Only a qdisc with a handle has classes. The counters of a class are those of the qdisc in it, which qtree_stats
- * reads; qtree_node tells the class of each qdisc.
+ * reads; qtree_node says in which class a qdisc is.
  *
  * Returns
  *   QTREE_DONE       *view is the class
@@ -756,10 +757,17 @@ qtree_code qtree_class(const qtree_device *device, size_t index, size_t which, q
  *   QTREE_OUT_OF_RANGE  places is out of its range
  *   QTREE_IS_OPEN       one end is open already
  *   QTREE_MEMORY        an allocation failed
- * On an error nothing has changed. */
+ * On an error nothing has changed.
+ *
+ * For example, the sender offers a packet again while the ring is full, and the thread that has the device takes
+ * packets in before it polls:
+ *
+ *     while (qtree_offer(&port, &packet) == QTREE_FULL) sched_yield();
+ *
+ *     qtree_take_in(&device, &outlet, now, 64, &taken); */
 qtree_code qtree_ring_open(qtree_port *port, qtree_outlet *outlet, uint32_t index, size_t places);
 
-/* Places a copy of a packet in the ring. In the copy, port is the index of the ring, and number is how many packets
+/* Places a copy of a packet in the ring. In the copy, port is the index of the port, and number is how many packets
  * the port has placed, including this one. The packet itself stays as it is.
  *
  * The call takes no lock, allocates nothing and waits for no thread. Another thread may use the outlet meanwhile.
@@ -816,7 +824,7 @@ qtree_code qtree_outlet_share(const qtree_outlet *outlet, qtree_count *share);
 void qtree_port_close(qtree_port *port);
 void qtree_outlet_close(qtree_outlet *outlet);
 
-/* Tells how many events there were. The events of a device are the arrivals, the polls and the commands that it
+/* Reads how many events there were. The events of a device are the arrivals, the polls and the commands that it
  * accepts.
  *
  * events    the number of all events
@@ -872,8 +880,8 @@ qtree_code qtree_recorded_line(const qtree_device *device, size_t index, uint8_t
  *
  * Returns
  *   QTREE_DONE       the script is written
- *   QTREE_ROOM       room is less than *needed, and nothing is written to text: a call with a room of 0 asks for the
- *                    length
+ *   QTREE_ROOM       room is less than *needed, and nothing is written to text: a call with a room of 0, in which
+ *                    text may be null, asks for the length
  *   QTREE_IS_CLOSED  the device is closed
  *   QTREE_MEMORY     an allocation failed */
 qtree_code qtree_recorded_script(const qtree_device *device, uint8_t *text, size_t room, size_t *needed);
@@ -895,7 +903,7 @@ qtree_code qtree_recorded_script(const qtree_device *device, uint8_t *text, size
  * On an error nothing has changed: the device goes on as before, with the events that it has. */
 qtree_code qtree_keep_last(qtree_device *device, uint32_t places);
 
-/* Tells how many events were noted since qtree_keep_last, and how many of them, the last ones, are kept. Both are 0
+/* Reads how many events were noted since qtree_keep_last, and how many of them, the last ones, are kept. Both are 0
  * if no events are to be kept. Returns QTREE_DONE, or QTREE_IS_CLOSED if the device is closed. */
 qtree_code qtree_last_noted(const qtree_device *device, uint64_t *noted, size_t *kept);
 

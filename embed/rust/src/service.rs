@@ -24,9 +24,9 @@ pub struct Service {
     pub part: u64,
     /// The most bytes that the class can fall short of its share.
     pub slack: u64,
-    /// How many nanoseconds polls may be late while this holds: as many as the burst of the tbf at
-    /// the root has room, beside a packet of the mtu, for what the rate brings. `None` if a drr is
-    /// at the root: then polls may come at any time.
+    /// How many nanoseconds polls may be late while this holds: the longest time for which the burst
+    /// of the tbf at the root has room for a packet of the mtu and what the rate brings in that time
+    /// and a nanosecond. `None` if a drr is at the root: then polls may come at any time.
     pub late: Option<u64>,
 }
 
