@@ -7,7 +7,7 @@ use alloc::sync::Arc;
 
 /// A sender's end of a ring, through which it passes packets to a [`Drain`](crate::Drain). A port
 /// may move to a thread of its own, which waits neither for another sender nor for a lock. Dropping
-/// the port closes it; what it has placed is still taken in.
+/// the port closes it; packets that it has placed can still be taken in.
 ///
 /// ```
 /// use qtree::{Drain, OfferError, Packet, Settings};
