@@ -38,7 +38,8 @@
  *     ordered by a lock, by the start or the join of a thread, or by a sequentially consistent atomic. Devices are
  *     independent of each other, and so are the two ends of a ring: one thread may use the port while another uses
  *     the outlet. A port belongs to one sender and needs no lock. An outlet is used where its device is used, under
- *     the lock that guards the device.
+ *     the lock that guards the device. Functions that take none of these three may be called by several threads at
+ *     once, each with memory of its own.
  *   - Signals and fork. No function is called from a signal handler, or in the child of a fork of a program with
  *     threads.
  *   - Stack. A thread that calls a function has at least 64 KB of stack left.
@@ -196,7 +197,7 @@ typedef struct qtree_packet {
     uint64_t number; /* the packet's number among those of the port by which it came; otherwise the program's own */
     uint32_t port;   /* the index of that port; otherwise the program's own */
     uint32_t buf;    /* the program's own number for the packet's bytes, which comes back with the packet */
-    uint32_t hash;   /* by this an fq_codel chooses the packet's flow */
+    uint32_t hash;   /* by this an fq_codel chooses the flow; qtree_read_head and qtree_hash compute it */
     uint16_t len;    /* the length, by which all qdiscs count: 1 to 65535 bytes */
     uint16_t sport;  /* the source port of TCP or UDP */
     uint16_t dport;  /* the destination port */
@@ -256,8 +257,8 @@ enum {
  * On an error nothing has changed. */
 qtree_code qtree_open(qtree_device *device, const qtree_settings *settings);
 
-/* Closes a device and frees its memory. Packets that are queued are discarded, and are not losses. If the device is
- * closed, nothing happens. */
+/* Closes a device and frees its memory. Packets that are queued are discarded, and are not losses. docs/EMBEDDING.md
+ * says how to get their buffers back first. If the device is closed, nothing happens. */
 void qtree_close(qtree_device *device);
 
 /* Carries out one line of tc that changes the tree, such as "tc qdisc add dev eth0 root handle 1: drr".
