@@ -1,31 +1,66 @@
-/* qtree: a packet scheduler with the behaviour of Linux's tc, proved in Rattle (crates/qtree_c).
+/* qtree: a packet scheduler with the behaviour of Linux's tc, as a library.
  *
- * A qtree_device holds a device. The program places it where it likes and begins it with QTREE_CLOSED (all bytes 0).
- * What each function does to it, and what it returns, is proved for every call that keeps to these rules, which no proof sees:
+ * A program opens a device, which is one scheduler, and sets it up with lines of tc. It describes each packet to the
+ * device in a qtree_packet, and keeps the packet's bytes itself. These are the calls that a program makes:
  *
- *   - Every pointer is aligned, not null, and leads to memory of the program that no other pointer of the same call overlaps.
- *     Where a length is 0 its pointer may be null. A bool is false or true.
- *   - A qtree_device, a qtree_port and a qtree_outlet are read and written by these functions alone. Each may be moved (copied, the
- *     old one never used again), but of two copies of an open one only one may be used. It is closed before its memory is let go.
- *   - One call at a time uses a qtree_device, a qtree_port or a qtree_outlet, one that takes a const one too. Each may go from one thread
- *     to another, where a lock, a thread's start or join, or a sequentially consistent atomic orders the calls. Devices are
- *     independent of each other. So are the two ends of a ring: one thread may use the port while another uses the outlet. A port
- *     belongs to one sender, and needs no lock; an outlet is used where its device is, under the lock that guards the device.
- *   - No function is called from a signal handler, or in the child of a fork of a program with threads. A thread that calls
- *     has 64 KB of stack left at least.
- *   - malloc, realloc and free are the C library's or behave as they have to.
- *   - The system is Linux, whichever its C library (glibc, musl), and the processor has pointers of 64 bits and
- *     little-endian byte order. The compiler refuses others here. The library that the kit builds is proved and compiled
- *     for x86-64-v2 or later (SSE4.2 and POPCNT); that an x86-64 processor is older, nothing here can see. The kit proves
- *     and builds it for aarch64 too, which was tried under qemu. The same library as a text that clang compiles was tried
- *     on x86-64 and, under qemu, on aarch64 and riscv64 by ./check, and once on ppc64le and mips64el. Structs have the
- *     same sizes and offsets on each: pointers and size_t have 8 bytes, and each number is aligned to its size.
+ *     qtree_device device = QTREE_CLOSED;
+ *     qtree_settings settings = QTREE_DEFAULTS;
+ *     qtree_open(&device, &settings);
+ *     qtree_run(&device, "tc qdisc add dev wan root handle 1: fq_codel", now, &fault);
  *
- * No function waits, prints, aborts or calls back. An offer, a poll and a reap allocate nothing, and neither do those that read
- * or mark headers, or read counters, shares and times.
+ *     qtree_packet packet = { .len = 1500, .buf = 7 };            // for each packet that comes in
+ *     qtree_arrive(&device, &packet, now);
+ *     while (qtree_poll(&device, now, &packet) == QTREE_DONE) ..  // transmit the packet packet.buf
+ *     while (qtree_reap(&device, &loss) == QTREE_DONE) ..         // release the buffer loss.packet.buf
+ *     qtree_ready_at(&device, &again);                            // when to poll again
  *
- * A time is nanoseconds since a time of the program's choice, QTREE_MOMENT_MAX at most. A time before an earlier one counts as the
- * earlier one.
+ *     qtree_close(&device);
+ *
+ * The comment of each function says what the function does, what it takes, what it returns, and what happens on an
+ * error. In the repository, docs/EMBEDDING.md has whole programs, and docs/LANGUAGE.md has the lines of tc. Once the
+ * library is installed, this command compiles and links a program:
+ *
+ *     cc program.c $(pkg-config --cflags --libs qtree)
+ *
+ * What a program has to keep to
+ *
+ * What each function does to a device, and what it returns, is proved in Rattle (crates/qtree_c) for every call that
+ * keeps to the following rules. No proof can check the rules themselves: they are up to the program.
+ *
+ *   - Pointers. Every pointer that a program passes is aligned and not null, and points to memory of the program that
+ *     no other pointer of the same call overlaps. A pointer whose length is 0 may be null. A bool is false or true.
+ *   - Structs. A program may place a qtree_device, a qtree_port or a qtree_outlet wherever it likes, and initializes
+ *     it with QTREE_CLOSED (all bytes 0). From then on only the functions of this header read and write it. It may be
+ *     moved: copied, if the old one is never used again. Of two copies of an open one, only one may be used. It is
+ *     closed before its memory is released.
+ *   - Threads. Only one call at a time may use a given qtree_device, qtree_port or qtree_outlet. That includes calls
+ *     that take a pointer to a const one. Each of the three may go from one thread to another if the calls are
+ *     ordered by a lock, by the start or the join of a thread, or by a sequentially consistent atomic. Devices are
+ *     independent of each other, and so are the two ends of a ring: one thread may use the port while another uses
+ *     the outlet. A port belongs to one sender and needs no lock. An outlet is used where its device is used, under
+ *     the lock that guards the device. Functions that take none of these three may be called by several threads at
+ *     once, each with memory of its own.
+ *   - Signals and fork. No function is called from a signal handler, or in the child of a fork of a program with
+ *     threads.
+ *   - Stack. A thread that calls a function has at least 64 KB of stack left.
+ *   - Memory. malloc, realloc and free are those of the C library, or behave as those have to.
+ *   - System. The system is Linux with any C library (glibc, musl), and the processor has pointers of 64 bits and
+ *     little-endian byte order. This header makes the compiler refuse all others. The library that the kit builds is
+ *     proved and compiled for x86-64-v2 or later (SSE4.2 and POPCNT); nothing here can see that an x86-64 processor
+ *     is older. The kit also proves and builds the library for aarch64, which was tried under qemu. The same library
+ *     as a text that clang compiles was tried by ./check on x86-64 and, under qemu, on aarch64 and riscv64, and once
+ *     on ppc64le and mips64el. Structs have the same sizes and offsets on all of these: a pointer and a size_t have 8
+ *     bytes, and each number is aligned to its size.
+ *
+ * What holds for all functions
+ *
+ * No function waits, prints, aborts or calls back. Offers, polls and reaps allocate nothing, and neither do functions
+ * that read or mark headers, or that read counters, shares or times.
+ *
+ * A time, such as the argument now, is in nanoseconds since an instant that the program chooses, and is at most
+ * QTREE_MOMENT_MAX. The device reads no clock. A time that is before an earlier one counts as the earlier one.
+ *
+ * An argument has the full range of its type where no range is named.
  */
 #ifndef QTREE_H
 #define QTREE_H
@@ -49,80 +84,90 @@
 extern "C" {
 #endif
 
-/* The version that this header is of. Within one major number functions and numbers are only added, and no struct changes. */
+/* The version of this header. Within one major number, functions and numbers are only added, and no struct changes. */
 #define QTREE_VERSION_MAJOR 1
 #define QTREE_VERSION_MINOR 3
 
-/* That of the library: the major number in the high 16 bits, the minor one in the low 16. */
+/* Returns the version of the library: the major number in the high 16 bits, and the minor number in the low 16 bits. */
 uint32_t qtree_version(void);
 
+/* The latest time that a call accepts: 2^62 nanoseconds. */
 #define QTREE_MOMENT_MAX (UINT64_C(1) << 62)
 
-/* What a function returns. QTREE_DONE and the causes of a loss: it did what it was called for. QTREE_IDLE, QTREE_LATER and
- * QTREE_NOTHING: it did, and has nothing to hand out. Otherwise nothing has changed, and nothing is written but a count of 0; a
- * function that does its work packet by packet says how far it came.
- * Causes have the numbers that qtree's reports write. Within one major number causes, and nothing else, are 1 to
- * QTREE_LOST_MOST. */
+/* What a function returns.
+ *
+ * A call has done what it was called for if it returns QTREE_DONE or a cause of a loss. It has also done so if it
+ * returns QTREE_IDLE, QTREE_LATER or QTREE_NOTHING, and then it has nothing to hand out.
+ *
+ * Every other code is an error. On an error nothing has changed, and nothing is written except a count of 0, or with
+ * QTREE_ROOM the length that a text needs. A function that does its work packet by packet says how far it came.
+ *
+ * Causes have the numbers that qtree's reports write. Within one major number causes, and no other codes, have the
+ * numbers 1 to QTREE_LOST_MOST. */
 typedef uint32_t qtree_code;
 enum {
     QTREE_DONE = 0,
-    /* Why a packet is lost. The first three refuse it on arrival. */
-    QTREE_LOST_TOO_LONG = 1,
-    QTREE_LOST_NO_CLASS = 2,
-    QTREE_LOST_OVER_LIMIT = 3,
-    QTREE_LOST_CODEL = 4,
-    QTREE_LOST_FAT_FLOW = 5,
-    QTREE_LOST_PURGED = 6,
-    /* Why a command is refused (Linux says EEXIST, ENOENT and the like); an allocation failure is QTREE_MEMORY. */
-    QTREE_REFUSED_NO_PARENT = 10,
-    QTREE_REFUSED_EXISTS = 11,
-    QTREE_REFUSED_NO_QDISC = 12,
-    QTREE_REFUSED_HANDLE_TAKEN = 13,
-    QTREE_REFUSED_NOT_CLASSFUL = 14,
-    QTREE_REFUSED_NO_CLASS = 15,
-    QTREE_REFUSED_BUSY = 16,
-    QTREE_REFUSED_CANNOT_CHANGE = 17,
-    QTREE_REFUSED_TOO_DEEP = 18,
-    QTREE_REFUSED_TOO_MANY = 19,
-    QTREE_REFUSED_SMALL_BURST = 20,
-    QTREE_REFUSED_NO_FILTER = 21,
-    /* A poll gives no packet: none is queued; or some are, and their time has not come. */
-    QTREE_IDLE = 30,
-    QTREE_LATER = 31,
-    /* No loss waits, no node stands there, there is no such event, no poll will ever give a packet, or a class is promised nothing. */
+    /* Why a packet is lost. For the first three causes it is refused on arrival. */
+    QTREE_LOST_TOO_LONG = 1,   /* it is longer than the mtu or than a tbf's burst */
+    QTREE_LOST_NO_CLASS = 2,   /* no filter of a drr takes it */
+    QTREE_LOST_OVER_LIMIT = 3, /* its pfifo or bfifo has no room */
+    QTREE_LOST_CODEL = 4,      /* CoDel dropped it */
+    QTREE_LOST_FAT_FLOW = 5,   /* an fq_codel that was over its limit dropped it */
+    QTREE_LOST_PURGED = 6,     /* a command removed its qdisc */
+    /* Why a command is refused. (Linux has EEXIST, ENOENT and the like.) An allocation failure is QTREE_MEMORY. */
+    QTREE_REFUSED_NO_PARENT = 10,     /* no qdisc has the parent's handle */
+    QTREE_REFUSED_EXISTS = 11,        /* a qdisc, or the class, is there already */
+    QTREE_REFUSED_NO_QDISC = 12,      /* there is no such qdisc */
+    QTREE_REFUSED_HANDLE_TAKEN = 13,  /* another qdisc has the handle */
+    QTREE_REFUSED_NOT_CLASSFUL = 14,  /* the qdisc has no classes, or takes no filters */
+    QTREE_REFUSED_NO_CLASS = 15,      /* the qdisc lacks the class */
+    QTREE_REFUSED_BUSY = 16,          /* a filter leads to the class */
+    QTREE_REFUSED_CANNOT_CHANGE = 17, /* this kind of qdisc, or the number of flows, cannot be changed */
+    QTREE_REFUSED_TOO_DEEP = 18,      /* the tree would have more than eight levels */
+    QTREE_REFUSED_TOO_MANY = 19,      /* there would be more than 256 qdiscs, or more than 256 filters at one qdisc */
+    QTREE_REFUSED_SMALL_BURST = 20,   /* the burst is below both the tbf's present burst and the mtu */
+    QTREE_REFUSED_NO_FILTER = 21,     /* no filter of the qdisc has the prio */
+    /* Why a poll returns no packet. */
+    QTREE_IDLE = 30,  /* no packet is queued */
+    QTREE_LATER = 31, /* packets are queued, but none may go yet */
+    /* There is nothing to hand out: no loss waits, there is no such qdisc, class or event, no poll will ever return a
+     * packet, or nothing is promised. */
     QTREE_NOTHING = 32,
-    /* The ring of a port has no room for a packet more. */
+    /* The ring of the port has no room for another packet. */
     QTREE_FULL = 33,
-    /* The line has a fault, and a qtree_fault says which; it is a line of the language, and changes no tree. */
-    QTREE_FAULTY = 40,
-    QTREE_NO_COMMAND = 41,
-    /* An argument is out of its range; the memory that the program lends is too small. */
-    QTREE_OUT_OF_RANGE = 42,
-    QTREE_ROOM = 43,
-    /* A line of a file is not done, and so none is. */
-    QTREE_UNDONE = 44,
-    /* A device, a port or an outlet is closed; it is open already. */
-    QTREE_IS_CLOSED = 50,
-    QTREE_IS_OPEN = 51,
-    /* An allocation failed. */
-    QTREE_MEMORY = 90
+    /* Why a line changes no tree. */
+    QTREE_FAULTY = 40,     /* it cannot be read, and a qtree_fault says why */
+    QTREE_NO_COMMAND = 41, /* it is a line of the language that is no command */
+    /* Why a call is refused. */
+    QTREE_OUT_OF_RANGE = 42, /* an argument, or a field of a struct, is out of its range */
+    QTREE_ROOM = 43,         /* the memory that the program lends is too small */
+    QTREE_UNDONE = 44,       /* a line of the file cannot be carried out, and so none was */
+    QTREE_IS_CLOSED = 50,    /* the device, the port or the outlet is closed */
+    QTREE_IS_OPEN = 51,      /* it is open already */
+    QTREE_MEMORY = 90        /* an allocation failed */
 };
 
-/* A later minor version may add causes up to this number. So an array by cause has QTREE_LOST_MOST + 1 places. */
+/* The greatest number of a cause: a later minor version may add causes up to this number. So an array that has a
+ * place for each cause needs QTREE_LOST_MOST + 1 places. */
 #define QTREE_LOST_MOST 9
 
-/* Whether the code is a cause, one of a later version too: the packet is lost then, and its buffer is freed when it is
- * reaped. Where an arrival answers neither a cause nor QTREE_DONE, the packet stays with the program. */
+/* Says whether a code is the cause of a loss, including causes that only a later version has.
+ *
+ * If an arrival returns a cause, the packet is lost, and its buffer is released when the loss is reaped. If an
+ * arrival returns neither a cause nor QTREE_DONE, the packet stays with the program. */
 static inline bool qtree_is_loss(qtree_code code) { return code >= QTREE_LOST_TOO_LONG && code <= QTREE_LOST_MOST; }
 
+/* A device. Its fields are for the library alone. */
 typedef struct qtree_device {
     void *at;
     uint64_t state;
 } qtree_device;
+
+/* Initializes a qtree_device, a qtree_port or a qtree_outlet that is not open. */
 #define QTREE_CLOSED { QTREE_NULL, 0 }
 
-/* The two ends of a ring, by which a sender on a thread of its own passes packets to a device without a lock. Both begin with
- * QTREE_CLOSED. The sender's end, and the device's: */
+/* The two ends of a ring, by which a sender with a thread of its own passes packets to a device without a lock: the
+ * sender has the port, and the thread that has the device also has the outlet. */
 typedef struct qtree_port {
     void *at;
     uint64_t state;
@@ -132,82 +177,116 @@ typedef struct qtree_outlet {
     uint64_t state;
 } qtree_outlet;
 
+/* What a device is opened with. */
 typedef struct qtree_settings {
-    uint32_t txqueuelen; /* what a pfifo without a limit holds, in packets */
-    uint32_t recorder;   /* the first events that are kept, 0 to 1000000 */
-    uint16_t mtu;        /* the longest packet that is taken, 1 to 65535 bytes */
+    uint32_t txqueuelen; /* how many packets a pfifo holds for which no limit is given */
+    uint32_t recorder;   /* how many events, the first ones, are recorded: 0 to 1000000 */
+    uint16_t mtu;        /* the length of the longest packet that is taken: 1 to 65535 bytes */
 } qtree_settings;
 
-/* Settings that suit most programs: Linux's txqueuelen, no recorder, and an mtu of 1500 with the header of Ethernet. */
+/* Initializes a qtree_settings with values that suit most programs: the txqueuelen of Linux, no recorder, and an mtu
+ * of 1500 bytes plus the 14 bytes of an Ethernet header. */
 #define QTREE_DEFAULTS { 1000, 0, 1514 }
 
-/* A packet's descriptor; its bytes stay with the program. What a packet lacks is 0. */
+/* The descriptor of a packet. The packet's bytes stay with the program. A field that a packet lacks is 0. */
 typedef struct qtree_packet {
-    uint64_t src_high; /* addresses; one of IPv4 is in the low 32 bits, and no other bit is set */
-    uint64_t src_low;
-    uint64_t dst_high;
+    uint64_t src_high; /* the source address; an IPv4 address is in the low 32 bits of src_low, and all other bits */
+    uint64_t src_low;  /* are 0: 10.0.0.1 is 0x0a000001 */
+    uint64_t dst_high; /* the destination address, likewise */
     uint64_t dst_low;
-    uint64_t number; /* the packet's number among those of its port */
-    uint32_t port;   /* the sender's port */
-    uint32_t buf;    /* the program's own number, which comes back with the packet */
-    uint32_t hash;   /* by which fq_codel chooses the flow */
-    uint16_t len;    /* 1 to 65535 bytes */
-    uint16_t sport;
-    uint16_t dport;
-    uint8_t proto;
-    uint8_t family; /* 0 (not IP), 4 or 6 */
-    uint8_t prio;   /* 0 to 15, as skb->priority */
-    uint8_t ecn;    /* 0 to 3, the ECN codepoint; 3 in a packet that a poll returns: qtree_mark_head writes it into its bytes */
+    uint64_t number; /* the packet's number among those of the port by which it came; otherwise the program's own */
+    uint32_t port;   /* the index of that port; otherwise the program's own */
+    uint32_t buf;    /* the program's own number for the packet's bytes, which comes back with the packet */
+    uint32_t hash;   /* by this an fq_codel chooses the flow; qtree_read_head and qtree_hash compute it */
+    uint16_t len;    /* the length, by which all qdiscs count: 1 to 65535 bytes */
+    uint16_t sport;  /* the source port of TCP or UDP */
+    uint16_t dport;  /* the destination port */
+    uint8_t proto;   /* the protocol above IP */
+    uint8_t family;  /* 4, 6, or 0 if the packet is not IP */
+    uint8_t prio;    /* the priority, 0 to 15, as skb->priority: the index into the priomap of a prio */
+    uint8_t ecn;     /* the ECN codepoint, 0 to 3; if a poll returns 3, qtree_mark_head writes it into the bytes */
 } qtree_packet;
 
+/* A lost packet, and why it is lost. */
 typedef struct qtree_loss {
     qtree_packet packet;
     qtree_code cause; /* QTREE_LOST_.. */
 } qtree_loss;
 
+/* A number of packets, and the sum of their lengths in bytes. */
 typedef struct qtree_count {
     uint64_t packets;
     uint64_t bytes;
 } qtree_count;
 
-/* What tc -s prints: what arrived was sent, refused, dropped or is queued. */
+/* Counters, as tc -s prints them. In packets and in bytes, what arrived is what was sent, refused or dropped, or is
+ * queued. */
 typedef struct qtree_row {
-    qtree_count arrived;
+    qtree_count arrived; /* including what was refused */
     qtree_count sent;
-    qtree_count refused;
-    qtree_count dropped;
-    qtree_count queued;
-    qtree_count marked;
+    qtree_count refused; /* lost on arrival */
+    qtree_count dropped; /* lost later */
+    qtree_count queued;  /* now */
+    qtree_count marked;  /* by CoDel; it is part of no sum */
 } qtree_row;
 
-/* What is wrong with a line: the index of its word, counted from 1, and QTREE_FAULT_.. */
+/* What is wrong with a line. */
 typedef struct qtree_fault {
-    size_t word;
-    uint32_t number;
+    size_t word;     /* the index of the word that is wrong, counted from 1 */
+    uint32_t number; /* QTREE_FAULT_.. */
 } qtree_fault;
 enum {
-    QTREE_FAULT_UNKNOWN_WORD = 1,
-    QTREE_FAULT_MISSING = 2, /* a word that the line needs; word is one past the last one */
-    QTREE_FAULT_BAD_NUMBER = 3,
-    QTREE_FAULT_OUT_OF_RANGE = 4,
-    QTREE_FAULT_TWICE = 5,
-    QTREE_FAULT_BAD_UTF8 = 6
+    QTREE_FAULT_UNKNOWN_WORD = 1, /* the word has no meaning in its place */
+    QTREE_FAULT_MISSING = 2,      /* the line needs another word; the index is one past that of the last word */
+    QTREE_FAULT_BAD_NUMBER = 3,   /* the value is not written as it has to be */
+    QTREE_FAULT_OUT_OF_RANGE = 4, /* the value is out of its range */
+    QTREE_FAULT_TWICE = 5,        /* the word was given before */
+    QTREE_FAULT_BAD_UTF8 = 6      /* the word is not UTF-8 */
 };
 
-/* Opens a device in a closed place, with its recorder's memory.
- * QTREE_DONE, QTREE_OUT_OF_RANGE, QTREE_IS_OPEN, QTREE_MEMORY. */
+/* Opens a device with a pfifo at its root, and allocates the memory of its recorder.
+ *
+ * device    a closed device, as QTREE_CLOSED initializes one
+ * settings  the mtu, the txqueuelen and the size of the recorder
+ *
+ * Returns
+ *   QTREE_DONE          the device is open
+ *   QTREE_OUT_OF_RANGE  a setting is out of its range
+ *   QTREE_IS_OPEN       the device is open already
+ *   QTREE_MEMORY        an allocation failed
+ * On an error nothing has changed. */
 qtree_code qtree_open(qtree_device *device, const qtree_settings *settings);
 
-/* Closes the device and frees its memory. What is queued is discarded, and is no loss. Nothing happens to a closed one. */
+/* Closes a device and frees its memory. Packets that are queued are discarded, and are not losses. docs/EMBEDDING.md
+ * says how to get their buffers back first. If the device is closed, nothing happens. */
 void qtree_close(qtree_device *device);
 
-/* Does what one line of tc asks for, as "tc qdisc add dev eth0 root handle 1: drr", of so many bytes, with a newline at its end or
- * none. What it removes is lost, and waits to be reaped. The name of the device in the line means nothing. docs/LANGUAGE.md has the lines. fault
- * is written for QTREE_FAULTY alone. A line of another kind, a show line too, changes nothing (QTREE_NO_COMMAND).
- * QTREE_DONE, QTREE_REFUSED_.., QTREE_FAULTY, QTREE_NO_COMMAND, QTREE_OUT_OF_RANGE, QTREE_IS_CLOSED, QTREE_MEMORY. */
+/* Carries out one line of tc that changes the tree, such as "tc qdisc add dev eth0 root handle 1: drr".
+ * docs/LANGUAGE.md has the lines. Packets of what the line removes are lost, and wait to be reaped.
+ *
+ * line   line_len bytes, with a newline at their end or without one. The name of the device in the line means
+ *        nothing.
+ * now    the time
+ * fault  is written only if QTREE_FAULTY is returned: the word that is wrong, and why
+ *
+ * Returns
+ *   QTREE_DONE          the line was carried out
+ *   QTREE_REFUSED_..    the command is refused
+ *   QTREE_FAULTY        the line cannot be read
+ *   QTREE_NO_COMMAND    the line is of another kind: it is blank, a comment, a line that shows something, or a line
+ *                       of a script, such as one that polls
+ *   QTREE_OUT_OF_RANGE  the time is out of its range
+ *   QTREE_IS_CLOSED     the device is closed
+ *   QTREE_MEMORY        an allocation failed
+ * The device changes only if QTREE_DONE is returned. qtree_explain writes out what is wrong with a line.
+ *
+ * For example, these two lines limit a link to 20 Mbit/s, and keep delays low while the link is full:
+ *
+ *     tc qdisc add dev wan root handle 1: tbf rate 20mbit burst 3028 latency 50ms
+ *     tc qdisc add dev wan parent 1:1 handle 10: fq_codel */
 qtree_code qtree_command(qtree_device *device, const uint8_t *line, size_t line_len, uint64_t now, qtree_fault *fault);
 
-/* The same, of a line that ends with a zero byte. fault may be null. */
+/* Does what qtree_command does, with a line that ends with a zero byte. Here fault may be null. */
 static inline qtree_code qtree_run(qtree_device *device, const char *line, uint64_t now, qtree_fault *fault) {
     const void *bytes = line;
     qtree_fault unread;
@@ -219,76 +298,133 @@ static inline qtree_code qtree_run(qtree_device *device, const char *line, uint6
     return qtree_command(device, text, strlen(line), now, fault ? fault : &unread);
 }
 
-/* What qtree_set_up came to. */
+/* What qtree_set_up did. */
 typedef struct qtree_report {
-    uint64_t lines;   /* of the file, blank ones and comments too */
-    uint64_t added;   /* qdiscs, classes and filters */
-    uint64_t changed; /* qdiscs and classes */
-    uint64_t deleted; /* qdiscs, classes, and priorities of filters */
-    size_t undone;    /* how many lines are not done */
+    uint64_t lines;   /* the lines of the file, including blank lines and comments */
+    uint64_t added;   /* how many qdiscs, classes and filters were added */
+    uint64_t changed; /* how many qdiscs and classes were changed */
+    uint64_t deleted; /* how many qdiscs, classes, and priorities of filters were deleted */
+    size_t undone;    /* how many lines cannot be carried out */
 } qtree_report;
 
-/* A line of a file that is not done: what qtree_command would answer on it, with the fault of QTREE_FAULTY. */
+/* A line of a file that cannot be carried out: what qtree_command would return for it. */
 typedef struct qtree_undone {
-    qtree_fault fault;
-    uint64_t line; /* its number, from 1 */
+    qtree_fault fault; /* if the code is QTREE_FAULTY */
+    uint64_t line;     /* the number of the line, counted from 1 */
     qtree_code code;
 } qtree_undone;
 
-/* Makes the tree what a whole file of such lines says, with blank lines and comments, also while packets wait: what is there already
- * with the same words is left with its packets, what differs is changed, what is gone is deleted, and what is new is added. So a program
- * calls this when it begins, and again whenever its file has changed. docs/EMBEDDING.md says what stays.
- * All lines are tried first, on a new device with the same settings. If one is not done there, nothing is done to the device
- * (QTREE_UNDONE); the first of those lines are written to undone, which has room for so many, and report->undone counts all of them.
- * qtree_explain has a sentence on each. After QTREE_DONE the tree is what the lines make of a new device, packets and counters aside.
- * QTREE_MEMORY: what was done before the allocation failed is counted in the report and stays, and the same call does the rest. Otherwise
- * the report is all 0. The commands that are done are recorded and noted as those of qtree_command; none is if the file says what the
- * device has already.
- * QTREE_DONE, QTREE_UNDONE, QTREE_OUT_OF_RANGE, QTREE_IS_CLOSED, QTREE_MEMORY. */
+/* Makes the tree what a whole file of tc lines says, even while packets are queued. A program calls this function
+ * when it starts, and again whenever its file has changed.
+ *
+ * What the tree has already with the same words stays, with its packets. What differs is changed, what is gone from
+ * the file is deleted, and what is new is added. docs/EMBEDDING.md says what stays.
+ *
+ * First, all lines are tried on a new device with the same settings. If one of them is not carried out there, nothing
+ * is done to the device, and QTREE_UNDONE is returned.
+ *
+ * text    the file: text_len bytes of lines, which may include blank lines and comments
+ * now     the time
+ * report  what was done; report->undone counts all lines that cannot be carried out
+ * undone  room structs, into which the first of these lines are written; qtree_explain has a sentence on each
+ *
+ * Returns
+ *   QTREE_DONE          the tree is what the lines make of a new device, apart from packets and counters
+ *   QTREE_UNDONE        some lines cannot be carried out, and nothing has changed
+ *   QTREE_OUT_OF_RANGE  the time is out of its range; nothing has changed, and the report is all 0
+ *   QTREE_IS_CLOSED     the device is closed; the report is all 0
+ *   QTREE_MEMORY        an allocation failed. What was done before that stays, and the report counts it. The same
+ *                       call does the rest.
+ * The commands that are carried out are recorded and noted like those of qtree_command. If the tree is already what
+ * the file says, there are none. */
 qtree_code qtree_set_up(qtree_device *device, const uint8_t *text, size_t text_len, uint64_t now, qtree_report *report,
                         qtree_undone *undone, size_t room);
 
-/* Fills in family, proto, addresses, ports, prio and ecn from the first bytes of a packet that begins with its IP header, and
- * hash, which has this seed. number, port, buf and len stay. */
+/* Reads the IP header of a packet, and the ports behind it, into a qtree_packet, and hashes its flow.
+ *
+ * bytes   the first count bytes of the packet, from its IP header on; the whole header and the 4 bytes behind it,
+ *         which may be ports, are enough
+ * seed    the seed of the hash: any number; docs/SETTINGS.md says how to choose it
+ * packet  family, proto, addresses, ports, prio, ecn and hash are filled in. number, port, buf and len stay as they
+ *         are, so the program sets len and buf itself.
+ *
+ * If the bytes are not an IP header, the fields that are read are 0. In an Ethernet frame, qtree_ip_at finds the IP
+ * header. This function uses no device. */
 void qtree_read_head(const uint8_t *bytes, size_t count, uint32_t seed, qtree_packet *packet);
 
-/* The same, without hashing, which is most of that time: hash is 0, or one that the program has, as that of a network card. Where no
- * fq_codel is in the tree nothing reads a hash. An fq_codel puts packets with the same hash into one flow. */
+/* Do what qtree_read_head does without computing a hash, which takes most of its time. qtree_read_fields sets the
+ * hash to 0. qtree_read_fields_hashed sets it to one that the program has, for example from a network card.
+ *
+ * An fq_codel puts packets with the same hash into the same flow. If no fq_codel is in the tree, nothing reads a
+ * hash. */
 void qtree_read_fields(const uint8_t *bytes, size_t count, qtree_packet *packet);
 void qtree_read_fields_hashed(const uint8_t *bytes, size_t count, uint32_t hash, qtree_packet *packet);
 
-/* The byte at which the IP header of an Ethernet frame begins, from the first bytes of the frame: 14, or 18 or 22 behind one or two
- * VLAN tags (IEEE 802.1Q, 802.1ad). 0 where the frame has another type, as ARP, or more tags, or ends before its type does. Whether a
- * whole header follows, reading it from there on says. */
+/* Finds the IP header in the first count bytes of an Ethernet frame.
+ *
+ * Returns the index of the header's first byte: 14, or 18 or 22 behind one or two VLAN tags (IEEE 802.1Q, 802.1ad).
+ * Returns 0 if the frame has another type, such as ARP, or more tags, or if it ends before its type does. This
+ * function does not check whether a whole header follows. If none does, the functions that read it set family to 0. */
 size_t qtree_ip_at(const uint8_t *bytes, size_t count);
 
-/* Fills in hash, with this seed, from family, proto, addresses and ports. QTREE_DONE, QTREE_OUT_OF_RANGE. */
+/* Computes the hash of a packet's flow from family, proto, addresses and ports, with this seed, and writes it into
+ * packet->hash.
+ *
+ * Returns QTREE_DONE; or QTREE_OUT_OF_RANGE if a field is out of its range, and then the packet stays as it is. */
 qtree_code qtree_hash(uint32_t seed, qtree_packet *packet);
 
-/* Writes Congestion Experienced (RFC 3168) into a packet that begins with its IP header, and updates the checksum of IPv4. Returns
- * whether the packet is marked now: it is where qtree_read_head reads an ecn that is not 0 of these bytes; else no byte is written.
- * A program does so with each packet that a poll returns with the ecn 3: else its sender never learns of the congestion. */
+/* Writes the mark Congestion Experienced (RFC 3168) into a packet that begins with its IP header, and updates the
+ * checksum of an IPv4 header. A program calls it for each packet that a poll returns with the ecn 3: otherwise the
+ * packet's sender never learns of the congestion.
+ *
+ * bytes  the first count bytes of the packet, from its IP header on
+ *
+ * Returns whether the packet is marked now. It is marked if qtree_read_head reads from these bytes an ecn that is not
+ * 0. Otherwise no byte is written. */
 bool qtree_mark_head(uint8_t *bytes, size_t count);
 
-/* A packet arrives: QTREE_DONE where it is queued, else the cause for which it is lost, by which it is also to be reaped.
- * QTREE_DONE, QTREE_LOST_.., QTREE_OUT_OF_RANGE, QTREE_IS_CLOSED, QTREE_MEMORY. */
+/* A packet arrives at the device, which queues it or loses it. A lost packet is also handed out by qtree_reap: its
+ * buffer is released then, and not before.
+ *
+ * packet  the descriptor; the device copies it
+ * now     the time
+ *
+ * Returns
+ *   QTREE_DONE          the packet is queued
+ *   QTREE_LOST_..       the packet is lost, and this is the cause
+ *   QTREE_OUT_OF_RANGE  a field of the packet, or the time, is out of its range; qtree_out_of_range names it
+ *   QTREE_IS_CLOSED     the device is closed
+ *   QTREE_MEMORY        an allocation failed
+ * On an error the packet has not arrived, and nothing has changed: the program keeps the packet. qtree_is_loss tells
+ * a loss from an error. */
 qtree_code qtree_arrive(qtree_device *device, const qtree_packet *packet, uint64_t now);
 
-/* A packet arrives of len bytes, of which these are the first, count of them, from its IP header on: as by qtree_arrive of what
- * qtree_read_fields_hashed fills in, with this buf, and the number and the port 0. hash may be 0 where no fq_codel is in the tree;
- * the second one hashes the flow with a seed, as qtree_read_head does. QTREE_OUT_OF_RANGE is for a len of 0 and for the time.
- * QTREE_DONE, QTREE_LOST_.., QTREE_OUT_OF_RANGE, QTREE_IS_CLOSED, QTREE_MEMORY. */
-qtree_code qtree_arrive_frame(qtree_device *device, const uint8_t *bytes, size_t count, uint16_t len, uint32_t buf, uint32_t hash,
-                              uint64_t now);
-qtree_code qtree_arrive_frame_seeded(qtree_device *device, const uint8_t *bytes, size_t count, uint16_t len, uint32_t buf,
-                                     uint32_t seed, uint64_t now);
+/* A packet arrives whose header the function reads itself: these do what qtree_read_fields_hashed and qtree_arrive do
+ * together, without a qtree_packet. qtree_arrive_frame_seeded computes the hash with a seed, as qtree_read_head does.
+ *
+ * bytes  the first count bytes of the packet, from its IP header on
+ * len    the length that the qdiscs count, 1 to 65535 bytes
+ * buf    the program's own number, which comes back with the packet
+ * hash   the hash of the flow; it may be 0 if no fq_codel is in the tree
+ * now    the time
+ * The number and the port of the packet are 0.
+ *
+ * They return what qtree_arrive returns; QTREE_OUT_OF_RANGE is for a len of 0 and for the time. */
+qtree_code qtree_arrive_frame(qtree_device *device, const uint8_t *bytes, size_t count, uint16_t len, uint32_t buf,
+                              uint32_t hash, uint64_t now);
+qtree_code qtree_arrive_frame_seeded(qtree_device *device, const uint8_t *bytes, size_t count, uint16_t len,
+                                     uint32_t buf, uint32_t seed, uint64_t now);
 
-/* As qtree_arrive_frame, with a number that comes back with the packet. It has room for a pointer, and buf has not. */
+/* Does what qtree_arrive_frame does, for a packet that also has a number, which comes back with the packet. The
+ * number has room for a pointer, which buf has not. */
 qtree_code qtree_arrive_frame_numbered(qtree_device *device, const uint8_t *bytes, size_t count, uint16_t len,
                                        uint32_t buf, uint64_t number, uint32_t hash, uint64_t now);
 
-/* The name of a field that is out of its range, as "len" or "prio"; "now" where the time is. Null where none is: then,
- * and only then, an open device does not answer an arrival of this packet at this time by QTREE_OUT_OF_RANGE. */
+/* Says why an arrival returns QTREE_OUT_OF_RANGE.
+ *
+ * Returns the name of a field of the packet that is out of its range, such as "len" or "prio"; "now" if the time is;
+ * or null if none is. If it is null, and only then, an open device does not return QTREE_OUT_OF_RANGE for an arrival
+ * of this packet at this time. The name is static. */
 static inline const char *qtree_out_of_range(const qtree_packet *packet, uint64_t now) {
     if (now > QTREE_MOMENT_MAX) return "now";
     if (packet->len == 0) return "len";
@@ -303,247 +439,505 @@ static inline const char *qtree_out_of_range(const qtree_packet *packet, uint64_
     return QTREE_NULL;
 }
 
-/* Packets arrive in order, up to the first that is out of range or for which an allocation fails, as the result says. done is
- * how many arrived, and codes[i] the result for the ith of them: codes_len is count at least, else QTREE_ROOM.
- * QTREE_DONE, QTREE_OUT_OF_RANGE, QTREE_ROOM, QTREE_IS_CLOSED, QTREE_MEMORY. */
+/* Several packets arrive in order, all at the same time, each as by qtree_arrive. The first packet that is out of
+ * range, or for which an allocation fails, does not arrive, and ends the call.
+ *
+ * packets  count descriptors
+ * codes    codes_len places, count at least: codes[i] is the result for packets[i], QTREE_DONE or a cause, if it
+ *          arrived
+ * done     how many packets arrived
+ * now      the time
+ *
+ * Returns
+ *   QTREE_DONE          all packets arrived
+ *   QTREE_OUT_OF_RANGE  a field of the next packet, or the time, is out of its range
+ *   QTREE_ROOM          codes_len is less than count, and no packet arrived
+ *   QTREE_IS_CLOSED     the device is closed, and no packet arrived
+ *   QTREE_MEMORY        an allocation failed for the next packet
+ * On an error the packets from packets[done] on have not arrived, and stay with the program. */
 qtree_code qtree_arrive_many(qtree_device *device, const qtree_packet *packets, size_t count, uint8_t *codes,
                              size_t codes_len, size_t *done, uint64_t now);
 
-/* Takes the packet whose turn it is.
- * QTREE_DONE, QTREE_IDLE, QTREE_LATER, QTREE_OUT_OF_RANGE, QTREE_IS_CLOSED. */
+/* Takes the packet whose turn it is. CoDel may lose other packets in a poll, which then wait to be reaped.
+ *
+ * now     the time
+ * packet  the packet, if QTREE_DONE is returned
+ *
+ * Returns
+ *   QTREE_DONE          the packet has left the device
+ *   QTREE_IDLE          no packet is queued
+ *   QTREE_LATER         packets are queued, but none may go yet; qtree_ready_at says when to poll again
+ *   QTREE_OUT_OF_RANGE  the time is out of its range
+ *   QTREE_IS_CLOSED     the device is closed
+ * On an error nothing has changed. */
 qtree_code qtree_poll(qtree_device *device, uint64_t now, qtree_packet *packet);
 
-/* Polls until there are room packets, or up to the first poll that gives none, as the result says. count is how many there are.
- * QTREE_DONE, QTREE_IDLE, QTREE_LATER, QTREE_OUT_OF_RANGE, QTREE_IS_CLOSED. */
+/* Polls until there are room packets, or until a poll returns none.
+ *
+ * now      the time of all polls
+ * packets  room places for the packets
+ * count    how many packets there are
+ *
+ * Returns QTREE_DONE if there are room packets. Otherwise it returns what the last poll returned; the codes are those
+ * of qtree_poll. */
 qtree_code qtree_poll_many(qtree_device *device, uint64_t now, qtree_packet *packets, size_t room, size_t *count);
 
-/* The same two, with the same results, for a program that only transmits: they return just the fields that it needs for this. number
- * and port are the program's own, or those of the ring by which the packet came. */
+/* The fields of a packet that a program needs in order to transmit it. */
 typedef struct qtree_sent {
-    uint64_t number;
+    uint64_t number; /* number and port are the program's own, or those of the ring by which the packet came */
     uint32_t port;
     uint32_t buf;
     uint16_t len;
-    uint8_t ecn; /* 3 where qtree_mark_head is to write it into the bytes */
+    uint8_t ecn; /* if it is 3, qtree_mark_head writes it into the packet's bytes */
 } qtree_sent;
+
+/* Do what qtree_poll and qtree_poll_many do, and return the same codes, for a program that only transmits: of each
+ * packet they write just the fields that it needs for this. */
 qtree_code qtree_poll_buf(qtree_device *device, uint64_t now, qtree_sent *sent);
 qtree_code qtree_poll_bufs(qtree_device *device, uint64_t now, qtree_sent *sent, size_t room, size_t *count);
 
-/* The time before which no poll gives a packet, as long as none arrives and no command comes: a program sleeps until then. It is
- * no earlier than the latest time that counted. A poll at that time may still answer QTREE_LATER: which packet an fq_codel
- * gives, or which class a drr serves, is not known before it is asked. The next qtree_ready_at then gives a later time. QTREE_NOTHING where no poll ever will:
- * nothing is queued, or no token bucket will ever hold enough.
- * QTREE_DONE, QTREE_NOTHING, QTREE_IS_CLOSED. */
+/* Computes until when a program may sleep: the time before which no poll returns a packet, as long as no packet
+ * arrives and no command comes.
+ *
+ * moment  the time, if QTREE_DONE is returned; it is no earlier than the latest time that counted
+ *
+ * A poll at that time may still return QTREE_LATER, since which packet an fq_codel gives, or which class a drr
+ * serves, is not known before it is asked. The next qtree_ready_at then gives a later time.
+ *
+ * Returns
+ *   QTREE_DONE       *moment is that time
+ *   QTREE_NOTHING    no poll will ever return a packet: none is queued, or no token bucket will ever hold enough
+ *   QTREE_IS_CLOSED  the device is closed
+ *
+ * For example, a program that has just read its clock sends what is due:
+ *
+ *     while (qtree_ready_at(&device, &again) == QTREE_DONE && again <= now) {
+ *         if (qtree_poll(&device, now, &packet) == QTREE_DONE) transmit(packet.buf);
+ *     }
+ *
+ * Then it sleeps until the time again, or until a packet comes in, if qtree_ready_at returned QTREE_DONE. Otherwise
+ * it sleeps until a packet comes in. */
 qtree_code qtree_ready_at(const qtree_device *device, uint64_t *moment);
 
-/* The most packets that can be queued in the device, now and as long as no command changes it: the sum of the limits of
- * its queues, or what one has queued where its limit was set below that, and one packet for each tbf, drr and fq_codel,
- * which may hold the one that goes next. A limit in bytes counts as so many packets, since a packet has one byte at
- * least. A program needs a buffer for each of them, for the packet that arrives, and for each that it has polled and not
- * sent, or lost and not reaped. UINT64_MAX stands for more.
- * QTREE_DONE, QTREE_IS_CLOSED. */
+/* Computes how many packets can be queued in the device at most, now and as long as no command changes it.
+ *
+ * packets  the sum of the limits of all queues, and one packet for each tbf, drr and fq_codel, which may hold the
+ *          packet that goes next. If a queue's limit was set below what it has queued, what it has queued counts in
+ *          place of the limit. A limit in bytes counts as so many packets, since a packet has at least one byte.
+ *          UINT64_MAX stands for more.
+ *
+ * A program needs a buffer for each of these packets, for the packet that arrives, for each packet that it has polled
+ * and not sent, and for each that was lost and that it has not reaped.
+ *
+ * Returns QTREE_DONE, or QTREE_IS_CLOSED if the device is closed. */
 qtree_code qtree_most_packets(const qtree_device *device, uint64_t *packets);
 
-/* Returns the oldest loss that was not returned yet. A program that needs no losses reaps too: those that wait keep memory.
- * QTREE_DONE, QTREE_NOTHING, QTREE_IS_CLOSED. */
+/* Hands out the oldest loss that was not handed out yet. A program that does not need its losses reaps them too,
+ * since losses that wait keep memory.
+ *
+ * loss  the packet and the cause, if QTREE_DONE is returned
+ *
+ * Returns
+ *   QTREE_DONE       *loss is that loss, and the device no longer has it
+ *   QTREE_NOTHING    no loss waits
+ *   QTREE_IS_CLOSED  the device is closed */
 qtree_code qtree_reap(qtree_device *device, qtree_loss *loss);
 
-/* Returns losses until there are room of them, or none waits any more (QTREE_NOTHING). count is how many there are.
- * QTREE_DONE, QTREE_NOTHING, QTREE_IS_CLOSED. */
+/* Hands out losses until there are room of them, or until none waits any more.
+ *
+ * losses  room places for the losses, the oldest first
+ * count   how many losses there are
+ *
+ * Returns
+ *   QTREE_DONE       there are room losses
+ *   QTREE_NOTHING    there are count losses, and none waits any more
+ *   QTREE_IS_CLOSED  the device is closed, and the count is 0 */
 qtree_code qtree_reap_many(qtree_device *device, qtree_loss *losses, size_t room, size_t *count);
 
-/* What was counted at a node: the device itself, its root, or what stands in the class major:minor, 1 to 0xfffe and 1 to 0xffff.
- * major and minor are read for a class alone. In lines of tc they are hexadecimal: class 1:10 is 1 and 0x10.
- * QTREE_DONE, QTREE_NOTHING, QTREE_OUT_OF_RANGE, QTREE_IS_CLOSED. */
+/* The places of a tree: the device itself, its root, and the classes. */
 enum { QTREE_TOP = 0, QTREE_ROOT = 1, QTREE_CLASS = 2 };
+
+/* Reads the counters of a place.
+ *
+ * place         QTREE_TOP for the device itself, QTREE_ROOT for the qdisc at its root, or QTREE_CLASS for the qdisc
+ *               in the class major:minor
+ * major, minor  the class, 1 to 0xfffe and 1 to 0xffff; they are read only with QTREE_CLASS. In lines of tc both are
+ *               hexadecimal: the class 1:10 is 1 and 0x10.
+ * row           the counters, if QTREE_DONE is returned
+ *
+ * Returns
+ *   QTREE_DONE          *row has the counters
+ *   QTREE_NOTHING       there is no such place
+ *   QTREE_OUT_OF_RANGE  place, major or minor is out of its range
+ *   QTREE_IS_CLOSED     the device is closed */
 qtree_code qtree_stats(const qtree_device *device, uint32_t place, uint16_t major, uint16_t minor, qtree_row *row);
 
-/* When the packet arrived that has been queued longest in a place, as qtree_stats has places: its nanoseconds. The device's clock less
- * this is how long it has waited, and no other one in that place waits longer. QTREE_NOTHING where none is queued there, or nothing stands
- * there. It looks at each node in that place once, and at each flow of an fq_codel; on a packet's path nothing is kept for it but when a
- * packet arrived that is held.
- * QTREE_DONE, QTREE_NOTHING, QTREE_OUT_OF_RANGE, QTREE_IS_CLOSED. */
+/* Tells since when the oldest packet that is queued in a place has been there. A packet that a tbf, a drr or an
+ * fq_codel there holds is queued too.
+ *
+ * place, major, minor  as for qtree_stats
+ * moment               when that packet arrived, if QTREE_DONE is returned. Its waiting time is the present time less
+ *                      this, and no other packet in the place has waited longer.
+ *
+ * Returns
+ *   QTREE_DONE          *moment is that time
+ *   QTREE_NOTHING       nothing is queued in the place, or there is no such place
+ *   QTREE_OUT_OF_RANGE  place, major or minor is out of its range
+ *   QTREE_IS_CLOSED     the device is closed
+ * The function looks once at each qdisc in the place, and at each flow of an fq_codel. */
 qtree_code qtree_oldest(const qtree_device *device, uint32_t place, uint16_t major, uint16_t minor, uint64_t *moment);
 
-/* What the device itself counted. QTREE_DONE, QTREE_IS_CLOSED. */
+/* Reads the counters of the device itself. Returns QTREE_DONE, or QTREE_IS_CLOSED if the device is closed. */
 qtree_code qtree_totals(const qtree_device *device, qtree_row *row);
 
-/* What a class of a drr is promised while something is queued in it, whatever comes to other classes. In any t nanoseconds between two
- * times at which a poll gives nothing it sends more than rate * t / (8 * 10^9) - slack bytes, if the program polls until no packet
- * comes, and then no later after the time of qtree_ready_at than qtree_lateness says, and the qdiscs, classes and quanta on the way to
- * it stay as they are. With a drr at the root, link and rate are 0, and it sends at least part / 10^9 of what the root's classes send,
- * less slack. All is rounded against the class. */
+/* What a class of a drr is promised while something is queued in it, whatever comes to the other classes. All numbers
+ * are rounded against the class.
+ *
+ * With a tbf at the root: in any t nanoseconds between two times at which a poll returns no packet, the class sends
+ * more than
+ *
+ *     rate * t / (8 * 10^9) - slack
+ *
+ * bytes, if the program polls until no packet comes, and then polls again no later after the time of qtree_ready_at
+ * than qtree_lateness says.
+ *
+ * With a drr at the root: link and rate are 0, and the class sends at least the share part / 10^9 of what the root's
+ * classes send, less slack.
+ *
+ * Both hold as long as the qdiscs, classes and quanta on the way to the class stay as they are, and no further tbf is
+ * added below one at the root. */
 typedef struct qtree_promise {
-    uint64_t link;  /* the rate of the tbf at the root, bits a second */
-    uint64_t rate;  /* the class's part of it, bits a second */
-    uint64_t part;  /* of a billion bytes */
-    uint64_t slack; /* bytes */
+    uint64_t link;  /* the rate of the tbf at the root, in bits a second */
+    uint64_t rate;  /* the class's share of that rate, in bits a second */
+    uint64_t part;  /* the class's share of a billion bytes, in bytes */
+    uint64_t slack; /* the most bytes that the class can fall short of its share */
 } qtree_promise;
 
-/* What is promised to the class in a place, as qtree_stats has places. QTREE_NOTHING where it is no class of a drr, or where something
- * other than drrs stands between it and the root, a tbf at the root apart; or where that tbf has another beneath it, or a burst
- * without room for a packet of the mtu and what its rate brings in a nanosecond.
- * QTREE_DONE, QTREE_NOTHING, QTREE_OUT_OF_RANGE, QTREE_IS_CLOSED. */
-qtree_code qtree_service(const qtree_device *device, uint32_t place, uint16_t major, uint16_t minor, qtree_promise *promise);
+/* Computes what the class in a place is promised.
+ *
+ * place, major, minor  as for qtree_stats
+ * promise              the promise, if QTREE_DONE is returned
+ *
+ * Returns
+ *   QTREE_DONE          *promise is what the class is promised
+ *   QTREE_NOTHING       nothing is promised, since the place is no class of a drr; something other than drrs stands
+ *                       between it and the root, apart from a tbf at the root; that tbf has another tbf below it; or
+ *                       its burst has no room for a packet of the mtu and what its rate brings in a nanosecond
+ *   QTREE_OUT_OF_RANGE  place, major or minor is out of its range
+ *   QTREE_IS_CLOSED     the device is closed
+ *
+ * For example, with an mtu of 1514, a tbf with rate 20mbit and burst 1640 at the root, and below it a drr 2: whose
+ * classes 2:1 and 2:2 have the quanta 3000 and 1500, qtree_service(&device, QTREE_CLASS, 2, 1, &promise) writes the
+ * rate 13333333 and the slack 5532: in each second between two such polls the class sends more than 1666666 - 5532
+ * bytes. */
+qtree_code qtree_service(const qtree_device *device, uint32_t place, uint16_t major, uint16_t minor,
+                         qtree_promise *promise);
 
-/* How many nanoseconds after the time of qtree_ready_at a poll may come while the promise of qtree_service holds: as long as the burst of
- * the tbf at the root has room beside a packet of the mtu for what the rate brings. UINT64_MAX where a drr is at the root, which may be
- * polled at any time. QTREE_NOTHING where qtree_service answers so.
- * QTREE_DONE, QTREE_NOTHING, QTREE_OUT_OF_RANGE, QTREE_IS_CLOSED. */
+/* Computes how late polls may be while the promise of qtree_service holds.
+ *
+ * place, major, minor  as for qtree_stats
+ * late                 how many nanoseconds after the time of qtree_ready_at a poll may come: the longest time for
+ *                      which the burst of the tbf at the root has room for a packet of the mtu and what the rate
+ *                      brings in that time and a nanosecond. UINT64_MAX if a drr is at the root: then polls may come
+ *                      at any time.
+ *
+ * Returns
+ *   QTREE_DONE          *late is that number
+ *   QTREE_NOTHING       nothing is promised: qtree_service returns the same
+ *   QTREE_OUT_OF_RANGE  place, major or minor is out of its range
+ *   QTREE_IS_CLOSED     the device is closed */
 qtree_code qtree_lateness(const qtree_device *device, uint32_t place, uint16_t major, uint16_t minor, uint64_t *late);
 
-/* How long a packet waits at most in a pfifo or bfifo that no other packet passes, from when it was kept until it has left, whatever
- * comes meanwhile. The device sends no more than bytes until then, the packet among them. With a tbf at the root the packet has left once
- * the program polled until no packet came at ns nanoseconds after its arrival, or later; so if the program polls no later after the time
- * of qtree_ready_at than late says, that is by ns + late. Without one ns and late are UINT64_MAX. This holds as long as commands take no
- * packet from the qdisc and put none before it, leave a tbf at the root as it is, and add no other. */
+/* How long a packet waits at most in a pfifo or bfifo that no other packet passes, from when it was queued until it
+ * has left, whatever comes meanwhile. Until it has left, the device sends no more than this many bytes, including the
+ * packet itself.
+ *
+ * With a tbf at the root, the packet has left as soon as the program has polled until no packet came at a time that
+ * is ns nanoseconds after the packet's arrival, or later. So if the program never polls later after the time of
+ * qtree_ready_at than late nanoseconds, the packet has left by ns + late. Without a tbf at the root both are
+ * UINT64_MAX.
+ *
+ * This holds as long as commands take no packet from the qdisc and put none before it, leave a tbf at the root as it
+ * is, and add no other tbf. */
 typedef struct qtree_delay {
-    uint64_t bytes; /* with the packet's own */
+    uint64_t bytes; /* including those of the packet */
     uint64_t ns;    /* nanoseconds, rounded up */
     uint64_t late;  /* nanoseconds */
 } qtree_delay;
 
-/* What is promised so to the pfifo or bfifo in a place, as qtree_stats has places. QTREE_NOTHING where another qdisc or none is there,
- * where something other than the first bands of prios leads there from the root, a tbf at the root apart; where another tbf is in the
- * tree; where the one at the root has a burst without room, as qtree_service says; or where a number is too large.
- * QTREE_DONE, QTREE_NOTHING, QTREE_OUT_OF_RANGE, QTREE_IS_CLOSED. */
+/* Computes how long a packet waits at most in the pfifo or bfifo in a place.
+ *
+ * place, major, minor  as for qtree_stats
+ * delay                the longest wait, if QTREE_DONE is returned
+ *
+ * Returns
+ *   QTREE_DONE          *delay is the longest wait
+ *   QTREE_NOTHING       nothing is promised, since the place has another qdisc or none; something other than the
+ *                       first bands of prios leads there from the root, apart from a tbf at the root; another tbf is
+ *                       in the tree; the burst of the tbf at the root is too small, as for qtree_service; or a number
+ *                       would be too large
+ *   QTREE_OUT_OF_RANGE  place, major or minor is out of its range
+ *   QTREE_IS_CLOSED     the device is closed */
 qtree_code qtree_worst(const qtree_device *device, uint32_t place, uint16_t major, uint16_t minor, qtree_delay *delay);
 
-/* What `tc qdisc show`, `tc -s qdisc show`, `tc class show` and `tc filter show` print, of which needed is the length in bytes; no
- * zero byte ends it. Nothing is written where room is less than that (QTREE_ROOM); so a call with room 0 asks for the length.
- * QTREE_DONE, QTREE_ROOM, QTREE_OUT_OF_RANGE, QTREE_IS_CLOSED, QTREE_MEMORY. */
+/* Which text qtree_show writes: that of `tc qdisc show`, `tc -s qdisc show`, `tc class show` or `tc filter show`. */
 enum { QTREE_SHOW_QDISCS = 0, QTREE_SHOW_COUNTERS = 1, QTREE_SHOW_CLASSES = 2, QTREE_SHOW_FILTERS = 3 };
+
+/* Writes what tc shows of the tree, in words that docs/LANGUAGE.md explains.
+ *
+ * what    QTREE_SHOW_QDISCS to QTREE_SHOW_FILTERS
+ * text    room bytes for the text; no zero byte ends it
+ * needed  the length of the text in bytes
+ *
+ * Returns
+ *   QTREE_DONE          the text is written
+ *   QTREE_ROOM          room is less than *needed, and nothing is written to text: a call with a room of 0, in which
+ *                       text may be null, asks for the length
+ *   QTREE_OUT_OF_RANGE  what is out of its range
+ *   QTREE_IS_CLOSED     the device is closed
+ *   QTREE_MEMORY        an allocation failed */
 qtree_code qtree_show(const qtree_device *device, uint32_t what, uint8_t *text, size_t room, size_t *needed);
 
-/* A qdisc: its kind, where it stands, what it counted and how it is set. What its kind lacks is 0. */
+/* The kinds of qdiscs. */
 enum { QTREE_PFIFO = 1, QTREE_BFIFO = 2, QTREE_PRIO = 3, QTREE_TBF = 4, QTREE_DRR = 5, QTREE_FQ_CODEL = 6 };
+
+/* A qdisc: its kind, its place, its counters and its settings. A field that its kind lacks is 0. */
 typedef struct qtree_node_view {
-    qtree_row row;
+    qtree_row row;         /* its counters */
     uint64_t limit;        /* of a pfifo or an fq_codel in packets, of a bfifo or a tbf in bytes */
-    uint64_t rate;         /* a tbf's, in bits a second */
-    uint64_t target;       /* an fq_codel's, in nanoseconds */
-    uint64_t interval;     /* an fq_codel's, in nanoseconds */
-    uint32_t burst;        /* a tbf's, in bytes */
-    uint32_t flows;        /* an fq_codel's */
-    uint32_t new_flows;    /* how many of an fq_codel's flows are in its list of new flows now */
-    uint32_t old_flows;    /* and how many in that of old flows: the others have no packets, and no turn */
-    uint32_t quantum;      /* an fq_codel's, in bytes */
-    uint32_t drop_batch;   /* an fq_codel's, in packets */
+    uint64_t rate;         /* of a tbf, in bits a second */
+    uint64_t target;       /* of an fq_codel, in nanoseconds */
+    uint64_t interval;     /* of an fq_codel, in nanoseconds */
+    uint32_t burst;        /* of a tbf, in bytes */
+    uint32_t flows;        /* of an fq_codel: the number of its flows */
+    uint32_t new_flows;    /* of an fq_codel: how many of them are in the list of new flows now */
+    uint32_t old_flows;    /* and how many in the list of old flows; the others have no packets, and no turn */
+    uint32_t quantum;      /* of an fq_codel, in bytes */
+    uint32_t drop_batch;   /* of an fq_codel, in packets */
     uint32_t kind;         /* QTREE_PFIFO to QTREE_FQ_CODEL */
     uint32_t place;        /* QTREE_ROOT or QTREE_CLASS */
-    uint16_t handle;       /* its major number; 0 of a leaf that no line added */
-    uint16_t parent_major; /* the class in which it stands; 0 at the root */
+    uint16_t handle;       /* its major number; 0 for a leaf that no line added */
+    uint16_t parent_major; /* the class in which it is; 0 at the root */
     uint16_t parent_minor;
-    uint16_t mtu;          /* an fq_codel's: with so many bytes or fewer queued, CoDel drops nothing */
-    uint8_t ecn;           /* an fq_codel's: 1 where CoDel marks, else 0 */
-    uint8_t bands;         /* a prio's */
-    uint8_t priomap[16];   /* a prio's: the band of each priority, from 0 */
+    uint16_t mtu;        /* of an fq_codel: CoDel drops nothing while this many bytes or fewer are queued */
+    uint8_t ecn;         /* of an fq_codel: 1 if CoDel marks, else 0 */
+    uint8_t bands;       /* of a prio */
+    uint8_t priomap[16]; /* of a prio: the band of each priority, where 0 is the first band */
 } qtree_node_view;
 
-/* The index-th qdisc, counted from 0, in the order of `tc qdisc show`: each stands before those beneath it. QTREE_NOTHING past the
- * last. Indexes change with commands alone.
- * QTREE_DONE, QTREE_NOTHING, QTREE_IS_CLOSED. */
+/* Reads one qdisc.
+ *
+ * index  counts from 0, in the order of `tc qdisc show`: each qdisc comes before those below it. Only commands change
+ *        the indexes.
+ * view   the qdisc, if QTREE_DONE is returned
+ *
+ * Returns
+ *   QTREE_DONE       *view is the qdisc
+ *   QTREE_NOTHING    the index is past the last qdisc
+ *   QTREE_IS_CLOSED  the device is closed */
 qtree_code qtree_node(const qtree_device *device, size_t index, qtree_node_view *view);
 
-/* A class major:minor of a prio, a tbf or a drr, which is its kind. One of a drr has a quantum, and where it is active, so that
- * packets wait there, a deficit: what it may send before the next quantum. Both are in bytes. */
+/* A class of a prio, a tbf or a drr. */
 typedef struct qtree_class_view {
-    uint64_t deficit;
-    uint32_t quantum;
-    uint32_t kind;
-    uint16_t major;
+    uint64_t deficit; /* of an active class of a drr: what it may send before the next quantum, in bytes */
+    uint32_t quantum; /* of a class of a drr, in bytes */
+    uint32_t kind;    /* the kind of its qdisc */
+    uint16_t major;   /* its name, major:minor */
     uint16_t minor;
-    uint8_t active; /* 1 or 0 */
+    uint8_t active; /* of a class of a drr: 1 if it is active, which is when packets wait there, else 0 */
 } qtree_class_view;
 
-/* The which-th class, counted from 0, of the index-th qdisc, in the order of `tc class show`. QTREE_NOTHING past the last class or
- * qdisc. Only a qdisc with a handle has classes. What stands in a class, qtree_stats reads, and qtree_node tells by its parent.
- * QTREE_DONE, QTREE_NOTHING, QTREE_IS_CLOSED. */
+/* Reads one class of a qdisc.
+ *
+ * index  the index of the qdisc, as for qtree_node
+ * which  the index of the class: it counts from 0, in the order of `tc class show`
+ * view   the class, if QTREE_DONE is returned
+ *
+ * Only a qdisc with a handle has classes. The counters of a class are those of the qdisc in it, which qtree_stats
+ * reads; qtree_node says in which class a qdisc is.
+ *
+ * Returns
+ *   QTREE_DONE       *view is the class
+ *   QTREE_NOTHING    an index is past the last qdisc, or past its last class
+ *   QTREE_IS_CLOSED  the device is closed */
 qtree_code qtree_class(const qtree_device *device, size_t index, size_t which, qtree_class_view *view);
 
-/* Opens both ends of a ring of so many places, 1 to 65536, in closed ones. index is written into packets as their port.
- * QTREE_DONE, QTREE_OUT_OF_RANGE, QTREE_IS_OPEN, QTREE_MEMORY. */
+/* Opens both ends of a ring, through which one sender passes packets to a device.
+ *
+ * port, outlet  closed ends, as QTREE_CLOSED initializes them
+ * index         is written into each packet of the ring as its port
+ * places        how many packets the ring holds, 1 to 65536
+ *
+ * Returns
+ *   QTREE_DONE          both ends are open
+ *   QTREE_OUT_OF_RANGE  places is out of its range
+ *   QTREE_IS_OPEN       one end is open already
+ *   QTREE_MEMORY        an allocation failed
+ * On an error nothing has changed.
+ *
+ * For example, the sender offers a packet again while the ring is full, and the thread that has the device takes
+ * packets in before it polls:
+ *
+ *     while (qtree_offer(&port, &packet) == QTREE_FULL) sched_yield();
+ *
+ *     qtree_take_in(&device, &outlet, now, 64, &taken); */
 qtree_code qtree_ring_open(qtree_port *port, qtree_outlet *outlet, uint32_t index, size_t places);
 
-/* Places a packet in the ring, with the port's index as its port and the number of packets placed, this one too, as its number;
- * *packet itself stays. It takes no lock, allocates nothing and waits for no thread. QTREE_FULL where no place is free: places become free
- * as packets are taken in.
- * QTREE_DONE, QTREE_FULL, QTREE_OUT_OF_RANGE, QTREE_IS_CLOSED. */
+/* Places a copy of a packet in the ring. In the copy, port is the index of the port, and number is how many packets
+ * the port has placed, including this one. The packet itself stays as it is.
+ *
+ * The call takes no lock, allocates nothing and waits for no thread. Another thread may use the outlet meanwhile.
+ *
+ * Returns
+ *   QTREE_DONE          the packet is in the ring
+ *   QTREE_FULL          no place is free; places become free as packets are taken in
+ *   QTREE_OUT_OF_RANGE  a field of the packet is out of its range
+ *   QTREE_IS_CLOSED     the port is closed
+ * On an error nothing has changed, and the program keeps the packet. */
 qtree_code qtree_offer(qtree_port *port, const qtree_packet *packet);
 
-/* Places packets in the ring in order, each as qtree_offer does, up to the first that is not placed, for the reason that the result
- * says. placed is how many are, and the packets from there on are as if they had not been offered. The thread that has the outlet
- * sees up to 16 of them at once, so that a packet costs less than an offer of its own.
- * QTREE_DONE, QTREE_FULL, QTREE_OUT_OF_RANGE, QTREE_IS_CLOSED. */
+/* Places packets in the ring in order, each as qtree_offer does, up to the first that is not placed. The thread that
+ * has the outlet sees up to 16 of them at once, so that each costs less than an offer of its own.
+ *
+ * packets  count descriptors
+ * placed   how many of them are placed; the others are as if they had not been offered
+ *
+ * Returns
+ *   QTREE_DONE          all packets are placed
+ *   QTREE_FULL          no place is free for the next packet
+ *   QTREE_OUT_OF_RANGE  a field of the next packet is out of its range
+ *   QTREE_IS_CLOSED     the port is closed */
 qtree_code qtree_offer_many(qtree_port *port, const qtree_packet *packets, size_t count, size_t *placed);
 
-/* Packets of the ring arrive at the device in order, and each leaves the ring when it has: as many as wait, but at most so many.
- * taken is how many did. Where an allocation fails (QTREE_MEMORY) those have arrived, and the next one stays in the ring. A packet
- * that the device loses on arrival counts too, and is to be reaped.
- * QTREE_DONE, QTREE_OUT_OF_RANGE, QTREE_IS_CLOSED, QTREE_MEMORY. */
+/* Takes packets out of a ring: they arrive at the device in order, as many as wait and at most so many. Each leaves
+ * the ring when it has arrived. A packet that the device loses on arrival counts too, and is to be reaped.
+ *
+ * The call uses the device and the outlet. The sender may use the port meanwhile.
+ *
+ * now    the time
+ * most   how many packets are taken at most
+ * taken  how many packets arrived
+ *
+ * Returns
+ *   QTREE_DONE          these packets arrived
+ *   QTREE_OUT_OF_RANGE  the time is out of its range
+ *   QTREE_IS_CLOSED     the device or the outlet is closed
+ *   QTREE_MEMORY        an allocation failed for the next packet, which stays in the ring; those before it have
+ *                       arrived */
 qtree_code qtree_take_in(qtree_device *device, qtree_outlet *outlet, uint64_t now, size_t most, size_t *taken);
 
-/* The packets and bytes that were placed by a port so far; those that were taken in of an outlet. QTREE_DONE, QTREE_IS_CLOSED. */
+/* Read how many packets and bytes a port has placed so far, and how many were taken in at an outlet so far.
+ *
+ * Return QTREE_DONE, or QTREE_IS_CLOSED if the end is closed. */
 qtree_code qtree_port_share(const qtree_port *port, qtree_count *share);
 qtree_code qtree_outlet_share(const qtree_outlet *outlet, qtree_count *share);
 
-/* Closes one end, either first; nothing happens to a closed one. Behind a closed port what was placed is still taken in. What is in
- * the ring of a closed outlet is discarded, and is no loss; its port's offers go on until the ring is full. The ring's memory is freed
- * with its second end. */
+/* Close one end of a ring. Either end may be closed first. If the end is closed already, nothing happens.
+ *
+ * Packets in the ring of a closed port can still be taken in. Packets in the ring of a closed outlet are discarded,
+ * and are not losses; its port can go on offering until the ring is full. The ring's memory is freed with its second
+ * end. */
 void qtree_port_close(qtree_port *port);
 void qtree_outlet_close(qtree_outlet *outlet);
 
-/* The number of arrivals, polls and commands that happened, and of those that the recorder has, which are the first of them.
- * QTREE_DONE, QTREE_IS_CLOSED. */
+/* Reads how many events there were. The events of a device are the arrivals, the polls and the commands that it
+ * accepts.
+ *
+ * events    the number of all events
+ * recorded  how many of them the recorder has, which are the first of them
+ *
+ * Returns QTREE_DONE, or QTREE_IS_CLOSED if the device is closed. */
 qtree_code qtree_events(const qtree_device *device, uint64_t *events, size_t *recorded);
 
-/* The index-th recorded event, counted from 0, with the time at which it counted; packet is that of an arrival, else all 0.
- * QTREE_DONE, QTREE_NOTHING, QTREE_IS_CLOSED. */
+/* An event. */
 enum { QTREE_ARRIVED = 0, QTREE_POLLED = 1, QTREE_COMMANDED = 2 };
 typedef struct qtree_event {
-    qtree_packet packet;
-    uint64_t moment;
-    uint32_t kind;
+    qtree_packet packet; /* of an arrival; otherwise all 0 */
+    uint64_t moment;     /* the time at which it counted, in nanoseconds */
+    uint32_t kind;       /* QTREE_ARRIVED, QTREE_POLLED or QTREE_COMMANDED */
 } qtree_event;
+
+/* Reads one recorded event.
+ *
+ * index  counts from 0
+ * event  the event, if QTREE_DONE is returned
+ *
+ * Returns
+ *   QTREE_DONE       *event is the event
+ *   QTREE_NOTHING    there is no such event
+ *   QTREE_IS_CLOSED  the device is closed */
 qtree_code qtree_recorded(const qtree_device *device, size_t index, qtree_event *event);
 
-/* The line of a script that the index-th recorded event is, as "poll 1", of which needed is the length in bytes; no newline and no
- * zero byte ends it, and it has 1024 bytes at most. That of a command is a line of tc, for a device named eth0. Of a packet it lacks
- * port, number and buf, and the addresses of one that is not IP. Nothing is written where room is less than needed (QTREE_ROOM).
- * QTREE_DONE, QTREE_NOTHING, QTREE_ROOM, QTREE_IS_CLOSED. */
+/* Writes one recorded event as the line of a script, such as "poll 1". A command becomes a line of tc for a device
+ * named eth0. The line of a packet lacks port, number and buf, and the addresses if the packet is not IP.
+ *
+ * index   counts from 0
+ * text    room bytes for the line; neither a newline nor a zero byte ends it
+ * needed  the length of the line in bytes, at most 1024
+ *
+ * Returns
+ *   QTREE_DONE       the line is written
+ *   QTREE_NOTHING    there is no such event
+ *   QTREE_ROOM       room is less than *needed, and nothing is written to text
+ *   QTREE_IS_CLOSED  the device is closed */
 qtree_code qtree_recorded_line(const qtree_device *device, size_t index, uint8_t *text, size_t room, size_t *needed);
 
-/* The script of all recorded events: these lines in order, and lines that set the time, each with a newline behind it. `qtree-play`
- * with the device's mtu and txqueuelen does with it what the device did, and so does `qtree play` with a script of at most 16,777,216
- * bytes, which is some 240,000 packets. Its packets are numbered from 1 in the order of their
- * arrivals, with port 0 and their number as buf. It allocates room for the text, which grows by doubling, and frees it.
- * QTREE_DONE, QTREE_ROOM, QTREE_IS_CLOSED, QTREE_MEMORY. */
+/* Writes the script of all recorded events: their lines in order, and lines that set the time, each with a newline
+ * behind it.
+ *
+ * With the device's mtu and txqueuelen, `qtree-play` does with this script what the device did. So does `qtree play`
+ * if the script has at most 16,777,216 bytes, which is some 240,000 packets. In the script packets are numbered from
+ * 1 in the order of their arrivals, with port 0, and their number is their buf.
+ *
+ * text    room bytes for the script; no zero byte ends it
+ * needed  the length of the script in bytes
+ *
+ * The call allocates room for the whole script, which grows by doubling, and frees it.
+ *
+ * Returns
+ *   QTREE_DONE       the script is written
+ *   QTREE_ROOM       room is less than *needed, and nothing is written to text: a call with a room of 0, in which
+ *                    text may be null, asks for the length
+ *   QTREE_IS_CLOSED  the device is closed
+ *   QTREE_MEMORY     an allocation failed */
 qtree_code qtree_recorded_script(const qtree_device *device, uint8_t *text, size_t room, size_t *needed);
 
-/* Keeps the last events from now on, so many of them, 0 to 1000000: where all places are taken the oldest event makes way. The recorder
- * has the first events; a program that runs for a long time asks what happened last. Events are the arrivals, polls and commands
- * that the device accepts, by whichever function, those of packets that are taken in from rings too. The ring is allocated here, and no
- * call that notes an event allocates for it. Events that an earlier call kept are gone. 0 keeps none, which is how a device begins.
- * Where the allocation fails (QTREE_MEMORY) all is as it was.
- * QTREE_DONE, QTREE_OUT_OF_RANGE, QTREE_IS_CLOSED, QTREE_MEMORY. */
+/* From now on keeps the last events: if all places are taken, the oldest event makes way for a new one. The recorder
+ * has only the first events; a program that runs for a long time asks what happened last.
+ *
+ * places  how many events are kept, 0 to 1000000. With 0 none are kept, which is how a device begins.
+ *
+ * The events are all arrivals, polls and commands that the device accepts, by whichever function, including those of
+ * packets that are taken in from rings. The call allocates the memory for them, and no call that notes an event
+ * allocates memory for that. Events that were kept because of an earlier call are gone.
+ *
+ * Returns
+ *   QTREE_DONE          the events are kept from now on
+ *   QTREE_OUT_OF_RANGE  places is out of its range
+ *   QTREE_IS_CLOSED     the device is closed
+ *   QTREE_MEMORY        an allocation failed
+ * On an error nothing has changed: the device goes on as before, with the events that it has. */
 qtree_code qtree_keep_last(qtree_device *device, uint32_t places);
 
-/* The number of events that were noted since qtree_keep_last, and of those that are kept, which are the last of them. Both are 0 where
- * none are to be kept. QTREE_DONE, QTREE_IS_CLOSED. */
+/* Reads how many events were noted since qtree_keep_last, and how many of them, the last ones, are kept. Both are 0
+ * if no events are to be kept. Returns QTREE_DONE, or QTREE_IS_CLOSED if the device is closed. */
 qtree_code qtree_last_noted(const qtree_device *device, uint64_t *noted, size_t *kept);
 
-/* The index-th of the last events, counted from 0, which is the oldest that is kept, as qtree_recorded returns one; and its line, as
- * qtree_recorded_line writes one. Together the lines are no script that plays the session again: they begin in its midst.
- * QTREE_DONE, QTREE_NOTHING, QTREE_IS_CLOSED; the line also QTREE_ROOM. */
+/* Read one of the last events, as qtree_recorded reads a recorded one, and write it as a line, as qtree_recorded_line
+ * does. index counts from 0, which is the oldest event that is kept. Together the lines are not a script that plays
+ * the session again, since they begin in the middle of it.
+ *
+ * Return QTREE_DONE, QTREE_NOTHING or QTREE_IS_CLOSED as those do; qtree_last_line also returns QTREE_ROOM. */
 qtree_code qtree_last_event(const qtree_device *device, size_t index, qtree_event *event);
 qtree_code qtree_last_line(const qtree_device *device, size_t index, uint8_t *text, size_t room, size_t *needed);
 
-/* The names of answers (causes and refusals as reports write them), of faults of lines, and of kinds of qdiscs. They are static, and
- * those of unknown numbers are "Unknown" and "unknown". */
+/* Return the name of a code (reports write causes and refusals by these names), of a fault of a line, and of a kind
+ * of qdisc. The names are static. An unknown number has the name "Unknown" or "unknown". */
 static inline const char *qtree_code_name(qtree_code code) {
     switch (code) {
-    case QTREE_DONE: return "Done"; case QTREE_LOST_TOO_LONG: return "TooLong"; case QTREE_LOST_NO_CLASS: return "NoClass";
-    case QTREE_LOST_OVER_LIMIT: return "OverLimit"; case QTREE_LOST_CODEL: return "CoDel"; case QTREE_LOST_FAT_FLOW: return "FatFlow";
+    case QTREE_DONE: return "Done"; case QTREE_LOST_TOO_LONG: return "TooLong";
+    case QTREE_LOST_NO_CLASS: return "NoClass"; case QTREE_LOST_OVER_LIMIT: return "OverLimit";
+    case QTREE_LOST_CODEL: return "CoDel"; case QTREE_LOST_FAT_FLOW: return "FatFlow";
     case QTREE_LOST_PURGED: return "Purged"; case QTREE_REFUSED_NO_PARENT: return "NoParent";
     case QTREE_REFUSED_EXISTS: return "Exists"; case QTREE_REFUSED_NO_QDISC: return "NoQdisc";
     case QTREE_REFUSED_HANDLE_TAKEN: return "HandleTaken"; case QTREE_REFUSED_NOT_CLASSFUL: return "NotClassful";
@@ -552,8 +946,8 @@ static inline const char *qtree_code_name(qtree_code code) {
     case QTREE_REFUSED_TOO_MANY: return "TooMany"; case QTREE_REFUSED_SMALL_BURST: return "SmallBurst";
     case QTREE_REFUSED_NO_FILTER: return "NoFilter"; case QTREE_IDLE: return "Idle"; case QTREE_LATER: return "Later";
     case QTREE_NOTHING: return "Nothing"; case QTREE_FULL: return "Full"; case QTREE_FAULTY: return "Faulty";
-    case QTREE_NO_COMMAND: return "NoCommand"; case QTREE_OUT_OF_RANGE: return "OutOfRange"; case QTREE_ROOM: return "Room";
-    case QTREE_UNDONE: return "Undone";
+    case QTREE_NO_COMMAND: return "NoCommand"; case QTREE_OUT_OF_RANGE: return "OutOfRange";
+    case QTREE_ROOM: return "Room"; case QTREE_UNDONE: return "Undone";
     case QTREE_IS_CLOSED: return "IsClosed"; case QTREE_IS_OPEN: return "IsOpen"; case QTREE_MEMORY: return "Memory";
     default: return "Unknown";
     }
@@ -570,13 +964,14 @@ static inline const char *qtree_fault_name(uint32_t number) {
 
 static inline const char *qtree_kind_name(uint32_t kind) {
     switch (kind) {
-    case QTREE_PFIFO: return "pfifo"; case QTREE_BFIFO: return "bfifo"; case QTREE_PRIO: return "prio"; case QTREE_TBF: return "tbf";
-    case QTREE_DRR: return "drr"; case QTREE_FQ_CODEL: return "fq_codel";
+    case QTREE_PFIFO: return "pfifo"; case QTREE_BFIFO: return "bfifo"; case QTREE_PRIO: return "prio";
+    case QTREE_TBF: return "tbf"; case QTREE_DRR: return "drr"; case QTREE_FQ_CODEL: return "fq_codel";
     default: return "unknown";
     }
 }
 
-/* A sentence on an answer: what happened, and what the program or the writer of the line can do. It is static. */
+/* Returns a sentence on a code: what happened, and what the program, or the writer of the line, can do. The sentence
+ * is static. */
 static inline const char *qtree_code_sentence(qtree_code code) {
     switch (code) {
     case QTREE_DONE: return "The call did what it was called for.";
@@ -606,7 +1001,8 @@ static inline const char *qtree_code_sentence(qtree_code code) {
     case QTREE_NO_COMMAND: return "The line changes no tree: qtree_explain says which call does what it asks for.";
     case QTREE_OUT_OF_RANGE: return "An argument is out of its range: qtree_out_of_range checks a packet and the time.";
     case QTREE_ROOM: return "The memory that was lent is too small: call again with as much as is needed.";
-    case QTREE_UNDONE: return "A line of the file is not done, and so none is: mend each line that is told, and call again.";
+    case QTREE_UNDONE:
+        return "A line of the file is not done, and so none is: mend each line that is told, and call again.";
     case QTREE_IS_CLOSED: return "The device, the port or the outlet is closed: open it first.";
     case QTREE_IS_OPEN: return "The device, the port or the outlet is open already: close it first.";
     case QTREE_MEMORY: return "An allocation failed: free memory, and call again for what was not done.";
@@ -616,21 +1012,44 @@ static inline const char *qtree_code_sentence(qtree_code code) {
                                : "This header does not know the answer: the library is newer, or the number is none.";
 }
 
-/* The same names for a program in another language, as texts of the library: needed is the length in bytes, and no zero byte ends it.
- * QTREE_DONE, QTREE_ROOM, QTREE_OUT_OF_RANGE (what). */
+/* Writes one of the names above, for a program in another language than C or C++.
+ *
+ * what    QTREE_NAME_CODE, QTREE_NAME_FAULT or QTREE_NAME_KIND
+ * number  the code, the fault or the kind
+ * text    room bytes for the name; no zero byte ends it
+ * needed  the length of the name in bytes
+ *
+ * Returns
+ *   QTREE_DONE          the name is written
+ *   QTREE_ROOM          room is less than *needed, and nothing is written to text
+ *   QTREE_OUT_OF_RANGE  what is out of its range */
 enum { QTREE_NAME_CODE = 0, QTREE_NAME_FAULT = 1, QTREE_NAME_KIND = 2 };
 qtree_code qtree_name_of(uint32_t what, uint32_t number, uint8_t *text, size_t room, size_t *needed);
 
-/* What `qtree play --explain` writes of a line that qtree_command answered by QTREE_REFUSED_.., QTREE_MEMORY or QTREE_FAULTY with this
- * fault: the line with its number, a mark under the word at which it failed, and a sentence on what to do. Each ends with a newline. The
- * fault is read for QTREE_FAULTY alone. Where qtree_command answered QTREE_NO_COMMAND, the sentence says what the line
- * is, and which call does what it asks for. needed is the length in bytes, and no zero byte ends the text.
- * QTREE_DONE, QTREE_ROOM, QTREE_OUT_OF_RANGE (another code or line, or no such fault), QTREE_MEMORY. */
-qtree_code qtree_explain(const uint8_t *line, size_t line_len, uint64_t number, qtree_code code, const qtree_fault *fault, uint8_t *text,
-                         size_t room, size_t *needed);
+/* Writes why qtree_command did not carry out a line, as `qtree play --explain` does: the line with its number, a mark
+ * under the word at which it failed, and a sentence on what to do. Each ends with a newline. If qtree_command
+ * returned QTREE_NO_COMMAND, the sentence says what the line is, and which call does what it asks for.
+ *
+ * line    line_len bytes: the line that was passed to qtree_command
+ * number  the number of the line, which is written before it
+ * code    what qtree_command returned: QTREE_REFUSED_.., QTREE_MEMORY, QTREE_FAULTY or QTREE_NO_COMMAND
+ * fault   the fault that qtree_command wrote; it is read only if the code is QTREE_FAULTY
+ * text    room bytes for the text; no zero byte ends it
+ * needed  the length of the text in bytes
+ *
+ * Returns
+ *   QTREE_DONE          the text is written
+ *   QTREE_ROOM          room is less than *needed, and nothing is written to text
+ *   QTREE_OUT_OF_RANGE  there is nothing to explain: it is another code, or there is no such fault, or the code is
+ *                       QTREE_NO_COMMAND and the line is a command or cannot be read
+ *   QTREE_MEMORY        an allocation failed */
+qtree_code qtree_explain(const uint8_t *line, size_t line_len, uint64_t number, qtree_code code,
+                         const qtree_fault *fault, uint8_t *text, size_t room, size_t *needed);
 
-/* For a test that this header and the library agree: the bytes of each struct, and structs whose fields are 1, 2, 3 .. in the
- * order of their declarations, those of a struct in a struct too. */
+/* The rest is for a test that this header and the library agree. */
+
+/* The sizes of some structs in bytes, and structs whose fields are 1, 2, 3 and so on in the order of their
+ * declarations, including the fields of a struct in a struct. */
 typedef struct qtree_layout {
     size_t device;
     size_t settings;
@@ -643,7 +1062,8 @@ void qtree_layout_of(qtree_layout *layout);
 void qtree_sample(qtree_settings *settings, qtree_loss *loss, qtree_row *row, qtree_event *event);
 void qtree_sample_fault(qtree_fault *fault);
 
-/* The bytes of any struct of this header, later ones too; 0 for another number. */
+/* Returns the size in bytes of any struct of this header, including structs that later versions add, or 0 for another
+ * number. */
 enum {
     QTREE_TYPE_DEVICE = 0,
     QTREE_TYPE_SETTINGS = 1,

@@ -147,6 +147,9 @@ def tried(package, *words):
     with tempfile.TemporaryDirectory(prefix="qtree-portable-") as room:
         folder = unpacked(package, room)
         make(folder, *words)
+        make(folder, *words, "install", f"PREFIX={room}/installed")
+        if read(f"{room}/installed/share/man/man3/qtree_open.3") != ".so man3/qtree.3\n":
+            raise Unreadable("there is no manual page of qtree_open")
         report = run("env", "-i", PATH, "./qtree", "play", "examples/two_packets.qtree", cwd=folder)
         if report != read(f"{folder}/examples/two_of_three_packets.out"):
             raise Unreadable("the player plays two_packets.qtree to another report")

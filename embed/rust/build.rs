@@ -1,4 +1,5 @@
-//! Finds libqtree.a: in the folder that QTREE_LIB names, else in `lib`, where a package has it, or where `make -C embed/c` leaves it.
+//! Finds `libqtree.a`: in the folder that `QTREE_LIB` names, else in `lib`, where a package has it,
+//! or where `make -C embed/c` leaves it.
 use std::path::PathBuf;
 use std::{env, fs};
 

@@ -3,8 +3,8 @@ use crate::row::Row;
 use core::hint;
 use core::sync::atomic::{AtomicU64, Ordering, fence};
 
-/// The last row that a drain published, as its twelve numbers. No lock guards them: a reader whose read overlaps a change reads again. The
-/// version is odd while the numbers change.
+/// The last row that a drain published, as its twelve numbers. No lock guards them: a reader whose
+/// read overlaps a change reads again. The version is odd while the numbers change.
 #[derive(Debug, Default)]
 pub(crate) struct Board {
     version: AtomicU64,

@@ -3,7 +3,8 @@ use crate::packet_error::PacketError;
 use crate::raw::{hash, sys};
 use core::net::IpAddr;
 
-/// Builds a [`Packet`] field by field. A field that is not set is 0.
+/// Builds a [`Packet`] field by field. [`Packet::builder`] begins one. A field that is not set is
+/// 0.
 ///
 /// ```
 /// let packet = qtree::Packet::builder(1500)
@@ -37,20 +38,22 @@ impl PacketBuilder {
         }
     }
 
-    /// The program's own number, which comes back with the packet.
+    /// Sets the program's own number for the packet's bytes, which comes back with the packet.
     pub fn buf(mut self, buf: u32) -> Self {
         self.packet.buf = buf;
         self
     }
 
-    /// The packet's number among those of its port.
+    /// Sets two further numbers that come back with the packet. A [`Port`](crate::Port) writes its
+    /// own index and its own count in their place.
     pub fn number(mut self, port: u32, number: u64) -> Self {
         self.packet.port = port;
         self.packet.number = number;
         self
     }
 
-    /// The addresses of its source and its destination. An IPv4 address beside one of IPv6 is written as IPv6 does (RFC 4291).
+    /// Sets the addresses of the source and the destination. If one of them is an IPv4 address and
+    /// the other an IPv6 address, the IPv4 address is written as an IPv6 address (RFC 4291).
     pub fn addresses(mut self, src: IpAddr, dst: IpAddr) -> Self {
         if let (IpAddr::V4(src), IpAddr::V4(dst)) = (src, dst) {
             self.packet.family = 4;
@@ -64,43 +67,44 @@ impl PacketBuilder {
         self
     }
 
-    /// The protocol above IP, 6 for TCP and 17 for UDP.
+    /// Sets the protocol above IP, such as 6 for TCP or 17 for UDP.
     pub fn proto(mut self, proto: u8) -> Self {
         self.packet.proto = proto;
         self
     }
 
-    /// The ports of its source and its destination.
+    /// Sets the ports of the source and the destination.
     pub fn ports(mut self, src: u16, dst: u16) -> Self {
         (self.packet.sport, self.packet.dport) = (src, dst);
         self
     }
 
-    /// Its priority, 0 to 15, as `skb->priority`.
+    /// Sets the priority, 0 to 15, as `skb->priority`.
     pub fn prio(mut self, prio: u8) -> Self {
         self.packet.prio = prio;
         self
     }
 
-    /// Its ECN codepoint, 0 to 3.
+    /// Sets the ECN codepoint, 0 to 3.
     pub fn ecn(mut self, ecn: u8) -> Self {
         self.packet.ecn = ecn;
         self
     }
 
-    /// The seed from which its hash is computed, if no hash is set.
+    /// Sets the seed with which the hash is computed if no hash is set.
     pub fn seed(mut self, seed: u32) -> Self {
         self.seed = seed;
         self
     }
 
-    /// Its hash, by which an fq_codel chooses the flow.
+    /// Sets the hash, by which an fq_codel chooses the packet's flow.
     pub fn hash(mut self, hash: u32) -> Self {
         self.hash = Some(hash);
         self
     }
 
-    /// The packet. If no hash was set, it is computed from addresses, ports and protocol.
+    /// Makes the packet. If no hash was set, it is computed from the addresses, the ports and the
+    /// protocol.
     ///
     /// ```
     /// # use qtree::{Packet, PacketError};
@@ -111,7 +115,8 @@ impl PacketBuilder {
     ///
     /// # Errors
     ///
-    /// `Len` for a length of 0, `Prio` for a priority above 15, `Ecn` for an ECN codepoint above 3.
+    /// `Len` for a length of 0, `Prio` for a priority above 15, and `Ecn` for an ECN codepoint
+    /// above 3.
     pub fn build(mut self) -> Result<Packet, PacketError> {
         if self.packet.len == 0 {
             return Err(PacketError::Len);

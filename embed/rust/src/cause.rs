@@ -1,27 +1,28 @@
 use core::fmt;
 
-/// Why a packet is lost. The first three refuse it on arrival.
+/// Why a packet is lost. For the first three causes it is refused on arrival.
 #[derive(Clone, Copy, Debug, PartialEq, Eq)]
 #[non_exhaustive]
 pub enum Cause {
-    /// It is longer than the device's mtu, or than a token bucket can ever send.
+    /// It is longer than the device's mtu, or than a tbf's burst.
     TooLong = 1,
-    /// No class takes it.
+    /// No filter of a drr takes it.
     NoClass = 2,
-    /// Its queue is at its limit.
+    /// Its pfifo or bfifo is at its limit.
     OverLimit = 3,
     /// CoDel dropped it (RFC 8289).
     CoDel = 4,
-    /// It was dropped from the fat flow of an fq_codel, that with the most bytes (RFC 8290).
+    /// An fq_codel over its limit dropped it from the flow with the most bytes (RFC 8290).
     FatFlow = 5,
-    /// A command removed its queue.
+    /// A command removed its qdisc.
     Purged = 6,
-    /// The library is newer than this crate, and has a cause more.
+    /// The library is newer than this crate, and has this cause in addition.
     Unknown = 0,
 }
 
 impl Cause {
-    /// The greatest number that a cause can have in any version with the same major number: an array by cause has one place more.
+    /// The greatest number that a cause can have in any version with the same major number. So an
+    /// array that has a place for each cause needs one place more.
     ///
     /// ```
     /// # use qtree::{Cause, Device, Error, Packet, Settings};
@@ -51,7 +52,7 @@ impl Cause {
     }
 }
 
-/// Its name, as reports write it.
+/// The name of the cause, as reports write it.
 impl fmt::Display for Cause {
     fn fmt(&self, f: &mut fmt::Formatter<'_>) -> fmt::Result {
         fmt::Debug::fmt(self, f)

@@ -1,12 +1,12 @@
 use crate::raw::sys;
 use core::ops::AddAssign;
 
-/// Packets, and the sum of their lengths.
+/// A number of packets, and the sum of their lengths.
 #[derive(Clone, Copy, Debug, Default, PartialEq, Eq)]
 pub struct Count {
     /// How many packets.
     pub packets: u64,
-    /// Their bytes.
+    /// The sum of their lengths, in bytes.
     pub bytes: u64,
 }
 

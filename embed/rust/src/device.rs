@@ -21,7 +21,8 @@ use crate::worst::Worst;
 use alloc::string::String;
 use alloc::vec::Vec;
 
-/// A device: a tree of qdiscs with a clock, counters and a list of losses. It may move to another thread, and one thread at a time uses it.
+/// One scheduler: a tree of qdiscs with a clock, counters and a list of losses. It may move to
+/// another thread, but only one thread at a time uses it.
 ///
 /// ```compile_fail
 /// fn shared<T: Sync>(_: T) {}
@@ -31,17 +32,19 @@ use alloc::vec::Vec;
 pub struct Device(pub(crate) RawDevice);
 
 impl Device {
-    /// A new device, with a pfifo at its root.
+    /// Opens a device with a pfifo at its root. The memory of the recorder is allocated here.
     ///
     /// # Errors
     ///
-    /// `OutOfRange` for an mtu of 0 or a recorder of more than 1,000,000 events; `Memory`.
+    /// `OutOfRange` for an mtu of 0 or a recorder of more than 1,000,000 events; `Memory` if an
+    /// allocation fails.
     pub fn open(settings: Settings) -> Result<Device, Error> {
         let opened = RawDevice::open(&settings.to_c()).map_err(Error::of)?;
         Ok(Device(opened))
     }
 
-    /// Plays one line of tc. The packets of what it removes are lost, and wait among the losses.
+    /// Carries out one line of tc that changes the tree. The packets of what the line removes are
+    /// lost, and wait among the [losses](Device::losses).
     ///
     /// ```
     /// # use qtree::{Device, Error, Fault, Refusal, Settings};
@@ -56,7 +59,13 @@ impl Device {
     ///
     /// # Errors
     ///
-    /// `Refused`, `Faulty`, `NoCommand`, `OutOfRange` (the time), `Memory`.
+    /// - `Refused` if the command cannot be carried out in this tree.
+    /// - `Faulty` if the line cannot be read.
+    /// - `NoCommand` if it is a line of another kind, for example one that shows something.
+    /// - `OutOfRange` if the time is out of its range.
+    /// - `Memory` if an allocation fails.
+    ///
+    /// On an error nothing has changed. [`Error::explain`] writes out what is wrong with the line.
     pub fn command(&mut self, line: &str, now: u64) -> Result<(), Error> {
         let (code, fault) = self.0.command(line.as_bytes(), now);
         match code {
@@ -69,7 +78,7 @@ impl Device {
         }
     }
 
-    /// A packet arrives, and is queued or lost.
+    /// A packet arrives at the device, which queues it or loses it.
     ///
     /// ```
     /// # use qtree::{Cause, Device, Error, Fate, Packet, Settings};
@@ -83,13 +92,17 @@ impl Device {
     ///
     /// # Errors
     ///
-    /// `OutOfRange` for a length of 0, a priority above 15, an ECN codepoint above 3 or the time; `Memory`.
+    /// `OutOfRange` for a length of 0, a priority above 15, an ECN codepoint above 3, or a time
+    /// that is out of its range; `Memory` if an allocation fails. On an error the packet has not
+    /// arrived.
     pub fn arrive(&mut self, packet: &Packet, now: u64) -> Result<Fate, Error> {
         fate(self.0.arrive(&packet.0, now))
     }
 
-    /// A packet of this length arrives. Its other fields are read from its first bytes, which begin with its IP header, as
-    /// [`Packet::read_hashed`] does.
+    /// A packet of `len` bytes arrives. Its other fields are read from its first bytes, which begin
+    /// with its IP header, as [`Packet::read_hashed`] reads them. `buf` is the program's own
+    /// number, and `hash` is the hash of the packet's flow, which may be 0 if no fq_codel is in the
+    /// tree.
     ///
     /// ```
     /// # use qtree::{Device, Error, Fate, Polled, Settings};
@@ -102,7 +115,8 @@ impl Device {
     ///
     /// # Errors
     ///
-    /// `OutOfRange` for a length of 0 or the time; `Memory`.
+    /// `OutOfRange` for a length of 0 or a time that is out of its range; `Memory` if an allocation
+    /// fails. On an error the packet has not arrived.
     pub fn arrive_frame(
         &mut self,
         bytes: &[u8],
@@ -114,11 +128,12 @@ impl Device {
         fate(self.0.arrive_frame(bytes, len, buf, hash, now))
     }
 
-    /// The same, with the hash that [`Packet::read`] makes with this seed.
+    /// Does what [`arrive_frame`](Device::arrive_frame) does, with the hash that [`Packet::read`]
+    /// computes with this seed.
     ///
     /// # Errors
     ///
-    /// `OutOfRange` for a length of 0 or the time; `Memory`.
+    /// Those of [`arrive_frame`](Device::arrive_frame).
     pub fn arrive_frame_seeded(
         &mut self,
         bytes: &[u8],
@@ -130,7 +145,8 @@ impl Device {
         fate(self.0.arrive_frame_seeded(bytes, len, buf, seed, now))
     }
 
-    /// The same as [`arrive_frame`](Device::arrive_frame), of a packet that has this number, which comes back with it.
+    /// Does what [`arrive_frame`](Device::arrive_frame) does, for a packet that also has a number,
+    /// which comes back with the packet.
     ///
     /// ```
     /// # use qtree::{Device, Error, Polled, Settings};
@@ -142,7 +158,7 @@ impl Device {
     ///
     /// # Errors
     ///
-    /// `OutOfRange` for a length of 0 or the time; `Memory`.
+    /// Those of [`arrive_frame`](Device::arrive_frame).
     pub fn arrive_frame_numbered(
         &mut self,
         bytes: &[u8],
@@ -158,8 +174,8 @@ impl Device {
         )
     }
 
-    /// Packets arrive in order, all at the same time, and what happened to each of them is appended to `fates`. If `fates` has room for all,
-    /// only arrivals allocate.
+    /// Several packets arrive in order, all at the same time, and the fate of each is appended to
+    /// `fates`. If `fates` has room for all of them, only the arrivals allocate.
     ///
     /// ```
     /// # use qtree::{Cause, Device, Error, Fate, Packet, PacketError, Settings};
@@ -174,8 +190,9 @@ impl Device {
     ///
     /// # Errors
     ///
-    /// `OutOfRange` and `Memory` as of [`arrive`](Device::arrive), for the first packet that does not arrive: those before it have, and
-    /// their fates are appended. `Memory` too if the room for `fates` cannot be allocated: no packet has arrived then.
+    /// `OutOfRange` or `Memory`, as for [`arrive`](Device::arrive), for the first packet that does
+    /// not arrive. The packets before it have arrived, and their fates are appended. `Memory` is
+    /// also returned if the room in `fates` cannot be allocated: then no packet has arrived.
     pub fn arrive_many(
         &mut self,
         packets: &[Packet],
@@ -198,7 +215,8 @@ impl Device {
         Ok(())
     }
 
-    /// Takes the packet whose turn it is. It allocates nothing.
+    /// Takes the packet whose turn it is. It allocates nothing. CoDel may lose other packets in a
+    /// poll, which then wait among the [losses](Device::losses).
     ///
     /// ```
     /// # use qtree::{Device, Error, Packet, Polled, Settings};
@@ -214,7 +232,7 @@ impl Device {
     ///
     /// # Errors
     ///
-    /// `OutOfRange` (the time).
+    /// `OutOfRange` if the time is out of its range.
     pub fn poll(&mut self, now: u64) -> Result<Polled, Error> {
         match self.0.poll(now) {
             (sys::QTREE_DONE, packet) => Ok(Polled::Packet(Packet(packet))),
@@ -224,7 +242,8 @@ impl Device {
         }
     }
 
-    /// Takes the packet whose turn it is, as [`poll`](Device::poll) does, and returns only the fields that a program needs to transmit it.
+    /// Does what [`poll`](Device::poll) does, and returns only the fields that a program needs in
+    /// order to transmit the packet.
     ///
     /// ```
     /// # use qtree::{Device, Error, Packet, Polled, Settings};
@@ -237,7 +256,7 @@ impl Device {
     ///
     /// # Errors
     ///
-    /// `OutOfRange` (the time).
+    /// `OutOfRange` if the time is out of its range.
     pub fn poll_buf(&mut self, now: u64) -> Result<Polled<Sent>, Error> {
         match self.0.poll_buf(now) {
             (sys::QTREE_DONE, sent) => Ok(Polled::Packet(Sent(sent))),
@@ -247,7 +266,8 @@ impl Device {
         }
     }
 
-    /// Polls until `sent` is full, or up to the first poll that gives none. Returns how many packets there are.
+    /// Polls until `sent` is full, or until a poll returns no packet. Returns how many packets
+    /// there are; they are the first of `sent`.
     ///
     /// ```
     /// # use qtree::{Device, Error, Packet, Sent, Settings};
@@ -263,7 +283,7 @@ impl Device {
     ///
     /// # Errors
     ///
-    /// `OutOfRange` (the time).
+    /// `OutOfRange` if the time is out of its range.
     pub fn poll_bufs(&mut self, now: u64, sent: &mut [Sent]) -> Result<usize, Error> {
         match self.0.poll_bufs(now, sent) {
             (sys::QTREE_DONE | sys::QTREE_IDLE | sys::QTREE_LATER, count) => Ok(count),
@@ -271,7 +291,8 @@ impl Device {
         }
     }
 
-    /// Polls up to `most` times, and appends the packets to `sent`, which has room for so many. Returns how many there are.
+    /// Polls up to `most` times, and appends the packets to `sent`, which has room for so many.
+    /// Returns how many there are.
     pub(crate) fn poll_many(
         &mut self,
         now: u64,
@@ -284,21 +305,27 @@ impl Device {
         }
     }
 
-    /// The time before which no poll gives a packet, as long as none arrives and no command comes; `None` if no poll ever will.
+    /// Returns the time before which no poll returns a packet, as long as no packet arrives and no
+    /// command comes. A program sleeps until then. `None` if no poll will ever return a packet.
     ///
-    /// A poll at that time may still answer [`Polled::Later`]: what an fq_codel gives, or which class of a drr, is not known before it is
-    /// asked. The time that follows is then a later one.
+    /// A poll at that time may still return [`Polled::Later`], since which packet an fq_codel
+    /// gives, or which class a drr serves, is not known before it is asked. The next call then
+    /// returns a later time.
     #[must_use]
     pub fn ready_at(&self) -> Option<u64> {
         let (code, moment) = self.0.ready_at();
         (code == sys::QTREE_DONE).then_some(moment)
     }
 
-    /// The most packets that can be queued, now and as long as no command changes the device; `u64::MAX` stands for more.
+    /// Returns how many packets can be queued at most, now and as long as no command changes the
+    /// device. `u64::MAX` stands for more.
     ///
-    /// It is the sum of the limits of all queues, or what one has queued where its limit was set below that, and one packet for each tbf,
-    /// drr and fq_codel, which may hold the one that goes next. A limit in bytes counts as so many packets. A program needs a buffer for
-    /// each of them, for the packet that arrives, and for each that it has polled and not sent, or lost and not reaped.
+    /// This is the sum of the limits of all queues, and one packet for each tbf, drr and fq_codel,
+    /// which may hold the packet that goes next. If a queue's limit was set below what it has
+    /// queued, what it has queued counts in place of the limit. A limit in bytes counts as so many
+    /// packets. A program needs a buffer for each of these packets, for the packet that arrives,
+    /// for each packet that it has polled and not sent, and for each that was lost and that it has
+    /// not reaped.
     ///
     /// ```
     /// # use qtree::{Device, Settings};
@@ -312,7 +339,8 @@ impl Device {
         self.0.most_packets()
     }
 
-    /// The losses that were not returned yet, oldest first. Those that wait keep memory: a program that needs no losses reads them too.
+    /// Hands out the losses that were not handed out yet, the oldest first. A program that does not
+    /// need its losses reads them too, since losses that wait keep memory.
     ///
     /// ```
     /// # use qtree::{Cause, Device, Error, Fate, Packet, Settings};
@@ -336,16 +364,18 @@ impl Device {
         }
     }
 
-    /// What was counted in a place; `None` where nothing stands there.
+    /// Returns the counters of a place; `None` if there is no such place.
     #[must_use]
     pub fn stats(&self, place: Place) -> Option<Row> {
         let (code, row) = self.0.stats(place.to_c());
         (code == sys::QTREE_DONE).then(|| Row::of(row))
     }
 
-    /// When the packet arrived that has been queued longest in a place, in nanoseconds; `None` where none is queued there, or nothing
-    /// stands there. The time of the last call less this is how long it has waited. It looks at each node in that place once, and at
-    /// each flow of an fq_codel.
+    /// Returns when the oldest packet that is queued in a place arrived, in nanoseconds; `None` if nothing is queued there, or if there is
+    /// no such place. A packet that a tbf, a drr or an fq_codel there holds is queued too.
+    ///
+    /// Its waiting time is the present time less this, and no other packet in the place has waited longer. The method looks once at each
+    /// qdisc in the place, and at each flow of an fq_codel.
     ///
     /// ```
     /// # use qtree::{Device, Error, Packet, Place, Settings};
@@ -364,9 +394,7 @@ impl Device {
         (code == sys::QTREE_DONE).then_some(moment)
     }
 
-    /// What the class in a place is promised; `None` where it is no class of a drr, or where something other than drrs stands between it
-    /// and the root, a tbf at the root apart; or where that tbf has another beneath it, or a burst without room for a packet of the
-    /// mtu and what its rate brings in a nanosecond.
+    /// Returns what the class of a drr in a place is promised while something is queued in it.
     ///
     /// ```
     /// # use qtree::{Device, Error, Place, Settings};
@@ -384,6 +412,11 @@ impl Device {
     /// assert_eq!(service.late, Some(399));
     /// # Ok::<(), Error>(())
     /// ```
+    ///
+    /// Returns `None` if nothing is promised, since the place is no class of a drr; something other
+    /// than drrs stands between it and the root, apart from a tbf at the root; that tbf has another
+    /// tbf below it; or its burst has no room for a packet of the mtu and what its rate brings in a
+    /// nanosecond.
     #[must_use]
     pub fn service(&self, place: Place) -> Option<Service> {
         let (code, promise) = self.0.service(place.to_c());
@@ -391,9 +424,7 @@ impl Device {
         (code == sys::QTREE_DONE).then(|| Service::of(promise, late))
     }
 
-    /// How long a packet waits at most in the pfifo or bfifo in a place; `None` where another qdisc or none is there, where something
-    /// other than the first bands of prios leads there from the root, a tbf at the root apart; where another tbf is in the tree; where the
-    /// one at the root has a burst without room, as [`Device::service`] says; or where a number is too large.
+    /// Returns how long a packet waits at most in the pfifo or bfifo in a place.
     ///
     /// ```
     /// # use qtree::{Device, Error, Place, Settings};
@@ -409,19 +440,24 @@ impl Device {
     /// assert_eq!((worst.bytes, worst.ns, worst.late), (3000, Some(1_200_000), Some(50_399)));
     /// # Ok::<(), Error>(())
     /// ```
+    ///
+    /// Returns `None` if nothing is promised, since the place has another qdisc or none; something
+    /// other than the first bands of prios leads there from the root, apart from a tbf at the root;
+    /// another tbf is in the tree; the burst of the tbf at the root is too small, as for
+    /// [`Device::service`]; or a number would be too large.
     #[must_use]
     pub fn worst(&self, place: Place) -> Option<Worst> {
         let (code, delay) = self.0.worst(place.to_c());
         (code == sys::QTREE_DONE).then(|| Worst::of(delay))
     }
 
-    /// What was counted by the device itself.
+    /// Returns the counters of the device itself.
     #[must_use]
     pub fn totals(&self) -> Row {
         Row::of(self.0.stats(Place::Top.to_c()).1)
     }
 
-    /// All qdiscs, each before those beneath it, in the order of `tc qdisc show`.
+    /// Returns all qdiscs in the order of `tc qdisc show`: each qdisc comes before those below it.
     ///
     /// ```
     /// # use qtree::{Device, Error, Place, Qdisc, Settings};
@@ -453,7 +489,7 @@ impl Device {
         classes
     }
 
-    /// What tc shows of it.
+    /// Returns what tc shows of the tree, as a text.
     ///
     /// ```
     /// # use qtree::{Device, Error, Settings, Show};
@@ -465,31 +501,37 @@ impl Device {
     ///
     /// # Errors
     ///
-    /// `Memory`.
+    /// `Memory` if an allocation fails.
     pub fn show(&self, show: Show) -> Result<String, Error> {
         text_of(|text| self.0.show(show as u32, text))
     }
 
-    /// How many arrivals, polls and accepted commands there were, and how many of them, the first ones, the recorder has.
+    /// Returns how many events there were, and how many of them are recorded, which are the first
+    /// of them. The events of a device are the arrivals, the polls and the commands that it
+    /// accepts.
     #[must_use]
     pub fn events(&self) -> (u64, usize) {
         self.0.events()
     }
 
-    /// The recorded event of this index, from 0; `None` after the last.
+    /// Returns the recorded event of this index, which counts from 0; `None` if there is no such
+    /// event.
     ///
     /// # Errors
     ///
-    /// `Memory`, for the line of a command.
+    /// `Memory` if the line of a command cannot be allocated.
     pub fn recorded(&self, index: usize) -> Result<Option<Event>, Error> {
         event_of(self.0.recorded(index), |text| {
             self.0.recorded_line(index, text)
         })
     }
 
-    /// The script that plays all recorded events again: with the device's mtu and txqueuelen, `qtree-play` does what the device
-    /// did, and so does `qtree play` with a script of at most 16,777,216 bytes, which is some 240,000 packets. A script does not say a packet's port, number and buf, nor the addresses of one that is not IP: packets are numbered from 1 in the
-    /// order of their arrivals.
+    /// Returns the script that plays all recorded events again.
+    ///
+    /// With the device's mtu and txqueuelen, `qtree-play` does with this script what the device
+    /// did. So does `qtree play` if the script has at most 16,777,216 bytes, which is some 240,000
+    /// packets. A script lacks the port, the number and the buf of each packet, and the addresses
+    /// of one that is not IP: its packets are numbered from 1 in the order of their arrivals.
     ///
     /// ```
     /// # use qtree::{Device, Error, Packet, Settings};
@@ -505,13 +547,15 @@ impl Device {
     ///
     /// # Errors
     ///
-    /// `Memory`.
+    /// `Memory` if an allocation fails.
     pub fn recorded_script(&self) -> Result<String, Error> {
         text_of(|text| self.0.recorded_script(text))
     }
 
-    /// Keeps the last events from now on, so many of them: where all places are taken the oldest makes way. The recorder has the first
-    /// events. Those that an earlier call kept are gone. 0 keeps none, which is how a device begins.
+    /// From now on keeps the last events, as many as `places` says: if all places are taken, the
+    /// oldest event makes way for a new one. The recorder has only the first events. Events that
+    /// were kept because of an earlier call are gone. With 0 places no events are kept, which is
+    /// how a device begins.
     ///
     /// ```
     /// # use qtree::{Device, Error, EventKind, Packet, Settings};
@@ -529,7 +573,8 @@ impl Device {
     ///
     /// # Errors
     ///
-    /// `OutOfRange` for more than 1,000,000 places; `Memory`. All is then as it was.
+    /// `OutOfRange` for more than 1,000,000 places; `Memory` if an allocation fails. On an error
+    /// nothing has changed.
     pub fn keep_last(&mut self, places: u32) -> Result<(), Error> {
         match self.0.keep_last(places) {
             sys::QTREE_DONE => Ok(()),
@@ -537,28 +582,30 @@ impl Device {
         }
     }
 
-    /// How many events were noted since [`keep_last`](Device::keep_last), and how many of them, the last ones, are kept.
+    /// Returns how many events were noted since [`keep_last`](Device::keep_last), and how many of
+    /// them, the last ones, are kept.
     #[must_use]
     pub fn last_noted(&self) -> (u64, usize) {
         self.0.last_noted()
     }
 
-    /// One of the last events, by its index from the oldest that is kept, which is 0; `None` after the newest.
+    /// Returns one of the last events. The index counts from 0, which is the oldest event that is
+    /// kept. `None` if there is no such event.
     ///
     /// # Errors
     ///
-    /// `Memory`, for the line of a command.
+    /// `Memory` if the line of a command cannot be allocated.
     pub fn last_event(&self, index: usize) -> Result<Option<Event>, Error> {
         event_of(self.0.last_event(index), |text| {
             self.0.last_line(index, text)
         })
     }
 
-    /// The last events, the oldest first.
+    /// Returns all events that are kept, the oldest first.
     ///
     /// # Errors
     ///
-    /// `Memory`.
+    /// `Memory` if an allocation fails.
     pub fn last_events(&self) -> Result<Vec<Event>, Error> {
         let (_, kept) = self.last_noted();
         let mut events = Vec::new();

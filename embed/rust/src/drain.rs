@@ -15,11 +15,13 @@ use crate::turn::Turn;
 use alloc::sync::Arc;
 use alloc::vec::Vec;
 
-/// A device with the rings of many senders. Each sender has a [`Port`]; the drain takes in what they placed, and polls.
+/// A device with the rings of many senders. Each sender has a [`Port`]. The drain takes in what the
+/// ports have placed, and polls.
 ///
-/// It may move to another thread. Ports, drain and gauges are dropped in any order: once the drain is dropped, what is left in the rings is
-/// discarded, and offers return `Closed`. No call waits: between turns a program sleeps until [`Device::ready_at`], or until a sender wakes
-/// it, as by `std::thread::Thread::unpark`.
+/// A drain may move to another thread. Ports, drain and gauges are dropped in any order. Once the
+/// drain is dropped, what is left in the rings is discarded, and offers return `Closed`. No call
+/// waits: between two turns a program sleeps until [`Device::ready_at`], or until a sender wakes
+/// it, for example by `std::thread::Thread::unpark`.
 ///
 /// ```
 /// use qtree::{Drain, Packet, Settings};
@@ -49,12 +51,13 @@ pub struct Drain {
 }
 
 impl Drain {
-    /// A drain with a new device, and its ports, in order of their indices: 1 at least, each with a ring of `places` places, 1 to
-    /// 65536.
+    /// Opens a drain with a new device, and `ports` ports, at least 1. Each port has a ring of
+    /// `places` places, 1 to 65536. The ports are returned in the order of their indices.
     ///
     /// # Errors
     ///
-    /// `OutOfRange` for no port, or a ring or a setting that is out of its range; `Memory`.
+    /// `OutOfRange` for 0 ports, and for a ring or a setting that is out of its range; `Memory` if
+    /// an allocation fails.
     pub fn open(
         settings: Settings,
         ports: u32,
@@ -84,13 +87,19 @@ impl Drain {
         Ok((drain, opened))
     }
 
-    /// A turn: up to `most` packets leave the rings and arrive, one from each ring in turn, going on after the one that was taken from
-    /// last; then come up to `most` polls, up to the first that gives no packet. Their packets are appended to `sent`. If `sent` has room
-    /// for `most` packets more, only arrivals allocate. The counters are then published for gauges.
+    /// Takes a turn: packets arrive from the rings, then the device is polled, and then its
+    /// counters are published for gauges.
+    ///
+    /// At most `most` packets leave the rings, one from each ring in turn, beginning after the ring
+    /// from which the last packet was taken. Then there are at most `most` polls, until one returns
+    /// no packet. The polled packets are appended to `sent`. If `sent` has room for `most` more
+    /// packets, only the arrivals allocate.
     ///
     /// # Errors
     ///
-    /// `OutOfRange` (the time); `Memory`, if the room for `sent` cannot be allocated. Nothing has changed then.
+    /// `OutOfRange` if the time is out of its range; `Memory` if the room in `sent` cannot be
+    /// allocated. On an error nothing has changed. (If the allocation of an arrival fails,
+    /// [`Turn::memory`] says so.)
     pub fn turn(&mut self, now: u64, most: usize, sent: &mut Vec<Packet>) -> Result<Turn, Error> {
         sent.try_reserve(most).map_err(|_| Error::Memory)?;
         let (taken, memory) = self.collect(now, most)?;
@@ -103,20 +112,24 @@ impl Drain {
         })
     }
 
-    /// How many ports are not closed yet.
+    /// Returns how many ports are not closed yet.
     #[must_use]
     pub fn open_ports(&self) -> usize {
         let open = |it: &&Outlet| it.placed().is_none();
         self.outlets.iter().filter(open).count()
     }
 
-    /// Takes in all that is left in the rings, once every port is closed, and compares what was placed with what was taken in. The
-    /// packets are queued or lost as in a turn: if the tree may not have room for all of them, take turns first, until one takes nothing.
+    /// Takes in all that is left in the rings, once every port is closed, and compares what was
+    /// placed with what was taken in.
+    ///
+    /// The packets are queued or lost as in a turn. If the tree may not have room for all of them,
+    /// take turns first, until one takes nothing.
     ///
     /// # Errors
     ///
-    /// `OpenPorts`, `OutOfRange` (the time). `Memory`, if the allocation of an arrival fails: what was taken in has arrived, and the
-    /// rest can be settled by another call.
+    /// `OpenPorts` if a port is not closed yet; `OutOfRange` if the time is out of its range;
+    /// `Memory` if the allocation of an arrival fails: what was taken in has arrived, and another
+    /// call settles the rest.
     pub fn settle(&mut self, now: u64) -> Result<Settled, Error> {
         let mut settled = Settled {
             placed: Count::default(),
@@ -152,18 +165,20 @@ impl Drain {
         &self.device
     }
 
-    /// Its device, for commands, counters, shows, losses, and the time of the next turn. The next turn publishes its counters.
+    /// Returns the device, for commands, counters, texts, losses, and the time of the next turn.
+    /// The next turn publishes its counters.
     pub fn device_mut(&mut self) -> &mut Device {
         &mut self.device
     }
 
-    /// A reader of what the device counts, for any thread.
+    /// Returns a reader of the device's counters, for any thread.
     #[must_use]
     pub fn gauge(&self) -> Gauge {
         Gauge::new(self.board.clone())
     }
 
-    /// Takes in up to `most` packets, one from each ring in turn. Returns how many, and whether an allocation failure ended it.
+    /// Takes in up to `most` packets, one from each ring in turn. Returns how many, and whether an
+    /// allocation failure ended it.
     fn collect(&mut self, now: u64, most: usize) -> Result<(usize, bool), Error> {
         let (mut at, mut taken, mut empty) = (self.next, 0, 0);
         while taken < most && empty < self.outlets.len() {

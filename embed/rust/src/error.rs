@@ -6,7 +6,8 @@ use crate::text::text_of;
 use alloc::string::String;
 use core::fmt;
 
-/// Why a call failed. Nothing has changed then, unless the call's page says so.
+/// Why a call failed. Nothing has changed then, unless the documentation of the call says
+/// otherwise.
 #[derive(Clone, Copy, Debug, PartialEq, Eq)]
 #[non_exhaustive]
 pub enum Error {
@@ -20,14 +21,15 @@ pub enum Error {
     Faulty {
         /// What is wrong.
         fault: Fault,
-        /// The index of the word, counted from 1.
+        /// The index of the word that is wrong, counted from 1.
         word: usize,
     },
-    /// The line is no command: it is empty, asks for a show text, or is a script's line for a packet, a poll or a time.
+    /// The line is no command: it is blank or a comment, it asks for a text, or it is a line of a
+    /// script, for a packet, a poll or a time.
     NoCommand,
     /// A port of the drain is not closed yet.
     OpenPorts,
-    /// A packet that is built has a field out of its range.
+    /// A field of a packet that is built is out of its range.
     Packet(PacketError),
 }
 
@@ -49,9 +51,12 @@ impl Error {
 }
 
 impl Error {
-    /// What `qtree play --explain` writes of the line that [`Device::command`](crate::Device::command) answered by this: the line with
-    /// its number, a mark under the word at which it failed, and a sentence on what to do. Of a line that is no command the sentence says
-    /// what it is, and which call does what it asks for. `None` where the line is neither refused nor faulty nor such a line.
+    /// Writes why [`Device::command`](crate::Device::command) did not carry out a line and returned
+    /// this error, as `qtree play --explain` does: the line with its number, a mark under the word
+    /// at which it failed, and a sentence on what to do. If the line is no command, the sentence
+    /// says what the line is, and which call does what it asks for.
+    ///
+    /// Returns `None` if the line is neither refused nor faulty nor such a line.
     ///
     /// ```
     /// # use qtree::{Device, Error, Settings};

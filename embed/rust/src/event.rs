@@ -1,11 +1,11 @@
 use crate::packet::Packet;
 use alloc::string::String;
 
-/// What a device recorded of an event.
+/// An event that a device recorded, or noted among the last events.
 #[derive(Clone, Debug, PartialEq, Eq)]
 #[non_exhaustive]
 pub struct Event {
-    /// The time at which it counted.
+    /// The time at which it counted, in nanoseconds.
     pub moment: u64,
     /// What it was.
     pub kind: EventKind,
@@ -18,6 +18,6 @@ pub enum EventKind {
     Arrived(Packet),
     /// The device was polled.
     Polled,
-    /// A command changed the tree: its line of tc, for a device named eth0.
+    /// A command changed the tree. This is its line of tc, for a device named eth0.
     Commanded(String),
 }

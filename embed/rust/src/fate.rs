@@ -5,6 +5,6 @@ use crate::cause::Cause;
 pub enum Fate {
     /// It is queued.
     Kept,
-    /// It is lost, and waits among the [losses](crate::Device::losses).
+    /// It is lost, and also waits among the [losses](crate::Device::losses).
     Lost(Cause),
 }

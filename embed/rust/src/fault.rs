@@ -4,17 +4,17 @@ use core::fmt;
 #[derive(Clone, Copy, Debug, PartialEq, Eq)]
 #[non_exhaustive]
 pub enum Fault {
-    /// It has no meaning in this place of the line.
+    /// The word has no meaning in its place.
     UnknownWord = 1,
-    /// The line ends before a word that it needs.
+    /// The line needs another word.
     Missing = 2,
-    /// It is not of the form of a number, a handle or the like.
+    /// The value is not written as it has to be.
     BadNumber = 3,
-    /// It is outside its range.
+    /// The value is out of its range.
     OutOfRange = 4,
-    /// The word or option was named before.
+    /// The word was given before.
     Twice = 5,
-    /// It is not UTF-8.
+    /// The word is not UTF-8.
     BadUtf8 = 6,
 }
 
@@ -31,7 +31,7 @@ impl Fault {
     }
 }
 
-/// What is to be said of the word.
+/// What is wrong with the word, as the end of a sentence.
 impl fmt::Display for Fault {
     fn fmt(&self, f: &mut fmt::Formatter<'_>) -> fmt::Result {
         f.write_str(match self {

@@ -2,7 +2,7 @@ use crate::board::Board;
 use crate::row::Row;
 use alloc::sync::Arc;
 
-/// Reads what a drain's device counted, on any thread, while the drain goes on.
+/// Reads the counters of a drain's device, on any thread, while the drain goes on.
 ///
 /// ```
 /// use qtree::{Drain, Packet, Settings};
@@ -25,8 +25,11 @@ impl Gauge {
         Gauge { board }
     }
 
-    /// The row of the device as it was after the last turn: what arrived was sent, refused or dropped, or is queued. No count but that of
-    /// the queued packets is below one that was read before. The drain does not wait for this call, which reads again if a turn ends meanwhile.
+    /// Returns the counters of the device as they were after the last turn. In this row, what
+    /// arrived was sent, refused or dropped, or is queued. No counter is less than in a row that
+    /// was read before, except that of the queued packets.
+    ///
+    /// The drain does not wait for this call. The call reads again if a turn ends meanwhile.
     #[must_use]
     pub fn read(&self) -> Row {
         self.board.read()

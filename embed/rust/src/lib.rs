@@ -1,8 +1,10 @@
-//! A packet scheduler in userspace with the behaviour of Linux traffic control: safe Rust over the library that is proved in
-//! Rattle.
+//! A packet scheduler in userspace with the behaviour of Linux traffic control: safe Rust over a
+//! library that is proved in Rattle.
 //!
-//! A [`Device`] is a tree of queueing disciplines, which lines of tc set up. Packets are descriptors; their bytes stay with the
-//! program, which finds them again by [`Packet::buf`]. Times are nanoseconds since a time of the program's choice.
+//! A [`Device`] is one scheduler: a tree of queueing disciplines (*qdiscs*), which lines of `tc`
+//! set up. A program describes each packet to the device in a [`Packet`], and keeps the packet's
+//! bytes itself. It finds the bytes again by [`Packet::buf`], a number of its own that comes back
+//! when the packet is sent or lost.
 //!
 //! ```
 //! use qtree::{Device, Fate, Packet, Polled, Settings};
@@ -18,10 +20,82 @@
 //! # Ok::<(), qtree::Error>(())
 //! ```
 //!
-//! Many threads send through a [`Drain`]: each has a [`Port`] of its own, and a [`Gauge`] reads the counters on any thread.
+//! # What a program does
 //!
-//! The crate is `no_std`. The library is linked statically: `build.rs` takes it from the folder that `QTREE_LIB` names, else from `lib`, where a
-//! package has it, else from where `make -C embed/c` leaves it.
+//! 1. It opens a device with [`Device::open`], and sets it up with [`Device::command`], line by
+//!    line, or with [`Device::set_up`], by a whole file.
+//! 2. For each frame that comes in, it finds the IP header with [`ip_at`], reads the header with
+//!    [`Packet::read`], and lets the packet arrive with [`Device::arrive`].
+//!    [`Device::arrive_frame`] does the last two together.
+//! 3. As long as the time of [`Device::ready_at`] is not after now, it polls with [`Device::poll`],
+//!    and transmits the packets that it gets. If a packet's [`Packet::ecn`] is 3, it first writes
+//!    this mark into the packet's bytes with [`mark_head`].
+//! 4. It takes the lost packets from [`Device::losses`], each with its [`Cause`], and reuses their
+//!    buffers. Losses that no program takes keep memory.
+//! 5. It sleeps until the time of [`Device::ready_at`], or until a packet comes in.
+//!
+//! # Times
+//!
+//! A time is a number of nanoseconds since an instant that the program chooses, and is at most
+//! [`MOMENT_MAX`]. The device reads no clock: the program passes the time to each call. A time that
+//! is before an earlier one counts as the earlier one.
+//!
+//! # Lines of tc
+//!
+//! A device has the qdiscs pfifo, bfifo, prio, tbf, drr and fq_codel. In this tree a tbf limits a
+//! link to 20 Mbit/s, and a drr shares it two to one among two customers, whose packets a filter
+//! tells apart by their destination:
+//!
+//! ```
+//! use qtree::{Device, Place, Settings};
+//!
+//! let mut device = Device::open(Settings::default())?;
+//! for line in [
+//!     "tc qdisc add dev wan root handle 1: tbf rate 20mbit burst 3028 latency 50ms",
+//!     "tc qdisc add dev wan parent 1:1 handle 2: drr",
+//!     "tc class add dev wan parent 2: classid 2:1 drr quantum 3000",
+//!     "tc class add dev wan parent 2: classid 2:2 drr quantum 1500",
+//!     "tc qdisc add dev wan parent 2:1 handle 21: fq_codel",
+//!     "tc qdisc add dev wan parent 2:2 handle 22: fq_codel",
+//!     "tc filter add dev wan parent 2: prio 1 flower dst_ip 10.0.1.0/24 classid 2:1",
+//!     "tc filter add dev wan parent 2: prio 2 protocol all flower classid 2:2",
+//! ] {
+//!     device.command(line, 0)?;
+//! }
+//! assert_eq!(device.nodes().len(), 4);
+//! assert_eq!(device.service(Place::Class(2, 1)).and_then(|it| it.rate), Some(13_333_333));
+//! # Ok::<(), qtree::Error>(())
+//! ```
+//!
+//! The name after `dev` means nothing. In the repository and in each package, the page
+//! `LANGUAGE.md` has all lines and options, `DISCIPLINES.md` has the rules of each qdisc, and
+//! `EMBEDDING.md` has whole programs.
+//!
+//! # Threads
+//!
+//! A [`Device`] may move to another thread, but only one thread at a time uses it. If many threads
+//! bring packets, they do so through a [`Drain`]: each of them has a [`Port`] of its own and needs
+//! no lock, and a [`Gauge`] reads the counters on any thread. No call waits for another thread.
+//!
+//! # What is proved
+//!
+//! What each function of the library does to a device, and what it returns, is proved for every call
+//! that keeps to the library's rules. This crate is plain Rust over these functions, which is tested
+//! and not proved. It keeps to the rules about pointers, structs and threads. These are up to the
+//! program:
+//!
+//! - No call is made from a signal handler, or in the child of a fork of a program with threads.
+//! - A thread that makes a call has at least 64 KB of stack left.
+//! - `malloc`, `realloc` and `free` are those of the C library, or behave as those have to.
+//! - The system is Linux on a processor with pointers of 64 bits and little-endian byte order. The
+//!   library that Rattle's kit builds for x86-64 needs x86-64-v2 or later (SSE4.2 and POPCNT).
+//!
+//! # Linking
+//!
+//! The crate is `no_std` and has no dependencies. The library is linked statically: `build.rs` takes
+//! `libqtree.a` from the folder that the environment variable `QTREE_LIB` names. If the variable is
+//! not set, it looks first in the crate's own folder `lib`, where a package has the library, and
+//! then where `make -C embed/c` leaves it in the repository.
 #![no_std]
 #![deny(missing_docs, unsafe_code, unsafe_op_in_unsafe_fn)]
 
@@ -112,7 +186,7 @@ struct Page;
 /// The latest time that a call takes: 2^62 nanoseconds.
 pub const MOMENT_MAX: u64 = 1 << 62;
 
-/// The version of the library that is linked: its major and its minor number.
+/// The version of the library that is linked: its major number and its minor number.
 #[must_use]
 pub fn version() -> (u16, u16) {
     let version = raw::sys::qtree_version();

@@ -1,7 +1,8 @@
 use crate::device::Device;
 use crate::loss::Loss;
 
-/// The losses of a device that were not returned yet, oldest first. The device forgets each one that the iterator returns.
+/// The losses of a device that were not handed out yet, the oldest first. The device forgets each
+/// loss that the iterator returns.
 #[derive(Debug)]
 #[must_use = "losses wait until the iterator returns them"]
 pub struct Losses<'a> {

@@ -6,25 +6,26 @@ use crate::row::Row;
 use alloc::vec::Vec;
 use core::fmt;
 
-/// A qdisc: where it stands, its settings, its classes and what it counted.
+/// A qdisc: its place, its settings, its classes and its counters.
 #[derive(Clone, PartialEq, Eq)]
 #[non_exhaustive]
 pub struct Node {
     /// Its major number; `None` for a leaf that no line added.
     pub handle: Option<u16>,
-    /// The root, or the class of another qdisc.
+    /// Where it is: at the root, or in a class of another qdisc.
     pub place: Place,
-    /// Its kind, and how it is set.
+    /// Its kind and its settings.
     pub qdisc: Qdisc,
-    /// What it counted.
+    /// Its counters.
     pub row: Row,
-    /// How many flows are listed, if it is an fq_codel.
+    /// How many of its flows are in a list, if it is an fq_codel.
     pub listed: Option<ListedFlows>,
     /// Its classes, in the order of `tc class show`.
     pub classes: Vec<Class>,
 }
 
-/// Its handle and its place as tc writes them, in hexadecimal: `drr 1: root`, or `pfifo 0: parent 1:1f`.
+/// Its kind, its handle and its place as tc writes them, in hexadecimal: `drr 1: root`, or `pfifo
+/// 0: parent 1:1f`.
 impl fmt::Display for Node {
     fn fmt(&self, f: &mut fmt::Formatter<'_>) -> fmt::Result {
         write!(f, "{} {:x}: ", self.qdisc, self.handle.unwrap_or(0))?;
@@ -47,7 +48,8 @@ impl fmt::Debug for Node {
     }
 }
 
-/// How many flows of an fq_codel are in each of its lists. The others have no packets, and no turn.
+/// How many flows of an fq_codel are in each of its lists. The other flows have no packets, and no
+/// turn.
 #[derive(Clone, Copy, Debug, PartialEq, Eq)]
 #[non_exhaustive]
 pub struct ListedFlows {

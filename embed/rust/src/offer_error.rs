@@ -1,10 +1,11 @@
 use core::fmt;
 
-/// Why a port did not place a packet. Nothing has changed then, and the packet may be offered again.
+/// Why a port did not place a packet. Nothing has changed then, and the packet may be offered
+/// again.
 #[derive(Clone, Copy, Debug, PartialEq, Eq)]
 #[non_exhaustive]
 pub enum OfferError {
-    /// The ring has no room: places become free as the drain takes packets in.
+    /// No place of the ring is free. Places become free as the drain takes packets in.
     Full,
     /// The packet has a length of 0, a priority above 15 or an ECN codepoint above 3.
     OutOfRange,

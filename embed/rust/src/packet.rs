@@ -3,19 +3,23 @@ use crate::raw::{read_hashed, read_head, sys};
 use core::fmt;
 use core::net::{IpAddr, Ipv4Addr, Ipv6Addr};
 
-/// A packet's descriptor. Its bytes stay with the program, which finds them again by [`Packet::buf`].
+/// The descriptor of a packet. The packet's bytes stay with the program, which finds them again by
+/// [`Packet::buf`].
 #[derive(Clone, Copy)]
 #[repr(transparent)]
 pub struct Packet(pub(crate) sys::Packet);
 
 impl Packet {
-    /// Begins a packet of this length in bytes; methods set its other fields by name.
+    /// Begins a packet of this length in bytes. The methods of the builder set its other fields by
+    /// name.
     pub fn builder(len: u16) -> PacketBuilder {
         PacketBuilder::new(len)
     }
 
-    /// A packet of this length. Its other fields are read from its first bytes, which begin with its IP header. The seed is that of its
-    /// hash. An arrival of a packet with length 0 is an error.
+    /// Returns a packet of `len` bytes whose other fields are read from its first bytes, which
+    /// begin with its IP header. `buf` is the program's own number, and `seed` is that of the hash.
+    ///
+    /// An arrival of a packet with a length of 0 is an error.
     ///
     /// ```
     /// let udp = [0x45, 0, 0, 28, 0, 0, 0, 0, 64, 17, 0, 0, 10, 0, 0, 1, 10, 0, 0, 2, 0x10, 0, 0x13, 0x89, 0, 8, 0, 0];
@@ -34,8 +38,9 @@ impl Packet {
         Packet(packet)
     }
 
-    /// A packet that is read in the same way, with a hash that the program has, as that of a network card: hashing takes most of the time
-    /// of [`Packet::read`]. If no fq_codel is in the tree, nothing reads a hash, and it may be 0.
+    /// Does what [`Packet::read`] does, with a hash that the program has, for example from a
+    /// network card: computing the hash takes most of the time of [`Packet::read`]. If no fq_codel
+    /// is in the tree, nothing reads a hash, and it may be 0.
     ///
     /// ```
     /// let udp = [0x45, 0, 0, 28, 0, 0, 0, 0, 64, 17, 0, 0, 10, 0, 0, 1, 10, 0, 0, 2, 0x10, 0, 0x13, 0x89, 0, 8, 0, 0];
@@ -53,8 +58,9 @@ impl Packet {
         Packet(packet)
     }
 
-    /// The same packet with other ports of its source and its destination, and with the hash that it has. A program that knows the class of
-    /// a packet names it so, by a number that a filter matches as a port. No byte of the packet changes.
+    /// Returns the same packet with other ports, and with the hash that it has. By this a program
+    /// that knows the class of a packet names the class: it passes a number that a filter matches
+    /// as a port. No byte of the packet changes.
     ///
     /// ```
     /// # use qtree::{Cause, Device, Error, Fate, Packet, Place, Settings};
@@ -74,25 +80,27 @@ impl Packet {
         self
     }
 
-    /// The program's own number.
+    /// The program's own number for the packet's bytes.
     #[must_use]
     pub fn buf(&self) -> u32 {
         self.0.buf
     }
 
-    /// The index of the sender's port that placed it, if it came by a ring.
+    /// The index of the port that placed it, if it came by a ring; otherwise the program's own
+    /// number.
     #[must_use]
     pub fn port(&self) -> u32 {
         self.0.port
     }
 
-    /// Its number among those of its port, counted from 1 by a [`Port`](crate::Port).
+    /// Its number among the packets of its port, which a [`Port`](crate::Port) counts from 1, if it
+    /// came by a ring; otherwise the program's own number.
     #[must_use]
     pub fn number(&self) -> u64 {
         self.0.number
     }
 
-    /// The hash of its flow, by which an fq_codel chooses the flow.
+    /// The hash, by which an fq_codel chooses the packet's flow.
     #[must_use]
     pub fn hash(&self) -> u32 {
         self.0.hash
@@ -111,19 +119,19 @@ impl Packet {
         self.0.proto
     }
 
-    /// The ports of its source and its destination, of TCP or UDP.
+    /// The ports of the source and the destination, of TCP or UDP.
     #[must_use]
     pub fn ports(&self) -> (u16, u16) {
         (self.0.sport, self.0.dport)
     }
 
-    /// The address of its source; `None` if the packet is not IP.
+    /// The address of the source; `None` if the packet is not IP.
     #[must_use]
     pub fn src(&self) -> Option<IpAddr> {
         address(self.0.family, self.0.src_high, self.0.src_low)
     }
 
-    /// The address of its destination; `None` if the packet is not IP.
+    /// The address of the destination; `None` if the packet is not IP.
     #[must_use]
     pub fn dst(&self) -> Option<IpAddr> {
         address(self.0.family, self.0.dst_high, self.0.dst_low)
@@ -135,7 +143,8 @@ impl Packet {
         self.0.prio
     }
 
-    /// Its ECN codepoint, 0 to 3. Where a poll gives 3, [`mark_head`](crate::mark_head) writes it into the packet's bytes.
+    /// Its ECN codepoint, 0 to 3. If a poll returns a packet with 3, the program writes this mark
+    /// into the packet's bytes with [`mark_head`](crate::mark_head).
     #[must_use]
     pub fn ecn(&self) -> u8 {
         self.0.ecn

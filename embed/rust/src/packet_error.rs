@@ -1,6 +1,6 @@
 use core::fmt;
 
-/// Which field of a packet is out of its range, so that no device and no port takes it.
+/// Which field of a packet is out of its range. No device and no port takes such a packet.
 #[derive(Clone, Copy, Debug, PartialEq, Eq)]
 #[non_exhaustive]
 pub enum PacketError {

@@ -1,17 +1,18 @@
 use core::fmt;
 
-/// A place in which packets are counted.
+/// A place of a tree.
 #[derive(Clone, Copy, PartialEq, Eq)]
 pub enum Place {
     /// The device itself.
     Top,
-    /// Its root.
+    /// The qdisc at its root.
     Root,
-    /// The qdisc in the class `major:minor`, from 1:1 to fffe:ffff. In lines of tc both are hexadecimal.
+    /// The qdisc in the class `major:minor`, from 1:1 to fffe:ffff. In lines of tc both numbers are
+    /// hexadecimal: the class 1:10 is `Class(1, 0x10)`.
     Class(u16, u16),
 }
 
-/// As tc writes it: `root`, or the class as `1:1f`. The device itself is `top`.
+/// The place as tc writes it: `root`, or the class, such as `1:1f`. The device itself is `top`.
 ///
 /// ```
 /// # use qtree::Place;

@@ -1,12 +1,13 @@
 use crate::packet::Packet;
 
-/// What a poll gives.
+/// What a poll returns.
 #[derive(Clone, Copy, Debug, PartialEq, Eq)]
 pub enum Polled<P = Packet> {
     /// The packet whose turn it is.
     Packet(P),
-    /// None, and none is queued.
+    /// No packet: none is queued.
     Idle,
-    /// None, though some are queued: their time has not come.
+    /// No packet: packets are queued, but none may go yet.
+    /// [`Device::ready_at`](crate::Device::ready_at) says when to poll again.
     Later,
 }

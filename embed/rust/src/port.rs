@@ -5,8 +5,9 @@ use crate::raw::{RawPort, sys};
 use crate::ring_state::RingState;
 use alloc::sync::Arc;
 
-/// A sender's end of a ring, by which it passes packets to a [`Drain`](crate::Drain). It may move to a thread of its own, which waits
-/// neither for another sender nor for a lock. Dropping it closes it; what it placed is still taken in.
+/// A sender's end of a ring, through which it passes packets to a [`Drain`](crate::Drain). A port
+/// may move to a thread of its own, which waits neither for another sender nor for a lock. Dropping
+/// the port closes it; packets that it has placed can still be taken in.
 ///
 /// ```
 /// use qtree::{Drain, OfferError, Packet, Settings};
@@ -22,7 +23,7 @@ use alloc::sync::Arc;
 /// # Ok::<(), qtree::Error>(())
 /// ```
 ///
-/// One thread at a time uses it:
+/// Only one thread at a time uses a port:
 ///
 /// ```compile_fail,E0277
 /// fn shared<T: Sync>(_: T) {}
@@ -42,18 +43,20 @@ impl Port {
         Port { raw, index, ring }
     }
 
-    /// Its index, counted from 0, which its packets have as their [`Packet::port`].
+    /// The index of the port, counted from 0, which its packets have as their [`Packet::port`].
     #[must_use]
     pub fn index(&self) -> u32 {
         self.index
     }
 
-    /// Places a copy of the packet in the ring, with the port's index and the number of packets placed, counted from 1. It allocates
-    /// nothing and waits for no thread.
+    /// Places a copy of the packet in the ring. The copy has the port's index and, as its number,
+    /// how many packets the port has placed, including this one. The call allocates nothing and
+    /// waits for no thread.
     ///
     /// # Errors
     ///
-    /// `Full`, `OutOfRange`; `Closed` once the drain is gone.
+    /// `Full` if no place is free; `OutOfRange` if a field of the packet is out of its range;
+    /// `Closed` once the drain is gone. On an error nothing has changed.
     pub fn offer(&mut self, packet: &Packet) -> Result<(), OfferError> {
         if self.ring.is_outlet_closed() {
             return Err(OfferError::Closed);
@@ -61,8 +64,9 @@ impl Port {
         offered(self.raw.offer(&packet.0))
     }
 
-    /// Places copies of the packets in the ring in order, each as by [`Port::offer`], up to the first that is not placed. Returns how many are
-    /// placed, and why no more are. The drain sees up to 16 of them at once, so that a packet costs less than an offer of its own.
+    /// Places copies of the packets in the ring in order, each as [`Port::offer`] does, up to the
+    /// first that is not placed. Returns how many are placed, and why no more are. The drain sees
+    /// up to 16 of them at once, so that each costs less than an offer of its own.
     ///
     /// ```
     /// # use qtree::{Drain, OfferError, Packet, Settings};
@@ -76,7 +80,7 @@ impl Port {
     ///
     /// # Errors
     ///
-    /// As of [`Port::offer`], for the first packet that is not placed.
+    /// Those of [`Port::offer`], for the first packet that is not placed.
     #[must_use = "packets that were not placed are to be offered again"]
     pub fn offer_many(&mut self, packets: &[Packet]) -> (usize, Result<(), OfferError>) {
         if self.ring.is_outlet_closed() {
@@ -86,7 +90,7 @@ impl Port {
         (placed, offered(code))
     }
 
-    /// What it placed so far.
+    /// Returns how many packets and bytes the port has placed so far.
     #[must_use]
     pub fn share(&self) -> Count {
         Count::of(self.raw.share())

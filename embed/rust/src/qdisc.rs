@@ -1,34 +1,34 @@
 use crate::raw::sys;
 use core::fmt;
 
-/// A kind of qdisc, with all its settings.
+/// The kind of a qdisc, with all its settings.
 #[derive(Clone, Copy, Debug, PartialEq, Eq)]
 #[non_exhaustive]
 pub enum Qdisc {
-    /// A queue of packets.
+    /// A queue whose limit counts packets.
     Pfifo {
-        /// The most packets.
+        /// The most packets that are queued.
         limit: u64,
     },
-    /// A queue of bytes.
+    /// A queue whose limit counts bytes.
     Bfifo {
-        /// The most bytes.
+        /// The most bytes that are queued.
         limit: u64,
     },
-    /// Bands, of which the first with a packet is served.
+    /// Bands, of which the first that has a packet is served.
     Prio {
-        /// How many.
+        /// How many bands there are.
         bands: u8,
-        /// The band of each priority, from 0.
+        /// The band of each priority, where 0 is the first band.
         priomap: [u8; 16],
     },
-    /// A token bucket.
+    /// A token bucket, which limits the rate.
     Tbf {
-        /// Bits a second.
+        /// The rate, in bits a second.
         rate: u64,
-        /// The bucket's size in bytes.
+        /// The size of the bucket, in bytes.
         burst: u32,
-        /// The most bytes of the queue that it was made with.
+        /// The most bytes in the queue with which it was made.
         limit: u64,
     },
     /// Classes that take turns by their quanta.
@@ -37,7 +37,7 @@ pub enum Qdisc {
     FqCodel(FqCodel),
 }
 
-/// The settings of an fq_codel. Times are nanoseconds.
+/// The settings of an fq_codel. Times are in nanoseconds.
 #[derive(Clone, Copy, Debug, PartialEq, Eq)]
 #[non_exhaustive]
 pub struct FqCodel {
@@ -51,15 +51,15 @@ pub struct FqCodel {
     pub target: u64,
     /// CoDel's interval.
     pub interval: u64,
-    /// Whether CoDel marks packets whose transport takes part in ECN, in place of dropping them.
+    /// Whether CoDel marks packets whose transport takes part in ECN, instead of dropping them.
     pub ecn: bool,
-    /// Packets that the fattest flow loses at once where the limit is passed.
+    /// How many packets the flow with the most bytes loses at once when the limit is exceeded.
     pub drop_batch: u32,
-    /// With so many bytes or fewer queued, CoDel drops nothing.
+    /// CoDel drops nothing while this many bytes or fewer are queued.
     pub mtu: u16,
 }
 
-/// Its kind, as tc has it.
+/// The name of the kind, as tc has it.
 impl fmt::Display for Qdisc {
     fn fmt(&self, f: &mut fmt::Formatter<'_>) -> fmt::Result {
         f.pad(match self {

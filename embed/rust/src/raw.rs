@@ -1,7 +1,8 @@
 //! The calls of the library over places that Rust owns. All of the crate's `unsafe` is here.
 //!
-//! A place is opened when it is made, is written by the library alone, and is closed when it is dropped. So every pointer below is
-//! that of a reference or a slice that is borrowed for the call, and none overlaps another of its call.
+//! A place is opened when it is made, is written by the library alone, and is closed when it is
+//! dropped. So every pointer below is that of a reference or a slice that is borrowed for the call,
+//! and none overlaps another of its call.
 
 mod device;
 mod head;

@@ -1,32 +1,32 @@
 use core::fmt;
 
-/// Why a command is refused.
+/// Why a command is refused. Nothing has changed then.
 #[derive(Clone, Copy, Debug, PartialEq, Eq)]
 #[non_exhaustive]
 pub enum Refusal {
-    /// No qdisc has the parent's major number.
+    /// No qdisc has the parent's handle.
     NoParent = 10,
     /// A qdisc, or the class, is there already.
     Exists = 11,
-    /// No qdisc is there that could be changed.
+    /// There is no such qdisc.
     NoQdisc = 12,
     /// Another qdisc has the handle.
     HandleTaken = 13,
-    /// The parent has no classes, or no filters.
+    /// The qdisc has no classes, or takes no filters.
     NotClassful = 14,
-    /// The parent has no such class.
+    /// The qdisc lacks the class.
     NoClass = 15,
-    /// A filter names the class.
+    /// A filter leads to the class.
     Busy = 16,
     /// The qdisc is of another kind, or this setting of it cannot be changed.
     CannotChange = 17,
-    /// A qdisc would be deeper than 8.
+    /// The tree would have more than eight levels.
     TooDeep = 18,
-    /// There would be more than 256 qdiscs, or filters of one qdisc.
+    /// There would be more than 256 qdiscs, or more than 256 filters at one qdisc.
     TooMany = 19,
     /// The burst would be below both the present one and the mtu.
     SmallBurst = 20,
-    /// No filter has that priority.
+    /// No filter of the qdisc has the prio.
     NoFilter = 21,
 }
 

@@ -5,7 +5,7 @@ use core::fmt;
 #[derive(Clone, Copy, Debug, Default, PartialEq, Eq)]
 #[non_exhaustive]
 pub struct Report {
-    /// How many lines the file has, blank ones and comments too.
+    /// How many lines the file has, including blank lines and comments.
     pub lines: u64,
     /// How many qdiscs, classes and filters were added.
     pub added: u64,

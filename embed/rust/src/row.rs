@@ -1,21 +1,22 @@
 use crate::count::Count;
 use crate::raw::sys;
 
-/// What was counted in a place: what arrived was sent, refused or dropped, or is queued.
+/// The counters of a place. In packets and in bytes, what arrived was sent, refused or dropped, or
+/// is queued.
 #[derive(Clone, Copy, Debug, Default, PartialEq, Eq)]
 #[non_exhaustive]
 pub struct Row {
     /// What arrived.
     pub arrived: Count,
-    /// What a poll gave.
+    /// What polls returned.
     pub sent: Count,
     /// What was lost on arrival.
     pub refused: Count,
     /// What was lost later.
     pub dropped: Count,
-    /// What waits.
+    /// What is queued.
     pub queued: Count,
-    /// What was marked as having met congestion.
+    /// What CoDel marked. It is part of no sum.
     pub marked: Count,
 }
 

@@ -7,7 +7,7 @@ use core::fmt;
 pub struct Sent(pub(crate) sys::Sent);
 
 impl Sent {
-    /// The program's own number.
+    /// The program's own number for the packet's bytes.
     #[must_use]
     pub fn buf(&self) -> u32 {
         self.0.buf
@@ -20,19 +20,22 @@ impl Sent {
         self.0.len
     }
 
-    /// Its ECN codepoint, 0 to 3. The program writes 3 into the packet's bytes.
+    /// Its ECN codepoint, 0 to 3. If it is 3, the program writes this mark into the packet's bytes
+    /// with [`mark_head`](crate::mark_head).
     #[must_use]
     pub fn ecn(&self) -> u8 {
         self.0.ecn
     }
 
-    /// The index of the sender's port that placed it, if it came by a ring.
+    /// The index of the port that placed it, if it came by a ring; otherwise the program's own
+    /// number.
     #[must_use]
     pub fn port(&self) -> u32 {
         self.0.port
     }
 
-    /// Its number among those of its port, counted from 1 by a [`Port`](crate::Port).
+    /// Its number among the packets of its port, which a [`Port`](crate::Port) counts from 1, if it
+    /// came by a ring; otherwise the program's own number.
     #[must_use]
     pub fn number(&self) -> u64 {
         self.0.number

@@ -1,23 +1,32 @@
 use crate::raw::sys;
 
-/// What a class of a drr is promised while something is queued in it, whatever comes to other classes, rounded against the class.
+/// What a class of a drr is promised while something is queued in it, whatever comes to the other
+/// classes. All numbers are rounded against the class.
 ///
-/// In any `t` nanoseconds between two times at which a poll gives nothing it sends more than `rate * t / (8 * 10^9) - slack` bytes, if the
-/// program polls until no packet comes, and then at most [`Service::late`] nanoseconds after the time of [`crate::Device::ready_at`], and
-/// the qdiscs, classes and quanta on the way to it stay as they are.
+/// With a tbf at the root: in any `t` nanoseconds between two times at which a poll returns no
+/// packet, the class sends more than `rate * t / (8 * 10^9) - slack` bytes, if the program polls
+/// until no packet comes, and then polls again at most [`Service::late`] nanoseconds after the time
+/// of [`Device::ready_at`](crate::Device::ready_at).
+///
+/// With a drr at the root: the class sends at least the share `part / 10^9` of what the root's
+/// classes send, less `slack`.
+///
+/// Both hold as long as the qdiscs, classes and quanta on the way to the class stay as they are,
+/// and no further tbf is added below one at the root.
 #[derive(Clone, Copy, Debug, PartialEq, Eq)]
 #[non_exhaustive]
 pub struct Service {
-    /// The rate of the tbf at the root in bits a second; `None` where a drr is at the root.
+    /// The rate of the tbf at the root, in bits a second; `None` if a drr is at the root.
     pub link: Option<u64>,
-    /// The class's part of it in bits a second; `None` where a drr is at the root.
+    /// The class's share of that rate, in bits a second; `None` if a drr is at the root.
     pub rate: Option<u64>,
-    /// Its part of a billion bytes. Where a drr is at the root it sends that part of what the root's classes send, less the slack.
+    /// The class's share of a billion bytes, in bytes.
     pub part: u64,
-    /// The bytes that it may lack.
+    /// The most bytes that the class can fall short of its share.
     pub slack: u64,
-    /// How many nanoseconds polls may be late while this holds: as long as the burst of the tbf at the root has room beside a packet of the
-    /// mtu for what the rate brings. `None` where a drr is at the root, which may be polled at any time.
+    /// How many nanoseconds polls may be late while this holds: the longest time for which the burst
+    /// of the tbf at the root has room for a packet of the mtu and what the rate brings in that time
+    /// and a nanosecond. `None` if a drr is at the root: then polls may come at any time.
     pub late: Option<u64>,
 }
 

@@ -6,10 +6,13 @@ use crate::undone::Undone;
 use alloc::vec::Vec;
 
 impl Device {
-    /// Makes the tree what a whole file of tc's lines says, with blank lines and comments, also while packets wait: what is there already with
-    /// the same words is left with its packets, what differs is changed, what is gone is deleted, and what is new is added. A program calls it
-    /// when it begins, and again whenever its file has changed. After `Ok` the tree is what the lines make of a new device, packets and
-    /// counters aside.
+    /// Makes the tree what a whole file of tc lines says, even while packets are queued. The file
+    /// may include blank lines and comments. A program calls this when it starts, and again
+    /// whenever its file has changed.
+    ///
+    /// What the tree has already with the same words stays, with its packets. What differs is
+    /// changed, what is gone from the file is deleted, and what is new is added. After `Ok` the
+    /// tree is what the lines make of a new device, apart from packets and counters.
     ///
     /// ```
     /// # use qtree::{Device, Error, Packet, SetUpError, Settings};
@@ -31,8 +34,10 @@ impl Device {
     ///
     /// # Errors
     ///
-    /// `Undone` with each line that a new device does not do: nothing has changed then. `OutOfRange` (the time). `Memory`: what was done before
-    /// the allocation failed stays, and the same call does the rest.
+    /// - `Undone` with each line that cannot be carried out on a new device. Nothing has changed.
+    /// - `OutOfRange` if the time is out of its range. Nothing has changed.
+    /// - `Memory` if an allocation fails. What was done before that stays, and the same call does
+    ///   the rest.
     pub fn set_up(&mut self, text: impl AsRef<[u8]>, now: u64) -> Result<Report, SetUpError> {
         let mut undone = Vec::new();
         let mut room = 16;

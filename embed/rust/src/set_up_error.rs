@@ -7,9 +7,10 @@ use core::fmt;
 #[derive(Clone, Debug, PartialEq, Eq)]
 #[non_exhaustive]
 pub enum SetUpError {
-    /// These lines are not done, and so none is: the device is as it was.
+    /// These lines cannot be carried out, and so none was: the device is as it was.
     Undone(Vec<Undone>),
-    /// An allocation failed. What the report counts was done before and stays, and the same call does the rest.
+    /// An allocation failed. The report counts what was done before that, which stays. The same
+    /// call does the rest.
     Memory(Report),
     /// The time is out of its range, and nothing was done.
     OutOfRange,

@@ -1,13 +1,13 @@
 use crate::count::Count;
 
-/// What a drain that has settled took in.
+/// What a drain took in from its rings until it settled.
 #[derive(Clone, Copy, Debug, PartialEq, Eq)]
 #[non_exhaustive]
 pub struct Settled {
-    /// What its ports placed, together.
+    /// What all ports placed together.
     pub placed: Count,
-    /// What was taken in of their rings, together.
+    /// What was taken in from all rings together.
     pub taken: Count,
-    /// Whether of each ring exactly that was taken in which its port placed.
+    /// Whether exactly what its port placed was taken in from each ring.
     pub adds_up: bool,
 }

@@ -1,4 +1,4 @@
-/// What tc shows of a device.
+/// Which text [`Device::show`](crate::Device::show) returns.
 #[derive(Clone, Copy, Debug, PartialEq, Eq)]
 #[non_exhaustive]
 pub enum Show {

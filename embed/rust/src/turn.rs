@@ -4,8 +4,9 @@
 pub struct Turn {
     /// How many packets left their rings and arrived.
     pub taken: usize,
-    /// How many packets the polls gave.
+    /// How many packets the polls returned.
     pub sent: usize,
-    /// Whether the allocation of an arrival failed, which ended the taking in. That packet is still in its ring.
+    /// Whether the allocation of an arrival failed, which ended the taking in. That packet is still
+    /// in its ring.
     pub memory: bool,
 }

@@ -3,14 +3,14 @@ use crate::fault::Fault;
 use crate::raw::sys;
 use core::fmt;
 
-/// A line of a file that is not done.
+/// A line of a file that cannot be carried out.
 #[derive(Clone, Copy, Debug, PartialEq, Eq)]
 #[non_exhaustive]
 pub struct Undone {
-    /// Its number, from 1.
+    /// Its number, counted from 1.
     pub line: u64,
-    /// Why it is not done: `Faulty`, `NoCommand`, or `Refused` by a new device that has done the lines before it. [`Error::explain`] has a
-    /// sentence on it.
+    /// Why: `Faulty`, `NoCommand`, or `Refused` by a new device that has carried out the lines
+    /// before it. [`Error::explain`] writes a sentence on it.
     pub why: Error,
 }
 

@@ -1,19 +1,22 @@
 use crate::raw::sys;
 
-/// How long a packet waits at most in a pfifo or bfifo that no other packet passes, from when it was kept until it has left, whatever comes
-/// meanwhile.
+/// How long a packet waits at most in a pfifo or bfifo that no other packet passes, from when it
+/// was queued until it has left, whatever comes meanwhile.
 ///
-/// This holds as long as commands take no packet from the qdisc and put none before it, leave a tbf at the root as it is, and add no other.
+/// This holds as long as commands take no packet from the qdisc and put none before it, leave a tbf
+/// at the root as it is, and add no other tbf.
 #[derive(Clone, Copy, Debug, PartialEq, Eq)]
 #[non_exhaustive]
 pub struct Worst {
-    /// The bytes that the device sends until then at most, the packet's own among them.
+    /// The most bytes that the device sends until the packet has left, including the packet itself.
     pub bytes: u64,
-    /// The nanoseconds, rounded up, after which the packet has left once the program polled until no packet came; `None` where no tbf is at
-    /// the root.
+    /// The packet has left as soon as the program has polled until no packet came at a time that is
+    /// this many nanoseconds after the packet's arrival, or later. It is rounded up. `None` if no
+    /// tbf is at the root.
     pub ns: Option<u64>,
-    /// How many nanoseconds after the time of [`crate::Device::ready_at`] polls may come for this. So the packet has left `ns` and as many
-    /// nanoseconds after its arrival. `None` where no tbf is at the root.
+    /// How many nanoseconds after the time of [`Device::ready_at`](crate::Device::ready_at) polls
+    /// may come for this. If polls are never later, the packet has left by the sum of `ns` and
+    /// `late`. `None` if no tbf is at the root.
     pub late: Option<u64>,
 }
 
