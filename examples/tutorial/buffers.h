@@ -4,6 +4,7 @@
 
 #include "qtree.h"
 
+#include <stdio.h>
 #include <stdlib.h>
 
 enum { MTU = 1500, MOST_BUFFERS = 65536 };
@@ -26,6 +27,7 @@ struct buffers {
 static inline bool buffers_grow(struct buffers *buffers, const qtree_device *device) {
     uint64_t most;
     if (qtree_most_packets(device, &most) != QTREE_DONE || most >= MOST_BUFFERS) {
+        fprintf(stderr, "the device can hold %d packets or more: lower its limits\n", MOST_BUFFERS);
         return false;
     }
     if (most < buffers->count) {
