@@ -15,7 +15,7 @@ from pages import broken_links, relinked
 from rewrite import portable
 import tie
 
-PAGES = ("CONCEPTS", "SETTINGS", "LANGUAGE", "DISCIPLINES", "TC", "SERVICE", "GUARANTEES", "EMBEDDING", "ROUTER")
+PAGES = ("TUTORIAL", "CONCEPTS", "SETTINGS", "LANGUAGE", "DISCIPLINES", "TC", "SERVICE", "GUARANTEES", "EMBEDDING", "ROUTER")
 # Programs of embed/c that are no tests, or need more than a C compiler.
 LEFT = ("fuzz.c", "bench.c", "figures.c", "until_idle.c", "long_session.c", "standards.c")
 HERE = f"{TOP}/embed/portable"
@@ -93,6 +93,7 @@ def laid_out(kept, root):
     files = {"include": ["embed/include/qtree.h"], "doc": ["embed/c/qtree.3"]}
     files["tests"] = below("embed/c/*.[ch]", LEFT) + below("crates/q_corpus/data/*.txt")
     files["examples"] = [it for it in below("examples/*.*") if not it.endswith(".md")]
+    files["examples/tutorial"] = [it for it in below("examples/tutorial/*") if os.path.isfile(f"{TOP}/{it}")]
     for folder, names in files.items():
         copy(names, f"{root}/{folder}")
     places = {it: f"{folder}/{os.path.basename(it)}" for folder, names in files.items() for it in names}
@@ -154,6 +155,10 @@ def tried(package, *words):
         if report != read(f"{folder}/examples/two_of_three_packets.out"):
             raise Unreadable("the player plays two_packets.qtree to another report")
         make(folder, *words, "test")
+        make(folder, *words, "-C", "examples/tutorial")
+        step = f"{folder}/examples/tutorial/step1_device.out"
+        if run("build/step1_device", cwd=os.path.dirname(step)) != read(step):
+            raise Unreadable("the first step of the tutorial prints something else")
         said = run("./qtree", "--version", cwd=folder).strip().replace("\n", ", ")
         if shutil.which("musl-gcc"):
             make(folder, *words, "CC=musl-gcc", "LDFLAGS=-static", "test")
