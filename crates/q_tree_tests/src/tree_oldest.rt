@@ -9,6 +9,7 @@ const KEPT: Fate = Fate::Kept;
 
 // 8000 bits a second bring a byte in a millisecond.
 const SLOW: New = New::Shaper(8_000, 1_500);
+
 const FAST: New = New::Shaper(8_000_000, 3_000);
 
 const NONE_AT_ROOT: Call = Call::Oldest(Spot::Root, None);
