@@ -1,9 +1,14 @@
 -- Packets that arrive in order, after so many of them.
-use Rattle.std.proofs.Common.{◌≡◌, ℕ, zero, suc, ◌+◌, ◌<◌, ◌≤◌, List, [], ◌∷◌, ◌++◌, refl, sym, ap, ap₂, subst, ◌∙◌, arith, Option, Some, None}
+use Rattle.std.proofs.Common.{◌≡◌, ℕ, zero, suc, ◌+◌, ◌-◌, ◌<◌, ◌≤◌, List, [], ◌∷◌, ◌++◌, refl, sym, ap, ap₂, subst, ◌∙◌, append_assoc, arith, Some, None}
 use Rattle.std.specs.Prelude.{All, IfSome, drop, length, map, replicate, set, slice_get, slice_index_or, take}
-use Rattle.std.proofs.lemmas.List.{length-map}
+use Rattle.std.specs.List.{between}
+use Rattle.std.proofs.lemmas.List.{append-nil, drop-drop, drop_at, length-map, map-append, take_at}
+use Rattle.std.proofs.lemmas.Slice.{between_to_end}
+use Rattle.std.proofs.Math.ListN.{drop_of_length-le}
+use Rattle.std.proofs.Math.Seq.{take-add}
+use borrow.Rule.Slice.PartMut.{put_mid}
 use Rattle.std.proofs.lemmas.List.Elements.{All-append, All-cons, All-nil, All-same}
-use Rattle.q_packet.specs.Stored.{IsStored, descriptor}
+use Rattle.q_packet.specs.Stored.{IsStored}
 use Rattle.q_packet.specs.declared.stored_packet.StoredPacket.{StoredPacket}
 use Rattle.q_model.specs.declared.fate.Fate.{Fate}
 use Rattle.q_model.specs.declared.fate.Fate.TheVariants.{Kept}
@@ -13,9 +18,10 @@ use Rattle.q_device.specs.Bursts.{IsArrivals, IsNotNext, IsStoppedAt, arrival, a
 use Rattle.q_device.specs.DeviceSeen.{DeviceSeen}
 use Rattle.q_device.specs.Events.{after_event, reply_to, with_memory}
 use Rattle.q_device.specs.Room.{KeepsPlaces}
+use Rattle.q_device.proofs.BurstEvents.{arrived-memory, fates-memory}
 use Rattle.q_device.proofs.EventMemory.{after-memory, reply-memory}
 use Rattle.q_device.proofs.PlaceLemmas.{filled-more, length-front, map-more, some-is-none}
-use Rattle.q_device.proofs.RoomLemmas.{keeps-same, keeps-then}
+use Rattle.q_device.proofs.RoomLemmas.{keeps-then}
 
 -- the first `i` packets arrived, and this is written of their fates in the first places; no place of the device was lost
 pub record IsArriving {A : Type 0} (answer : Fate → A) (i now : ℕ) (packets : List StoredPacket) (before after : List A) (d n : DeviceSeen) : Type 0 where
@@ -83,6 +89,66 @@ arriving-more {A = A} answer i now packets before after d d' d'' c f x inv lt ro
       places = keeps-then d d' d'' inv.places places;
       first = λ e. absurd (omega (arith, e));
     }
+
+-- ---- many packets more
+
+arrived-join : (now : ℕ) (cs ds : List StoredPacket) (d : DeviceSeen) → arrived_by now (cs ++ ds) d ≡ arrived_by now ds (arrived_by now cs d)
+arrived-join now [] ds d = refl
+arrived-join now (c ∷ cs) ds d = arrived-join now cs ds (after_event (arrival now c) d)
+
+fates-join : (now : ℕ) (cs ds : List StoredPacket) (d : DeviceSeen) → fates_by now (cs ++ ds) d ≡ fates_by now cs d ++ fates_by now ds (arrived_by now cs d)
+fates-join now [] ds d = refl
+fates-join now (c ∷ cs) ds d = ap (λ (fs : List Fate). fate_in (reply_to (arrival now c) d) ∷ fs) (fates-join now cs ds (after_event (arrival now c) d))
+
+-- so many more were kept, all at once
+pub arriving-burst : {A : Type 0} (answer : Fate → A) (i k now : ℕ) (packets : List StoredPacket) (before after ends : List A) (d d' d'' : DeviceSeen)
+    → IsArriving answer i now packets before after d d' → i ≤ length packets → d'' ≡ with_memory d''.memory (arrived_by now (take k (drop i packets)) d')
+    → fates_by now (take k (drop i packets)) d' ≡ replicate k Kept → ends ≡ take i after ++ (replicate k (answer Kept) ++ drop k (drop i after))
+    → All IsStored (take k (drop i packets)) → KeepsPlaces d' d'' → (k ≡ 0 → d'' ≡ d') → IsArriving answer (i + k) now packets before ends d d''
+arriving-burst {A = A} answer i k now packets before after ends d d' d'' inv within arrived fates written in_range places none =
+    let firsts : List StoredPacket = take i packets in
+    let more : List StoredPacket = take k (drop i packets) in
+    let both : take (i + k) packets ≡ firsts ++ more = take-add i k packets in
+    let y : DeviceSeen = arrived_by now firsts d in
+    let fs : List A = map answer (fates_by now firsts d) in
+    let gs : List A = map answer (fates_by now more y) in
+    let counted : length fs ≡ i = length-map (fates_by now firsts d) answer ∙ fates-length now firsts d ∙ length-front i packets within in
+    let here : fates_by now more d' ≡ fates_by now more y = ap (λ (x : DeviceSeen). fates_by now more x) inv.arrived ∙ fates-memory now more d'.memory y in
+    let told : replicate k (answer Kept) ≡ gs = sym (map-replicate answer k Kept) ∙ ap (λ (hs : List Fate). map answer hs) (sym fates ∙ here) in
+    let front : take i after ≡ fs = ap (λ (xs : List A). take i xs) inv.fates ∙ take_at fs (drop i before) i counted in
+    let back : drop i after ≡ drop i before = ap (λ (xs : List A). drop i xs) inv.fates ∙ drop_at fs (drop i before) i counted in
+    record {
+      arrived = arrived
+          ∙ (ap (λ (x : DeviceSeen). with_memory d''.memory (arrived_by now more x)) inv.arrived
+          ∙ (ap (λ (x : DeviceSeen). with_memory d''.memory x) (arrived-memory now more d'.memory y)
+          ∙ ap (λ (x : DeviceSeen). with_memory d''.memory x) (sym (ap (λ (cs : List StoredPacket). arrived_by now cs d) both ∙ arrived-join now firsts more d))));
+      fates = written
+          ∙ (ap₂ (λ (xs ys : List A). xs ++ (replicate k (answer Kept) ++ drop k ys)) front back
+          ∙ (ap₂ (λ (xs ys : List A). fs ++ (xs ++ ys)) told (drop-drop k i before)
+          ∙ (sym (append_assoc fs gs (drop (i + k) before))
+          ∙ ap (λ (xs : List A). xs ++ drop (i + k) before)
+          (sym (ap (λ (cs : List StoredPacket). map answer (fates_by now cs d)) both ∙ ap (λ (hs : List Fate). map answer hs) (fates-join now firsts more d)
+          ∙ map-append answer (fates_by now firsts d) (fates_by now more y))))));
+      in_range = All-same IsStored (take (i + k) packets) (firsts ++ more) both (All-append IsStored firsts more inv.in_range in_range);
+      places = keeps-then d d' d'' inv.places places;
+      first = λ e. none (omega (arith, e)) ∙ inv.first (omega (arith, e));
+    }
+
+-- the same where packets and places are the parts behind the first ones
+pub arriving-part : {A : Type 0} (answer : Fate → A) (i k now : ℕ) (packets : List StoredPacket) (before after part : List A) (d d' d'' : DeviceSeen)
+    → IsArriving answer i now packets before after d d' → i ≤ length packets → d'' ≡ with_memory d''.memory (arrived_by now (take k (between i (length packets) packets)) d')
+    → fates_by now (take k (between i (length packets) packets)) d' ≡ replicate k Kept → part ≡ replicate k (answer Kept) ++ drop k (between i (length after) after)
+    → All IsStored (take k (between i (length packets) packets)) → KeepsPlaces d' d'' → (k ≡ 0 → d'' ≡ d') → IsArriving answer (i + k) now packets before (put_mid i (length after - i) after part) d d''
+arriving-part {A = A} answer i k now packets before after part d d' d'' inv within arrived fates written in_range places none =
+    let rest : between i (length packets) packets ≡ drop i packets = between_to_end packets i (length packets) (omega arith) in
+    let left : between i (length after) after ≡ drop i after = between_to_end after i (length after) (omega arith) in
+    let past : drop (length after - i) (drop i after) ≡ [] = drop-drop (length after - i) i after ∙ drop_of_length-le after (omega arith) in
+    arriving-burst answer i k now packets before after (put_mid i (length after - i) after part) d d' d'' inv within
+    (subst (λ (cs : List StoredPacket). d'' ≡ with_memory d''.memory (arrived_by now (take k cs) d')) rest arrived)
+    (subst (λ (cs : List StoredPacket). fates_by now (take k cs) d' ≡ replicate k Kept) rest fates)
+    (ap (λ (xs : List A). take i after ++ (part ++ xs)) past
+    ∙ ap (λ (xs : List A). take i after ++ xs) (append-nil part ∙ written ∙ ap (λ (xs : List A). replicate k (answer Kept) ++ drop k xs) left))
+    (subst (λ (cs : List StoredPacket). All IsStored (take k cs)) rest in_range) places none
 
 -- all of them arrived
 pub arriving-ends : {A : Type 0} (answer : Fate → A) (i now : ℕ) (packets : List StoredPacket) (before after : List A) (d d' : DeviceSeen)

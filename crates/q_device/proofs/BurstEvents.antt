@@ -1,6 +1,7 @@
 -- A burst at a fifo at the root of a device is so many events.
-use Rattle.std.proofs.Common.{◌≡◌, ℕ, zero, suc, ◌+◌, ◌-◌, ◌*◌, ◌<◌, ◌≤◌, ◌^◌, ◌∙◌, List, [], ◌∷◌, ◌++◌, length, map, max, min, refl, sym, ap, ap₂, subst, Option, Some, None, arith}
-use Rattle.std.specs.Prelude.{replicate, is_some, true}
+use Rattle.std.proofs.Common.{◌≡◌, ℕ, zero, suc, ◌+◌, ◌-◌, ◌<◌, ◌≤◌, ◌^◌, ◌∙◌, List, [], ◌∷◌, ◌++◌, length, map, max, min, refl, sym, ap, ap₂, subst, Option, Some, arith}
+use Rattle.std.specs.Prelude.{replicate, is_some, slice_get, take, IfSome, Bool, true, false, nat_lt, if◌then◌else◌, ◌/◌}
+use Rattle.std.proofs.lemmas.Bool.{ltb-false}
 use Rattle.std.specs.List.{All, AllByRecursion}
 use Rattle.std.proofs.lemmas.List.Elements.{All-weaker, recursion_from_All}
 use Rattle.std.proofs.lemmas.List.{append-nil}
@@ -9,28 +10,27 @@ use Rattle.q_codel.specs.declared.loss.Loss.{Loss}
 use Rattle.q_packet.specs.Descriptor.{Descriptor}
 use Rattle.q_packet.specs.Stored.{IsStored, descriptor}
 use Rattle.q_packet.specs.declared.stored_packet.StoredPacket.{StoredPacket}
-use Rattle.q_model.specs.declared.event.Event.{Event}
 use Rattle.q_model.specs.declared.event.Event.TheVariants as event
 use Rattle.q_model.specs.declared.fate.Fate.{Fate}
 use Rattle.q_model.specs.declared.fate.Fate.TheVariants.{Kept as Keeps}
 use Rattle.q_model.specs.declared.reply.Reply.{Reply}
 use Rattle.q_model.specs.declared.reply.Reply.TheVariants as reply
-use Rattle.q_model.specs.Beneath.{is_empty}
+use Rattle.q_model.specs.Beneath.{beneath, is_empty}
 use Rattle.q_model.specs.Node.{shape}
 use Rattle.q_model.specs.Ranges.{HasPacketFields}
 use Rattle.q_model.specs.Route.{device_route}
-use Rattle.q_model.specs.Step.{DeviceState, arrive, poll, polled_of, step}
+use Rattle.q_model.specs.Step.{arrive, poll, polled_of, step}
 use Rattle.q_model.specs.Tally.{totals}
-use Rattle.q_model.specs.TreeState.{given, take_packet}
+use Rattle.q_model.specs.TreeState.{take_packet}
 use Rattle.q_model.proofs.PacketFields.{packet-fields}
 use Rattle.q_tree.specs.Bursts.{AreGiven, AreKept, IsGivenAlone, IsKeptAlone, arrived_each, polled_each}
-use Rattle.q_tree.specs.Kept.{Kept, kept}
+use Rattle.q_tree.specs.Kept.{kept}
 use Rattle.q_tree.specs.Places.{places_at}
 use Rattle.q_tree.specs.TreeSeen.{numbers}
 use Rattle.q_tree.proofs.OtherSubtrees.{put-root-places}
 use Rattle.q_device.specs.declared.device.Device.TheInside.{Inside}
-use Rattle.q_device.specs.Bursts.{AreGivenAt, after_polls, arrival, arrived_by, fate_in, fates_by}
-use Rattle.q_device.specs.DeviceSeen.{DeviceSeen, Memory}
+use Rattle.q_device.specs.Bursts.{AreGivenAt, after_polls, arrival, arrived_by, budget_at, fate_in, fates_by}
+use Rattle.q_device.specs.DeviceSeen.{DeviceSeen, Memory, longest}
 use Rattle.q_device.specs.Events.{after_event, reply_to, with_memory}
 use Rattle.q_device.specs.Keeping.{IsKeptDevice, device_seen}
 use Rattle.q_device.specs.Laws.{given_in}
@@ -130,7 +130,7 @@ pub record PollHere (now : ℕ) (ps : List Descriptor) (a b : Inside) : Type 0 w
   pub given : AreGivenAt now ps (device_seen a)
 
 -- one poll
-module _ (now at : ℕ) (p : Descriptor) (a : Inside) (k : IsKeptDevice a) (is : at ≡ max a.tree.clock now) (low : now ≤ 2 ^ 62) (some : 1 ≤ a.spare) (alone : IsGivenAlone kept at p a.tree) where
+module _ (now at : ℕ) (p : Descriptor) (a : Inside) (k : IsKeptDevice a) (is : at ≡ max a.tree.clock now) (low : now ≤ 2 ^ 62) (none-recorded : a.settings.recorder ≤ length a.recorded.items) (alone : IsGivenAlone kept at p a.tree) where
   abbrev pub gave : Inside
   gave = record a { tree = (poll kept at a.tree).device }
 
@@ -138,7 +138,7 @@ module _ (now at : ℕ) (p : Descriptor) (a : Inside) (k : IsKeptDevice a) (is :
   polled-once =
       let others = polled-others a now at a.others true is (ap is_some (sym alone.packet)) refl in
       polled a gave now at is refl refl (sym (append-nil a.losses.waiting) ∙ ap (λ (ls : List Loss). a.losses.waiting ++ ls) (sym alone.losses)) refl
-      (full a.settings.recorder (event.Poll at) a.recorded.items (k.full some)) refl (events-after a k (event.Poll now) gave low (polled-device a gave now at is refl) others)
+      (full a.settings.recorder (event.Poll at) a.recorded.items none-recorded) refl (events-after a k (event.Poll now) gave low (polled-device a gave now at is refl) others)
 
   pub gave-kept : IsKeptDevice gave
   gave-kept = event-kept a k (event.Poll now) gave polled-once low (omega arith) k.packets k.bytes (omega (arith, k.room))
@@ -156,18 +156,41 @@ module _ (now at : ℕ) (p : Descriptor) (a : Inside) (k : IsKeptDevice a) (is :
       ap given_in (sym (reply-step (numbers a.tree) a.tree refl (event.Poll now)) ∙ ap (λ t. (poll kept t a.tree).reply) (sym is)
       ∙ ap (λ (g : Option Descriptor). reply.Polled (polled_of g (is_empty (shape (take_packet kept at a.tree.tree).root)))) alone.packet)
 
-pub poll-here : (now at : ℕ) (ps : List Descriptor) (a : Inside) → IsKeptDevice a → at ≡ max a.tree.clock now → now ≤ 2 ^ 62 → 1 ≤ a.spare → AreGiven kept at ps a.tree
+pub poll-here : (now at : ℕ) (ps : List Descriptor) (a : Inside) → IsKeptDevice a → at ≡ max a.tree.clock now → now ≤ 2 ^ 62 → a.settings.recorder ≤ length a.recorded.items → AreGiven kept at ps a.tree
     → PollHere now ps a (record a { tree = polled_each kept at (length ps) a.tree })
-poll-here now at [] a k is low some alone = record { keeps = k; seen = refl; given = tt }
-poll-here now at (p ∷ ps) a k is low some alone =
-    let b : Inside = gave now at p a k is low some alone.0 in
-    let seen = gave-seen now at p a k is low some alone.0 in
-    let rest = poll-here now at ps b (gave-kept now at p a k is low some alone.0) (omega (arith, is)) low some alone.1 in
+poll-here now at [] a k is low none-recorded alone = record { keeps = k; seen = refl; given = tt }
+poll-here now at (p ∷ ps) a k is low none-recorded alone =
+    let b : Inside = gave now at p a k is low none-recorded alone.0 in
+    let seen = gave-seen now at p a k is low none-recorded alone.0 in
+    let rest = poll-here now at ps b (gave-kept now at p a k is low none-recorded alone.0) (omega (arith, is)) low none-recorded alone.1 in
     record {
       keeps = rest.keeps;
       seen = rest.seen ∙ ap (λ (x : DeviceSeen). after_polls now (length ps) x) seen;
-      given = (gave-given now at p a k is low some alone.0, subst (λ (x : DeviceSeen). AreGivenAt now ps x) seen rest.given);
+      given = (gave-given now at p a k is low none-recorded alone.0, subst (λ (x : DeviceSeen). AreGivenAt now ps x) seen rest.given);
     }
+
+-- ---- what a burst may bring
+
+some-budget : (n r s m : ℕ) (b : Bool) → nat_lt r s ≡ b → n < (if b then 0 else m) → (s ≤ r) × (n < m)
+some-budget n r s m true is lt = absurd (omega (arith, lt))
+some-budget n r s m false is lt = (omega (arith, ltb-false r s is), lt)
+
+-- where there is a budget the recorder is full
+pub budget-of : (n : ℕ) (d : DeviceSeen) → n < budget_at d
+    → (d.settings.recorder ≤ length d.recorded)
+    × (n < min (min (d.memory.losses - length d.waiting - length (beneath d.device.tree.root)) (2 ^ 64 - 1 - d.device.tree.top.arrived.packets)) ((2 ^ 64 - 1 - d.device.tree.top.arrived.bytes) / longest))
+budget-of n d lt =
+    some-budget n (length d.recorded) d.settings.recorder
+    (min (min (d.memory.losses - length d.waiting - length (beneath d.device.tree.root)) (2 ^ 64 - 1 - d.device.tree.top.arrived.packets)) ((2 ^ 64 - 1 - d.device.tree.top.arrived.bytes) / longest))
+    (nat_lt (length d.recorded) d.settings.recorder) refl lt
+
+-- what is next among the first ones is next among all, unless all of the first ones have come
+pub next-of : {A : Type 0} (P : A → Type 0) (xs : List A) (m k : ℕ) → (k < length xs → k < m) → IfSome (slice_get (take m xs) k) P → IfSome (slice_get xs k) P
+next-of P [] m k within is = tt
+next-of P (x ∷ xs) zero zero within is = absurd (omega (arith, within (omega arith)))
+next-of P (x ∷ xs) zero (suc k) within is = next-of P xs zero k (λ lt. absurd (omega (arith, within (omega (arith, lt))))) tt
+next-of P (x ∷ xs) (suc m) zero within is = is
+next-of P (x ∷ xs) (suc m) (suc k) within is = next-of P xs m k (λ lt. omega (arith, within (omega (arith, lt)))) is
 
 -- ---- what the packets of a burst are
 

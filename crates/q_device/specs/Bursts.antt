@@ -1,9 +1,10 @@
 -- Calls for many packets, all at the same time: each is so many single calls, up to the first that stops it.
 -- Nothing here is of a standard.
-use Rattle.std.specs.Prelude.{◌≡◌, ℕ, zero, suc, ◌<◌, ◌≤◌, List, [], ◌∷◌, ◌++◌, All, IfSome, drop, length, map, slice_get, take, Option, Some, None}
+use Rattle.std.specs.Prelude.{◌≡◌, ℕ, zero, suc, ◌-◌, ◌/◌, ◌^◌, ◌<◌, ◌≤◌, List, [], ◌∷◌, ◌++◌, All, IfSome, drop, if◌then◌else◌, length, map, min, nat_lt, slice_get, take, Option, Some, None}
 use Rattle.q_packet.specs.Descriptor.{Descriptor}
 use Rattle.q_packet.specs.Stored.{IsStored, descriptor}
 use Rattle.q_packet.specs.declared.stored_packet.StoredPacket.{StoredPacket}
+use Rattle.q_model.specs.Beneath.{beneath}
 use Rattle.q_model.specs.declared.event.Event.{Event}
 use Rattle.q_model.specs.declared.event.Event.TheVariants.{Arrive, Poll}
 use Rattle.q_model.specs.declared.fate.Fate.{Fate}
@@ -17,7 +18,7 @@ use Rattle.q_device.specs.declared.given.Given.TheVariants as given
 use Rattle.q_device.specs.declared.stopped.Stopped.{Stopped}
 use Rattle.q_device.specs.declared.stopped.Stopped.TheVariants as stopped
 use Rattle.q_device.specs.DeviceLaws.{HasItsMemory}
-use Rattle.q_device.specs.DeviceSeen.{DeviceSeen, HasRoomFor}
+use Rattle.q_device.specs.DeviceSeen.{DeviceSeen, HasRoomFor, longest}
 use Rattle.q_device.specs.Events.{after_event, reply_to, with_memory}
 use Rattle.q_device.specs.Polls.{after_poll, given_at, given_by, or_last, polled_by}
 use Rattle.q_device.specs.Room.{KeepsPlaces, StaysButForPlaces}
@@ -31,6 +32,14 @@ arrival now c = Arrive (descriptor c) now
 abbrev pub arrived_by : ℕ → List StoredPacket → DeviceSeen → DeviceSeen
 arrived_by now [] d = d
 arrived_by now (c ∷ cs) d = arrived_by now cs (after_event (arrival now c) d)
+
+-- So many packets may arrive, of any lengths, with nothing asked of the device: the lost list has places for them, they can be counted, and
+-- the recorder is full.
+abbrev pub budget_at : DeviceSeen → ℕ
+budget_at d =
+    if nat_lt (length d.recorded) d.settings.recorder
+    then 0
+    else min (min (d.memory.losses - length d.waiting - length (beneath d.device.tree.root)) (2 ^ 64 - 1 - d.device.tree.top.arrived.packets)) ((2 ^ 64 - 1 - d.device.tree.top.arrived.bytes) / longest)
 
 -- what a reply says of a packet that arrived
 abbrev pub fate_in : Reply → Fate

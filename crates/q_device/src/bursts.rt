@@ -41,7 +41,18 @@ impl Device {
     {
         let kept = self.arrive_burst(packets, now);
         all_kept(fates, kept);
-        for i in kept..packets.len() {
+        if kept == packets.len() {
+            return (kept, None);
+        }
+        // It may have ended at one packet alone, or for want of a place that this one makes.
+        match self.arrive_next(&packets[kept], now) {
+            Ok(fate) => fates[kept] = A::of(fate),
+            Err(why) => return (kept, Some(why)),
+        }
+        let next = kept + 1;
+        let more = self.arrive_burst(&packets[next..], now);
+        all_kept(&mut fates[next..], more);
+        for i in next + more..packets.len() {
             match self.arrive_next(&packets[i], now) {
                 Ok(fate) => fates[i] = A::of(fate),
                 Err(why) => return (i, Some(why)),

@@ -1,18 +1,27 @@
 //! Bursts at a fifo at the root: what each call asks is asked once.
-ghost use Rattle.std.specs.Prelude.{◌≡◌, ◌≤◌, All, length, replicate, take};
+ghost use Rattle.std.specs.Prelude.{◌≡◌, ◌≤◌, ◌<◌, ◌+◌, ◌-◌, ◌*◌, ◌/◌, ◌^◌, All, IfSome, length, min, replicate, slice_get, take};
 ghost use Rattle.q_packet.specs.Stored.{IsStored};
+ghost use Rattle.q_codel.specs.Bursts.{IsShort};
+ghost use Rattle.q_model.specs.Beneath.{beneath};
 ghost use Rattle.q_model.specs.declared.fate.Fate.TheVariants.{Kept};
-ghost use Rattle.q_device.specs.Bursts.{IsPolledFirst, arrived_by, fates_by};
+ghost use Rattle.q_tree.specs.Bursts.{room_at};
+ghost use Rattle.q_tree.specs.PopSteps.{HasHead};
+ghost use Rattle.q_device.specs.Bursts.{IsPolledFirst, arrived_by, budget_at, fates_by};
+ghost use Rattle.q_device.specs.DeviceSeen.{longest};
 ghost use Rattle.q_device.specs.Events.{with_memory};
 ghost use Rattle.q_device.specs.Room.{KeepsPlaces};
 
-use super::{later, moment_range};
+use super::{budget, later, moment_range};
 use crate::device::Device;
-use q_codel::Told;
+use crate::recording::has_room;
+use q_codel::{Losses, Told};
+use q_model::{Event, Settings};
 use q_packet::{Moment, StoredPacket};
+use q_tree::Tree;
 
 impl Device {
-    /// The first of these packets arrive, which a fifo at the root keeps with nothing more asked. Returns how many.
+    /// The first of these packets arrive, which a fifo at the root keeps with nothing more asked. Returns how many: all for which the device
+    /// and the fifo have room, to the first that the fifo would not keep.
     #[inline(always)]
     pub(crate) fn arrive_burst(&mut self, packets: &[StoredPacket], now: Moment) -> usize
         ensures most { result ≤ length packets.now }
@@ -20,16 +29,24 @@ impl Device {
         ensures arrived { self.new ≡ with_memory self.new.memory (arrived_by now (take result packets.now) self.old) }
         ensures fates { fates_by now (take result packets.now) self.old ≡ replicate result Kept }
         ensures none { result ≡ 0 → self.new ≡ self.old }
+        ensures next { result < budget_at self.old → result < room_at self.old.memory.tree.tree.root →
+            IfSome (slice_get packets.now result) (λ c. IsShort self.old.memory.tree.tree.device.mtu c → ⊥) }
         ensures places { KeepsPlaces self.old self.new }
     {
         moment_range(now);
-        if self.spare == 0 {
-            return 0;
-        }
-        let most = packets.len().min(self.spare as usize);
+        let wanted = packets.len() as u64;
+        let spare = renewed(
+            self.spare,
+            wanted,
+            &self.tree,
+            &self.losses,
+            &self.recorded,
+            &self.settings,
+        );
+        let most = packets.len().min(spare as usize);
         let at = later(&self.tree, now);
         let kept = self.tree.arrive_burst(&packets[..most], at);
-        self.spare -= kept as u64;
+        self.spare = spare - kept as u64;
         kept
     }
 
@@ -38,12 +55,41 @@ impl Device {
     pub(crate) fn poll_burst<T: Told>(&mut self, now: Moment, places: &mut [T]) -> usize
         ensures given { IsPolledFirst T.told now result places.old places.new self.old self.new }
         ensures most { result ≤ length places.old }
+        ensures next { self.old.settings.recorder ≤ length self.old.recorded → result < length places.old → HasHead self.new.memory.tree.tree.root → ⊥ }
     {
         moment_range(now);
-        if self.spare == 0 {
+        if has_room(&self.recorded, &self.settings) {
             return 0;
         }
         let at = later(&self.tree, now);
         self.tree.send_burst(at, places)
     }
+}
+
+// How many packets may arrive with nothing else asked, where so many are wanted: what is left of the budget if it is enough, and else a new
+// one, which is larger where packets have left since.
+#[inline(always)]
+fn renewed(
+    spare: u64,
+    wanted: u64,
+    tree: &Tree,
+    losses: &Losses,
+    recorded: &Vec<Event>,
+    settings: &Settings,
+) -> u64
+    requires room_fit { length (beneath tree.now.tree.root) + length losses.now.waiting + spare ≤ losses.now.places }
+    requires packets_fit { tree.now.tree.top.counts.arrived.packets + spare < 2 ^ 64 }
+    requires bytes_fit { tree.now.tree.top.counts.arrived.bytes + spare * longest < 2 ^ 64 }
+    requires recorded { 1 ≤ spare → settings.now.recorder ≤ length recorded.now.items }
+    ensures room { length (beneath tree.now.tree.root) + length losses.now.waiting + result ≤ losses.now.places }
+    ensures packets { tree.now.tree.top.counts.arrived.packets + result < 2 ^ 64 }
+    ensures bytes { tree.now.tree.top.counts.arrived.bytes + result * longest < 2 ^ 64 }
+    ensures full { 1 ≤ result → settings.now.recorder ≤ length recorded.now.items }
+    ensures least { settings.now.recorder ≤ length recorded.now.items → result < wanted →
+        result ≡ min (min (losses.now.places - length losses.now.waiting - length (beneath tree.now.tree.root)) (2 ^ 64 - 1 - tree.now.tree.top.counts.arrived.packets)) ((2 ^ 64 - 1 - tree.now.tree.top.counts.arrived.bytes) / longest) }
+{
+    if wanted <= spare {
+        return spare;
+    }
+    budget(tree, losses, recorded, settings)
 }

@@ -1,4 +1,5 @@
-use Rattle.std.proofs.Common.{◌≡◌, ◌≤◌, ◌∙◌, ℕ, length, sym, ap, ap₂, subst, arith}
+use Rattle.std.proofs.Common.{◌≡◌, ◌∙◌, ℕ, length, sym, ap, ap₂, subst, arith}
+use Rattle.std.proofs.lemmas.Bool.{ltb-false}
 use Rattle.q_model.specs.Step.{DeviceState}
 use Rattle.q_tree.specs.Kept as code
 use Rattle.q_tree.specs.Bursts.{polled_each}
@@ -20,7 +21,8 @@ here g c =
     let gave = c.send_burst.ensures.given in
     let is : c.send_burst.new.self ≡ polled_each kept c.later-at.result (length gave.packets) a.tree = gave.polled ∙ ap (λ (n : ℕ). polled_each kept c.later-at.result n a.tree) (sym gave.counted) in
     subst (λ (x : DeviceState code.Kept). PollHere c.args.now gave.packets a (record a { tree = x })) (sym is)
-    (poll-here c.args.now c.later-at.result gave.packets a c.self.invariant c.later-at.ensures c.moment_range.ensures (omega (arith, c.if-self-eq0.false)) gave.given)
+    (poll-here c.args.now c.later-at.result gave.packets a c.self.invariant c.later-at.ensures c.moment_range.ensures
+    (omega (arith, ltb-false (length a.recorded.items) a.settings.recorder (sym c.has_room.ensures ∙ c.if-has_room.false))) gave.given)
 
 pub invariant_of-self : goal.invariant_of-self
 invariant_of-self g c = (here g (goal.at.invariant_of-self g c).After-send_burst).keeps
