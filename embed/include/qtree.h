@@ -58,7 +58,8 @@
  * that read or mark headers, or that read counters, shares or times.
  *
  * A time, such as the argument now, is in nanoseconds since an instant that the program chooses, and is at most
- * QTREE_MOMENT_MAX. The device reads no clock. A time that is before an earlier one counts as the earlier one.
+ * QTREE_MOMENT_MAX. The device reads no clock. Time never goes back: the latest time that has counted so far counts in
+ * place of a time before it.
  *
  * An argument has the full range of its type where no range is named.
  */
@@ -97,10 +98,11 @@ uint32_t qtree_version(void);
 /* What a function returns.
  *
  * A call has done what it was called for if it returns QTREE_DONE or a cause of a loss. It has also done so if it
- * returns QTREE_IDLE, QTREE_LATER or QTREE_NOTHING, and then it has nothing to hand out.
+ * returns QTREE_IDLE, QTREE_LATER or QTREE_NOTHING, and then it has nothing, or nothing more, to hand out.
  *
- * Every other code is an error. On an error nothing has changed, and nothing is written except a count of 0, or with
- * QTREE_ROOM the length that a text needs. A function that does its work packet by packet says how far it came.
+ * Every other code is an error. On an error nothing has changed, and nothing is written except a count or a length of
+ * 0, with QTREE_ROOM the length that a text needs, with QTREE_FAULTY the fault, and what qtree_set_up reports. That
+ * function, and those that do their work packet by packet, say how far they came.
  *
  * Causes have the numbers that qtree's reports write. Within one major number causes, and no other codes, have the
  * numbers 1 to QTREE_LOST_MOST. */
@@ -476,7 +478,7 @@ qtree_code qtree_poll(qtree_device *device, uint64_t now, qtree_packet *packet);
  *
  * now      the time of all polls
  * packets  room places for the packets
- * count    how many packets there are
+ * count    how many packets there are: also with QTREE_IDLE and QTREE_LATER there may be some; on an error it is 0
  *
  * Returns QTREE_DONE if there are room packets. Otherwise it returns what the last poll returned; the codes are those
  * of qtree_poll. */
