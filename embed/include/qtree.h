@@ -109,7 +109,7 @@ uint32_t qtree_version(void);
 typedef uint32_t qtree_code;
 enum {
     QTREE_DONE = 0,
-    /* Why a packet is lost. For the first three causes it is refused on arrival. */
+    /* Why a packet is lost. For the first three causes it is refused on arrival, and for the others it is dropped. */
     QTREE_LOST_TOO_LONG = 1,   /* it is longer than the mtu or than a tbf's burst */
     QTREE_LOST_NO_CLASS = 2,   /* no filter of a drr takes it */
     QTREE_LOST_OVER_LIMIT = 3, /* its pfifo or bfifo has no room */
@@ -226,8 +226,8 @@ typedef struct qtree_count {
 typedef struct qtree_row {
     qtree_count arrived; /* including what was refused */
     qtree_count sent;
-    qtree_count refused; /* lost on arrival */
-    qtree_count dropped; /* lost later */
+    qtree_count refused; /* lost for one of the first three causes */
+    qtree_count dropped; /* lost for another cause, even if that was on arrival */
     qtree_count queued;  /* now */
     qtree_count marked;  /* by CoDel; it is part of no sum */
 } qtree_row;
@@ -259,8 +259,10 @@ enum {
  * On an error nothing has changed. */
 qtree_code qtree_open(qtree_device *device, const qtree_settings *settings);
 
-/* Closes a device and frees its memory. Packets that are queued are discarded, and are not losses. docs/EMBEDDING.md
- * says how to get their buffers back first. If the device is closed, nothing happens. */
+/* Closes a device and frees its memory. Packets that are queued are discarded, and are not losses. Losses that wait
+ * are discarded too. To get the buffers back first, a program deletes the root by a line of tc, so that all packets are
+ * lost, and then reaps. If no qdisc was added, it polls until QTREE_IDLE, and then reaps. If the device is closed,
+ * nothing happens. */
 void qtree_close(qtree_device *device);
 
 /* Carries out one line of tc that changes the tree, such as "tc qdisc add dev eth0 root handle 1: drr".
@@ -386,7 +388,8 @@ qtree_code qtree_hash(uint32_t seed, qtree_packet *packet);
 bool qtree_mark_head(uint8_t *bytes, size_t count);
 
 /* A packet arrives at the device, which queues it or loses it. A lost packet is also handed out by qtree_reap: its
- * buffer is released then, and not before.
+ * buffer is released then, and not before. An arrival at a full fq_codel may lose other packets, which then wait to be
+ * reaped.
  *
  * packet  the descriptor; the device copies it
  * now     the time
@@ -528,8 +531,8 @@ qtree_code qtree_ready_at(const qtree_device *device, uint64_t *moment);
  *          place of the limit. A limit in bytes counts as so many packets, since a packet has at least one byte.
  *          UINT64_MAX stands for more.
  *
- * A program needs a buffer for each of these packets, for the packet that arrives, for each packet that it has polled
- * and not sent, and for each that was lost and that it has not reaped.
+ * A program needs a buffer for each of these packets, for the packet that arrives, for each place of a ring, for each
+ * packet that it has polled and not sent, and for each that was lost and that it has not reaped.
  *
  * Returns QTREE_DONE, or QTREE_IS_CLOSED if the device is closed. */
 qtree_code qtree_most_packets(const qtree_device *device, uint64_t *packets);
