@@ -265,8 +265,9 @@ qtree_code qtree_open(qtree_device *device, const qtree_settings *settings);
  * nothing happens. */
 void qtree_close(qtree_device *device);
 
-/* Carries out one line of tc that changes the tree, such as "tc qdisc add dev eth0 root handle 1: drr".
- * docs/LANGUAGE.md has the lines. Packets of what the line removes are lost, and wait to be reaped.
+/* Carries out one line of tc that changes the tree, such as "tc qdisc add dev eth0 root handle 1: drr". qtree has a
+ * part of tc's lines, which docs/LANGUAGE.md lists: its only filter is flower, for example. Packets of what the line
+ * removes are lost, and wait to be reaped.
  *
  * line   line_len bytes, with a newline at their end or without one. The name of the device in the line means
  *        nothing.
@@ -330,7 +331,8 @@ typedef struct qtree_undone {
  * text    the file: text_len bytes of lines, which may include blank lines and comments
  * now     the time
  * report  what was done; report->undone counts all lines that cannot be carried out
- * undone  room structs, into which the first of these lines are written; qtree_explain has a sentence on each
+ * undone  room structs, into which the first of these lines are written; qtree_explain makes a sentence on each, from
+ *         the bytes of the line in the text
  *
  * Returns
  *   QTREE_DONE          the tree is what the lines make of a new device, apart from packets and counters
@@ -374,7 +376,8 @@ size_t qtree_ip_at(const uint8_t *bytes, size_t count);
 /* Computes the hash of a packet's flow from family, proto, addresses and ports, with this seed, and writes it into
  * packet->hash.
  *
- * Returns QTREE_DONE; or QTREE_OUT_OF_RANGE if a field is out of its range, and then the packet stays as it is. */
+ * Returns QTREE_DONE; or QTREE_OUT_OF_RANGE if family or an address is out of its range, and then the packet stays as
+ * it is. */
 qtree_code qtree_hash(uint32_t seed, qtree_packet *packet);
 
 /* Writes the mark Congestion Experienced (RFC 3168) into a packet that begins with its IP header, and updates the
@@ -653,13 +656,13 @@ qtree_code qtree_service(const qtree_device *device, uint32_t place, uint16_t ma
  *   QTREE_IS_CLOSED     the device is closed */
 qtree_code qtree_lateness(const qtree_device *device, uint32_t place, uint16_t major, uint16_t minor, uint64_t *late);
 
-/* How long a packet waits at most in a pfifo or bfifo that no other packet passes, from when it was queued until it
- * has left, whatever comes meanwhile. Until it has left, the device sends no more than this many bytes, including the
- * packet itself.
+/* How long a packet waits at most in a pfifo or bfifo whose packets no other packet overtakes, from when it was queued
+ * until it has left, whatever comes meanwhile. Until it has left, the device sends no more bytes than the field bytes
+ * says, including those of the packet itself.
  *
  * With a tbf at the root, the packet has left as soon as the program has polled until no packet came at a time that
  * is ns nanoseconds after the packet's arrival, or later. So if the program never polls later after the time of
- * qtree_ready_at than late nanoseconds, the packet has left by ns + late. Without a tbf at the root both are
+ * qtree_ready_at than late nanoseconds, the packet has left by ns + late. Without a tbf at the root, ns and late are
  * UINT64_MAX.
  *
  * This holds as long as commands take no packet from the qdisc and put none before it, leave a tbf at the root as it
@@ -814,8 +817,8 @@ qtree_code qtree_offer(qtree_port *port, const qtree_packet *packet);
  *   QTREE_IS_CLOSED     the port is closed */
 qtree_code qtree_offer_many(qtree_port *port, const qtree_packet *packets, size_t count, size_t *placed);
 
-/* Takes packets out of a ring: they arrive at the device in order, as many as wait and at most so many. Each leaves
- * the ring when it has arrived. A packet that the device loses on arrival counts too, and is to be reaped.
+/* Takes packets out of a ring: they arrive at the device in order, all that wait, but at most as many as most says.
+ * Each leaves the ring when it has arrived. A packet that the device loses on arrival counts too, and is to be reaped.
  *
  * The call uses the device and the outlet. The sender may use the port meanwhile.
  *
