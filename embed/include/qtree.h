@@ -322,15 +322,17 @@ typedef struct qtree_undone {
 /* Makes the tree what a whole file of tc lines says, even while packets are queued. A program calls this function
  * when it starts, and again whenever its file has changed.
  *
- * What the tree has already with the same words stays, with its packets. What differs is changed, what is gone from
- * the file is deleted, and what is new is added. docs/EMBEDDING.md says what stays.
+ * What the tree has already with the same words stays, with its packets. What differs is changed, or replaced if it
+ * cannot be changed, and then its packets are lost. What is gone from the file is deleted, and what is new is added.
+ * docs/EMBEDDING.md says what stays.
  *
  * First, all lines are tried on a new device with the same settings. If one of them is not carried out there, nothing
  * is done to the device, and QTREE_UNDONE is returned.
  *
  * text    the file: text_len bytes of lines, which may include blank lines and comments
  * now     the time
- * report  what was done; report->undone counts all lines that cannot be carried out
+ * report  what was done; report->undone counts all lines that cannot be carried out, including lines that would be if
+ *         an earlier one were
  * undone  room structs, into which the first of these lines are written; qtree_explain makes a sentence on each, from
  *         the bytes of the line in the text
  *
