@@ -836,7 +836,8 @@ qtree_code qtree_offer_many(qtree_port *port, const qtree_packet *packets, size_
  *                       arrived */
 qtree_code qtree_take_in(qtree_device *device, qtree_outlet *outlet, uint64_t now, size_t most, size_t *taken);
 
-/* Read how many packets and bytes a port has placed so far, and how many were taken in at an outlet so far.
+/* Read how many packets and bytes a port has placed so far, and how many were taken in at an outlet so far. Once the
+ * sender has ended and its ring is empty, both are equal.
  *
  * Return QTREE_DONE, or QTREE_IS_CLOSED if the end is closed. */
 qtree_code qtree_port_share(const qtree_port *port, qtree_count *share);
