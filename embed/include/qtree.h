@@ -22,6 +22,8 @@
  *
  *     cc program.c $(pkg-config --cflags --libs qtree)
  *
+ * If the shared library is in a folder that the system does not search, add -Wl,-rpath,FOLDER to the command.
+ *
  * What a program has to keep to
  *
  * What each function does to a device, and what it returns, is proved in Rattle (crates/qtree_c) for every call that
@@ -226,7 +228,7 @@ typedef struct qtree_count {
 typedef struct qtree_row {
     qtree_count arrived; /* including what was refused */
     qtree_count sent;
-    qtree_count refused; /* lost for one of the first three causes */
+    qtree_count refused; /* lost as QTREE_LOST_TOO_LONG, QTREE_LOST_NO_CLASS or QTREE_LOST_OVER_LIMIT */
     qtree_count dropped; /* lost for another cause, even if that was on arrival */
     qtree_count queued;  /* now */
     qtree_count marked;  /* by CoDel; it is part of no sum */
