@@ -22,6 +22,8 @@
  *
  *     cc program.c $(pkg-config --cflags --libs qtree)
  *
+ * If the shared library is in a folder that the system does not search, add -Wl,-rpath,FOLDER to the command.
+ *
  * What a program has to keep to
  *
  * What each function does to a device, and what it returns, is proved in Rattle (crates/qtree_c) for every call that
@@ -58,7 +60,8 @@
  * that read or mark headers, or that read counters, shares or times.
  *
  * A time, such as the argument now, is in nanoseconds since an instant that the program chooses, and is at most
- * QTREE_MOMENT_MAX. The device reads no clock. A time that is before an earlier one counts as the earlier one.
+ * QTREE_MOMENT_MAX. The device reads no clock. Time never goes back: the latest time that has counted so far counts in
+ * place of a time before it.
  *
  * An argument has the full range of its type where no range is named.
  */
@@ -97,17 +100,18 @@ uint32_t qtree_version(void);
 /* What a function returns.
  *
  * A call has done what it was called for if it returns QTREE_DONE or a cause of a loss. It has also done so if it
- * returns QTREE_IDLE, QTREE_LATER or QTREE_NOTHING, and then it has nothing to hand out.
+ * returns QTREE_IDLE, QTREE_LATER or QTREE_NOTHING, and then it has nothing, or nothing more, to hand out.
  *
- * Every other code is an error. On an error nothing has changed, and nothing is written except a count of 0, or with
- * QTREE_ROOM the length that a text needs. A function that does its work packet by packet says how far it came.
+ * Every other code is an error. On an error nothing has changed, and nothing is written except a count or a length of
+ * 0, with QTREE_ROOM the length that a text needs, with QTREE_FAULTY the fault, and what qtree_set_up reports. That
+ * function, and those that do their work packet by packet, say how far they came.
  *
  * Causes have the numbers that qtree's reports write. Within one major number causes, and no other codes, have the
  * numbers 1 to QTREE_LOST_MOST. */
 typedef uint32_t qtree_code;
 enum {
     QTREE_DONE = 0,
-    /* Why a packet is lost. For the first three causes it is refused on arrival. */
+    /* Why a packet is lost. For the first three causes it is refused on arrival, and for the others it is dropped. */
     QTREE_LOST_TOO_LONG = 1,   /* it is longer than the mtu or than a tbf's burst */
     QTREE_LOST_NO_CLASS = 2,   /* no filter of a drr takes it */
     QTREE_LOST_OVER_LIMIT = 3, /* its pfifo or bfifo has no room */
@@ -224,8 +228,8 @@ typedef struct qtree_count {
 typedef struct qtree_row {
     qtree_count arrived; /* including what was refused */
     qtree_count sent;
-    qtree_count refused; /* lost on arrival */
-    qtree_count dropped; /* lost later */
+    qtree_count refused; /* lost as QTREE_LOST_TOO_LONG, QTREE_LOST_NO_CLASS or QTREE_LOST_OVER_LIMIT */
+    qtree_count dropped; /* lost for another cause, even if that was on arrival */
     qtree_count queued;  /* now */
     qtree_count marked;  /* by CoDel; it is part of no sum */
 } qtree_row;
@@ -257,12 +261,15 @@ enum {
  * On an error nothing has changed. */
 qtree_code qtree_open(qtree_device *device, const qtree_settings *settings);
 
-/* Closes a device and frees its memory. Packets that are queued are discarded, and are not losses. docs/EMBEDDING.md
- * says how to get their buffers back first. If the device is closed, nothing happens. */
+/* Closes a device and frees its memory. Packets that are queued are discarded, and are not losses. Losses that wait
+ * are discarded too. To get the buffers back first, a program deletes the root by a line of tc, so that all packets are
+ * lost, and then reaps. If no qdisc was added, it polls until QTREE_IDLE, and then reaps. If the device is closed,
+ * nothing happens. */
 void qtree_close(qtree_device *device);
 
-/* Carries out one line of tc that changes the tree, such as "tc qdisc add dev eth0 root handle 1: drr".
- * docs/LANGUAGE.md has the lines. Packets of what the line removes are lost, and wait to be reaped.
+/* Carries out one line of tc that changes the tree, such as "tc qdisc add dev eth0 root handle 1: drr". qtree has a
+ * part of tc's lines, which docs/LANGUAGE.md lists: its only filter is flower, for example. Packets of what the line
+ * removes are lost, and wait to be reaped.
  *
  * line   line_len bytes, with a newline at their end or without one. The name of the device in the line means
  *        nothing.
@@ -317,16 +324,19 @@ typedef struct qtree_undone {
 /* Makes the tree what a whole file of tc lines says, even while packets are queued. A program calls this function
  * when it starts, and again whenever its file has changed.
  *
- * What the tree has already with the same words stays, with its packets. What differs is changed, what is gone from
- * the file is deleted, and what is new is added. docs/EMBEDDING.md says what stays.
+ * What the tree has already with the same words stays, with its packets. What differs is changed, or replaced if it
+ * cannot be changed, and then its packets are lost. What is gone from the file is deleted, and what is new is added.
+ * docs/EMBEDDING.md says what stays.
  *
  * First, all lines are tried on a new device with the same settings. If one of them is not carried out there, nothing
  * is done to the device, and QTREE_UNDONE is returned.
  *
  * text    the file: text_len bytes of lines, which may include blank lines and comments
  * now     the time
- * report  what was done; report->undone counts all lines that cannot be carried out
- * undone  room structs, into which the first of these lines are written; qtree_explain has a sentence on each
+ * report  what was done; report->undone counts all lines that cannot be carried out, including lines that would be if
+ *         an earlier one were
+ * undone  room structs, into which the first of these lines are written; qtree_explain makes a sentence on each, from
+ *         the bytes of the line in the text
  *
  * Returns
  *   QTREE_DONE          the tree is what the lines make of a new device, apart from packets and counters
@@ -370,7 +380,8 @@ size_t qtree_ip_at(const uint8_t *bytes, size_t count);
 /* Computes the hash of a packet's flow from family, proto, addresses and ports, with this seed, and writes it into
  * packet->hash.
  *
- * Returns QTREE_DONE; or QTREE_OUT_OF_RANGE if a field is out of its range, and then the packet stays as it is. */
+ * Returns QTREE_DONE; or QTREE_OUT_OF_RANGE if family or an address is out of its range, and then the packet stays as
+ * it is. */
 qtree_code qtree_hash(uint32_t seed, qtree_packet *packet);
 
 /* Writes the mark Congestion Experienced (RFC 3168) into a packet that begins with its IP header, and updates the
@@ -384,7 +395,8 @@ qtree_code qtree_hash(uint32_t seed, qtree_packet *packet);
 bool qtree_mark_head(uint8_t *bytes, size_t count);
 
 /* A packet arrives at the device, which queues it or loses it. A lost packet is also handed out by qtree_reap: its
- * buffer is released then, and not before.
+ * buffer is released then, and not before. An arrival at a full fq_codel may lose other packets, which then wait to be
+ * reaped.
  *
  * packet  the descriptor; the device copies it
  * now     the time
@@ -476,7 +488,7 @@ qtree_code qtree_poll(qtree_device *device, uint64_t now, qtree_packet *packet);
  *
  * now      the time of all polls
  * packets  room places for the packets
- * count    how many packets there are
+ * count    how many packets there are: also with QTREE_IDLE and QTREE_LATER there may be some; on an error it is 0
  *
  * Returns QTREE_DONE if there are room packets. Otherwise it returns what the last poll returned; the codes are those
  * of qtree_poll. */
@@ -526,8 +538,8 @@ qtree_code qtree_ready_at(const qtree_device *device, uint64_t *moment);
  *          place of the limit. A limit in bytes counts as so many packets, since a packet has at least one byte.
  *          UINT64_MAX stands for more.
  *
- * A program needs a buffer for each of these packets, for the packet that arrives, for each packet that it has polled
- * and not sent, and for each that was lost and that it has not reaped.
+ * A program needs a buffer for each of these packets, for the packet that arrives, for each place of a ring, for each
+ * packet that it has polled and not sent, and for each that was lost and that it has not reaped.
  *
  * Returns QTREE_DONE, or QTREE_IS_CLOSED if the device is closed. */
 qtree_code qtree_most_packets(const qtree_device *device, uint64_t *packets);
@@ -648,13 +660,13 @@ qtree_code qtree_service(const qtree_device *device, uint32_t place, uint16_t ma
  *   QTREE_IS_CLOSED     the device is closed */
 qtree_code qtree_lateness(const qtree_device *device, uint32_t place, uint16_t major, uint16_t minor, uint64_t *late);
 
-/* How long a packet waits at most in a pfifo or bfifo that no other packet passes, from when it was queued until it
- * has left, whatever comes meanwhile. Until it has left, the device sends no more than this many bytes, including the
- * packet itself.
+/* How long a packet waits at most in a pfifo or bfifo whose packets no other packet overtakes, from when it was queued
+ * until it has left, whatever comes meanwhile. Until it has left, the device sends no more bytes than the field bytes
+ * says, including those of the packet itself.
  *
  * With a tbf at the root, the packet has left as soon as the program has polled until no packet came at a time that
  * is ns nanoseconds after the packet's arrival, or later. So if the program never polls later after the time of
- * qtree_ready_at than late nanoseconds, the packet has left by ns + late. Without a tbf at the root both are
+ * qtree_ready_at than late nanoseconds, the packet has left by ns + late. Without a tbf at the root, ns and late are
  * UINT64_MAX.
  *
  * This holds as long as commands take no packet from the qdisc and put none before it, leave a tbf at the root as it
@@ -809,8 +821,8 @@ qtree_code qtree_offer(qtree_port *port, const qtree_packet *packet);
  *   QTREE_IS_CLOSED     the port is closed */
 qtree_code qtree_offer_many(qtree_port *port, const qtree_packet *packets, size_t count, size_t *placed);
 
-/* Takes packets out of a ring: they arrive at the device in order, as many as wait and at most so many. Each leaves
- * the ring when it has arrived. A packet that the device loses on arrival counts too, and is to be reaped.
+/* Takes packets out of a ring: they arrive at the device in order, all that wait, but at most as many as most says.
+ * Each leaves the ring when it has arrived. A packet that the device loses on arrival counts too, and is to be reaped.
  *
  * The call uses the device and the outlet. The sender may use the port meanwhile.
  *
@@ -826,7 +838,8 @@ qtree_code qtree_offer_many(qtree_port *port, const qtree_packet *packets, size_
  *                       arrived */
 qtree_code qtree_take_in(qtree_device *device, qtree_outlet *outlet, uint64_t now, size_t most, size_t *taken);
 
-/* Read how many packets and bytes a port has placed so far, and how many were taken in at an outlet so far.
+/* Read how many packets and bytes a port has placed so far, and how many were taken in at an outlet so far. Once the
+ * sender has ended and its ring is empty, both are equal.
  *
  * Return QTREE_DONE, or QTREE_IS_CLOSED if the end is closed. */
 qtree_code qtree_port_share(const qtree_port *port, qtree_count *share);

@@ -1,6 +1,7 @@
 use core::fmt;
 
-/// Why a packet is lost. For the first three causes it is refused on arrival.
+/// Why a packet is lost. For the first three causes it is refused on arrival, and for the others it
+/// is dropped.
 #[derive(Clone, Copy, Debug, PartialEq, Eq)]
 #[non_exhaustive]
 pub enum Cause {

@@ -37,8 +37,8 @@
 //! # Times
 //!
 //! A time is a number of nanoseconds since an instant that the program chooses, and is at most
-//! [`MOMENT_MAX`]. The device reads no clock: the program passes the time to each call. A time that
-//! is before an earlier one counts as the earlier one.
+//! [`MOMENT_MAX`]. The device reads no clock: the program passes the time to each call. Time never
+//! goes back: the latest time that has counted so far counts in place of a time before it.
 //!
 //! # Lines of tc
 //!

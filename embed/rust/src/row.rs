@@ -10,9 +10,9 @@ pub struct Row {
     pub arrived: Count,
     /// What polls returned.
     pub sent: Count,
-    /// What was lost on arrival.
+    /// What was lost as `TooLong`, `NoClass` or `OverLimit`.
     pub refused: Count,
-    /// What was lost later.
+    /// What was lost for another cause, even if that was on arrival.
     pub dropped: Count,
     /// What is queued.
     pub queued: Count,

@@ -11,8 +11,9 @@ impl Device {
     /// whenever its file has changed.
     ///
     /// What the tree has already with the same words stays, with its packets. What differs is
-    /// changed, what is gone from the file is deleted, and what is new is added. After `Ok` the
-    /// tree is what the lines make of a new device, apart from packets and counters.
+    /// changed, or replaced if it cannot be changed, and then its packets are lost. What is gone
+    /// from the file is deleted, and what is new is added. After `Ok` the tree is what the lines
+    /// make of a new device, apart from packets and counters.
     ///
     /// ```
     /// # use qtree::{Device, Error, Packet, SetUpError, Settings};

@@ -1,7 +1,7 @@
 use crate::raw::sys;
 
-/// How long a packet waits at most in a pfifo or bfifo that no other packet passes, from when it
-/// was queued until it has left, whatever comes meanwhile.
+/// How long a packet waits at most in a pfifo or bfifo whose packets no other packet overtakes,
+/// from when it was queued until it has left, whatever comes meanwhile.
 ///
 /// This holds as long as commands take no packet from the qdisc and put none before it, leave a tbf
 /// at the root as it is, and add no other tbf.
