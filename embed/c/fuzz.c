@@ -299,7 +299,7 @@ static void keep_last(qtree_device *device, struct input *input) {
     read_last(device, input);
 }
 
-/* What a class is promised is a part of the link; nothing is written where it is promised nothing. */
+/* What a class is promised is a share of the link; nothing is written where it is promised nothing. */
 static void promised(qtree_device *device, struct input *input) {
     qtree_promise promise = { 7, 7, 7, 7 };
     uint64_t late = 7;

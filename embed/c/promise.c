@@ -176,7 +176,7 @@ static void put_class(const struct tree *tree, const qtree_node_view *drr, const
 
 /* The classes of each drr, from the root down. */
 static void put_table(const struct tree *tree) {
-    printf("%-10s%11s%16s%17s%15s\n", "class", "part", "bits a second", "less at most", "polls late");
+    printf("%-10s%11s%16s%17s%15s\n", "class", "share", "bits a second", "less at most", "polls late");
     for (size_t i = 0; i < tree->count; i++) {
         qtree_class_view class;
         for (size_t which = 0; qtree_class(&tree->device, i, which, &class) == QTREE_DONE; which++) {
