@@ -212,8 +212,11 @@ impl Script {
 
     // Whether the device and the list say the same of the oldest packet, once what was lost waits no longer.
     fn compare(&mut self) {
-        while let Some(lost) = self.device.reap() {
-            note(&mut self.waiting, lost.packet.number, None);
+        // A script has forty packets, and no more losses.
+        for _ in 0..40 {
+            if let Some(lost) = self.device.reap() {
+                note(&mut self.waiting, lost.packet.number, None);
+            }
         }
         let oldest = self.device.oldest(Place::Top).map(|at| at.ns());
         if oldest != first_of(&self.waiting) {
