@@ -1,4 +1,3 @@
-use Rattle.q_packet.specs.Descriptor.{Descriptor}
 use Rattle.std.proofs.Common.{ℕ, ◌∙◌, [], ◌∷◌, set, length, add-one, refl, sym, ap, subst, arith, Option, rules}
 use Rattle.std.specs.Prelude.{slice_index_or, unwrap_or}
 use Rattle.std.proofs.lemmas.Option.{slice_get-map}

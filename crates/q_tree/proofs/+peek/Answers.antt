@@ -18,7 +18,7 @@ use Rattle.q_tree.specs.declared.node.Discipline.TheVariants as code
 use Rattle.q_tree.specs.Shown.{Shown}
 use Rattle.q_tree.proofs.AskBands.{AreBandsAsked, told_to, band-at, band-once, band-shown, band-rises, band-passed, band-told, bands-start, bands-end, bands-rises}
 use Rattle.q_tree.proofs.AskOnce.{fits-beside, told-nothing, told-then}
-use Rattle.q_tree.proofs.AtHandLemmas.{none-held, some-held, shown-len, there-at}
+use Rattle.q_tree.proofs.AtHandLemmas.{shown-len}
 use Rattle.q_tree.proofs.HereLemmas.{flow-packets}
 use Rattle.q_tree.proofs.Peeks.{asked-in, held-of, told-in, each-of, room-of, own-room, items-are, serve-of, holding-after, can-in, enough, can-book, peeked-done, shown-here, told-here, tbf-gave, tbf-none, hand-asked, tbf-gave-since, tbf-none-since, tbf-waits, tbf-waits-since}
 use Rattle.q_tree.proofs.ServeLemmas.{classes-go-on, classes-start, class-once, class-shown, class-size, fewer-grants, front-met, given-asked, given-packet, given-schedule, given-told, idle-asked, idle-schedule, idle-told, nothing-asked, nothing-schedule, nothing-told, place-within, short-enough, nothing-since, given-since, idle-since, class-given}

@@ -1,4 +1,3 @@
-use Rattle.q_packet.specs.Descriptor.{Descriptor}
 use Rattle.std.proofs.Common.{List, ◌≡◌, ◌<◌, ◌∙◌, map, set, length, refl, sym, ap, subst, arith, Option}
 use Rattle.std.specs.Prelude.{is_some, unwrap_or}
 use Rattle.std.specs.Vec.{with_item}

@@ -1,4 +1,3 @@
-use Rattle.q_packet.specs.Descriptor.{Descriptor}
 use Rattle.q_tree.specs.Seen.{seen}
 use Rattle.std.proofs.Common.{◌∙◌, sym, ap, Option, rules}
 use Rattle.std.specs.Prelude.{unwrap_or}
