@@ -233,6 +233,27 @@ static void others(void) {
     qtree_close(&device);
 }
 
+/* What is said of a fault that qtree_command did not write: the mark is under the word with its index, and another number is no fault. */
+static void other_faults(void) {
+    static const char line[] = "tc qdisc add dev a root handle 1: drr";
+    static const struct {
+        size_t word, before, marked;
+    } wanted[] = { { 0, 0, 2 }, { 1, 0, 2 }, { 3, 9, 3 }, { 9, 34, 3 }, { 10, 38, 1 }, { SIZE_MAX, 38, 1 } };
+    char text[300], begins[300];
+    size_t needed;
+    for (size_t i = 0; i < sizeof wanted / sizeof wanted[0]; i++) {
+        for (uint32_t number = 0; number <= QTREE_FAULT_BAD_UTF8 + 1; number++) {
+            const qtree_fault fault = { wanted[i].word, number };
+            bool is_fault = number >= QTREE_FAULT_UNKNOWN_WORD && number <= QTREE_FAULT_BAD_UTF8;
+            needed = 7;
+            qtree_code code = qtree_explain((const uint8_t *)line, strlen(line), 5, QTREE_FAULTY, &fault, (uint8_t *)text, sizeof text, &needed);
+            CHECK(code == (is_fault ? QTREE_DONE : QTREE_OUT_OF_RANGE) && (needed > 0) == is_fault);
+            int len = snprintf(begins, sizeof begins, "line 5: %s\n        %*s%.*s\n  ", line, (int)wanted[i].before, "", (int)wanted[i].marked, "^^^");
+            CHECK(!is_fault || (needed > (size_t)len && memcmp(text, begins, (size_t)len) == 0 && text[needed - 1] == '\n'));
+        }
+    }
+}
+
 int main(void) {
     causes();
     lines();
@@ -240,6 +261,7 @@ int main(void) {
     ranges();
     numbered_frames();
     others();
+    other_faults();
     puts("conveniences: each answers as the header says");
     return 0;
 }
