@@ -61,12 +61,12 @@ static void sentences(void) {
         const char *sentence;
     } wanted[] = {
         { QTREE_DONE, "The call did what it was called for." },
-        { QTREE_LOST_TOO_LONG, "The packet is longer than the mtu or a tbf's burst: shorten it, or raise that." },
+        { QTREE_LOST_TOO_LONG, "The packet is longer than the mtu or than a tbf's burst: send shorter packets, or raise that limit." },
         { QTREE_LOST_NO_CLASS, "No filter of a drr takes the packet: add a filter that matches it." },
         { QTREE_LOST_OVER_LIMIT, "The packet's queue is at its limit: send less, or raise the limit." },
-        { QTREE_LOST_CODEL, "Packets waited too long, so CoDel dropped one: its sender slows down by itself." },
-        { QTREE_LOST_FAT_FLOW, "An fq_codel was over its limit, and the flow had the most bytes: raise it." },
-        { QTREE_LOST_PURGED, "A command removed the packet's qdisc: free its buffer, or let it arrive again." },
+        { QTREE_LOST_CODEL, "Packets waited too long, so CoDel dropped this one: its sender slows down by itself." },
+        { QTREE_LOST_FAT_FLOW, "An fq_codel was over its limit, and dropped from its largest flow: send less, or raise the limit." },
+        { QTREE_LOST_PURGED, "A command removed the packet's qdisc: free the packet's buffer, or let the packet arrive again." },
         { QTREE_REFUSED_NO_PARENT, "No qdisc has the parent's major number: add that qdisc first." },
         { QTREE_REFUSED_EXISTS, "A qdisc, or the class, is there already: change it, or remove it first." },
         { QTREE_REFUSED_NO_QDISC, "No qdisc that was added has this place and handle: add it first." },
@@ -75,22 +75,22 @@ static void sentences(void) {
         { QTREE_REFUSED_NO_CLASS, "There is no such class: add it first, or name another one." },
         { QTREE_REFUSED_BUSY, "A filter leads to this class: remove the filter first." },
         { QTREE_REFUSED_CANNOT_CHANGE, "This cannot be changed: remove the qdisc, and add it again." },
-        { QTREE_REFUSED_TOO_DEEP, "A qdisc would be deeper than 8: choose a parent further up." },
-        { QTREE_REFUSED_TOO_MANY, "More than 256 qdiscs, or filters of one qdisc, are too many: remove some." },
-        { QTREE_REFUSED_SMALL_BURST, "The burst is below the mtu and the tbf's present burst: raise it." },
-        { QTREE_REFUSED_NO_FILTER, "The qdisc has no filter of this prio: list its filters." },
+        { QTREE_REFUSED_TOO_DEEP, "The tree would have more than eight levels: choose a parent further up." },
+        { QTREE_REFUSED_TOO_MANY, "There would be more than 256 qdiscs, or more than 256 filters at one qdisc: remove some first." },
+        { QTREE_REFUSED_SMALL_BURST, "The burst is below both the mtu and the tbf's present burst: choose a larger one." },
+        { QTREE_REFUSED_NO_FILTER, "The qdisc has no filter with this prio: list its filters to see which prios it has." },
         { QTREE_IDLE, "No packet is queued: poll again when one has arrived." },
-        { QTREE_LATER, "No packet may be sent yet: poll again at the time of qtree_ready_at." },
-        { QTREE_NOTHING, "What was asked for is not there, or is no more: go on without it." },
-        { QTREE_FULL, "The ring is full: offer the packet again when some have been taken in." },
+        { QTREE_LATER, "Packets are queued, but none may go yet: poll again at the time that qtree_ready_at returns." },
+        { QTREE_NOTHING, "What the call asks for does not exist, or no longer exists: go on without it." },
+        { QTREE_FULL, "The ring is full: offer the packet again after some packets have been taken in." },
         { QTREE_FAULTY, "The line cannot be read: qtree_explain says which word is wrong, and why." },
-        { QTREE_NO_COMMAND, "The line changes no tree: qtree_explain says which call does what it asks for." },
+        { QTREE_NO_COMMAND, "The line is not a command: qtree_explain says what it is, and which call does what it asks for." },
         { QTREE_OUT_OF_RANGE, "An argument is out of its range: qtree_out_of_range checks a packet and the time." },
-        { QTREE_ROOM, "The memory that was lent is too small: call again with as much as is needed." },
-        { QTREE_UNDONE, "A line of the file is not done, and so none is: mend each line that is told, and call again." },
+        { QTREE_ROOM, "The memory that the program passed is too small: call again with as much as is needed." },
+        { QTREE_UNDONE, "A line of the file cannot be carried out, so none was: correct the reported lines, and call again." },
         { QTREE_IS_CLOSED, "The device, the port or the outlet is closed: open it first." },
         { QTREE_IS_OPEN, "The device, the port or the outlet is open already: close it first." },
-        { QTREE_MEMORY, "An allocation failed: free memory, and call again for what was not done." },
+        { QTREE_MEMORY, "An allocation failed: free some memory, and call again for what was not done." },
     };
     size_t named = 0;
     for (qtree_code code = 0; code < 300; code++) {
@@ -100,7 +100,7 @@ static void sentences(void) {
             named++;
         } else {
             CHECK(strcmp(sentence, qtree_is_loss(code) ? "The packet is lost, for a cause that is newer than this header."
-                                                       : "This header does not know the answer: the library is newer, or the number is none.") == 0);
+                                                       : "This header does not know the code: the library is newer, or the number is not a code.") == 0);
         }
     }
     CHECK(named == sizeof wanted / sizeof wanted[0]);

@@ -993,12 +993,16 @@ static inline const char *qtree_kind_name(uint32_t kind) {
 static inline const char *qtree_code_sentence(qtree_code code) {
     switch (code) {
     case QTREE_DONE: return "The call did what it was called for.";
-    case QTREE_LOST_TOO_LONG: return "The packet is longer than the mtu or a tbf's burst: shorten it, or raise that.";
+    case QTREE_LOST_TOO_LONG:
+        return "The packet is longer than the mtu or than a tbf's burst: send shorter packets, or raise that limit.";
     case QTREE_LOST_NO_CLASS: return "No filter of a drr takes the packet: add a filter that matches it.";
     case QTREE_LOST_OVER_LIMIT: return "The packet's queue is at its limit: send less, or raise the limit.";
-    case QTREE_LOST_CODEL: return "Packets waited too long, so CoDel dropped one: its sender slows down by itself.";
-    case QTREE_LOST_FAT_FLOW: return "An fq_codel was over its limit, and the flow had the most bytes: raise it.";
-    case QTREE_LOST_PURGED: return "A command removed the packet's qdisc: free its buffer, or let it arrive again.";
+    case QTREE_LOST_CODEL:
+        return "Packets waited too long, so CoDel dropped this one: its sender slows down by itself.";
+    case QTREE_LOST_FAT_FLOW:
+        return "An fq_codel was over its limit, and dropped from its largest flow: send less, or raise the limit.";
+    case QTREE_LOST_PURGED:
+        return "A command removed the packet's qdisc: free the packet's buffer, or let the packet arrive again.";
     case QTREE_REFUSED_NO_PARENT: return "No qdisc has the parent's major number: add that qdisc first.";
     case QTREE_REFUSED_EXISTS: return "A qdisc, or the class, is there already: change it, or remove it first.";
     case QTREE_REFUSED_NO_QDISC: return "No qdisc that was added has this place and handle: add it first.";
@@ -1007,27 +1011,32 @@ static inline const char *qtree_code_sentence(qtree_code code) {
     case QTREE_REFUSED_NO_CLASS: return "There is no such class: add it first, or name another one.";
     case QTREE_REFUSED_BUSY: return "A filter leads to this class: remove the filter first.";
     case QTREE_REFUSED_CANNOT_CHANGE: return "This cannot be changed: remove the qdisc, and add it again.";
-    case QTREE_REFUSED_TOO_DEEP: return "A qdisc would be deeper than 8: choose a parent further up.";
-    case QTREE_REFUSED_TOO_MANY: return "More than 256 qdiscs, or filters of one qdisc, are too many: remove some.";
-    case QTREE_REFUSED_SMALL_BURST: return "The burst is below the mtu and the tbf's present burst: raise it.";
-    case QTREE_REFUSED_NO_FILTER: return "The qdisc has no filter of this prio: list its filters.";
+    case QTREE_REFUSED_TOO_DEEP: return "The tree would have more than eight levels: choose a parent further up.";
+    case QTREE_REFUSED_TOO_MANY:
+        return "There would be more than 256 qdiscs, or more than 256 filters at one qdisc: remove some first.";
+    case QTREE_REFUSED_SMALL_BURST:
+        return "The burst is below both the mtu and the tbf's present burst: choose a larger one.";
+    case QTREE_REFUSED_NO_FILTER:
+        return "The qdisc has no filter with this prio: list its filters to see which prios it has.";
     case QTREE_IDLE: return "No packet is queued: poll again when one has arrived.";
-    case QTREE_LATER: return "No packet may be sent yet: poll again at the time of qtree_ready_at.";
-    case QTREE_NOTHING: return "What was asked for is not there, or is no more: go on without it.";
-    case QTREE_FULL: return "The ring is full: offer the packet again when some have been taken in.";
+    case QTREE_LATER:
+        return "Packets are queued, but none may go yet: poll again at the time that qtree_ready_at returns.";
+    case QTREE_NOTHING: return "What the call asks for does not exist, or no longer exists: go on without it.";
+    case QTREE_FULL: return "The ring is full: offer the packet again after some packets have been taken in.";
     case QTREE_FAULTY: return "The line cannot be read: qtree_explain says which word is wrong, and why.";
-    case QTREE_NO_COMMAND: return "The line changes no tree: qtree_explain says which call does what it asks for.";
+    case QTREE_NO_COMMAND:
+        return "The line is not a command: qtree_explain says what it is, and which call does what it asks for.";
     case QTREE_OUT_OF_RANGE: return "An argument is out of its range: qtree_out_of_range checks a packet and the time.";
-    case QTREE_ROOM: return "The memory that was lent is too small: call again with as much as is needed.";
+    case QTREE_ROOM: return "The memory that the program passed is too small: call again with as much as is needed.";
     case QTREE_UNDONE:
-        return "A line of the file is not done, and so none is: mend each line that is told, and call again.";
+        return "A line of the file cannot be carried out, so none was: correct the reported lines, and call again.";
     case QTREE_IS_CLOSED: return "The device, the port or the outlet is closed: open it first.";
     case QTREE_IS_OPEN: return "The device, the port or the outlet is open already: close it first.";
-    case QTREE_MEMORY: return "An allocation failed: free memory, and call again for what was not done.";
+    case QTREE_MEMORY: return "An allocation failed: free some memory, and call again for what was not done.";
     default: break;
     }
-    return qtree_is_loss(code) ? "The packet is lost, for a cause that is newer than this header."
-                               : "This header does not know the answer: the library is newer, or the number is none.";
+    if (qtree_is_loss(code)) return "The packet is lost, for a cause that is newer than this header.";
+    return "This header does not know the code: the library is newer, or the number is not a code.";
 }
 
 /* Writes one of the names above, for a program in another language than C or C++.
