@@ -19,6 +19,7 @@ pub mod MovedTrees
 pub mod OldestStands
 pub mod PlayLemmas
 pub mod PlaceLemmas
+mod PollAnswers
 pub mod PollLemmas
 mod PromiseStands
 pub mod ReadyNumbers

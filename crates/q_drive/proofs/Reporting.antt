@@ -12,6 +12,7 @@ use Rattle.q_script.specs.declared.run_fault.RunFault.{RunFault}
 use Rattle.q_script.specs.declared.run_fault.RunFault.TheVariants as fault
 use Rattle.q_script.proofs.WrittenLemmas.{front-longer, front-of}
 use Rattle.q_session.specs.Session.{SessionSeen, opened}
+use Rattle.q_session.proofs.Reported.{known}
 use Rattle.q_show.specs.Writes.{MayWrite, WriteFailed}
 use Rattle.q_show.specs.Written.{AppendsFront}
 use Rattle.q_show.specs.declared.writes.Writes.{Writes}
@@ -71,11 +72,6 @@ lines_failed s script old new first is h =
       has_driven = tt;
       text = front-longer old new (set_up s script r.0).text (ending_text s.show None) r.1;
     }
-
--- where it is known what the reader had
-known : (P Q : List ℕ → Type 0) → ((all : List ℕ) → P all → Q all) → (had : Option (List ℕ)) → IfSome had P → IfSome had Q
-known P Q f None h = tt
-known P Q f (Some all) h = f all h
 
 pub told-whole : (had : Option (List ℕ)) (s : Drive) (driven : Option Driven) (told : Outcome) (old mid new : Option (List ℕ)) (first last : SessionSeen) → first ≡ opened s.device → IfSome driven (HasDriven s)
     → Appends mid new (ending_text s.show driven) → IfSome had (λ all. IsRun effect_of missed all first last told old mid) → IfSome had (λ all. IsDrivenOf s all (outcome_with driven told) (missed last) old new)

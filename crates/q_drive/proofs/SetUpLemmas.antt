@@ -2,9 +2,9 @@
 use Rattle.std.proofs.Common.{◌≡◌, ◌∙◌, ℕ, Bool, true, false, List, [], ◌∷◌, if◌then◌else◌, codes, bytes_eq, Result, Ok, Err, refl, sym, ap, subst, ne_eqb, nat_eq}
 use Rattle.std.specs.List.{starts_with}
 use Rattle.std.specs.Prelude.{IsUtf8}
-use Rattle.std.specs.Str.{is_utf8}
-use Rattle.std.proofs.lemmas.Str.{IsUtf8-from_is_utf8, is_utf8-from_IsUtf8}
+use Rattle.std.proofs.lemmas.Str.{is_utf8-from_IsUtf8}
 use Rattle.q_line.specs.Grammar.{line_of, line_of_words}
+use Rattle.q_line.proofs.Steps.{not_utf8}
 use Rattle.q_model.specs.declared.command.Command.{Command}
 use Rattle.q_model.specs.declared.refusal.Refusal.{Refusal}
 use Rattle.q_model.specs.Edit.{Edit, lost_by, packets_removed}
@@ -37,13 +37,6 @@ said_word line word rest e h =
     ap read e
     ∙ (sym (ap (λ (x : Bool). if x then Ok Blank else read (word ∷ rest)) (not_comment word rest h))
     ∙ sym (ap said_by_words e))
-
-pub not_utf8 : (w : List ℕ) → ¬ (IsUtf8 w) → is_utf8 w ≡ false
-not_utf8 w h = by (is_utf8 w) refl
-  where
-    by : (b : Bool) → is_utf8 w ≡ b → is_utf8 w ≡ false
-    by true e = absurd (h (IsUtf8-from_is_utf8 w e))
-    by false e = e
 
 -- a first word that is not UTF-8
 pub bad_word : (word : List ℕ) (read : Result SetUpLine LineFault) → ¬ (IsUtf8 word) → by_first_word word read ≡ Err (BadUtf8 1)

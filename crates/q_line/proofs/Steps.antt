@@ -24,7 +24,7 @@ rest_of-cons p i w ws = by_answer (after i p w)
     by_answer (Ok next) = refl
     by_answer (Err e) = refl
 
-not_utf8 : (w : List ℕ) → ¬ (IsUtf8 w) → is_utf8 w ≡ false
+pub not_utf8 : (w : List ℕ) → ¬ (IsUtf8 w) → is_utf8 w ≡ false
 not_utf8 w h = by_test (is_utf8 w) refl
   where
     by_test : (b : Bool) → is_utf8 w ≡ b → is_utf8 w ≡ false

@@ -57,7 +57,7 @@ partly settings script old new first is h =
     (r.0, subst (AppendsFront old new) (text-is settings script r.0) r.1)
 
 -- where it is known what the reader had
-known : (P Q : List ℕ → Type 0) → ((all : List ℕ) → P all → Q all) → (had : Option (List ℕ)) → IfSome had P → IfSome had Q
+pub known : (P Q : List ℕ → Type 0) → ((all : List ℕ) → P all → Q all) → (had : Option (List ℕ)) → IfSome had P → IfSome had Q
 known P Q f None h = tt
 known P Q f (Some all) h = f all h
 

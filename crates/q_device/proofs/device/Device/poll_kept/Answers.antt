@@ -1,4 +1,4 @@
-use Rattle.std.proofs.Common.{◌≡◌, ◌∙◌, refl, sym, ap, ap₂, subst, Bool, true, false, Option, Some, None, arith}
+use Rattle.std.proofs.Common.{◌≡◌, ◌∙◌, refl, sym, ap, ap₂, subst, Option, arith}
 use Rattle.std.specs.Prelude.{is_some, unwrap_or}
 use Rattle.q_codel.specs.Losses.{LossList}
 use Rattle.q_packet.specs.Descriptor.{Descriptor}
@@ -19,15 +19,10 @@ use Rattle.q_device.specs.Keeping.{device_seen}
 use Rattle.q_device.specs.Laws.{given_in}
 use Rattle.q_device.proofs.EventLemmas.{Happened, event-rises, event-seen, polled, polled-device, polled-others, reply-step}
 use Rattle.q_device.proofs.KeptLemmas.{event-kept, events-after, kept-arrived}
+use Rattle.q_device.proofs.PollAnswers.{polled-gives, told-poll}
 use Rattle.q_device.proofs.ReadyNumbers.{given-numbers}
 use Rattle.q_device.proofs.device.Device.poll_kept.Goals.{After-count_poll}
 use Rattle.q_device.proofs.device.Device.poll_kept.Goals as goal
-
--- the place and the answer together say what a poll gives
-told-poll : (g : Option Descriptor) (before : Descriptor) (empty : Bool) → polled_in (unwrap_or g before) (given_of (is_some g) empty) ≡ polled_of g empty
-told-poll (Some p) before empty = refl
-told-poll None before true = refl
-told-poll None before false = refl
 
 -- the poll has happened
 abbrev after : After-count_poll → Inside
@@ -76,13 +71,6 @@ returns-clause-reply c =
     ∙ ap (λ t. reply.Polled (polled_of (given t tree) (is_empty (shape (take_packet kept t tree).root)))) c.later-at.ensures
     ∙ reply-step (numbers a.tree) a.tree refl e
     ∙ ap (λ (d : DeviceSeen). (step totals d.device e).reply) c.self.view_is
-
--- the packet of the reply is the one that the tree gives
-
-polled-gives : (g : Option Descriptor) (empty : Bool) → given_in (reply.Polled (polled_of g empty)) ≡ g
-polled-gives (Some p) empty = refl
-polled-gives None true = refl
-polled-gives None false = refl
 
 pub returns-clause-gives : goal.returns-clause-gives
 returns-clause-gives c =

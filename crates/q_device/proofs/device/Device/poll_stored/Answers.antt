@@ -1,5 +1,5 @@
-use Rattle.std.proofs.Common.{◌≡◌, ◌∙◌, refl, sym, ap, ap₂, subst, Bool, true, false, Option, Some, None, arith}
-use Rattle.std.specs.Prelude.{is_some, unwrap_or}
+use Rattle.std.proofs.Common.{◌≡◌, ◌∙◌, refl, sym, ap, ap₂, subst, Option, arith}
+use Rattle.std.specs.Prelude.{unwrap_or}
 use Rattle.q_codel.specs.Losses.{LossList}
 use Rattle.std.specs.Option.{option_map_or}
 use Rattle.q_packet.specs.Descriptor.{Descriptor}
@@ -21,15 +21,10 @@ use Rattle.q_device.specs.Keeping.{device_seen}
 use Rattle.q_device.specs.Laws.{given_in}
 use Rattle.q_device.proofs.EventLemmas.{Happened, event-rises, event-seen, polled, polled-device, polled-others, reply-step}
 use Rattle.q_device.proofs.KeptLemmas.{event-kept, events-after, kept-arrived}
+use Rattle.q_device.proofs.PollAnswers.{polled-gives, told-poll}
 use Rattle.q_device.proofs.ReadyNumbers.{given-numbers}
 use Rattle.q_device.proofs.device.Device.poll_stored.Goals.{After-count_poll}
 use Rattle.q_device.proofs.device.Device.poll_stored.Goals as goal
-
--- the place and the answer together say what a poll gives
-told-poll : (g : Option Descriptor) (before : Descriptor) (empty : Bool) → polled_in (unwrap_or g before) (given_of (is_some g) empty) ≡ polled_of g empty
-told-poll (Some p) before empty = refl
-told-poll None before true = refl
-told-poll None before false = refl
 
 -- the poll has happened
 abbrev after : After-count_poll → Inside
@@ -65,13 +60,6 @@ returns-clause-memory c =
 
 pub returns-clause-moment : goal.returns-clause-moment
 returns-clause-moment c = ap (λ (d : DeviceSeen). event.Poll d.device.clock) (sym (returns-clause-event c))
-
--- the packet of the reply is the one that the tree gives
-
-polled-gives : (g : Option Descriptor) (empty : Bool) → given_in (reply.Polled (polled_of g empty)) ≡ g
-polled-gives (Some p) empty = refl
-polled-gives None true = refl
-polled-gives None false = refl
 
 pub returns-clause-reply : goal.returns-clause-reply
 returns-clause-reply c =
