@@ -1,5 +1,5 @@
 -- The bands of a prio that are asked in order, up to the first that shows a packet.
-use Rattle.std.proofs.Common.{◌≡◌, ℕ, zero, suc, ◌+◌, ◌≤◌, ◌<◌, ◌∙◌, List, [], ◌∷◌, ◌++◌, append_assoc, map, take, drop, set, length, refl, sym, ap, ap₂, subst, Option, Some, None, option_and_then, option_map, flat_map, arith}
+use Rattle.std.proofs.Common.{◌≡◌, ℕ, zero, suc, ◌+◌, ◌≤◌, ◌<◌, ◌∙◌, List, [], ◌∷◌, ◌++◌, append_assoc, map, take, drop, set, length, add-one, refl, sym, ap, ap₂, subst, Option, Some, None, option_and_then, option_map, flat_map, arith}
 use Rattle.std.specs.Prelude.{Bool, true, false, not, cond, is_some, slice_get, slice_index_or}
 use Rattle.std.specs.List.{position_or_len}
 use Rattle.std.proofs.lemmas.List.{append-nil, take_all, drop_all, length-map}
@@ -15,7 +15,7 @@ use Rattle.q_tree.specs.AskSteps.{CanAskEach, CanAskOnce, AreAsked, IsShown, IsT
 use Rattle.q_tree.specs.PutSteps.{packets_beneath}
 use Rattle.q_tree.specs.Kept.{Kept, kept}
 use Rattle.q_tree.specs.Shown.{Shown}
-use Rattle.q_tree.proofs.AskOnce.{IsCounted, can-ask, can-ask-once, counted-then}
+use Rattle.q_tree.proofs.AskOnce.{IsCounted, can-ask, can-ask-once, counted-then, told-then}
 use Rattle.q_tree.proofs.Asking.{IsAsking, asking-starts, asking-goes, still-there, side-all}
 use Rattle.q_tree.proofs.PopLemmas.{none-there}
 
@@ -46,6 +46,10 @@ told-next : (below : List Asked) (i : ℕ) (a : Asked) → slice_get below i ≡
 told-next [] i a e = cc
 told-next (b ∷ below) zero a e = ap (λ (x : Asked). x.rises) (sym (same_Some b a e)) ∙ sym (append-nil b.rises)
 told-next (b ∷ below) (suc i) a e = append_assoc b.rises (told_to i below) a.rises ∙ ap (λ xs. b.rises ++ xs) (told-next below i a e)
+
+-- what a band shows and counts
+abbrev pub next_of : ℕ → Node Kept → Shown
+next_of now band = let a = ask now (shape band) in record { packet = a.shown; dropped = (counts_in a.rises).dropped; marked = (counts_in a.rises).marked }
 
 abbrev pub NoneBefore : ℕ → List Asked → Type 0
 NoneBefore i below = first_showing below ≡ i + first_showing (drop i below)
@@ -126,7 +130,7 @@ module _ (now : ℕ) (ns ms : List (Node Kept)) (i : ℕ) (s : Shown) (each : Ca
         (counted-then (told_to i (answers now ns)) (ask now (shape c)).rises s next result h.counted shown.dropped shown.marked dropped marked)
 
     -- one that shows nothing is passed
-    pub band-passed : is_some result.packet ≡ false → AreBandsAsked now ns (set ms i d) (suc i) result
+    band-passed : is_some result.packet ≡ false → AreBandsAsked now ns (set ms i d) (suc i) result
     band-passed none = record {
       asking = band-asked;
       nobody = omega (arith, h.nobody, first-later (answers now ns) i (ask now (shape c)) answer-at (sym (ap is_some (packet ∙ shown.packet)) ∙ none));
@@ -139,7 +143,7 @@ module _ (now : ℕ) (ns ms : List (Node Kept)) (i : ℕ) (s : Shown) (each : Ca
         from (Some p) e = cc
 
     -- and the first that shows a packet ends it
-    band-place : is_some result.packet ≡ true → first_showing (answers now ns) ≡ i
+    pub band-place : is_some result.packet ≡ true → first_showing (answers now ns) ≡ i
     band-place some = omega (arith, h.nobody, first-here (answers now ns) i (ask now (shape c)) answer-at (sym (ap is_some (packet ∙ shown.packet)) ∙ some))
 
     pub band-shown : is_some result.packet ≡ true → (own : Own) → AreAsked (ask_prio own (answers now ns)) ns (set ms i d) result
@@ -157,11 +161,21 @@ module _ (now : ℕ) (ns ms : List (Node Kept)) (i : ℕ) (s : Shown) (each : Ca
           };
         }
 
-    pub band-rises : is_some result.packet ≡ true → (own : Own) → told_to i (answers now ns) ++ (ask now (shape c)).rises ≡ (ask_prio own (answers now ns)).rises
-    band-rises some own = told-next (answers now ns) i (ask now (shape c)) answer-at ∙ sym (prio-rises own (answers now ns) i (band-place some))
+    module _ (losses losses_so_far losses_after : List Loss) (room room_so_far room_after : ℕ) (so_far : IsToldOf (told_to i (answers now ns)) losses losses_so_far room room_so_far)
+        (told : IsToldOf (ask now (shape c)).rises losses_so_far losses_after room_so_far room_after) where
+      told-so-far : IsToldOf (told_to (suc i) (answers now ns)) losses losses_after room room_after
+      told-so-far =
+          subst (λ notes. IsToldOf notes losses losses_after room room_after) (told-next (answers now ns) i (ask now (shape c)) answer-at)
+          (told-then (told_to i (answers now ns)) (ask now (shape c)).rises losses losses_so_far losses_after room room_so_far room_after so_far told)
 
-  pub band-told : told_to i (answers now ns) ++ (ask now (shape c)).rises ≡ told_to (suc i) (answers now ns)
-  band-told = told-next (answers now ns) i (ask now (shape c)) answer-at
+      pub bands-go-on : is_some result.packet ≡ false → AreBandsAsked now ns (set ms i d) (i + 1) result × IsToldOf (told_to (i + 1) (answers now ns)) losses losses_after room room_after
+      bands-go-on none = (
+        subst (λ n. AreBandsAsked now ns (set ms i d) n result) (sym (add-one i)) (band-passed none),
+        subst (λ n. IsToldOf (told_to n (answers now ns)) losses losses_after room room_after) (sym (add-one i)) told-so-far,
+      )
+
+      pub bands-told : is_some result.packet ≡ true → (own : Own) → IsToldOf (ask_prio own (answers now ns)).rises losses losses_after room room_after
+      bands-told some own = subst (λ notes. IsToldOf notes losses losses_after room room_after) (sym (prio-rises own (answers now ns) i (band-place some))) told-so-far
 
 -- where no band shows a packet, all were asked
 module _ (now : ℕ) (ns ms : List (Node Kept)) (i : ℕ) (s : Shown) (h : AreBandsAsked now ns ms i s) (past : length ns ≤ i) (inside : i ≤ length ns) where

@@ -52,6 +52,18 @@ all-set (m ∷ ns) [] (suc i) n w e = refl
 all-set (m ∷ ns) (v ∷ ws) zero n w e = ap (λ (x : Node Kept). booked kept x w ∷ booked_all ns ws) (sym (same_Some m n e))
 all-set (m ∷ ns) (v ∷ ws) (suc i) n w e = ap (λ xs. booked kept m v ∷ xs) (all-set ns ws i n w e)
 
+-- what stands in a place that was set
+pub set-at : (ms : List (Node Kept)) (i : ℕ) (x d : Node Kept) → slice_get ms i ≡ Some x → slice_get (set ms i d) i ≡ Some d
+set-at [] i x d e = cc
+set-at (m ∷ ms) zero x d e = refl
+set-at (m ∷ ms) (suc i) x d e = set-at ms i x d e
+
+-- and what is put back in its place
+pub set-same : (ms : List (Node Kept)) (i : ℕ) (x : Node Kept) → slice_get ms i ≡ Some x → set ms i x ≡ ms
+set-same [] i x e = cc
+set-same (m ∷ ms) zero x e = ap (λ (y : Node Kept). y ∷ ms) (sym (same_Some m x e))
+set-same (m ∷ ms) (suc i) x e = ap (λ xs. m ∷ xs) (set-same ms i x e)
+
 -- a node that was not asked yet
 pub booked-before : (now : ℕ) (n : Node Kept) → booked kept n (ask now (shape n)).before ≡ n
 booked-before now n =

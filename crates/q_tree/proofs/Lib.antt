@@ -30,6 +30,7 @@ pub mod Forms
 pub mod GraftLemmas
 pub mod HeldLemmas
 pub mod HereLemmas
+pub mod IdleClasses
 pub mod IndexLemmas
 pub mod IndexOfFilterLemmas
 pub mod MakingLemmas

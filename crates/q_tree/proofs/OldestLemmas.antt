@@ -1,6 +1,6 @@
 -- The oldest packet of a node of the code: of what it holds, of its own queues, and of its children.
 use Rattle.std.proofs.Common.{◌≡◌, ℕ, zero, suc, ◌+◌, ◌≤◌, ◌<◌, ◌∙◌, List, [], ◌∷◌, ◌++◌, map, drop, length, refl, sym, ap, ap₂, subst, Option, Some, None, option_map, option_and_then, arith}
-use Rattle.std.specs.Prelude.{All, slice_get, slice_index_or}
+use Rattle.std.specs.Prelude.{slice_get, slice_index_or}
 use Rattle.std.specs.List.{flat_map}
 use Rattle.std.specs.Option.{option_to_list}
 use Rattle.std.proofs.lemmas.List.{append-nil, drop_more, drop_all}
@@ -12,7 +12,7 @@ use Rattle.q_codel.specs.declared.limit.Limit.{Limit}
 use Rattle.q_fqcodel.specs.FqState.{Flow, FqState}
 use Rattle.q_fqcodel.specs.Oldest.{earlier, earliest, first_arrival, first_arrivals}
 use Rattle.q_fqcodel.proofs.OldestLemmas.{earlier_assoc, earliest-append, earliest-one}
-use Rattle.q_model.specs.Beneath.{beneath, beneath_own}
+use Rattle.q_model.specs.Beneath.{beneath_own}
 use Rattle.q_model.specs.Lawful.{IsStampedBy, IsLawfulFlow, IsLawfulDiscipline}
 use Rattle.q_model.specs.Node as spec
 use Rattle.q_model.specs.declared.class_id.ClassId.{ClassId}

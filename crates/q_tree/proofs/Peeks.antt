@@ -1,11 +1,12 @@
 -- A node that is asked: what its discipline can rely on, what is booked, and what the node is then.
 use Rattle.std.proofs.Common.{◌≡◌, ℕ, ◌≤◌, ◌<◌, ◌^◌, ◌∙◌, List, [], ◌∷◌, ◌++◌, map, take, drop, length, refl, sym, ap, ap₂, subst, Option, Some, None, option_to_list, flat_map, arith}
-use Rattle.std.specs.Prelude.{Bool, true, false, is_some, if◌then◌else◌, unwrap_or}
+use Rattle.std.specs.Prelude.{Bool, true, false, is_some, slice_get, if◌then◌else◌, unwrap_or}
 use Rattle.std.specs.Option.{option_map_or}
 use Rattle.std.specs.List.{All}
 use Rattle.std.proofs.lemmas.List.{append-nil, drop_all, take_all, length-append, length-map}
 use Rattle.std.proofs.lemmas.List.Sums.{sum_by-append}
 use Rattle.q_packet.specs.Descriptor.{Descriptor}
+use Rattle.q_codel.specs.declared.limit.Limit.{Limit}
 use Rattle.q_codel.specs.declared.loss.Loss.{Loss}
 use Rattle.q_bucket.specs.Level.{TokenBucket, allows}
 use Rattle.q_drr.specs.Schedule.{Schedule, is_active}
@@ -13,12 +14,12 @@ use Rattle.q_model.specs.declared.filter.Filter.{Filter}
 use Rattle.q_model.specs.declared.row.Row.{Row}
 use Rattle.q_model.specs.declared.totals.Totals.{Totals}
 use Rattle.q_model.specs.Ask.{Asked, befores, ask, ask_discipline, holding, waits, spends, ask_child}
-use Rattle.q_model.specs.Beneath.{beneath, beneath_own, packets_in, totals_in}
+use Rattle.q_model.specs.Beneath.{beneath, beneath_own, packets_in, packets_of, totals_in}
 use Rattle.q_model.specs.Lawful.{IsLawfulDiscipline}
 use Rattle.q_model.specs.Node as spec
 use Rattle.q_model.specs.Node.{Node, Own, shape, side_by_side, each}
 use Rattle.q_model.specs.Pop.{Popping, pop, pop_own}
-use Rattle.q_model.specs.Tally.{counts_in}
+use Rattle.q_model.specs.Tally.{counts_in, no_totals}
 use Rattle.q_model.specs.Work.{booked, each_booked}
 use Rattle.q_invariants.proofs.Exact.{exact-length}
 use Rattle.q_invariants.proofs.Forests.{each-side, AreLawful}
@@ -203,6 +204,13 @@ asked-in now handle filters before after k k2 ns ns2 s is kids is2 kids2 places 
           (subst (λ xs. AreAsked (ask_discipline now (own_of handle filters k) (answers now ns) k) ns xs s) (sym kids2) asked);
       places = places;
     })
+
+-- a fifo shows its head, and stays as it is
+pub fifo-asked : (now : ℕ) (handle : Option ℕ) (filters : List Filter) (d : Discipline) (limit : Limit) (queue : List Stamped) (s : Shown) → discipline_seen d ≡ spec.Fifo limit queue → children_seen d ≡ []
+    → s.packet ≡ slice_get (packets_of queue) 0 → s.dropped ≡ no_totals → s.marked ≡ no_totals → IsAskedIn (answer_of now handle filters d) d d s
+fifo-asked now handle filters d limit queue s is kids packet dropped marked =
+    asked-in now handle filters d d (spec.Fifo limit queue) (spec.Fifo limit queue) [] [] s is kids is kids refl refl
+    (record { long = refl; nodes = refl; within = λ t h. h; shown = record { packet = packet; dropped = dropped; marked = marked } })
 
 pub told-in : (now : ℕ) (handle : Option ℕ) (filters : List Filter) (d : Discipline) (k : spec.Discipline) (ns : List (Node Kept)) (l l2 : List Loss) (r r2 : ℕ) → discipline_seen d ≡ k → children_seen d ≡ ns
     → IsToldOf (ask_discipline now (own_of handle filters k) (answers now ns) k).rises l l2 r r2 → IsToldOf (answer_of now handle filters d).rises l l2 r r2

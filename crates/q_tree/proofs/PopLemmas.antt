@@ -2,10 +2,11 @@
 use Rattle.std.proofs.Common.{◌≡◌, ℕ, zero, suc, ◌+◌, ◌≤◌, ◌<◌, ◌∙◌, List, [], ◌∷◌, map, drop, set, length, refl, sym, ap, ap₂, subst, arith, Option, Some, None, option_map, option_and_then, option_to_list}
 use Rattle.std.specs.Prelude.{Bool, true, false, not, cond, is_some, slice_get, slice_index_or}
 use Rattle.std.specs.List.{All}
-use Rattle.std.proofs.lemmas.List.{drop_all, length-map}
+use Rattle.std.proofs.lemmas.List.{drop_all, length-map, length-set}
 use Rattle.std.proofs.lemmas.List.Elements.{All-set}
-use Rattle.std.proofs.lemmas.Option.{slice_get-map, same_Some}
+use Rattle.std.proofs.lemmas.Option.{slice_get-map, slice_get_within, same_Some, none-some, get_or_from_slice_get, slice_get-get_or}
 use Rattle.q_packet.specs.Descriptor.{Descriptor}
+use Rattle.q_codel.specs.declared.limit.Limit.{Limit}
 use Rattle.q_model.specs.declared.row.Row.{Row}
 use Rattle.q_model.specs.declared.totals.Totals.{Totals}
 use Rattle.q_model.specs.declared.filter.Filter.{Filter}
@@ -20,11 +21,12 @@ use Rattle.q_invariants.proofs.Members.{All-at}
 use Rattle.q_invariants.proofs.Pops.{pop-before}
 use Rattle.q_tree.specs.AskSteps.{own_of}
 use Rattle.q_tree.specs.Kept.{Kept, kept}
-use Rattle.q_tree.specs.PopSteps.{IsFirstReady, IsPoppedIn, popping_of, with_sent}
+use Rattle.q_tree.specs.PopSteps.{ArePopped, IsPoppedIn, popping_of, with_sent}
 use Rattle.q_tree.specs.Seen.{seen, discipline_seen, children_seen, places_seen, IsKept, IsCountedWithin}
 use Rattle.q_tree.specs.declared.node.Discipline.{Discipline}
 use Rattle.q_tree.specs.declared.node.Node.TheInside.{Inside}
 use Rattle.q_tree.proofs.AtHandLemmas.{front-of, first-some, first-none}
+use Rattle.q_tree.proofs.Asking.{set-same}
 use Rattle.q_tree.proofs.Forms.{noted-kept}
 use Rattle.q_tree.proofs.Rows.{counts_in_row}
 use Rattle.q_tree.proofs.RowsOf.{IsRowOf, row-of, kept-of, row-popped, row-still}
@@ -36,16 +38,19 @@ use Rattle.q_tree.proofs.HeldLemmas.{empty-held}
 abbrev pub NoneBefore : ℕ → List (Node Kept) → Type 0
 NoneBefore i ns = first_ready (map pop ns) ≡ i + first_ready (map pop (drop i ns))
 
-pub ready-here : (ns : List (Node Kept)) (i : ℕ) (x : Node Kept) → i < length ns → x ≡ slice_index_or ns i x → is_some (pop x).shown ≡ true → NoneBefore i ns → i ≡ first_ready (map pop ns)
-ready-here ns i x inside is some before =
+front-at : (ns : List (Node Kept)) (i : ℕ) (x : Node Kept) → slice_get ns i ≡ Some x → map pop (drop i ns) ≡ pop x ∷ map pop (drop (i + 1) ns)
+front-at ns i x at = front-of ns i x (slice_get_within ns i x at) (sym (get_or_from_slice_get ns i x x at))
+
+pub ready-here : (ns : List (Node Kept)) (i : ℕ) (x : Node Kept) → slice_get ns i ≡ Some x → is_some (pop x).shown ≡ true → NoneBefore i ns → i ≡ first_ready (map pop ns)
+ready-here ns i x at some before =
     let front : first_ready (map pop (drop i ns)) ≡ 0 =
-    ap first_ready (front-of ns i x inside is) ∙ ap (λ (b : Bool). cond (not b) (1 + first_ready (map pop (drop (i + 1) ns))) 0) some in
+    ap first_ready (front-at ns i x at) ∙ ap (λ (b : Bool). cond (not b) (1 + first_ready (map pop (drop (i + 1) ns))) 0) some in
     omega (arith, before, front)
 
-pub ready-next : (ns : List (Node Kept)) (i : ℕ) (x : Node Kept) → i < length ns → x ≡ slice_index_or ns i x → is_some (pop x).shown ≡ false → NoneBefore i ns → NoneBefore (i + 1) ns
-ready-next ns i x inside is nothing before =
+pub ready-next : (ns : List (Node Kept)) (i : ℕ) (x : Node Kept) → slice_get ns i ≡ Some x → is_some (pop x).shown ≡ false → NoneBefore i ns → NoneBefore (i + 1) ns
+ready-next ns i x at nothing before =
     let front : first_ready (map pop (drop i ns)) ≡ 1 + first_ready (map pop (drop (i + 1) ns)) =
-    ap first_ready (front-of ns i x inside is) ∙ ap (λ (b : Bool). cond (not b) (1 + first_ready (map pop (drop (i + 1) ns))) 0) nothing in
+    ap first_ready (front-at ns i x at) ∙ ap (λ (b : Bool). cond (not b) (1 + first_ready (map pop (drop (i + 1) ns))) 0) nothing in
     omega (arith, before, front)
 
 pub ready-none : (ns : List (Node Kept)) (i : ℕ) → length ns ≤ i → i ≤ length ns → NoneBefore i ns → first_ready (map pop ns) ≡ length (map pop ns)
@@ -100,20 +105,42 @@ prio-kept ns is = sym (side-still ns) ∙ ap (λ (ws : List Worked). each_booked
 pub nothing-shown : (ns : List (Node Kept)) → first_ready (map pop ns) ≡ length (map pop ns) → None ≡ first_shown (map pop ns)
 nothing-shown ns is = sym (ap (option_and_then (λ (b : Popping). b.shown)) (none-there (map pop ns))) ∙ ap (λ n. option_and_then (λ (b : Popping). b.shown) (slice_get (map pop ns) n)) (sym is)
 
--- one is ready where one has a packet at hand
-first-shows : (bs : List Popping) → first_ready bs < length bs → is_some (first_shown bs) ≡ true
-first-shows [] h = absurd (omega (arith, h))
-first-shows (b ∷ bs) h = by b.shown refl (first-shows bs)
+-- a node that has none at hand stays as it is
+none-ready : (bs : List Popping) → first_shown bs ≡ None → popped_at (first_ready bs) bs ≡ as_they_are bs
+none-ready [] e = refl
+none-ready (b ∷ bs) e = by b.shown refl (none-ready bs)
   where
-    by : (o : Option Descriptor) → b.shown ≡ o → (first_ready bs < length bs → is_some (first_shown bs) ≡ true) → is_some (first_shown (b ∷ bs)) ≡ true
-    by (Some p) e others = ap is_some (first-some b bs p e)
-    by None e others =
-        let later : first_ready (b ∷ bs) ≡ 1 + first_ready bs = ap (λ (o : Option Descriptor). cond (not (is_some o)) (1 + first_ready bs) 0) e in
-        ap is_some (first-none b bs e) ∙ others (omega (arith, h, later))
+    by : (o : Option Descriptor) → b.shown ≡ o → (first_shown bs ≡ None → popped_at (first_ready bs) bs ≡ as_they_are bs) → popped_at (first_ready (b ∷ bs)) (b ∷ bs) ≡ as_they_are (b ∷ bs)
+    by (Some p) is others = absurd (none-some p (sym e ∙ first-some b bs p is))
+    by None is others =
+        let later : first_ready (b ∷ bs) ≡ suc (first_ready bs) = ap (λ (o : Option Descriptor). cond (not (is_some o)) (1 + first_ready bs) 0) is ∙ omega arith in
+        ap (λ n. popped_at n (b ∷ bs)) later ∙ ap (λ (ws : List Worked). b.before ∷ ws) (others (sym (first-none b bs is) ∙ e))
 
-pub ready-some : (ns : List (Node Kept)) (place : Option ℕ) → IsFirstReady (map pop ns) place → is_some place ≡ is_some (first_shown (map pop ns))
-ready-some ns None h = ap is_some (nothing-shown ns h)
-ready-some ns (Some k) h = sym (first-shows (map pop ns) (omega (arith, h.0, h.1)))
+module _ (own : Own) (bs : List Popping) where
+  abbrev own_as : Option Descriptor → spec.Discipline → Own
+  own_as o d = record own { held = o; discipline = d }
+
+  fifo-still : (limit : Limit) (queue : List Stamped) → (pop_own (own_as None (spec.Fifo limit queue)) bs).shown ≡ None
+      → (pop_own (own_as None (spec.Fifo limit queue)) bs).after ≡ (pop_own (own_as None (spec.Fifo limit queue)) bs).before
+  fifo-still limit [] e = refl
+  fifo-still limit (x ∷ queue) e = cc
+
+  still-as : (o : Option Descriptor) (d : spec.Discipline) → (pop_own (own_as o d) bs).shown ≡ None → (pop_own (own_as o d) bs).after ≡ (pop_own (own_as o d) bs).before
+  still-as (Some p) d e = cc
+  still-as None (spec.Fifo limit queue) e = fifo-still limit queue e
+  still-as None (spec.Prio priomap) e =
+      ap₂ (λ (o : Option Descriptor) (ws : List Worked). worked (own_as None (spec.Prio priomap)) (map Sent (option_to_list o)) ws) e (none-ready bs e)
+  still-as None (spec.Tbf b limit) e = refl
+  still-as None (spec.Drr s) e = refl
+  still-as None (spec.FqCodel s) e = refl
+
+  own-still : (pop_own own bs).shown ≡ None → (pop_own own bs).after ≡ (pop_own own bs).before
+  own-still = still-as own.held own.discipline
+
+pub pop-still : (n : Node Kept) → (pop n).shown ≡ None → booked kept n (pop n).after ≡ n
+pop-still n e =
+    ap (λ (w : Worked). booked kept n w) (own-still n.own (each pop_own n.below) e ∙ pop-before n)
+    ∙ ap (λ b. record { own = n.own; memory = n.memory; below = b }) (still-booked kept n.below)
 
 -- a node that pops
 abbrev bands_of : Inside → List Popping
@@ -238,16 +265,14 @@ none-popped d can = record {
 
 -- a prio, before and after
 pub prio-popped : (before after : Discipline) (ns ns2 : List (Node Kept)) (priomap : List ℕ) → discipline_seen before ≡ spec.Prio priomap → discipline_seen after ≡ spec.Prio priomap → children_seen before ≡ ns → children_seen after ≡ ns2 → places_seen after ≡ places_seen before
-    → side_by_side ns2 ≡ each_booked kept (side_by_side ns) (side_by_side (popped_at (first_ready (map pop ns)) (map pop ns)))
-    → ((t : Totals) → All (λ (child : Node Kept). IsCountedWithin child.memory.counts.arrived t) ns → All (λ (child : Node Kept). IsCountedWithin child.memory.counts.arrived t) ns2)
-    → IsPoppedIn before after
-prio-popped before after ns ns2 priomap is is2 kids kids2 places gave within =
+    → ArePopped ns ns2 → IsPoppedIn before after
+prio-popped before after ns ns2 priomap is is2 kids kids2 places popped =
     let b : Popping = pop_discipline (own_of None [] (spec.Prio priomap)) (map pop ns) (spec.Prio priomap) in
     let same : popping_of before ≡ b = ap₂ (λ d xs. pop_discipline (own_of None [] d) (map pop xs) d) is kids in
     record {
       discipline = is2 ∙ ap (λ (x : Popping). x.after.own.discipline) (sym same);
-      children = ap side_by_side kids2 ∙ gave ∙ sym (ap₂ (λ xs (x : Popping). each_booked kept (side_by_side xs) x.after.below) kids same);
-      within = λ t h. subst (All (λ (child : Node Kept). IsCountedWithin child.memory.counts.arrived t)) (sym kids2) (within t (subst (All (λ (child : Node Kept). IsCountedWithin child.memory.counts.arrived t)) kids h));
+      children = ap side_by_side kids2 ∙ popped.nodes ∙ sym (ap₂ (λ xs (x : Popping). each_booked kept (side_by_side xs) x.after.below) kids same);
+      within = λ t h. subst (All (λ (child : Node Kept). IsCountedWithin child.memory.counts.arrived t)) (sym kids2) (popped.within t (subst (All (λ (child : Node Kept). IsCountedWithin child.memory.counts.arrived t)) kids h));
       places = places;
     }
 
@@ -255,3 +280,28 @@ pub set-within : (ns : List (Node Kept)) (k : ℕ) (c c2 : Node Kept) → slice_
     → All (λ (child : Node Kept). IsCountedWithin child.memory.counts.arrived t) ns → All (λ (child : Node Kept). IsCountedWithin child.memory.counts.arrived t) (set ns k c2)
 set-within ns k c c2 at same t h =
     All-set (λ (child : Node Kept). IsCountedWithin child.memory.counts.arrived t) ns k c2 (subst (λ (x : Totals). IsCountedWithin x t) (sym same) (All-at (λ (child : Node Kept). IsCountedWithin child.memory.counts.arrived t) ns k c h at)) h
+
+-- the band that comes next, where all are as they were
+pub band-here : (ns ms : List (Node Kept)) (i : ℕ) (d : Node Kept) → ms ≡ ns → i < length ns → slice_get ns i ≡ Some (slice_index_or ms i d)
+band-here ns ms i d same inside = slice_get-get_or ns i d inside ∙ ap (λ xs. Some (slice_index_or xs i d)) (sym same)
+
+-- the bands up to this place had none at hand; the one there
+module _ (ns : List (Node Kept)) (i : ℕ) (x y : Node Kept) (at : slice_get ns i ≡ Some x) (before : NoneBefore i ns) (gone : y ≡ booked kept x (pop x).after) where
+  -- has none either
+  pub band-still : (pop x).shown ≡ None → set ns i y ≡ ns
+  band-still nothing = ap (set ns i) (gone ∙ pop-still x nothing) ∙ set-same ns i x at
+
+  -- or hands it out
+  pub band-gave : is_some (pop x).shown ≡ true → (pop x).shown ≡ first_shown (map pop ns)
+  band-gave some = prio-gave ns i x at (ready-here ns i x at some before)
+
+  pub bands-popped : is_some (pop x).shown ≡ true → y.memory.counts.arrived ≡ x.memory.counts.arrived → ArePopped ns (set ns i y)
+  bands-popped some arrived = record {
+    long = length-set ns i y;
+    nodes = prio-children ns i x y at (ready-here ns i x at some before) gone;
+    within = set-within ns i x y at arrived;
+  }
+
+-- and none of them has one
+pub bands-still : (ns : List (Node Kept)) → first_ready (map pop ns) ≡ length (map pop ns) → ArePopped ns ns
+bands-still ns nothing = record { long = refl; nodes = prio-kept ns nothing; within = λ t h. h }

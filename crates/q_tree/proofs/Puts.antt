@@ -11,7 +11,6 @@ use Rattle.std.proofs.lemmas.List.Elements.{All-nil, All-cons, All-head, All-tai
 use Rattle.q_packet.specs.Descriptor.{Descriptor}
 use Rattle.q_packet.specs.declared.cause.Cause.{Cause}
 use Rattle.q_packet.specs.declared.cause.Cause.TheVariants.{FatFlow}
-use Rattle.q_codel.specs.FifoState.{takes}
 use Rattle.q_fqcodel.specs.FqState.{FqState, all_packets}
 use Rattle.q_fqcodel.specs.Put.{flow_of}
 use Rattle.q_model.specs.declared.row.Row.{Row}
@@ -23,7 +22,7 @@ use Rattle.q_model.specs.Lawful.{IsLawfulOwn}
 use Rattle.q_model.specs.Node as spec
 use Rattle.q_model.specs.Node.{Node, Shape, shape, each, children, side_by_side}
 use Rattle.q_model.specs.Put.{put_here, put_along, put_beneath, drops_itself}
-use Rattle.q_model.specs.Route.{Route, route, way, ends, through}
+use Rattle.q_model.specs.Route.{Route, route, way}
 use Rattle.q_model.specs.Tally.{Note, Arrived, noted, totals, with_packet}
 use Rattle.q_model.specs.TreeState.{loss_at_end}
 use Rattle.q_model.specs.Work.{Work, Worked, worked, quiet, booked, each_booked, settled_in}

@@ -1,21 +1,23 @@
--- The bands of a prio up to the first that shows a packet, which sends it.
-use Rattle.std.proofs.Common.{◌≡◌, ℕ, zero, suc, ◌∙◌, List, [], ◌∷◌, ◌++◌, map, take, drop, set, sym, ap, subst, Option, Some, None, option_and_then, arith}
-use Rattle.std.specs.Prelude.{is_some, slice_get, if◌then◌else◌}
-use Rattle.std.proofs.lemmas.List.{length-set}
-use Rattle.std.proofs.lemmas.Option.{same_Some}
+-- The bands of a prio up to the first that shows a packet, which has it at hand then, and sends it.
+use Rattle.std.proofs.Common.{◌≡◌, ℕ, zero, suc, ◌∙◌, List, [], ◌∷◌, ◌++◌, map, take, drop, set, sym, ap, Option, Some, None, arith}
+use Rattle.std.specs.Prelude.{true, is_some, slice_get, if◌then◌else◌}
+use Rattle.std.proofs.lemmas.List.{length-set, set-set}
+use Rattle.std.proofs.lemmas.Option.{same_Some, slice_get_within}
 use Rattle.q_packet.specs.Descriptor.{Descriptor}
 use Rattle.q_model.specs.Ask.{Asked, befores, ask, ask_prio}
 use Rattle.q_model.specs.Node.{Node, Own, shape, side_by_side}
-use Rattle.q_model.specs.Tally.{Note, counts_in}
+use Rattle.q_model.specs.Pop.{pop}
 use Rattle.q_model.specs.Work.{Worked, booked, each_booked}
 use Rattle.q_tree.specs.Arrivals.{plus}
-use Rattle.q_tree.specs.AskSteps.{CanAskEach, AreAsked, IsShown, answers}
+use Rattle.q_tree.specs.AskSteps.{CanAsk, CanAskEach, AreAsked, IsShown, answers}
 use Rattle.q_tree.specs.Kept.{Kept, kept}
+use Rattle.q_tree.specs.Meeting.{IsBandMet}
 use Rattle.q_tree.specs.SendSteps.{AreSent, left_of}
 use Rattle.q_tree.specs.Shown.{Shown}
-use Rattle.q_tree.proofs.AskBands.{AreBandsAsked, first_showing, peeked_to, told_to, first-here, answer-at, band-before, band-told, prio-rises, prio-shown}
-use Rattle.q_tree.proofs.AskOnce.{IsCounted, counted-then}
-use Rattle.q_tree.proofs.Asking.{booked_all, all-set, side-all, still-there}
+use Rattle.q_tree.proofs.AskBands.{AreBandsAsked, first_showing, peeked_to, told_to, answer-at, band-before, band-place, band-shown}
+use Rattle.q_tree.proofs.AskOnce.{can-ask}
+use Rattle.q_tree.proofs.Asking.{booked_all, all-set, set-at, side-all, still-there}
+use Rattle.q_tree.proofs.Peeks.{hand-asked, popped-asked}
 use Rattle.q_tree.proofs.PopLemmas.{set-within}
 
 -- where nothing is shown, nothing is taken
@@ -42,40 +44,49 @@ taken-below own below k p is some =
     sym (ap (λ n. side_by_side (taken_at n below)) is) ∙ sym (ap (λ (o : Option Descriptor). (if is_some o then a.taken else a.peeked).below) some)
 
 module _ (now : ℕ) (ns ms : List (Node Kept)) (i : ℕ) (s : Shown) (each : CanAskEach now ns) (h : AreBandsAsked now ns ms i s) (c : Node Kept) (at : slice_get ns i ≡ Some c)
-    (d : Node Kept) (next result : Shown) (p : Descriptor) (new : d ≡ booked kept c (ask now (shape c)).taken) (arrived : d.memory.counts.arrived ≡ c.memory.counts.arrived) (shown : IsShown (ask now (shape c)) next)
-    (dropped : result.dropped ≡ plus s.dropped next.dropped) (marked : result.marked ≡ plus s.marked next.marked) (packet : result.packet ≡ next.packet) (some : result.packet ≡ Some p) where
+    (m : Node Kept) (next result : Shown) (new : m ≡ booked kept c (ask now (shape c)).peeked) (arrived : m.memory.counts.arrived ≡ c.memory.counts.arrived) (shown : IsShown (ask now (shape c)) next)
+    (dropped : result.dropped ≡ plus s.dropped next.dropped) (marked : result.marked ≡ plus s.marked next.marked) (packet : result.packet ≡ next.packet) (p : Descriptor) (some : result.packet ≡ Some p) where
+  shows : is_some result.packet ≡ true
+  shows = ap is_some some
+
   place : first_showing (answers now ns) ≡ i
-  place = omega (arith, h.nobody, first-here (answers now ns) i (ask now (shape c)) (answer-at now ns ms i s each h c at) (ap is_some (sym (packet ∙ shown.packet) ∙ some)))
+  place = band-place now ns ms i s each h c at m next result new arrived shown dropped marked packet shows
 
-  counted : IsCounted (told_to (suc i) (answers now ns)) result
-  counted = subst (λ (notes : List Note). IsCounted notes result) (band-told now ns ms i s each h c at)
-      (counted-then (told_to i (answers now ns)) (ask now (shape c)).rises s next result h.counted shown.dropped shown.marked dropped marked)
+  can : CanAsk now c
+  can = can-ask now ns ms (peeked_to i (answers now ns)) (told_to i (answers now ns)) each h.asking i c at (band-before now ns ms i s each h c at)
 
-  shows : (own : Own) → IsShown (ask_prio own (answers now ns)) result
-  shows own =
-      let all = prio-rises own (answers now ns) i place in
-      record {
-        packet = packet ∙ shown.packet ∙ sym (ap (option_and_then (λ (a : Asked). a.shown)) (answer-at now ns ms i s each h c at)) ∙ sym (prio-shown own (answers now ns) i place);
-        dropped = counted.dropped ∙ ap (λ notes. (counts_in notes).dropped) (sym all);
-        marked = counted.marked ∙ ap (λ notes. (counts_in notes).marked) (sym all);
-      }
+  still : slice_get ms i ≡ Some c
+  still = still-there now ns ms (peeked_to i (answers now ns)) (told_to i (answers now ns)) h.asking i c at (band-before now ns ms i s each h c at)
 
-  pub band-sent : (own : Own) → AreSent (ask_prio own (answers now ns)) ns (set ms i d) result
-  band-sent own =
-      let a : Asked = ask now (shape c) in
-      let ws : List Worked = peeked_to i (answers now ns) in
-      let before = band-before now ns ms i s each h c at in
-      let still = still-there now ns ms ws (told_to i (answers now ns)) h.asking i c at before in
-      let placed : set ms i d ≡ booked_all ns (taken_at i (answers now ns)) =
-      ap (set ms i) new ∙ ap (λ xs. set xs i (booked kept c a.taken)) h.asking.children ∙ all-set ns ws i c a.taken at
-      ∙ ap (booked_all ns) (taken-next (answers now ns) i a (answer-at now ns ms i s each h c at)) in
-      record {
-        long = length-set ms i d ∙ h.asking.long;
-        nodes = ap side_by_side placed ∙ side-all ns (taken_at i (answers now ns))
-            ∙ ap (each_booked kept (side_by_side ns)) (taken-below own (answers now ns) i p place (sym (shows own).packet ∙ some));
-        within = λ t all. set-within ms i c d still arrived t (h.asking.within t all);
-        shown = shows own;
-      }
+  here : (n : Node Kept) → slice_get (set ms i m) i ≡ Some n → n ≡ m
+  here n there = same_Some n m (sym there ∙ set-at ms i c m still)
 
-  pub sent-rises : (own : Own) → told_to i (answers now ns) ++ (ask now (shape c)).rises ≡ (ask_prio own (answers now ns)).rises
-  sent-rises own = band-told now ns ms i s each h c at ∙ sym (prio-rises own (answers now ns) i place)
+  -- once it has handed out its packet, which it has at hand
+  module _ (d : Node Kept) (gone : d ≡ booked kept m (pop m).after) (same : d.memory.counts.arrived ≡ m.memory.counts.arrived) where
+    taken : d ≡ booked kept c (ask now (shape c)).taken
+    taken = gone ∙ (popped-asked now c m p can new (sym shown.packet ∙ sym packet ∙ some)).left
+
+    given-bands : set (set ms i m) i d ≡ booked_all ns (taken_at i (answers now ns))
+    given-bands =
+        let a : Asked = ask now (shape c) in
+        set-set ms i m d ∙ ap (set ms i) taken ∙ ap (λ xs. set xs i (booked kept c a.taken)) h.asking.children ∙ all-set ns (peeked_to i (answers now ns)) i c a.taken at
+        ∙ ap (booked_all ns) (taken-next (answers now ns) i a (answer-at now ns ms i s each h c at))
+
+    band-sent : (own : Own) → AreSent (ask_prio own (answers now ns)) ns (set (set ms i m) i d) result
+    band-sent own =
+        let asked = band-shown now ns ms i s each h c at m next result new arrived shown dropped marked packet shows own in
+        record {
+          long = length-set (set ms i m) i d ∙ asked.long;
+          nodes = ap side_by_side given-bands ∙ side-all ns (taken_at i (answers now ns))
+              ∙ ap (each_booked kept (side_by_side ns)) (taken-below own (answers now ns) i p place (sym asked.shown.packet ∙ some));
+          within = λ t all. set-within (set ms i m) i m d (set-at ms i c m still) same t (asked.within t all);
+          shown = asked.shown;
+        }
+
+  pub band-met : IsBandMet now i ns (set ms i m) result
+  band-met = record {
+    inside = omega (arith, slice_get_within ms i c still, length-set ms i m);
+    shown = λ n there. ap (λ (x : Node Kept). (pop x).shown) (here n there) ∙ hand-asked now c m can new ∙ sym shown.packet ∙ sym packet;
+    sent = λ n d there gone same. let is = here n there in
+        band-sent d (gone ∙ ap (λ (x : Node Kept). booked kept x (pop x).after) is) (same ∙ ap (λ (x : Node Kept). x.memory.counts.arrived) is);
+  }

@@ -1,6 +1,6 @@
 -- The classes of a drr that are asked in turn, until one is met that can send its packet, or shows none.
 use Rattle.std.proofs.Common.{◌≡◌, ℕ, zero, suc, ◌-◌, ◌≤◌, ◌<◌, ◌∙◌, List, [], ◌∷◌, ◌++◌, take, set, length, refl, sym, ap, ap₂, subst, inl, inr, ◌||◌, eq-eqb, Option, Some, None, option_and_then, option_map, arith}
-use Rattle.std.specs.Prelude.{Bool, true, false, is_some, nat_lt, ◌==◌, slice_get, slice_index_or, unwrap_or}
+use Rattle.std.specs.Prelude.{Bool, true, false, nat_lt, ◌==◌, slice_get, slice_index_or, unwrap_or}
 use Rattle.std.specs.List.{All, sum_by}
 use Rattle.std.specs.Option.{option_map_or}
 use Rattle.std.proofs.lemmas.Bool.{cases_lt, cases_Bool, eqb-true, ltb-true, ltb-false, false≢true}
@@ -14,8 +14,8 @@ use Rattle.q_drr.specs.Schedule.{Entry, Schedule, has_class, place_of, front_of,
 use Rattle.q_drr.specs.Take.{choice_of, need, prepared}
 use Rattle.q_drr.specs.declared.met.Met.{Met}
 use Rattle.q_drr.specs.declared.turn.Turn.TheVariants.{Send, Granted}
-use Rattle.q_drr.proofs.ServingLemmas.{IsServing, IsCome, serving_start, serving_front, serving_granted, serving_ends, serving_nobody}
-use Rattle.q_drr.proofs.TakeLemmas.{Front, come_to, covers, empty_front, falls_short, front_is, front_quantum, measure_falls, met_at, met_nobody, served_nothing, served_head, served_nobody, prepared_empty}
+use Rattle.q_drr.proofs.ServingLemmas.{IsServing, IsCome, serving_start, serving_front, serving_granted, serving_ends}
+use Rattle.q_drr.proofs.TakeLemmas.{Front, come_to, covers, falls_short, front_is, front_quantum, measure_falls, met_at, served_nothing, served_head}
 use Rattle.q_model.specs.declared.totals.Totals.{Totals}
 use Rattle.q_model.specs.Ask.{Asked, ask, ask_drr, head_of, peeked_classes, service_of, place_met, gives_nothing, class_gives, class_serves}
 use Rattle.q_model.specs.Beneath.{beneath_own, is_empty}
@@ -40,7 +40,7 @@ use Rattle.q_tree.specs.NodeCode.{node_size, forest_size}
 use Rattle.q_tree.proofs.AskBands.{get-there}
 use Rattle.q_tree.proofs.RouteLemmas.{child-size}
 use Rattle.q_tree.proofs.AskOnce.{IsCounted, can-ask, can-ask-once, counted-then, told-nothing, told-then}
-use Rattle.q_tree.proofs.Asking.{IsAsking, answered, taken-told, lawful-at, asking-starts, asking-goes, still-there, booked_all, side-all, all-at, all-set}
+use Rattle.q_tree.proofs.Asking.{IsAsking, answered, taken-told, lawful-at, asking-starts, asking-goes, still-there, booked_all, side-all, all-at, all-set, set-at, set-same}
 use Rattle.q_tree.proofs.Peeks.{popped-asked, hand-asked, since-asked}
 use Rattle.q_model.specs.Since.{at_hand_since, since_of}
 
@@ -108,13 +108,6 @@ front-known s n law f =
     let is : IsEntry s.max_len s.classes f.first = All-head (IsEntry s.max_len s.classes) f.first f.rest (subst (All (IsEntry s.max_len s.classes)) f.is law.entries) in
     ap (λ m. has_class m s.classes) (sym f.class) ∙ is.there
 
-nobody-at : (s : Schedule) (r : Option ℕ) → r ≡ None → is_some r ≡ is_some (front_of s) → None ≡ front_of s
-nobody-at s r gone same = by (front_of s) refl (ap is_some (sym gone) ∙ same)
-  where
-    by : (o : Option ℕ) → front_of s ≡ o → is_some {T = ℕ} None ≡ is_some o → None ≡ front_of s
-    by None is e = sym is
-    by (Some n) is e = absurd (false≢true e)
-
 module _ (now : ℕ) (first s : Schedule) (ns ms : List (Node Kept)) (unasked : ℕ) (so_far : Shown) (k : SinkTold) (can : CanServe now first ns) (h : AreClassesAsked now first s ns ms unasked so_far k) (n : ℕ) (law : drr.IsLawful s) (f : Front n s) where
   in-front : (i : ℕ) × IsInFront now first ns n i
   in-front =
@@ -166,16 +159,6 @@ pub record IsClassShown (now : ℕ) (first : Schedule) (ns ms : List (Node Kept)
   pub shown : s.packet ≡ (ask now (shape c)).shown
   pub peeked : d ≡ booked kept c (ask now (shape c)).peeked
   pub stored : slice_get (set ms place d) place ≡ Some d
-
-set-at : (ms : List (Node Kept)) (i : ℕ) (x d : Node Kept) → slice_get ms i ≡ Some x → slice_get (set ms i d) i ≡ Some d
-set-at [] i x d e = cc
-set-at (m ∷ ms) zero x d e = refl
-set-at (m ∷ ms) (suc i) x d e = set-at ms i x d e
-
-set-same : (ms : List (Node Kept)) (i : ℕ) (x : Node Kept) → slice_get ms i ≡ Some x → set ms i x ≡ ms
-set-same [] i x e = cc
-set-same (m ∷ ms) zero x e = ap (λ (y : Node Kept). y ∷ ms) (sym (same_Some m x e))
-set-same (m ∷ ms) (suc i) x e = ap (λ xs. m ∷ xs) (set-same ms i x e)
 
 -- what is known where this class stands in front
 module _ {now : ℕ} {first s : Schedule} {ns ms : List (Node Kept)} {unasked : ℕ} {so_far : Shown} {k : SinkTold} {place : ℕ} (met : IsMet now first s ns ms unasked so_far k place) where
@@ -465,56 +448,6 @@ module _ {now : ℕ} {first s : Schedule} {ns ms : List (Node Kept)} {unasked : 
           counted = shows.counted;
           told = shows.told;
         }
-
--- where no class is active, nobody is asked
-module _ {now : ℕ} {first s : Schedule} {ns ms : List (Node Kept)} {unasked : ℕ} {so_far : Shown} {k : SinkTold} (can : CanServe now first ns) (h : AreClassesAsked now first s ns ms unasked so_far k) (law : drr.IsLawful s) (r : Option ℕ) (gone : r ≡ None) (same : is_some r ≡ is_some (front_of s)) where
-  nobody : s.active ≡ []
-  nobody = empty_front s (nobody-at s r gone same)
-
-  idle : (first.active ≡ []) × (choice_of (heads_of now first ns) first ≡ None) × (h.turns ≡ 0)
-  idle = serving_nobody (heads_of now first ns) first s h.turns h.serving nobody
-
-  no-turn : prepared (heads_of now first ns) first ≡ s
-  no-turn = sym h.serving.ready ∙ prepared_empty (heads_of now first ns) s law nobody
-
-  idle-answer : (own : Own) → ask_drr own (answers now ns) first ≡ gives_nothing own (answers now ns) (service_of first (answers now ns))
-  idle-answer own =
-      let below : List Asked = answers now ns in
-      let v = service_of first below in
-      let nothing : Asked = gives_nothing own below v in
-      let meets : place_met first below ≡ None = ap (option_and_then (λ (m : Met). class_at m.class first)) (sym (met_nobody (heads_of now first ns) first s nobody no-turn)) in
-      ap (λ i. option_map_or (λ i. option_map_or (class_serves own below v i) (slice_get below i) nothing) i nothing) meets
-
-  nobody-to : asked_entries (choice_of (heads_of now first ns) first) first.active ≡ take h.turns first.active
-  nobody-to = ap (λ x. asked_entries x first.active) idle.1 ∙ ap (λ k. take k first.active) (sym idle.2)
-
-  idle-rises : (own : Own) → (ask_drr own (answers now ns) first).rises ≡ rises_to now first ns h.turns
-  idle-rises own = ap (λ (x : Asked). x.rises) (idle-answer own) ∙ ap (λ (es : List Entry). rises_of first es (answers now ns)) nobody-to
-
-  pub idle-schedule : (own : Own) → spec.Drr s ≡ (ask_drr own (answers now ns) first).peeked.own.discipline
-  idle-schedule own = ap spec.Drr (served_nobody (heads_of now first ns) first s nobody no-turn) ∙ ap (λ (x : Asked). x.peeked.own.discipline) (sym (idle-answer own))
-
-  pub idle-since : (own : Own) → 0 ≡ (ask_drr own (answers now ns) first).peeked.own.since
-  idle-since own = ap (λ (x : Asked). x.peeked.own.since) (sym (idle-answer own))
-
-  pub idle-told : (own : Own) → IsToldOf (ask_drr own (answers now ns) first).rises k.losses k.losses_now k.room k.room_now
-  idle-told own = subst (λ notes. IsToldOf notes k.losses k.losses_now k.room k.room_now) (sym (idle-rises own)) h.told
-
-  pub idle-asked : {result : Shown} → result.packet ≡ None → IsCounted [] result → (own : Own) → AreAsked (ask_drr own (answers now ns) first) ns ms result
-  idle-asked empty counted own =
-      let rises : rises_to now first ns h.turns ≡ [] = ap (λ k. rises_to now first ns k) idle.2 in
-      record {
-        long = h.asking.long;
-        nodes = ap side_by_side h.asking.children ∙ side-all ns (classes_to now first ns h.turns)
-            ∙ ap (λ (es : List Entry). each_booked kept (side_by_side ns) (side_by_side (peeked_classes first es (answers now ns)))) (sym nobody-to)
-            ∙ ap (λ (x : Asked). each_booked kept (side_by_side ns) x.peeked.below) (sym (idle-answer own));
-        within = h.asking.within;
-        shown = record {
-          packet = empty ∙ ap (λ (x : Asked). x.shown) (sym (idle-answer own));
-          dropped = counted.dropped ∙ ap (λ notes. (counts_in notes).dropped) (sym (idle-rises own ∙ rises));
-          marked = counted.marked ∙ ap (λ notes. (counts_in notes).marked) (sym (idle-rises own ∙ rises));
-        };
-      }
 
 -- the class in a place that is there
 pub class-there : (ns : List (Node Kept)) (i : ℕ) → i < length ns → (c : Node Kept) × (slice_get ns i ≡ Some c)

@@ -1,6 +1,6 @@
 -- When the packet arrived that a node has at hand, and that an fq_codel sends.
 use Rattle.std.proofs.Common.{◌≡◌, ℕ, zero, suc, ◌+◌, ◌≤◌, ◌<◌, ◌∙◌, List, [], ◌∷◌, map, drop, length, refl, sym, ap, Option, Some, None, option_map, option_and_then, arith}
-use Rattle.std.specs.Prelude.{Bool, true, false, not, cond, is_some, slice_get, slice_index_or}
+use Rattle.std.specs.Prelude.{Bool, false, not, cond, is_some, slice_get, slice_index_or}
 use Rattle.std.proofs.lemmas.List.{drop_more, drop_all}
 use Rattle.std.specs.List.{position_or_len}
 use Rattle.std.specs.Option.{option_map_or}
@@ -8,15 +8,13 @@ use Rattle.std.proofs.lemmas.Option.{none-some, slice_get-map}
 use Rattle.q_packet.specs.Descriptor.{Descriptor}
 use Rattle.q_packet.specs.declared.stamped.Stamped.{Stamped}
 use Rattle.q_model.specs.Node.{Discipline, Fifo, Prio, Tbf, Drr, FqCodel, Own, Forest, none, more, Node, each}
-use Rattle.q_model.specs.Pop.{Popping, first_ready, first_shown, pop_own, pop}
+use Rattle.q_model.specs.Pop.{Popping, first_ready, pop_own, pop}
 use Rattle.q_model.specs.Since.{since_of, first_since, since_in, since_own, at_hand_since}
 use Rattle.q_codel.specs.Codel.{leaving, marks, sent}
-use Rattle.q_codel.specs.declared.taken.Taken.{Taken}
 use Rattle.q_fqcodel.specs.FqState.{Flow, FqState}
 use Rattle.q_fqcodel.specs.Take.{head_sent, packet_sent, sender, sent_from}
 use Rattle.q_tree.specs.Kept.{Kept}
 use Rattle.q_tree.proofs.TakeCounts.{packet_of}
-use Rattle.q_tree.proofs.AtHandLemmas.{first-some, first-none}
 use Rattle.q_tree.proofs.PopLemmas.{none-there}
 use Rattle.std.proofs.lemmas.Bool.{false≢true}
 use Rattle.q_invariants.proofs.Forests.{each-side}

@@ -1,13 +1,13 @@
--- What popping comes to at one node: which band of a prio hands out a packet, and what its discipline and its row are then.
+-- What popping comes to at one node: what its bands, its discipline and its row are then.
 -- tc-prio(8); the counters are those of `tc -s qdisc show` (tc(8)).
-use Rattle.std.specs.Prelude.{◌≡◌, ℕ, ◌<◌, ◌≤◌, List, [], map, length, Option, Some, None}
+use Rattle.std.specs.Prelude.{◌≡◌, ◌<◌, ◌≤◌, List, [], map, length, None}
 use Rattle.std.specs.List.{All}
 use Rattle.q_packet.specs.Descriptor.{Descriptor}
 use Rattle.q_model.specs.declared.row.Row.{Row}
 use Rattle.q_model.specs.declared.totals.Totals.{Totals}
 use Rattle.q_model.specs.Node as spec
 use Rattle.q_model.specs.Node.{side_by_side}
-use Rattle.q_model.specs.Pop.{Popping, first_ready, pop_discipline, pop}
+use Rattle.q_model.specs.Pop.{Popping, first_ready, popped_at, pop_discipline, pop}
 use Rattle.q_model.specs.Tally.{with_packet, no_totals}
 use Rattle.q_model.specs.Work.{each_booked}
 use Rattle.q_tree.specs.Arrivals.{minus}
@@ -16,10 +16,11 @@ use Rattle.q_tree.specs.Kept.{Kept, kept}
 use Rattle.q_tree.specs.Seen.{discipline_seen, children_seen, places_seen, IsCountedWithin}
 use Rattle.q_tree.specs.declared.node.Discipline.{Discipline}
 
--- the first band that has a packet at hand, if there is one
-abbrev pub IsFirstReady : List Popping → Option ℕ → Type 0
-IsFirstReady bands None = first_ready bands ≡ length bands
-IsFirstReady bands (Some place) = (place ≡ first_ready bands) × (place < length bands)
+-- the bands of a prio, of which the first that had a packet at hand has handed it out
+pub record ArePopped (before after : List (spec.Node Kept)) : Type 0 where
+  pub long : length after ≡ length before
+  pub nodes : side_by_side after ≡ each_booked kept (side_by_side before) (side_by_side (popped_at (first_ready (map pop before)) (map pop before)))
+  pub within : (t : Totals) → All (λ (child : spec.Node Kept). IsCountedWithin child.memory.counts.arrived t) before → All (λ (child : spec.Node Kept). IsCountedWithin child.memory.counts.arrived t) after
 
 -- what a node with this discipline has at hand that holds no packet, and what is left of it
 abbrev pub popping_of : Discipline → Popping

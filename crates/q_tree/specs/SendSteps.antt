@@ -6,9 +6,7 @@ use Rattle.q_model.specs.declared.totals.Totals.{Totals}
 use Rattle.q_model.specs.Ask.{Asked, ask, take_from}
 use Rattle.q_model.specs.Node as spec
 use Rattle.q_model.specs.Node.{shape, side_by_side}
-use Rattle.q_model.specs.Tally.{counts_in}
 use Rattle.q_model.specs.Work.{Worked, booked, each_booked}
-use Rattle.q_tree.specs.Arrivals.{plus}
 use Rattle.q_tree.specs.AskSteps.{IsShown, signals_of}
 use Rattle.q_tree.specs.Kept.{Kept, kept}
 use Rattle.q_tree.specs.Seen.{discipline_seen, children_seen, places_seen, IsCountedWithin}
@@ -41,14 +39,4 @@ pub record IsDequeued (now : ℕ) (old new : spec.Node Kept) (out out_new : Desc
   -- where it shows none, the place of the packet stays as it is
   pub packet : out_new ≡ unwrap_or s.packet out
   -- the other place has the counts that are shown
-  pub signals : counted ≡ signals_of s
-
--- the same of a node that is asked after others, of which so much was counted
-pub record IsDequeuedNext (now : ℕ) (old new : spec.Node Kept) (so_far : Shown) (out out_new : Descriptor) (counted : Signals) (s : Shown) : Type 0 where
-  pub after : new ≡ booked kept old (take_from now (shape old)).node
-  pub arrived : new.memory.counts.arrived ≡ old.memory.counts.arrived
-  pub shown : s.packet ≡ (ask now (shape old)).shown
-  pub dropped : s.dropped ≡ plus so_far.dropped (counts_in (ask now (shape old)).rises).dropped
-  pub marked : s.marked ≡ plus so_far.marked (counts_in (ask now (shape old)).rises).marked
-  pub packet : out_new ≡ unwrap_or s.packet out
   pub signals : counted ≡ signals_of s

@@ -1,8 +1,8 @@
-//! A departure: the root is asked for its packet, which is taken in the same walk.
+//! A departure: the root dequeues the packet whose turn it is, straight into the caller's place.
 //!
-//! It comes to the same as a [peek](crate::peek), after which the packet that was shown is popped, but it copies the packet once, from its
-//! queue to the caller's place: what a tbf, a drr or an fq_codel takes from below is handed on and not held. Each node books what CoDel
-//! dropped and marked below it, and then the packet as sent.
+//! It comes to the same as a [peek](crate::peek) at the root, after which the packet that was shown is popped, but a tbf, a drr or an fq_codel
+//! at the root does not hold what it dequeues. The nodes below the root are asked by a peek alone: a discipline with children takes the packet
+//! from the child that shows it. Each node books what CoDel dropped and marked below it, and then the packet as sent.
 //!
 //! `dequeue` asks, and may find that nothing can go now. `dequeue_at_hand` asks nobody: it takes what a node has already shown.
 ghost use Rattle.std.specs.Prelude.{◌≡◌, ◌≤◌, ◌+◌, ◌++◌, List, None, Option, Some, is_some, length, true, unwrap_or, ℕ};
@@ -25,7 +25,7 @@ use crate::booking::{book_sent, book_shown};
 use crate::disciplines::drr::dequeue_class;
 use crate::disciplines::fifo::dequeue_head;
 use crate::disciplines::fq_codel::dequeue_flow;
-use crate::disciplines::prio::{dequeue_bands, ready_band};
+use crate::disciplines::prio::{dequeue_bands, dequeue_first};
 use crate::disciplines::tbf::dequeue_child;
 use crate::node::{Discipline, Node};
 use crate::shown::Shown;
@@ -112,7 +112,7 @@ impl Tree {
         let _ = now.ns();
         self.top.fit();
         let mut signals = NO_SIGNALS;
-        let shown = self.root.dequeue_asked(now, out, &mut signals, sink);
+        let shown = self.root.dequeue(now, out, &mut signals, sink);
         book_shown(&mut self.top, &shown, &signals);
         self.clock = now;
         if !shown.has_packet() {
@@ -176,14 +176,11 @@ impl Node {
         packet
     }
 
-    /// Peeks at the node, and dequeues the packet that it shows into `out`, in one walk. Where the node shows none,
-    /// `out` stays as it is.
-    ///
-    /// What a tbf, a drr or an fq_codel dequeues goes straight to `out`, and is not held. It takes no memory. `sink` needs room
-    /// for what is queued.
-    #[cycle(dequeue)]
+    // Asks the root for its packet, and dequeues that into `out`, which stays as it is where the root shows none.
+    //
+    // It takes no memory. `sink` needs room for what is queued.
     #[inline(always)]
-    pub(crate) fn dequeue<S: Sink>(
+    fn dequeue<S: Sink>(
         &mut self,
         now: Moment,
         out: &mut KeptPacket,
@@ -204,65 +201,6 @@ impl Node {
             *out = packet;
             return Shown::sending(&packet, &NO_SIGNALS);
         }
-        // A fifo is met with no call, and nothing is dropped or marked there.
-        match &mut self.discipline {
-            Discipline::Fifo(fifo) => {
-                let shown = dequeue_head(fifo, out);
-                if !shown.has_packet() {
-                    return shown;
-                }
-                book_sent(&mut self.row, out);
-                return shown;
-            }
-            _ => return self.dequeue_further(now, out, signals, sink),
-        }
-    }
-
-    // The same with no short path for a fifo.
-    #[inline(always)]
-    fn dequeue_asked<S: Sink>(
-        &mut self,
-        now: Moment,
-        out: &mut KeptPacket,
-        signals: &mut Signals,
-        sink: &mut S,
-    ) -> Shown
-        requires ready { CanAsk now self.old }
-        requires sink { length (beneath self.old) ≤ S.room sink.old }
-        requires clean { signals.old ≡ no_signals }
-        ensures dequeued { IsDequeued now self.old self.new out.old out.new signals.new result }
-        ensures told { IsToldOf (ask now (shape self.old)).rises (S.losses sink.old) (S.losses sink.new) (S.room sink.old) (S.room sink.new) }
-        ensures kept { S.keeps sink.old sink.new }
-    {
-        self.row.fit();
-        if let Some(packet) = self.held.packet() {
-            self.held.clear();
-            book_sent(&mut self.row, &packet);
-            *out = packet;
-            return Shown::sending(&packet, &NO_SIGNALS);
-        }
-        self.dequeue_further(now, out, signals, sink)
-    }
-
-    // The same of a node that holds no packet, for each discipline.
-    #[cycle(dequeue)]
-    #[inline(always)]
-    fn dequeue_further<S: Sink>(
-        &mut self,
-        now: Moment,
-        out: &mut KeptPacket,
-        signals: &mut Signals,
-        sink: &mut S,
-    ) -> Shown
-        requires none { self.old.own.held ≡ None }
-        requires ready { CanAsk now self.old }
-        requires sink { length (beneath self.old) ≤ S.room sink.old }
-        requires clean { signals.old ≡ no_signals }
-        ensures dequeued { IsDequeued now self.old self.new out.old out.new signals.new result }
-        ensures told { IsToldOf (ask now (shape self.old)).rises (S.losses sink.old) (S.losses sink.new) (S.room sink.old) (S.room sink.new) }
-        ensures kept { S.keeps sink.old sink.new }
-    {
-        self.row.fit();
         let shown = self.discipline.dequeue(now, out, signals, sink);
         book_shown(&mut self.row, &shown, signals);
         if !shown.has_packet() {
@@ -299,7 +237,6 @@ impl Node {
 
 impl Discipline {
     // What a node with this discipline shows that holds no packet, and its packet in `out`.
-    #[cycle(dequeue)]
     #[inline(always)]
     fn dequeue<S: Sink>(
         &mut self,
@@ -355,12 +292,7 @@ impl Discipline {
     {
         match self {
             Discipline::Fifo(fifo) => return dequeue_head(fifo, out).has_packet(),
-            Discipline::Prio { bands, .. } => {
-                let Some(place) = ready_band(bands) else {
-                    return false;
-                };
-                return bands[place].dequeue_at_hand(out);
-            }
+            Discipline::Prio { bands, .. } => return dequeue_first(bands, out),
             Discipline::Tbf { .. } => return false,
             Discipline::Drr { .. } => return false,
             Discipline::FqCodel(_) => return false,

@@ -4,14 +4,14 @@
 //! dequeue a packet in order to show one, since a bucket pays for it, a deficit is spent on it, or CoDel decides on it. They hold it until
 //! it is taken, and show it again whenever they are asked. What CoDel drops or marks on the way is booked at each node, with the packet or
 //! without one.
-ghost use Rattle.std.specs.Prelude.{◌≡◌, ◌≤◌, List, None, Option, is_some, length, ℕ};
+ghost use Rattle.std.specs.Prelude.{◌≡◌, ◌≤◌, List, None, Option, length, ℕ};
 ghost use Rattle.q_model.specs.Ask.{ask};
 ghost use Rattle.q_model.specs.Beneath.{beneath};
 ghost use Rattle.q_model.specs.Node.{shape};
 ghost use Rattle.q_model.specs.Pop.{pop};
 ghost use Rattle.q_model.specs.Since.{at_hand_since};
 ghost use Rattle.q_model.specs.declared.filter.Filter.{Filter};
-ghost use Rattle.q_tree.specs.AskSteps.{CanAsk, CanAskIn, IsAskedIn, IsPeeked, IsToldOf, answer_of, held_in, no_signals, packets_within, signals_of};
+ghost use Rattle.q_tree.specs.AskSteps.{CanAsk, CanAskIn, CanAskOnce, IsAskedIn, IsAskedOnce, IsPeeked, IsToldOf, answer_of, held_in, no_signals, packets_within, signals_of};
 ghost use Rattle.q_tree.specs.Holding.{held_with};
 ghost use Rattle.q_tree.specs.Seen.{discipline_seen};
 
@@ -19,12 +19,12 @@ use crate::booking::book_shown;
 use crate::disciplines::drr::peek_classes;
 use crate::disciplines::fifo::{first_arrival, first_packet};
 use crate::disciplines::fq_codel::peek_flow;
-use crate::disciplines::prio::{first_at_hand, first_since, peek_bands, ready_band};
+use crate::disciplines::prio::{first_at_hand, first_since, peek_bands};
 use crate::disciplines::tbf::peek_child;
 use crate::held::Held;
 use crate::node::{Discipline, Node};
 use crate::shown::Shown;
-use crate::signals::Signals;
+use crate::signals::{NO_SIGNALS, Signals};
 use q_codel::Sink;
 use q_packet::{KeptPacket, Moment};
 
@@ -77,6 +77,53 @@ impl Node {
         shown
     }
 
+    /// The same of a node that is asked after others: what was counted for those is counted on.
+    #[cycle(peek)]
+    #[inline(always)]
+    pub(crate) fn peek_after<S: Sink>(
+        &mut self,
+        so_far: Shown,
+        now: Moment,
+        signals: &mut Signals,
+        sink: &mut S,
+    ) -> Shown
+        requires ready { CanAskOnce now self.old so_far (S.room sink.old) }
+        requires counted { signals.old ≡ signals_of so_far }
+        ensures asked { IsAskedOnce now self.old self.new so_far result }
+        ensures told { IsToldOf (ask now (shape self.old)).rises (S.losses sink.old) (S.losses sink.new) (S.room sink.old) (S.room sink.new) }
+        ensures signals { signals.new ≡ signals_of result }
+        ensures kept { S.keeps sink.old sink.new }
+    {
+        // Mostly nothing was dropped or marked so far, and the place is clean.
+        if so_far.is_quiet() {
+            return self.peek(now, signals, sink);
+        }
+        self.peek_after_counts(so_far, now, signals, sink)
+    }
+
+    // The same where something was dropped or marked already.
+    #[cycle(peek)]
+    #[cold]
+    #[inline(never)]
+    fn peek_after_counts<S: Sink>(
+        &mut self,
+        so_far: Shown,
+        now: Moment,
+        signals: &mut Signals,
+        sink: &mut S,
+    ) -> Shown
+        requires ready { CanAskOnce now self.old so_far (S.room sink.old) }
+        requires counted { signals.old ≡ signals_of so_far }
+        ensures asked { IsAskedOnce now self.old self.new so_far result }
+        ensures told { IsToldOf (ask now (shape self.old)).rises (S.losses sink.old) (S.losses sink.new) (S.room sink.old) (S.room sink.new) }
+        ensures signals { signals.new ≡ signals_of result }
+        ensures kept { S.keeps sink.old sink.new }
+    {
+        let mut asked = NO_SIGNALS;
+        let next = self.peek(now, &mut asked, sink);
+        so_far.then(next, signals, &asked)
+    }
+
     /// The packet that the node has at hand, without being asked: the one that it holds, a fifo's head, and for a prio that of
     /// its first band which has one. Once it was asked, it is the packet that it showed.
     #[cycle(at_hand)]
@@ -109,23 +156,6 @@ impl Node {
             Discipline::Prio { bands, .. } => return first_since(bands),
             Discipline::Tbf { .. } | Discipline::Drr { .. } | Discipline::FqCodel(_) => {
                 return None;
-            }
-        }
-    }
-
-    /// Whether the node has a packet at hand. None is copied for that.
-    #[cycle(has_packet)]
-    pub(crate) fn has_packet(&self) -> bool
-        ensures { result ≡ is_some (pop self.now).shown }
-    {
-        if self.held.is_some() {
-            return true;
-        }
-        match &self.discipline {
-            Discipline::Fifo(fifo) => return first_packet(fifo).is_some(),
-            Discipline::Prio { bands, .. } => return ready_band(bands).is_some(),
-            Discipline::Tbf { .. } | Discipline::Drr { .. } | Discipline::FqCodel(_) => {
-                return false;
             }
         }
     }

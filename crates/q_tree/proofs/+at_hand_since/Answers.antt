@@ -1,10 +1,9 @@
 use Rattle.std.proofs.Common.{◌∙◌, refl, sym, ap, arith}
 use Rattle.q_tree.specs.Seen.{children_seen, discipline_seen}
-use Rattle.q_tree.specs.Holding.{packet_held}
 use Rattle.q_tree.proofs.AtHandLemmas.{there-at}
 use Rattle.q_tree.proofs.RouteLemmas.{child-size, children-size}
-use Rattle.q_tree.proofs.SinceLemmas.{found-since, passed-since, nobody-since, kind-since, held-since}
-use Rattle.q_tree.proofs.HeldLemmas.{none-kept, some-kept}
+use Rattle.q_tree.proofs.SinceLemmas.{found-since, passed-since, nobody-since, kind-since}
+use Rattle.q_tree.proofs.HeldLemmas.{none-kept}
 use Rattle.q_model.specs.Since.{at_hand_since}
 use Rattle.q_model.specs.Node.{Node}
 use Rattle.q_tree.specs.Kept.{Kept}

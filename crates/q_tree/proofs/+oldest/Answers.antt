@@ -1,4 +1,4 @@
-use Rattle.std.proofs.Common.{◌∙◌, ◌+◌, [], ◌∷◌, map, drop, refl, sym, ap, ap₂, arith, Option}
+use Rattle.std.proofs.Common.{◌∙◌, ◌+◌, map, drop, refl, sym, ap, ap₂, arith, Option}
 use Rattle.std.proofs.Common.{ℕ}
 use Rattle.q_fqcodel.specs.Oldest.{earlier, earliest, first_arrivals}
 use Rattle.q_fqcodel.specs.FqState.{FqView}
@@ -8,9 +8,8 @@ use Rattle.q_model.specs.Oldest.{oldest}
 use Rattle.q_tree.specs.Kept.{Kept}
 use Rattle.q_tree.specs.Oldest.{oldest_of}
 use Rattle.q_tree.specs.Seen.{children_seen, discipline_seen}
-use Rattle.q_tree.specs.ReadyAt.{sooner}
 use Rattle.q_tree.proofs.AtHandLemmas.{there-at}
-use Rattle.q_tree.proofs.OldestLemmas.{all-order, child-oldest, each-order, fifo-oldest, fq-oldest, held-arrival, inside-order, kids-oldest, node-oldest, oldest-end, oldest-next, one-order, sooner-earlier}
+use Rattle.q_tree.proofs.OldestLemmas.{each-order, fifo-oldest, fq-oldest, held-arrival, inside-order, node-oldest, oldest-end, oldest-next, sooner-earlier}
 use Rattle.q_tree.proofs.RouteLemmas.{child-size, children-size}
 use Rattle.q_tree.proofs.+oldest.Goals as goal
 

@@ -1,4 +1,4 @@
-use Rattle.std.proofs.Common.{◌≡◌, ◌∙◌, [], ◌∷◌, set, length, add-one, refl, sym, ap, ap₂, subst, arith, rules, Option, Some}
+use Rattle.std.proofs.Common.{◌≡◌, ◌∙◌, [], ◌∷◌, set, length, refl, sym, ap, ap₂, subst, arith, rules, Option, Some}
 use Rattle.std.specs.Prelude.{is_some, slice_index_or, unwrap_or, slice_get}
 use Rattle.std.proofs.lemmas.List.{length-set}
 use Rattle.std.specs.Box.{with_value}
@@ -6,7 +6,7 @@ use Rattle.std.specs.Vec.{with_items}
 use Rattle.q_bucket.specs.Level.{allows}
 use Rattle.q_fqcodel.specs.FqState.{FqView}
 use Rattle.q_fqcodel.specs.Take.{head_sent, selected}
-use Rattle.q_model.specs.Ask.{ask, ask_tbf, ask_drr, ask_fq_codel}
+use Rattle.q_model.specs.Ask.{ask_tbf, ask_drr, ask_fq_codel}
 use Rattle.q_model.specs.Node as spec
 use Rattle.q_model.specs.Node.{Node, shape, side_by_side}
 use Rattle.q_model.specs.Pop.{pop}
@@ -16,12 +16,14 @@ use Rattle.q_tree.specs.NodeCode.{forest_size}
 use Rattle.q_tree.specs.Seen.{children_seen, discipline_seen, places_seen}
 use Rattle.q_tree.specs.declared.node.Discipline.TheVariants as code
 use Rattle.q_tree.specs.Shown.{Shown}
-use Rattle.q_tree.proofs.AskBands.{AreBandsAsked, told_to, band-at, band-once, band-shown, band-rises, band-passed, band-told, bands-start, bands-end, bands-rises}
-use Rattle.q_tree.proofs.AskOnce.{fits-beside, told-nothing, told-then}
-use Rattle.q_tree.proofs.AtHandLemmas.{none-held, some-held, shown-len, there-at}
+use Rattle.q_tree.proofs.AskBands.{next_of, band-at, band-once, band-shown, bands-go-on, bands-told, bands-start, bands-end, bands-rises}
+use Rattle.q_tree.proofs.SendBands.{band-met}
+use Rattle.q_tree.proofs.AskOnce.{fits-beside, told-nothing}
+use Rattle.q_tree.proofs.AtHandLemmas.{shown-len}
 use Rattle.q_tree.proofs.HereLemmas.{flow-packets}
-use Rattle.q_tree.proofs.Peeks.{asked-in, held-of, told-in, each-of, room-of, own-room, items-are, serve-of, holding-after, can-in, enough, can-book, peeked-done, shown-here, told-here, tbf-gave, tbf-none, hand-asked, tbf-gave-since, tbf-none-since, tbf-waits, tbf-waits-since}
-use Rattle.q_tree.proofs.ServeLemmas.{classes-go-on, classes-start, class-once, class-shown, class-size, fewer-grants, front-met, given-asked, given-packet, given-schedule, given-told, idle-asked, idle-schedule, idle-told, nothing-asked, nothing-schedule, nothing-told, place-within, short-enough, nothing-since, given-since, idle-since, class-given}
+use Rattle.q_tree.proofs.Peeks.{asked-in, fifo-asked, held-of, told-in, each-of, room-of, own-room, items-are, serve-of, holding-after, can-in, enough, can-book, peeked-done, shown-here, told-here, tbf-gave, tbf-none, hand-asked, tbf-gave-since, tbf-none-since, tbf-waits, tbf-waits-since}
+use Rattle.q_tree.proofs.ServeLemmas.{classes-go-on, classes-start, class-once, class-shown, class-size, fewer-grants, front-met, given-asked, given-packet, given-schedule, given-told, nothing-asked, nothing-schedule, nothing-told, place-within, short-enough, nothing-since, given-since, class-given}
+use Rattle.q_tree.proofs.IdleClasses.{idle-asked, idle-schedule, idle-since, idle-told}
 use Rattle.q_tree.proofs.Quiet.{shown-nothing}
 use Rattle.q_tree.proofs.RouteLemmas.{child-size, children-size}
 use Rattle.q_tree.proofs.TakeCounts.{flow-told}
@@ -34,17 +36,17 @@ use Rattle.q_packet.specs.declared.stamped.Stamped.{Stamped}
 use Rattle.std.specs.Option.{option_map_or}
 use Rattle.std.proofs.lemmas.Option.{none-some, same_Some, slice_get-get_or}
 
-pub disciplines::drr::peek_class_further-then-requires-clause-dropped_packets : goal.disciplines::drr::peek_class_further-then-requires-clause-dropped_packets
-disciplines::drr::peek_class_further-then-requires-clause-dropped_packets g t c = (fits-beside c.args.now c.args.class.now c.args.so_far c.peek-next.result (g.S.Sink.room c.args.sink.now) c.requires.ready c.peek-next.ensures.peeked.shown).dropped_packets
+pub node::Node::peek_after_counts-then-requires-clause-dropped_packets : goal.node::Node::peek_after_counts-then-requires-clause-dropped_packets
+node::Node::peek_after_counts-then-requires-clause-dropped_packets g t c = (fits-beside c.args.now c.args.self.now c.args.so_far c.peek-next.result (g.S.Sink.room c.args.sink.now) c.requires.ready c.peek-next.ensures.peeked.shown).dropped_packets
 
-pub disciplines::drr::peek_class_further-then-requires-clause-dropped_bytes : goal.disciplines::drr::peek_class_further-then-requires-clause-dropped_bytes
-disciplines::drr::peek_class_further-then-requires-clause-dropped_bytes g t c = (fits-beside c.args.now c.args.class.now c.args.so_far c.peek-next.result (g.S.Sink.room c.args.sink.now) c.requires.ready c.peek-next.ensures.peeked.shown).dropped_bytes
+pub node::Node::peek_after_counts-then-requires-clause-dropped_bytes : goal.node::Node::peek_after_counts-then-requires-clause-dropped_bytes
+node::Node::peek_after_counts-then-requires-clause-dropped_bytes g t c = (fits-beside c.args.now c.args.self.now c.args.so_far c.peek-next.result (g.S.Sink.room c.args.sink.now) c.requires.ready c.peek-next.ensures.peeked.shown).dropped_bytes
 
-pub disciplines::drr::peek_class_further-then-requires-clause-marked_packets : goal.disciplines::drr::peek_class_further-then-requires-clause-marked_packets
-disciplines::drr::peek_class_further-then-requires-clause-marked_packets g t c = (fits-beside c.args.now c.args.class.now c.args.so_far c.peek-next.result (g.S.Sink.room c.args.sink.now) c.requires.ready c.peek-next.ensures.peeked.shown).marked_packets
+pub node::Node::peek_after_counts-then-requires-clause-marked_packets : goal.node::Node::peek_after_counts-then-requires-clause-marked_packets
+node::Node::peek_after_counts-then-requires-clause-marked_packets g t c = (fits-beside c.args.now c.args.self.now c.args.so_far c.peek-next.result (g.S.Sink.room c.args.sink.now) c.requires.ready c.peek-next.ensures.peeked.shown).marked_packets
 
-pub disciplines::drr::peek_class_further-then-requires-clause-marked_bytes : goal.disciplines::drr::peek_class_further-then-requires-clause-marked_bytes
-disciplines::drr::peek_class_further-then-requires-clause-marked_bytes g t c = (fits-beside c.args.now c.args.class.now c.args.so_far c.peek-next.result (g.S.Sink.room c.args.sink.now) c.requires.ready c.peek-next.ensures.peeked.shown).marked_bytes
+pub node::Node::peek_after_counts-then-requires-clause-marked_bytes : goal.node::Node::peek_after_counts-then-requires-clause-marked_bytes
+node::Node::peek_after_counts-then-requires-clause-marked_bytes g t c = (fits-beside c.args.now c.args.self.now c.args.so_far c.peek-next.result (g.S.Sink.room c.args.sink.now) c.requires.ready c.peek-next.ensures.peeked.shown).marked_bytes
 
 pub disciplines::tbf::allow_child-returns-in_default-clause-allowed : goal.disciplines::tbf::allow_child-returns-in_default-clause-allowed
 disciplines::tbf::allow_child-returns-in_default-clause-allowed g t c = λ p is. absurd (none-some p (sym (c.packet_len.ensures.none c.in_default.is) ∙ is))
@@ -298,8 +300,7 @@ node::Discipline::ask-peek_bands-requires g t c κs within =
     let kids = c.deref_mut.ensures.value ∙ sym (ap children_seen c.in-Prio.is) in
     (omega (arith, ap (λ xs. forest_size (side_by_side xs)) kids, c.decreases), (within, (each-of c.args.now c.args.self.now c.deref_mut.result.now c.requires.ready kids, (omega (arith, c.requires.sink, room-of c.args.self.now c.deref_mut.result.now kids), c.requires.clean))))
 
-pub node::Discipline::ask-returns-in-Prio-clause-after :
-    goal.node::Discipline::ask-returns-in-Prio-clause-after
+pub node::Discipline::ask-returns-in-Prio-clause-after : goal.node::Discipline::ask-returns-in-Prio-clause-after
 node::Discipline::ask-returns-in-Prio-clause-after g t c = λ handle filters.
     let kids = sym (c.deref_mut.ensures.value ∙ sym (ap children_seen c.in-Prio.is)) in
     let asked_bands = c.peek_bands.ensures.after (own_of handle filters (spec.Prio c.in-Prio.priomap)) in
@@ -307,14 +308,12 @@ node::Discipline::ask-returns-in-Prio-clause-after g t c = λ handle filters.
     (ap discipline_seen c.in-Prio.is) kids refl (items-are c.in-Prio.bands.items c.peek_bands.new.bands c.in-Prio.bands.len (sym c.in-Prio.bands.ok.0) (asked_bands.long ∙ ap (λ xs. length xs) c.deref_mut.ensures.value))
     (sym (ap places_seen c.in-Prio.is)) refl asked_bands
 
-pub node::Discipline::ask-returns-in-Prio-clause-told :
-    goal.node::Discipline::ask-returns-in-Prio-clause-told
+pub node::Discipline::ask-returns-in-Prio-clause-told : goal.node::Discipline::ask-returns-in-Prio-clause-told
 node::Discipline::ask-returns-in-Prio-clause-told g t c = λ handle filters.
     told-in c.args.now handle filters c.args.self.now (spec.Prio c.in-Prio.priomap) c.deref_mut.result.now (g.S.Sink.losses c.args.sink.now) (g.S.Sink.losses c.peek_bands.new.sink) (g.S.Sink.room c.args.sink.now) (g.S.Sink.room c.peek_bands.new.sink)
     (ap discipline_seen c.in-Prio.is) (sym (c.deref_mut.ensures.value ∙ sym (ap children_seen c.in-Prio.is))) (c.peek_bands.ensures.told (own_of handle filters (spec.Prio c.in-Prio.priomap)))
 
-pub node::Discipline::ask-returns-in-Tbf-clause-after :
-    goal.node::Discipline::ask-returns-in-Tbf-clause-after
+pub node::Discipline::ask-returns-in-Tbf-clause-after : goal.node::Discipline::ask-returns-in-Tbf-clause-after
 node::Discipline::ask-returns-in-Tbf-clause-after g t c = λ handle filters.
     let own = own_of handle filters (spec.Tbf c.in-Tbf.bucket c.in-Tbf.limit) in
     let kids = ap children_seen c.in-Tbf.is ∙ ap (λ x. x ∷ []) (sym c.deref_mut-in-Tbf.ensures.value) in
@@ -328,8 +327,7 @@ node::Discipline::ask-returns-in-Tbf-clause-held g t c = λ handle filters.
     held-of c.args.now handle filters c.args.self.now (spec.Tbf c.in-Tbf.bucket c.in-Tbf.limit) (c.deref_mut-in-Tbf.result.now ∷ []) c.peek_child.new.held c.peek_child.result.packet
     (ap discipline_seen c.in-Tbf.is) kids (c.peek_child.ensures.held own c.in-Tbf.limit)
 
-pub node::Discipline::ask-returns-in-Tbf-clause-told :
-    goal.node::Discipline::ask-returns-in-Tbf-clause-told
+pub node::Discipline::ask-returns-in-Tbf-clause-told : goal.node::Discipline::ask-returns-in-Tbf-clause-told
 node::Discipline::ask-returns-in-Tbf-clause-told g t c = λ handle filters.
     let own = own_of handle filters (spec.Tbf c.in-Tbf.bucket c.in-Tbf.limit) in
     told-in c.args.now handle filters c.args.self.now (spec.Tbf c.in-Tbf.bucket c.in-Tbf.limit) (c.deref_mut-in-Tbf.result.now ∷ []) (g.S.Sink.losses c.args.sink.now) (g.S.Sink.losses c.peek_child.new.sink) (g.S.Sink.room c.args.sink.now) (g.S.Sink.room c.peek_child.new.sink)
@@ -340,8 +338,7 @@ node::Discipline::ask-peek_classes-requires g t c κs within =
     let kids = c.deref_mut-in-Drr.ensures.value ∙ sym (ap children_seen c.in-Drr.is) in
     (omega (arith, ap (λ xs. forest_size (side_by_side xs)) kids, c.decreases), (within, (c.requires.none, (serve-of c.args.now c.args.self.now c.in-Drr.active c.deref_mut-in-Drr.result.now c.requires.ready (ap discipline_seen c.in-Drr.is) kids, (omega (arith, c.requires.sink, room-of c.args.self.now c.deref_mut-in-Drr.result.now kids), c.requires.clean)))))
 
-pub node::Discipline::ask-returns-in-Drr-clause-after :
-    goal.node::Discipline::ask-returns-in-Drr-clause-after
+pub node::Discipline::ask-returns-in-Drr-clause-after : goal.node::Discipline::ask-returns-in-Drr-clause-after
 node::Discipline::ask-returns-in-Drr-clause-after g t c = λ handle filters.
     let own = own_of handle filters (spec.Drr c.in-Drr.active) in
     let kids = sym (c.deref_mut-in-Drr.ensures.value ∙ sym (ap children_seen c.in-Drr.is)) in
@@ -356,20 +353,17 @@ node::Discipline::ask-returns-in-Drr-clause-held g t c = λ handle filters.
     held-of c.args.now handle filters c.args.self.now (spec.Drr c.in-Drr.active) c.deref_mut-in-Drr.result.now c.peek_classes.new.held c.peek_classes.result.packet
     (ap discipline_seen c.in-Drr.is) kids (c.peek_classes.ensures.held own)
 
-pub node::Discipline::ask-returns-in-Drr-clause-told :
-    goal.node::Discipline::ask-returns-in-Drr-clause-told
+pub node::Discipline::ask-returns-in-Drr-clause-told : goal.node::Discipline::ask-returns-in-Drr-clause-told
 node::Discipline::ask-returns-in-Drr-clause-told g t c = λ handle filters.
     told-in c.args.now handle filters c.args.self.now (spec.Drr c.in-Drr.active) c.deref_mut-in-Drr.result.now (g.S.Sink.losses c.args.sink.now) (g.S.Sink.losses c.peek_classes.new.sink) (g.S.Sink.room c.args.sink.now) (g.S.Sink.room c.peek_classes.new.sink)
     (ap discipline_seen c.in-Drr.is) (sym (c.deref_mut-in-Drr.ensures.value ∙ sym (ap children_seen c.in-Drr.is))) (c.peek_classes.ensures.told (own_of handle filters (spec.Drr c.in-Drr.active)))
 
-pub node::Discipline::ask-peek_flow-requires :
-    goal.node::Discipline::ask-peek_flow-requires
+pub node::Discipline::ask-peek_flow-requires : goal.node::Discipline::ask-peek_flow-requires
 node::Discipline::ask-peek_flow-requires g t c =
     let is = ap discipline_seen c.in-FqCodel.is ∙ ap (λ (q : FqView). spec.FqCodel q.state) (sym c.deref_mut-in-FqCodel.ensures.value) in
     record { none = c.requires.none; sink = omega (arith, c.requires.sink, own-room c.args.self.now, flow-packets c.args.self.now c.deref_mut-in-FqCodel.result.now.state is); clean = c.requires.clean }
 
-pub node::Discipline::ask-returns-in-FqCodel-clause-after :
-    goal.node::Discipline::ask-returns-in-FqCodel-clause-after
+pub node::Discipline::ask-returns-in-FqCodel-clause-after : goal.node::Discipline::ask-returns-in-FqCodel-clause-after
 node::Discipline::ask-returns-in-FqCodel-clause-after g t c = λ handle filters.
     let e = c.peek_flow.ensures in
     let state = c.deref_mut-in-FqCodel.result.now.state in
@@ -390,8 +384,7 @@ node::Discipline::ask-returns-in-FqCodel-clause-held g t c = λ handle filters.
     held-of c.args.now handle filters c.args.self.now (spec.FqCodel state) [] c.peek_flow.new.held c.peek_flow.result.packet is (ap children_seen c.in-FqCodel.is)
     (e.held ∙ held-with c.peek_flow.result.packet at (ask_fq_codel c.args.now own [] state).peeked.own.since (ap (λ (o : Option Descriptor). since_of o at) (e.shown own []).packet))
 
-pub node::Discipline::ask-returns-in-FqCodel-clause-told :
-    goal.node::Discipline::ask-returns-in-FqCodel-clause-told
+pub node::Discipline::ask-returns-in-FqCodel-clause-told : goal.node::Discipline::ask-returns-in-FqCodel-clause-told
 node::Discipline::ask-returns-in-FqCodel-clause-told g t c = λ handle filters.
     let e = c.peek_flow.ensures in
     let state = c.deref_mut-in-FqCodel.result.now.state in
@@ -411,18 +404,24 @@ node::Node::peek-returns-then-is_some-clause-peeked g t c = record {
 }
 
 pub node::Node::peek-returns-in-Fifo-clause-peeked : goal.node::Node::peek-returns-in-Fifo-clause-peeked
-node::Node::peek-returns-in-Fifo-clause-peeked g t c = record {
-  after = sym c.self.view_is ∙ (peeked-done c.args.now c.self.inside c.args.self.now c.self.invariant c.self.view_is c.requires.ready (none-kept c.self.inside.held c.if-is_some.ensures) c.self.inside.discipline c.at_hand-in-Fifo.result (asked-in c.args.now c.self.inside.handle c.self.inside.filters c.self.inside.discipline c.self.inside.discipline (spec.Fifo c.in-Fifo.fifo.limit c.in-Fifo.fifo.packets) (spec.Fifo c.in-Fifo.fifo.limit c.in-Fifo.fifo.packets) [] [] c.at_hand-in-Fifo.result
-      (ap discipline_seen c.in-Fifo.is) (ap children_seen c.in-Fifo.is) (ap discipline_seen c.in-Fifo.is) (ap children_seen c.in-Fifo.is) refl refl
-      (record { long = refl; nodes = refl; within = λ t h. h; shown = record { packet = ap (λ (s : Shown). s.packet) c.at_hand-in-Fifo.ensures ∙ c.first_packet.ensures; dropped = ap (λ (s : Shown). s.dropped) c.at_hand-in-Fifo.ensures; marked = ap (λ (s : Shown). s.marked) c.at_hand-in-Fifo.ensures } })) c.self.inside.row c.self.inside.held (can-book c.args.now c.self.inside c.args.self.now c.self.invariant c.self.view_is c.requires.ready (none-kept c.self.inside.held c.if-is_some.ensures) c.at_hand-in-Fifo.result (asked-in c.args.now c.self.inside.handle c.self.inside.filters c.self.inside.discipline c.self.inside.discipline (spec.Fifo c.in-Fifo.fifo.limit c.in-Fifo.fifo.packets) (spec.Fifo c.in-Fifo.fifo.limit c.in-Fifo.fifo.packets) [] [] c.at_hand-in-Fifo.result
-      (ap discipline_seen c.in-Fifo.is) (ap children_seen c.in-Fifo.is) (ap discipline_seen c.in-Fifo.is) (ap children_seen c.in-Fifo.is) refl refl
-      (record { long = refl; nodes = refl; within = λ t h. h; shown = record { packet = ap (λ (s : Shown). s.packet) c.at_hand-in-Fifo.ensures ∙ c.first_packet.ensures; dropped = ap (λ (s : Shown). s.dropped) c.at_hand-in-Fifo.ensures; marked = ap (λ (s : Shown). s.marked) c.at_hand-in-Fifo.ensures } })).children.shown (omega (arith, c.self.ranges, c.fit.ensures.packets, c.fit.ensures.bytes)) (omega (arith, c.self.ranges, c.fit.ensures.packets, c.fit.ensures.bytes))) (shown-nothing c.at_hand-in-Fifo.result c.self.inside.row (ap (λ (s : Shown). s.dropped) c.at_hand-in-Fifo.ensures) (ap (λ (s : Shown). s.marked) c.at_hand-in-Fifo.ensures)) (empty-held c.self.inside.held (none-kept c.self.inside.held c.if-is_some.ensures) ∙ sym (ap (λ k. held_with (held_in k c.at_hand-in-Fifo.result.packet) (answer_of c.args.now c.self.inside.handle c.self.inside.filters c.self.inside.discipline).peeked.own.since) (ap discipline_seen c.in-Fifo.is)))).after;
-  arrived = search rules;
-  shown = shown-here c.args.now c.self.inside c.args.self.now c.self.invariant c.self.view_is c.requires.ready (none-kept c.self.inside.held c.if-is_some.ensures) c.at_hand-in-Fifo.result (asked-in c.args.now c.self.inside.handle c.self.inside.filters c.self.inside.discipline c.self.inside.discipline (spec.Fifo c.in-Fifo.fifo.limit c.in-Fifo.fifo.packets) (spec.Fifo c.in-Fifo.fifo.limit c.in-Fifo.fifo.packets) [] [] c.at_hand-in-Fifo.result
-      (ap discipline_seen c.in-Fifo.is) (ap children_seen c.in-Fifo.is) (ap discipline_seen c.in-Fifo.is) (ap children_seen c.in-Fifo.is) refl refl
-      (record { long = refl; nodes = refl; within = λ t h. h; shown = record { packet = ap (λ (s : Shown). s.packet) c.at_hand-in-Fifo.ensures ∙ c.first_packet.ensures; dropped = ap (λ (s : Shown). s.dropped) c.at_hand-in-Fifo.ensures; marked = ap (λ (s : Shown). s.marked) c.at_hand-in-Fifo.ensures } })).children.shown;
-  signals = c.requires.clean ∙ sym (ap signals_of c.at_hand-in-Fifo.ensures);
-}
+node::Node::peek-returns-in-Fifo-clause-peeked g t c =
+    let none = none-kept c.self.inside.held c.if-is_some.ensures in
+    let dropped = ap (λ (s : Shown). s.dropped) c.at_hand-in-Fifo.ensures in
+    let marked = ap (λ (s : Shown). s.marked) c.at_hand-in-Fifo.ensures in
+    let asked = fifo-asked c.args.now c.self.inside.handle c.self.inside.filters c.self.inside.discipline c.in-Fifo.fifo.limit c.in-Fifo.fifo.packets c.at_hand-in-Fifo.result
+    (ap discipline_seen c.in-Fifo.is) (ap children_seen c.in-Fifo.is) (ap (λ (s : Shown). s.packet) c.at_hand-in-Fifo.ensures ∙ c.first_packet.ensures) dropped marked in
+    let can = can-book c.args.now c.self.inside c.args.self.now c.self.invariant c.self.view_is c.requires.ready none c.at_hand-in-Fifo.result asked.children.shown
+    (omega (arith, c.self.ranges, c.fit.ensures.packets, c.fit.ensures.bytes)) (omega (arith, c.self.ranges, c.fit.ensures.packets, c.fit.ensures.bytes)) in
+    record {
+      after = sym c.self.view_is
+          ∙ (peeked-done c.args.now c.self.inside c.args.self.now c.self.invariant c.self.view_is c.requires.ready none c.self.inside.discipline c.at_hand-in-Fifo.result asked c.self.inside.row c.self.inside.held can
+          (shown-nothing c.at_hand-in-Fifo.result c.self.inside.row dropped marked) (empty-held c.self.inside.held none
+          ∙ sym (ap (λ k. held_with (held_in k c.at_hand-in-Fifo.result.packet) (answer_of c.args.now c.self.inside.handle c.self.inside.filters c.self.inside.discipline).peeked.own.since)
+          (ap discipline_seen c.in-Fifo.is)))).after;
+      arrived = search rules;
+      shown = shown-here c.args.now c.self.inside c.args.self.now c.self.invariant c.self.view_is c.requires.ready none c.at_hand-in-Fifo.result asked.children.shown;
+      signals = c.requires.clean ∙ sym (ap signals_of c.at_hand-in-Fifo.ensures);
+    }
 
 pub node::Node::peek-returns-in-Fifo-clause-told : goal.node::Node::peek-returns-in-Fifo-clause-told
 node::Node::peek-returns-in-Fifo-clause-told g t c =
@@ -430,123 +429,111 @@ node::Node::peek-returns-in-Fifo-clause-told g t c =
     (told-in c.args.now c.self.inside.handle c.self.inside.filters c.self.inside.discipline (spec.Fifo c.in-Fifo.fifo.limit c.in-Fifo.fifo.packets) [] (g.S.Sink.losses c.args.sink.now) (g.S.Sink.losses c.args.sink.now) (g.S.Sink.room c.args.sink.now) (g.S.Sink.room c.args.sink.now) (ap discipline_seen c.in-Fifo.is) (ap children_seen c.in-Fifo.is) (told-nothing (g.S.Sink.losses c.args.sink.now) (g.S.Sink.room c.args.sink.now)))
 
 pub node::Node::peek_further-ask-shown-requires : goal.node::Node::peek_further-ask-shown-requires
-node::Node::peek_further-ask-shown-requires g t c κs within = (
-  omega (arith, children-size c.self.inside c.args.self.now (children_seen c.self.inside.discipline) c.self.view_is refl, c.decreases),
-  (
-    within,
-    (
-      empty-held c.self.inside.held (ap (λ (n : Node Kept). n.own.held) c.self.view_is ∙ c.requires.none),
-      (
-        can-in c.args.now c.self.inside c.args.self.now c.self.invariant c.self.view_is c.requires.ready (omega (arith, c.self.ranges, c.fit.ensures.packets, c.fit.ensures.bytes)) (omega (arith, c.self.ranges, c.fit.ensures.packets, c.fit.ensures.bytes)),
-        (enough c.args.now c.self.inside c.args.self.now c.self.invariant c.self.view_is c.requires.ready (g.S.Sink.room c.args.sink.now) c.requires.sink, c.requires.clean),
-      ),
-    ),
-  ),
-)
+node::Node::peek_further-ask-shown-requires g t c κs within =
+    let none = empty-held c.self.inside.held (ap (λ (n : Node Kept). n.own.held) c.self.view_is ∙ c.requires.none) in
+    let can = can-in c.args.now c.self.inside c.args.self.now c.self.invariant c.self.view_is c.requires.ready (omega (arith, c.self.ranges, c.fit.ensures.packets, c.fit.ensures.bytes)) (omega (arith, c.self.ranges, c.fit.ensures.packets, c.fit.ensures.bytes)) in
+    let room = enough c.args.now c.self.inside c.args.self.now c.self.invariant c.self.view_is c.requires.ready (g.S.Sink.room c.args.sink.now) c.requires.sink in
+    (omega (arith, children-size c.self.inside c.args.self.now (children_seen c.self.inside.discipline) c.self.view_is refl, c.decreases), (within, (none, (can, (room, c.requires.clean)))))
 
-pub node::Node::peek_further-book_shown-requires-clause-room :
-    goal.node::Node::peek_further-book_shown-requires-clause-room
+pub node::Node::peek_further-book_shown-requires-clause-room : goal.node::Node::peek_further-book_shown-requires-clause-room
 node::Node::peek_further-book_shown-requires-clause-room g t c =
-    can-book c.args.now c.self.inside c.args.self.now c.self.invariant c.self.view_is c.requires.ready (ap (λ (n : Node Kept). n.own.held) c.self.view_is ∙ c.requires.none) c.ask-shown.result (c.ask-shown.ensures.after c.self.inside.handle c.self.inside.filters).children.shown (omega (arith, c.self.ranges, c.fit.ensures.packets, c.fit.ensures.bytes)) (omega (arith, c.self.ranges, c.fit.ensures.packets, c.fit.ensures.bytes))
+    let none = ap (λ (n : Node Kept). n.own.held) c.self.view_is ∙ c.requires.none in
+    can-book c.args.now c.self.inside c.args.self.now c.self.invariant c.self.view_is c.requires.ready none c.ask-shown.result (c.ask-shown.ensures.after c.self.inside.handle c.self.inside.filters).children.shown
+    (omega (arith, c.self.ranges, c.fit.ensures.packets, c.fit.ensures.bytes)) (omega (arith, c.self.ranges, c.fit.ensures.packets, c.fit.ensures.bytes))
 
-pub node::Node::peek_further-invariant_of-self :
-    goal.node::Node::peek_further-invariant_of-self
+pub node::Node::peek_further-invariant_of-self : goal.node::Node::peek_further-invariant_of-self
 node::Node::peek_further-invariant_of-self g t c =
-    (peeked-done c.args.now c.self.inside c.args.self.now c.self.invariant c.self.view_is c.requires.ready (ap (λ (n : Node Kept). n.own.held) c.self.view_is ∙ c.requires.none) c.ask-shown.new.self c.ask-shown.result (c.ask-shown.ensures.after c.self.inside.handle c.self.inside.filters) c.book_shown.new.row c.ask-shown.new.held
-    (can-book c.args.now c.self.inside c.args.self.now c.self.invariant c.self.view_is c.requires.ready (ap (λ (n : Node Kept). n.own.held) c.self.view_is ∙ c.requires.none) c.ask-shown.result (c.ask-shown.ensures.after c.self.inside.handle c.self.inside.filters).children.shown (omega (arith, c.self.ranges, c.fit.ensures.packets, c.fit.ensures.bytes)) (omega (arith, c.self.ranges, c.fit.ensures.packets, c.fit.ensures.bytes)))
-    c.book_shown.ensures (c.ask-shown.ensures.held c.self.inside.handle c.self.inside.filters)).stays
+    let none = ap (λ (n : Node Kept). n.own.held) c.self.view_is ∙ c.requires.none in
+    let asked = c.ask-shown.ensures.after c.self.inside.handle c.self.inside.filters in
+    let can = can-book c.args.now c.self.inside c.args.self.now c.self.invariant c.self.view_is c.requires.ready none c.ask-shown.result asked.children.shown
+    (omega (arith, c.self.ranges, c.fit.ensures.packets, c.fit.ensures.bytes)) (omega (arith, c.self.ranges, c.fit.ensures.packets, c.fit.ensures.bytes)) in
+    let done = peeked-done c.args.now c.self.inside c.args.self.now c.self.invariant c.self.view_is c.requires.ready none c.ask-shown.new.self c.ask-shown.result asked c.book_shown.new.row c.ask-shown.new.held can c.book_shown.ensures
+    (c.ask-shown.ensures.held c.self.inside.handle c.self.inside.filters) in
+    done.stays
 
 pub node::Node::peek_further-returns-clause-peeked : goal.node::Node::peek_further-returns-clause-peeked
-node::Node::peek_further-returns-clause-peeked g t c = record {
-  after = (peeked-done c.args.now c.self.inside c.args.self.now c.self.invariant c.self.view_is c.requires.ready (ap (λ (n : Node Kept). n.own.held) c.self.view_is ∙ c.requires.none) c.ask-shown.new.self c.ask-shown.result (c.ask-shown.ensures.after c.self.inside.handle c.self.inside.filters) c.book_shown.new.row c.ask-shown.new.held
-      (can-book c.args.now c.self.inside c.args.self.now c.self.invariant c.self.view_is c.requires.ready (ap (λ (n : Node Kept). n.own.held) c.self.view_is ∙ c.requires.none) c.ask-shown.result (c.ask-shown.ensures.after c.self.inside.handle c.self.inside.filters).children.shown (omega (arith, c.self.ranges, c.fit.ensures.packets, c.fit.ensures.bytes)) (omega (arith, c.self.ranges, c.fit.ensures.packets, c.fit.ensures.bytes)))
-      c.book_shown.ensures (c.ask-shown.ensures.held c.self.inside.handle c.self.inside.filters)).after;
-  arrived = search rules;
-  shown = shown-here c.args.now c.self.inside c.args.self.now c.self.invariant c.self.view_is c.requires.ready (ap (λ (n : Node Kept). n.own.held) c.self.view_is ∙ c.requires.none) c.ask-shown.result (c.ask-shown.ensures.after c.self.inside.handle c.self.inside.filters).children.shown;
-  signals = search rules;
-}
+node::Node::peek_further-returns-clause-peeked g t c =
+    let none = ap (λ (n : Node Kept). n.own.held) c.self.view_is ∙ c.requires.none in
+    let asked = c.ask-shown.ensures.after c.self.inside.handle c.self.inside.filters in
+    let can = can-book c.args.now c.self.inside c.args.self.now c.self.invariant c.self.view_is c.requires.ready none c.ask-shown.result asked.children.shown
+    (omega (arith, c.self.ranges, c.fit.ensures.packets, c.fit.ensures.bytes)) (omega (arith, c.self.ranges, c.fit.ensures.packets, c.fit.ensures.bytes)) in
+    let done = peeked-done c.args.now c.self.inside c.args.self.now c.self.invariant c.self.view_is c.requires.ready none c.ask-shown.new.self c.ask-shown.result asked c.book_shown.new.row c.ask-shown.new.held can c.book_shown.ensures
+    (c.ask-shown.ensures.held c.self.inside.handle c.self.inside.filters) in
+    record { after = done.after; arrived = search rules; shown = shown-here c.args.now c.self.inside c.args.self.now c.self.invariant c.self.view_is c.requires.ready none c.ask-shown.result asked.children.shown; signals = search rules }
 
 pub node::Node::peek_further-returns-clause-told : goal.node::Node::peek_further-returns-clause-told
 node::Node::peek_further-returns-clause-told g t c =
     told-here c.args.now c.self.inside c.args.self.now c.self.invariant c.self.view_is c.requires.ready (ap (λ (n : Node Kept). n.own.held) c.self.view_is ∙ c.requires.none) (g.S.Sink.losses c.args.sink.now) (g.S.Sink.losses c.ask-shown.new.sink) (g.S.Sink.room c.args.sink.now) (g.S.Sink.room c.ask-shown.new.sink) (c.ask-shown.ensures.told c.self.inside.handle c.self.inside.filters)
 
-pub disciplines::prio::peek_bands-loop-place-init : goal.disciplines::prio::peek_bands-loop-place-init
-disciplines::prio::peek_bands-loop-place-init g t c = (
-  bands-start c.args.now c.args.bands.now c.at_hand-shown.result (record { dropped = ap (λ (s : Shown). s.dropped) c.at_hand-shown.ensures; marked = ap (λ (s : Shown). s.marked) c.at_hand-shown.ensures }) (ap (λ (s : Shown). s.packet) c.at_hand-shown.ensures),
+pub disciplines::prio::meet_band-loop-place-init : goal.disciplines::prio::meet_band-loop-place-init
+disciplines::prio::meet_band-loop-place-init g t c = (
+  bands-start c.args.now c.args.bands.now c.at_hand-shown.result (record { dropped = ap (λ (s : Shown). s.dropped) c.at_hand-shown.ensures; marked = ap (λ (s : Shown). s.marked) c.at_hand-shown.ensures })
+      (ap (λ (s : Shown). s.packet) c.at_hand-shown.ensures),
   told-nothing (g.S.Sink.losses c.args.sink.now) (g.S.Sink.room c.args.sink.now),
   g.met.S.Sink.keeps_same c.args.sink.now,
   c.requires.clean ∙ sym (ap signals_of c.at_hand-shown.ensures),
 )
 
-pub disciplines::prio::peek_bands-peek-next-requires : goal.disciplines::prio::peek_bands-peek-next-requires
-disciplines::prio::peek_bands-peek-next-requires g t c κs within =
+pub disciplines::prio::meet_band-peek_after-shown-requires : goal.disciplines::prio::meet_band-peek_after-shown-requires
+disciplines::prio::meet_band-peek_after-shown-requires g t c κs within =
+    let band = slice_index_or c.loop-place.bands c.loop-place.place c.index-bands-place.result in
     let at = band-at c.args.now c.args.bands.now c.loop-place.bands c.loop-place.place c.loop-place.shown c.loop-place.invariant.0 c.index-bands-place.result c.loop-place-test.true in
-    let once = (band-once c.args.now c.args.bands.now c.loop-place.bands c.loop-place.place c.loop-place.shown c.requires.ready c.loop-place.invariant.0 (slice_index_or c.loop-place.bands c.loop-place.place c.index-bands-place.result) (band-at c.args.now c.args.bands.now c.loop-place.bands c.loop-place.place c.loop-place.shown c.loop-place.invariant.0 c.index-bands-place.result c.loop-place-test.true) (g.S.Sink.losses c.args.sink.now) (g.S.Sink.losses c.loop-place.sink) (g.S.Sink.room c.args.sink.now) (g.S.Sink.room c.loop-place.sink) c.loop-place.invariant.1 c.requires.sink) in
-    (omega (arith, child-size c.args.bands.now c.loop-place.place (slice_index_or c.loop-place.bands c.loop-place.place c.index-bands-place.result) at, c.decreases), (within, (once.ready, (once.sink, refl))))
+    let once = band-once c.args.now c.args.bands.now c.loop-place.bands c.loop-place.place c.loop-place.shown c.requires.ready c.loop-place.invariant.0 band at (g.S.Sink.losses c.args.sink.now) (g.S.Sink.losses c.loop-place.sink) (g.S.Sink.room c.args.sink.now) (g.S.Sink.room c.loop-place.sink)
+    c.loop-place.invariant.1 c.requires.sink in
+    (omega (arith, child-size c.args.bands.now c.loop-place.place band at, c.decreases), (within, (once, c.loop-place.invariant.3)))
 
-pub disciplines::prio::peek_bands-then-shown-requires-clause-dropped_packets :
-    goal.disciplines::prio::peek_bands-then-shown-requires-clause-dropped_packets
-disciplines::prio::peek_bands-then-shown-requires-clause-dropped_packets g t c =
-    (fits-beside c.args.now (slice_index_or c.loop-place.bands c.loop-place.place c.index-bands-place.result) c.loop-place.shown c.peek-next.result (g.S.Sink.room c.loop-place.sink)
-    (band-once c.args.now c.args.bands.now c.loop-place.bands c.loop-place.place c.loop-place.shown c.requires.ready c.loop-place.invariant.0 (slice_index_or c.loop-place.bands c.loop-place.place c.index-bands-place.result) (band-at c.args.now c.args.bands.now c.loop-place.bands c.loop-place.place c.loop-place.shown c.loop-place.invariant.0 c.index-bands-place.result c.loop-place-test.true) (g.S.Sink.losses c.args.sink.now) (g.S.Sink.losses c.loop-place.sink) (g.S.Sink.room c.args.sink.now) (g.S.Sink.room c.loop-place.sink) c.loop-place.invariant.1 c.requires.sink) c.peek-next.ensures.peeked.shown).dropped_packets
+pub disciplines::prio::meet_band-returns-then-has_packet-clause-after : goal.disciplines::prio::meet_band-returns-then-has_packet-clause-after
+disciplines::prio::meet_band-returns-then-has_packet-clause-after g t c = λ own.
+    let band = slice_index_or c.loop-place.bands c.loop-place.place c.index-bands-place.result in
+    let at = band-at c.args.now c.args.bands.now c.loop-place.bands c.loop-place.place c.loop-place.shown c.loop-place.invariant.0 c.index-bands-place.result c.loop-place-test.true in
+    let asked = c.peek_after-shown.ensures.asked in
+    band-shown c.args.now c.args.bands.now c.loop-place.bands c.loop-place.place c.loop-place.shown c.requires.ready c.loop-place.invariant.0 band at c.peek_after-shown.new.self (next_of c.args.now band) c.peek_after-shown.result asked.peeked asked.arrived (record { packet = refl; dropped = refl; marked = refl })
+    asked.dropped asked.marked asked.packet (sym c.if-has_packet.ensures) own
 
-pub disciplines::prio::peek_bands-then-shown-requires-clause-dropped_bytes :
-    goal.disciplines::prio::peek_bands-then-shown-requires-clause-dropped_bytes
-disciplines::prio::peek_bands-then-shown-requires-clause-dropped_bytes g t c =
-    (fits-beside c.args.now (slice_index_or c.loop-place.bands c.loop-place.place c.index-bands-place.result) c.loop-place.shown c.peek-next.result (g.S.Sink.room c.loop-place.sink)
-    (band-once c.args.now c.args.bands.now c.loop-place.bands c.loop-place.place c.loop-place.shown c.requires.ready c.loop-place.invariant.0 (slice_index_or c.loop-place.bands c.loop-place.place c.index-bands-place.result) (band-at c.args.now c.args.bands.now c.loop-place.bands c.loop-place.place c.loop-place.shown c.loop-place.invariant.0 c.index-bands-place.result c.loop-place-test.true) (g.S.Sink.losses c.args.sink.now) (g.S.Sink.losses c.loop-place.sink) (g.S.Sink.room c.args.sink.now) (g.S.Sink.room c.loop-place.sink) c.loop-place.invariant.1 c.requires.sink) c.peek-next.ensures.peeked.shown).dropped_bytes
+pub disciplines::prio::meet_band-returns-then-has_packet-clause-met : goal.disciplines::prio::meet_band-returns-then-has_packet-clause-met
+disciplines::prio::meet_band-returns-then-has_packet-clause-met g t c = λ p some.
+    let band = slice_index_or c.loop-place.bands c.loop-place.place c.index-bands-place.result in
+    let at = band-at c.args.now c.args.bands.now c.loop-place.bands c.loop-place.place c.loop-place.shown c.loop-place.invariant.0 c.index-bands-place.result c.loop-place-test.true in
+    let asked = c.peek_after-shown.ensures.asked in
+    band-met c.args.now c.args.bands.now c.loop-place.bands c.loop-place.place c.loop-place.shown c.requires.ready c.loop-place.invariant.0 band at c.peek_after-shown.new.self (next_of c.args.now band) c.peek_after-shown.result asked.peeked asked.arrived (record { packet = refl; dropped = refl; marked = refl })
+    asked.dropped asked.marked asked.packet p some
 
-pub disciplines::prio::peek_bands-then-shown-requires-clause-marked_packets :
-    goal.disciplines::prio::peek_bands-then-shown-requires-clause-marked_packets
-disciplines::prio::peek_bands-then-shown-requires-clause-marked_packets g t c =
-    (fits-beside c.args.now (slice_index_or c.loop-place.bands c.loop-place.place c.index-bands-place.result) c.loop-place.shown c.peek-next.result (g.S.Sink.room c.loop-place.sink)
-    (band-once c.args.now c.args.bands.now c.loop-place.bands c.loop-place.place c.loop-place.shown c.requires.ready c.loop-place.invariant.0 (slice_index_or c.loop-place.bands c.loop-place.place c.index-bands-place.result) (band-at c.args.now c.args.bands.now c.loop-place.bands c.loop-place.place c.loop-place.shown c.loop-place.invariant.0 c.index-bands-place.result c.loop-place-test.true) (g.S.Sink.losses c.args.sink.now) (g.S.Sink.losses c.loop-place.sink) (g.S.Sink.room c.args.sink.now) (g.S.Sink.room c.loop-place.sink) c.loop-place.invariant.1 c.requires.sink) c.peek-next.ensures.peeked.shown).marked_packets
+pub disciplines::prio::meet_band-returns-then-has_packet-clause-told : goal.disciplines::prio::meet_band-returns-then-has_packet-clause-told
+disciplines::prio::meet_band-returns-then-has_packet-clause-told g t c = λ own.
+    let band = slice_index_or c.loop-place.bands c.loop-place.place c.index-bands-place.result in
+    let at = band-at c.args.now c.args.bands.now c.loop-place.bands c.loop-place.place c.loop-place.shown c.loop-place.invariant.0 c.index-bands-place.result c.loop-place-test.true in
+    let asked = c.peek_after-shown.ensures.asked in
+    bands-told c.args.now c.args.bands.now c.loop-place.bands c.loop-place.place c.loop-place.shown c.requires.ready c.loop-place.invariant.0 band at
+    c.peek_after-shown.new.self (next_of c.args.now band) c.peek_after-shown.result asked.peeked asked.arrived (record { packet = refl; dropped = refl; marked = refl })
+    asked.dropped asked.marked asked.packet
+    (g.S.Sink.losses c.args.sink.now) (g.S.Sink.losses c.loop-place.sink) (g.S.Sink.losses c.peek_after-shown.new.sink)
+    (g.S.Sink.room c.args.sink.now) (g.S.Sink.room c.loop-place.sink) (g.S.Sink.room c.peek_after-shown.new.sink) c.loop-place.invariant.1 c.peek_after-shown.ensures.told (sym c.if-has_packet.ensures) own
 
-pub disciplines::prio::peek_bands-then-shown-requires-clause-marked_bytes :
-    goal.disciplines::prio::peek_bands-then-shown-requires-clause-marked_bytes
-disciplines::prio::peek_bands-then-shown-requires-clause-marked_bytes g t c =
-    (fits-beside c.args.now (slice_index_or c.loop-place.bands c.loop-place.place c.index-bands-place.result) c.loop-place.shown c.peek-next.result (g.S.Sink.room c.loop-place.sink)
-    (band-once c.args.now c.args.bands.now c.loop-place.bands c.loop-place.place c.loop-place.shown c.requires.ready c.loop-place.invariant.0 (slice_index_or c.loop-place.bands c.loop-place.place c.index-bands-place.result) (band-at c.args.now c.args.bands.now c.loop-place.bands c.loop-place.place c.loop-place.shown c.loop-place.invariant.0 c.index-bands-place.result c.loop-place-test.true) (g.S.Sink.losses c.args.sink.now) (g.S.Sink.losses c.loop-place.sink) (g.S.Sink.room c.args.sink.now) (g.S.Sink.room c.loop-place.sink) c.loop-place.invariant.1 c.requires.sink) c.peek-next.ensures.peeked.shown).marked_bytes
+pub disciplines::prio::meet_band-returns-then-has_packet-clause-kept : goal.disciplines::prio::meet_band-returns-then-has_packet-clause-kept
+disciplines::prio::meet_band-returns-then-has_packet-clause-kept g t c =
+    g.met.S.Sink.keeps_on c.args.sink.now c.loop-place.sink c.peek_after-shown.new.sink c.loop-place.invariant.2 c.peek_after-shown.ensures.kept
 
-pub disciplines::prio::peek_bands-returns-then-has_packet-clause-after :
-    goal.disciplines::prio::peek_bands-returns-then-has_packet-clause-after
-disciplines::prio::peek_bands-returns-then-has_packet-clause-after g t c = λ own.
-    band-shown c.args.now c.args.bands.now c.loop-place.bands c.loop-place.place c.loop-place.shown c.requires.ready c.loop-place.invariant.0 (slice_index_or c.loop-place.bands c.loop-place.place c.index-bands-place.result) (band-at c.args.now c.args.bands.now c.loop-place.bands c.loop-place.place c.loop-place.shown c.loop-place.invariant.0 c.index-bands-place.result c.loop-place-test.true) c.peek-next.new.self c.peek-next.result c.then-shown.result c.peek-next.ensures.peeked.after c.peek-next.ensures.peeked.arrived c.peek-next.ensures.peeked.shown
-    (ap (λ (s : Shown). s.dropped) c.then-shown.ensures.asked) (ap (λ (s : Shown). s.marked) c.then-shown.ensures.asked) (ap (λ (s : Shown). s.packet) c.then-shown.ensures.asked) (sym c.if-has_packet.ensures) own
+pub disciplines::prio::meet_band-loop-place-preserved : goal.disciplines::prio::meet_band-loop-place-preserved
+disciplines::prio::meet_band-loop-place-preserved g t c =
+    let band = slice_index_or c.loop-place.bands c.loop-place.place c.index-bands-place.result in
+    let at = band-at c.args.now c.args.bands.now c.loop-place.bands c.loop-place.place c.loop-place.shown c.loop-place.invariant.0 c.index-bands-place.result c.loop-place-test.true in
+    let asked = c.peek_after-shown.ensures.asked in
+    let goes = bands-go-on c.args.now c.args.bands.now c.loop-place.bands c.loop-place.place c.loop-place.shown c.requires.ready c.loop-place.invariant.0 band at
+    c.peek_after-shown.new.self (next_of c.args.now band) c.peek_after-shown.result asked.peeked asked.arrived (record { packet = refl; dropped = refl; marked = refl })
+    asked.dropped asked.marked asked.packet
+    (g.S.Sink.losses c.args.sink.now) (g.S.Sink.losses c.loop-place.sink) (g.S.Sink.losses c.peek_after-shown.new.sink)
+    (g.S.Sink.room c.args.sink.now) (g.S.Sink.room c.loop-place.sink) (g.S.Sink.room c.peek_after-shown.new.sink) c.loop-place.invariant.1 c.peek_after-shown.ensures.told (sym c.if-has_packet.ensures) in
+    (goes.0, goes.1, g.met.S.Sink.keeps_on c.args.sink.now c.loop-place.sink c.peek_after-shown.new.sink c.loop-place.invariant.2 c.peek_after-shown.ensures.kept, c.peek_after-shown.ensures.signals)
 
-pub disciplines::prio::peek_bands-returns-then-has_packet-clause-told :
-    goal.disciplines::prio::peek_bands-returns-then-has_packet-clause-told
-disciplines::prio::peek_bands-returns-then-has_packet-clause-told g t c = λ own.
-    subst (λ notes. IsToldOf notes (g.S.Sink.losses c.args.sink.now) (g.S.Sink.losses c.peek-next.new.sink) (g.S.Sink.room c.args.sink.now) (g.S.Sink.room c.peek-next.new.sink))
-    (band-rises c.args.now c.args.bands.now c.loop-place.bands c.loop-place.place c.loop-place.shown c.requires.ready c.loop-place.invariant.0 (slice_index_or c.loop-place.bands c.loop-place.place c.index-bands-place.result) (band-at c.args.now c.args.bands.now c.loop-place.bands c.loop-place.place c.loop-place.shown c.loop-place.invariant.0 c.index-bands-place.result c.loop-place-test.true) c.peek-next.new.self c.peek-next.result c.then-shown.result c.peek-next.ensures.peeked.after c.peek-next.ensures.peeked.arrived c.peek-next.ensures.peeked.shown
-    (ap (λ (s : Shown). s.dropped) c.then-shown.ensures.asked) (ap (λ (s : Shown). s.marked) c.then-shown.ensures.asked) (ap (λ (s : Shown). s.packet) c.then-shown.ensures.asked) (sym c.if-has_packet.ensures) own)
-    (told-then (told_to c.loop-place.place (answers c.args.now c.args.bands.now)) (ask c.args.now (shape (slice_index_or c.loop-place.bands c.loop-place.place c.index-bands-place.result))).rises (g.S.Sink.losses c.args.sink.now) (g.S.Sink.losses c.loop-place.sink) (g.S.Sink.losses c.peek-next.new.sink)
-    (g.S.Sink.room c.args.sink.now) (g.S.Sink.room c.loop-place.sink) (g.S.Sink.room c.peek-next.new.sink) c.loop-place.invariant.1 c.peek-next.ensures.told)
+pub disciplines::prio::meet_band-returns-clause-after : goal.disciplines::prio::meet_band-returns-clause-after
+disciplines::prio::meet_band-returns-clause-after g t c = λ own. bands-end c.args.now c.args.bands.now c.loop-place.bands c.loop-place.place c.loop-place.shown c.loop-place.invariant.0 c.loop-place-test.false c.loop-place.auto.place-end own
 
-pub disciplines::prio::peek_bands-returns-then-has_packet-clause-kept :
-    goal.disciplines::prio::peek_bands-returns-then-has_packet-clause-kept
-disciplines::prio::peek_bands-returns-then-has_packet-clause-kept g t c = g.met.S.Sink.keeps_on c.args.sink.now c.loop-place.sink c.peek-next.new.sink c.loop-place.invariant.2 c.peek-next.ensures.kept
+pub disciplines::prio::meet_band-returns-clause-met : goal.disciplines::prio::meet_band-returns-clause-met
+disciplines::prio::meet_band-returns-clause-met g t c = λ p some. absurd (none-some p (sym c.loop-place.invariant.0.nothing ∙ some))
 
-pub disciplines::prio::peek_bands-loop-place-preserved : goal.disciplines::prio::peek_bands-loop-place-preserved
-disciplines::prio::peek_bands-loop-place-preserved g t c = (
-  subst (λ n. AreBandsAsked c.args.now c.args.bands.now (set c.loop-place.bands c.loop-place.place c.peek-next.new.self) n c.then-shown.result) (sym (add-one c.loop-place.place))
-      (band-passed c.args.now c.args.bands.now c.loop-place.bands c.loop-place.place c.loop-place.shown c.requires.ready c.loop-place.invariant.0 (slice_index_or c.loop-place.bands c.loop-place.place c.index-bands-place.result) (band-at c.args.now c.args.bands.now c.loop-place.bands c.loop-place.place c.loop-place.shown c.loop-place.invariant.0 c.index-bands-place.result c.loop-place-test.true) c.peek-next.new.self c.peek-next.result c.then-shown.result c.peek-next.ensures.peeked.after c.peek-next.ensures.peeked.arrived c.peek-next.ensures.peeked.shown
-      (ap (λ (s : Shown). s.dropped) c.then-shown.ensures.asked) (ap (λ (s : Shown). s.marked) c.then-shown.ensures.asked) (ap (λ (s : Shown). s.packet) c.then-shown.ensures.asked) (sym c.if-has_packet.ensures)),
-  subst (λ n. IsToldOf (told_to n (answers c.args.now c.args.bands.now)) (g.S.Sink.losses c.args.sink.now) (g.S.Sink.losses c.peek-next.new.sink) (g.S.Sink.room c.args.sink.now) (g.S.Sink.room c.peek-next.new.sink)) (sym (add-one c.loop-place.place))
-      (subst (λ notes. IsToldOf notes (g.S.Sink.losses c.args.sink.now) (g.S.Sink.losses c.peek-next.new.sink) (g.S.Sink.room c.args.sink.now) (g.S.Sink.room c.peek-next.new.sink))
-      (band-told c.args.now c.args.bands.now c.loop-place.bands c.loop-place.place c.loop-place.shown c.requires.ready c.loop-place.invariant.0 (slice_index_or c.loop-place.bands c.loop-place.place c.index-bands-place.result) (band-at c.args.now c.args.bands.now c.loop-place.bands c.loop-place.place c.loop-place.shown c.loop-place.invariant.0 c.index-bands-place.result c.loop-place-test.true))
-      (told-then (told_to c.loop-place.place (answers c.args.now c.args.bands.now)) (ask c.args.now (shape (slice_index_or c.loop-place.bands c.loop-place.place c.index-bands-place.result))).rises (g.S.Sink.losses c.args.sink.now) (g.S.Sink.losses c.loop-place.sink) (g.S.Sink.losses c.peek-next.new.sink)
-      (g.S.Sink.room c.args.sink.now) (g.S.Sink.room c.loop-place.sink) (g.S.Sink.room c.peek-next.new.sink) c.loop-place.invariant.1 c.peek-next.ensures.told)),
-  g.met.S.Sink.keeps_on c.args.sink.now c.loop-place.sink c.peek-next.new.sink c.loop-place.invariant.2 c.peek-next.ensures.kept,
-  c.then-shown.ensures.signals,
-)
-
-pub disciplines::prio::peek_bands-returns-clause-after : goal.disciplines::prio::peek_bands-returns-clause-after
-disciplines::prio::peek_bands-returns-clause-after g t c = λ own. bands-end c.args.now c.args.bands.now c.loop-place.bands c.loop-place.place c.loop-place.shown c.loop-place.invariant.0 c.loop-place-test.false c.loop-place.auto.place-end own
-
-pub disciplines::prio::peek_bands-returns-clause-told : goal.disciplines::prio::peek_bands-returns-clause-told
-disciplines::prio::peek_bands-returns-clause-told g t c = λ own.
+pub disciplines::prio::meet_band-returns-clause-told : goal.disciplines::prio::meet_band-returns-clause-told
+disciplines::prio::meet_band-returns-clause-told g t c = λ own.
     subst (λ notes. IsToldOf notes (g.S.Sink.losses c.args.sink.now) (g.S.Sink.losses c.loop-place.sink) (g.S.Sink.room c.args.sink.now) (g.S.Sink.room c.loop-place.sink)) (bands-rises c.args.now c.args.bands.now c.loop-place.bands c.loop-place.place c.loop-place.shown c.loop-place.invariant.0 c.loop-place-test.false c.loop-place.auto.place-end own) c.loop-place.invariant.1
 
-pub disciplines::prio::peek_bands-returns-clause-kept : goal.disciplines::prio::peek_bands-returns-clause-kept
-disciplines::prio::peek_bands-returns-clause-kept g t c = c.loop-place.invariant.2
+pub disciplines::prio::meet_band-returns-clause-kept : goal.disciplines::prio::meet_band-returns-clause-kept
+disciplines::prio::meet_band-returns-clause-kept g t c = c.loop-place.invariant.2

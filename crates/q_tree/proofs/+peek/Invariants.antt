@@ -21,8 +21,8 @@ invariant-disciplines::drr::meet_class-loop-place g l =
 abbrev pub decreases-disciplines::drr::meet_class-loop-place : goal.decreases-disciplines::drr::meet_class-loop-place
 decreases-disciplines::drr::meet_class-loop-place g l = sum_by (need (λ m. quantum_of m l.active.classes) (heads_of l.fn.now l.fn.active l.fn.classes)) l.active.active
 
-abbrev pub invariant-disciplines::prio::peek_bands-loop-place : goal.invariant-disciplines::prio::peek_bands-loop-place
-invariant-disciplines::prio::peek_bands-loop-place g l =
+abbrev pub invariant-disciplines::prio::meet_band-loop-place : goal.invariant-disciplines::prio::meet_band-loop-place
+invariant-disciplines::prio::meet_band-loop-place g l =
     AreBandsAsked l.fn.now l.fn.bands l.bands l.place l.shown
     × IsToldOf (told_to l.place (answers l.fn.now l.fn.bands)) (g.S.Sink.losses l.fn.sink) (g.S.Sink.losses l.sink) (g.S.Sink.room l.fn.sink) (g.S.Sink.room l.sink)
     × g.S.Sink.keeps l.fn.sink l.sink
@@ -38,6 +38,15 @@ decreases-node::Node::peek_further g l = 4 * node_size l.self.now
 abbrev pub decreases-node::Discipline::ask : goal.decreases-node::Discipline::ask
 decreases-node::Discipline::ask g l = 4 * forest_size (side_by_side (children_seen l.self.now)) + 3
 
+abbrev pub decreases-node::Node::peek_after_counts : goal.decreases-node::Node::peek_after_counts
+decreases-node::Node::peek_after_counts g l = 4 * node_size l.self.now + 2
+
+abbrev pub decreases-node::Node::peek_after : goal.decreases-node::Node::peek_after
+decreases-node::Node::peek_after g l = 4 * node_size l.self.now + 3
+
+abbrev pub decreases-disciplines::prio::meet_band : goal.decreases-disciplines::prio::meet_band
+decreases-disciplines::prio::meet_band g l = 4 * forest_size (side_by_side l.bands.now) + 1
+
 abbrev pub decreases-disciplines::prio::peek_bands : goal.decreases-disciplines::prio::peek_bands
 decreases-disciplines::prio::peek_bands g l = 4 * forest_size (side_by_side l.bands.now) + 2
 
@@ -51,10 +60,7 @@ abbrev pub decreases-disciplines::drr::peek_classes : goal.decreases-disciplines
 decreases-disciplines::drr::peek_classes g l = 4 * forest_size (side_by_side l.classes.now) + 2
 
 abbrev pub decreases-disciplines::drr::peek_class : goal.decreases-disciplines::drr::peek_class
-decreases-disciplines::drr::peek_class g l = 4 * node_size l.class.now + 3
-
-abbrev pub decreases-disciplines::drr::peek_class_further : goal.decreases-disciplines::drr::peek_class_further
-decreases-disciplines::drr::peek_class_further g l = 4 * node_size l.class.now + 2
+decreases-disciplines::drr::peek_class g l = 4 * node_size l.class.now + 4
 
 abbrev pub decreases-disciplines::drr::meet_class : goal.decreases-disciplines::drr::meet_class
 decreases-disciplines::drr::meet_class g l = 4 * forest_size (side_by_side l.classes.now) + 1

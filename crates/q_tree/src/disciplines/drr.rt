@@ -192,10 +192,10 @@ pub(crate) fn peek_classes<S: Sink>(
     shown
 }
 
-/// What a class shows: it is asked, or has its packet at hand. What was counted so far is counted on.
+// What a class shows: it is asked, or has its packet at hand. What was counted so far is counted on.
 #[cycle(peek)]
 #[inline(always)]
-pub(crate) fn peek_class<S: Sink>(
+fn peek_class<S: Sink>(
     class: &mut Node,
     is_unasked: bool,
     so_far: Shown,
@@ -213,36 +213,9 @@ pub(crate) fn peek_class<S: Sink>(
     ensures kept { S.keeps sink.old sink.new }
 {
     if is_unasked {
-        // Mostly nothing was dropped or marked so far, and the place is clean.
-        if so_far.is_quiet() {
-            return class.peek(now, signals, sink);
-        }
-        return peek_class_further(class, so_far, now, signals, sink);
+        return class.peek_after(so_far, now, signals, sink);
     }
     peek_again(class, so_far)
-}
-
-// Asks a class where something was dropped or marked already, which is counted on.
-#[cycle(peek)]
-#[cold]
-#[inline(never)]
-fn peek_class_further<S: Sink>(
-    class: &mut Node,
-    so_far: Shown,
-    now: Moment,
-    signals: &mut Signals,
-    sink: &mut S,
-) -> Shown
-    requires ready { CanAskOnce now class.old so_far (S.room sink.old) }
-    requires counted { signals.old ≡ signals_of so_far }
-    ensures asked { IsAskedOnce now class.old class.new so_far result }
-    ensures told { IsToldOf (ask now (shape class.old)).rises (S.losses sink.old) (S.losses sink.new) (S.room sink.old) (S.room sink.new) }
-    ensures signals { signals.new ≡ signals_of result }
-    ensures kept { S.keeps sink.old sink.new }
-{
-    let mut asked = NO_SIGNALS;
-    let next = class.peek(now, &mut asked, sink);
-    so_far.then(next, signals, &asked)
 }
 
 // What a class shows that was asked already. A call by itself, since it copies the packet.

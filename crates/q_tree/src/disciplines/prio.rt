@@ -1,9 +1,10 @@
 //! prio: how one is made, chooses a band, dequeues, shows its packet, is ready, and changes (tc-prio(8)).
-ghost use Rattle.std.specs.Prelude.{◌≡◌, ◌<◌, ◌≤◌, ◌-◌, IfOk, Ok, OnErr, OnOk, drop, length, map, nat_lt, replicate, slice_index, take, unwrap_or};
+ghost use Rattle.std.specs.Prelude.{◌≡◌, ◌<◌, ◌≤◌, ◌-◌, IfOk, Ok, OnErr, OnOk, Some, drop, is_some, length, map, nat_lt, replicate, slice_index, take, unwrap_or};
 ghost use Rattle.std.specs.List.{list_any};
 ghost use Rattle.std.specs.Option.{option_map_or};
+ghost use Rattle.q_packet.specs.Descriptor.{Descriptor};
 ghost use Rattle.q_invariants.proofs.SizedChanges.{change_sized};
-ghost use Rattle.q_model.specs.Ask.{ask, ask_prio};
+ghost use Rattle.q_model.specs.Ask.{ask_prio};
 ghost use Rattle.q_model.specs.Beneath.{totals_in};
 ghost use Rattle.q_model.specs.Filters.{named_class};
 ghost use Rattle.q_model.specs.Find.{count_nodes};
@@ -14,17 +15,18 @@ ghost use Rattle.q_model.specs.Pop.{first_shown, pop};
 ghost use Rattle.q_model.specs.Refusals.{most_nodes};
 ghost use Rattle.q_model.specs.declared.filter.Filter.{Filter};
 ghost use Rattle.q_model.specs.declared.kind.Kind.TheVariants as kind;
-ghost use Rattle.q_tree.specs.AskSteps.{AreAsked, CanAskEach, CanAskOnce, IsTold, IsToldOf, answers, no_signals, signals_of};
+ghost use Rattle.q_tree.specs.AskSteps.{AreAsked, CanAskEach, IsTold, IsToldOf, answers, no_signals, signals_of};
 ghost use Rattle.q_tree.specs.Changing.{IsChange, MakesChildren, leaves_answer, nodes_from};
 ghost use Rattle.q_tree.specs.Making.{AreNew};
 ghost use Rattle.q_tree.specs.Planning.{device_of, root_of};
-ghost use Rattle.q_tree.specs.PopSteps.{IsFirstReady};
+ghost use Rattle.q_tree.specs.Meeting.{IsBandMet};
+ghost use Rattle.q_tree.specs.PopSteps.{ArePopped};
 ghost use Rattle.q_tree.specs.Purging.{purged};
 ghost use Rattle.q_tree.specs.PutSteps.{packets_beneath};
 ghost use Rattle.q_tree.specs.ReadyAt.{no_packet, outlook, with_band, with_bands};
 ghost use Rattle.q_tree.specs.DisciplineChanges.{FitsCounters, IsChangedBy, IsUnchanged, lost_with, remapped};
 ghost use Rattle.q_tree.specs.Seen.{children_seen, discipline_seen, places_seen};
-ghost use Rattle.q_tree.specs.SendSteps.{AreSent, IsDequeuedNext};
+ghost use Rattle.q_tree.specs.SendSteps.{AreSent};
 ghost use Rattle.q_tree.specs.declared.commands.discipline_change.DisciplineChange.TheVariants.{SetBands};
 
 use crate::booking::{NOTHING, sum};
@@ -36,7 +38,7 @@ use crate::masked_filter::MaskedFilter;
 use crate::node::{Discipline, Node};
 use crate::ready_at::{Outlook, sooner};
 use crate::shown::Shown;
-use crate::signals::{NO_SIGNALS, Signals};
+use crate::signals::Signals;
 use q_codel::Sink;
 use q_model::{PrioOptions, Refusal, Totals};
 use q_packet::{KeptPacket, Moment};
@@ -67,7 +69,6 @@ pub(crate) fn band(filters: &Filters, priomap: &[u8; 16], packet: &KeptPacket) -
 }
 
 /// Sends the packet of the first band that shows one; the bands before it are asked (tc-prio(8)).
-#[cycle(dequeue)]
 pub(crate) fn dequeue_bands<S: Sink>(
     bands: &mut [Node],
     now: Moment,
@@ -84,74 +85,42 @@ pub(crate) fn dequeue_bands<S: Sink>(
     ensures signals { signals.new ≡ signals_of result }
     ensures kept { S.keeps sink.old sink.new }
 {
-    let mut shown = Shown::at_hand(&None);
-    for place in 0..bands.len() {
-        shown = dequeue_band(&mut bands[place], shown, now, out, signals, sink);
-        if shown.has_packet() {
-            return shown;
-        }
+    let mut met = 0;
+    let shown = meet_band(bands, &mut met, now, signals, sink);
+    if shown.has_packet() {
+        bands[met].dequeue_at_hand(out);
     }
     shown
 }
 
-// Sends the packet of one more band, if it shows one. What was counted so far is counted on.
-#[cycle(dequeue)]
+// Asks the bands in order, up to the first that shows a packet: its place is written to `met`, and it still has the packet at hand.
+#[cycle(peek)]
 #[inline(always)]
-fn dequeue_band<S: Sink>(
-    band: &mut Node,
-    so_far: Shown,
+fn meet_band<S: Sink>(
+    bands: &mut [Node],
+    met: &mut usize,
     now: Moment,
-    out: &mut KeptPacket,
     signals: &mut Signals,
     sink: &mut S,
 ) -> Shown
-    requires ready { CanAskOnce now band.old so_far (S.room sink.old) }
-    requires counted { signals.old ≡ signals_of so_far }
-    ensures dequeued { IsDequeuedNext now band.old band.new so_far out.old out.new signals.new result }
-    ensures told { IsToldOf (ask now (shape band.old)).rises (S.losses sink.old) (S.losses sink.new) (S.room sink.old) (S.room sink.new) }
+    requires ready { CanAskEach now bands.old }
+    requires sink { length (packets_beneath bands.old) ≤ S.room sink.old }
+    requires clean { signals.old ≡ no_signals }
+    ensures after { (own : Own) → AreAsked (ask_prio own (answers now bands.old)) bands.old bands.new result }
+    ensures met { (p : Descriptor) → result.packet ≡ Some p → IsBandMet now met.new bands.old bands.new result }
+    ensures told { (own : Own) → IsToldOf (ask_prio own (answers now bands.old)).rises (S.losses sink.old) (S.losses sink.new) (S.room sink.old) (S.room sink.new) }
+    ensures signals { signals.new ≡ signals_of result }
     ensures kept { S.keeps sink.old sink.new }
 {
-    // Mostly nothing was dropped or marked so far, and the place is clean.
-    if so_far.is_quiet() {
-        return band.dequeue(now, out, signals, sink);
-    }
-    dequeue_band_further(band, so_far, now, out, signals, sink)
-}
-
-// The same where something was dropped or marked already, which is counted on.
-#[cycle(dequeue)]
-#[cold]
-#[inline(never)]
-fn dequeue_band_further<S: Sink>(
-    band: &mut Node,
-    so_far: Shown,
-    now: Moment,
-    out: &mut KeptPacket,
-    signals: &mut Signals,
-    sink: &mut S,
-) -> Shown
-    requires ready { CanAskOnce now band.old so_far (S.room sink.old) }
-    requires counted { signals.old ≡ signals_of so_far }
-    ensures dequeued { IsDequeuedNext now band.old band.new so_far out.old out.new signals.new result }
-    ensures told { IsToldOf (ask now (shape band.old)).rises (S.losses sink.old) (S.losses sink.new) (S.room sink.old) (S.room sink.new) }
-    ensures kept { S.keeps sink.old sink.new }
-{
-    let mut asked = NO_SIGNALS;
-    let next = band.dequeue(now, out, &mut asked, sink);
-    so_far.then(next, signals, &asked)
-}
-
-/// The first band that has a packet at hand.
-#[cycle(has_packet)]
-pub(crate) fn ready_band(bands: &[Node]) -> Option<usize>
-    ensures { IsFirstReady (map pop bands.now) result }
-{
+    let mut shown = Shown::at_hand(&None);
     for place in 0..bands.len() {
-        if bands[place].has_packet() {
-            return Some(place);
+        shown = bands[place].peek_after(shown, now, signals, sink);
+        if shown.has_packet() {
+            *met = place;
+            return shown;
         }
     }
-    None
+    shown
 }
 
 /// Asks the bands in order, up to the first that shows a packet, and shows that one (tc-prio(8)).
@@ -171,16 +140,25 @@ pub(crate) fn peek_bands<S: Sink>(
     ensures signals { signals.new ≡ signals_of result }
     ensures kept { S.keeps sink.old sink.new }
 {
-    let mut shown = Shown::at_hand(&None);
+    let mut met = 0;
+    meet_band(bands, &mut met, now, signals, sink)
+}
+
+/// Dequeues the packet of the first band that has one at hand.
+#[cycle(dequeue_at_hand)]
+#[inline(always)]
+pub(crate) fn dequeue_first(bands: &mut [Node], out: &mut KeptPacket) -> bool
+    ensures given { result ≡ is_some (first_shown (map pop bands.old)) }
+    ensures packet { out.new ≡ unwrap_or (first_shown (map pop bands.old)) out.old }
+    ensures after { ArePopped bands.old bands.new }
+{
+    // One that has none stays as it is.
     for place in 0..bands.len() {
-        let mut asked = NO_SIGNALS;
-        let next = bands[place].peek(now, &mut asked, sink);
-        shown = shown.then(next, signals, &asked);
-        if shown.has_packet() {
-            return shown;
+        if bands[place].dequeue_at_hand(out) {
+            return true;
         }
     }
-    shown
+    false
 }
 
 /// That of the first band which has one.

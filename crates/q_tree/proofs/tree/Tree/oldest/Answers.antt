@@ -1,6 +1,5 @@
 use Rattle.std.proofs.Common.{◌∙◌, sym, ap, subst, Some, None}
 use Rattle.std.specs.Prelude.{option_copied}
-use Rattle.q_model.specs.Node.{Node}
 use Rattle.q_model.specs.Step.{DeviceState}
 use Rattle.q_tree.specs.Finding.{qdisc_with}
 use Rattle.q_tree.specs.Kept.{Kept}

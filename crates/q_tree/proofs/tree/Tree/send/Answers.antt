@@ -1,19 +1,12 @@
 use Rattle.std.proofs.Common.{◌∙◌, ◌≤◌, ◌^◌, refl, sym, ap, arith}
-use Rattle.std.specs.Prelude.{is_some, unwrap_or}
-use Rattle.q_model.specs.declared.row.Row.{Row}
-use Rattle.q_model.specs.declared.totals.Totals.{Totals}
-use Rattle.q_model.specs.Ask.{ask}
-use Rattle.q_model.specs.Node.{shape}
 use Rattle.q_model.specs.Step.{DeviceState}
-use Rattle.q_model.specs.TreeState.{given, take_packet}
-use Rattle.q_model.specs.Work.{booked}
+use Rattle.q_model.specs.TreeState.{take_packet}
 use Rattle.q_tree.specs.Kept.{Kept, kept}
-use Rattle.q_tree.proofs.AtHandLemmas.{none-held}
-use Rattle.q_tree.proofs.SendLemmas.{given-some, root-still, asked-row, sent-among, sent-form, sent-tree, sent-kept}
+use Rattle.q_tree.proofs.SendLemmas.{asked-row, sent-among, sent-form, sent-tree, sent-kept}
 use Rattle.q_tree.proofs.FifoHead.{alone, head-sent}
 use Rattle.q_tree.proofs.Quiet.{shown-nothing}
-use Rattle.q_tree.proofs.TreeIndex.{peeked-form, still-indexed}
-use Rattle.q_tree.proofs.TreeLemmas.{top-row, can-ask-root, can-book-top, none-taken, none-kept}
+use Rattle.q_tree.proofs.TreeIndex.{still-indexed}
+use Rattle.q_tree.proofs.TreeLemmas.{top-row, can-book-top}
 use Rattle.q_tree.proofs.tree.Tree.send.Goals as goal
 
 -- where a fifo at the root gives its head
