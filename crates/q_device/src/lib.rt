@@ -8,8 +8,8 @@
 //!   nobody vouches for.
 //! - [`play`] gives the [`Replies`] to a list of events, by a device of its own.
 //! - [`LastEvents`] is a ring in which a program notes what happened last, while a device records what happened first.
-//! - A [`Service`] is what a class of a drr is promised, which [`Device::service`] answers, and a [`Worst`] how long a packet of a fifo
-//!   waits at most, which [`Device::worst`] answers.
+//! - A [`Service`] is what a class of a drr is promised, which [`Device::service`] answers, a [`Worst`] how long a packet of a fifo waits
+//!   at most, which [`Device::worst`] answers, and a [`Latest`] when the one that was queued last has left, which [`Device::latest`] does.
 //! - [`Settings`] are a device's mtu, queue length and recorder.
 //! - An [`Event`] is an arrival, a poll or a command, with its time. A [`Reply`] is what it is answered: a [`Fate`], a
 //!   [`Polled`], or whether the command was done, else the [`Refusal`]. They are those of `q_model`.
@@ -44,6 +44,7 @@ mod bursts;
 mod device;
 mod given;
 pub mod last_events;
+mod latest;
 pub mod laws;
 mod packets;
 mod playing;
@@ -56,6 +57,7 @@ pub use crate::answer::Answer;
 pub use crate::device::Device;
 pub use crate::given::Given;
 pub use crate::last_events::LastEvents;
+pub use crate::latest::Latest;
 pub use crate::service::Service;
 pub use crate::stopped::Stopped;
 pub use crate::worst::Worst;

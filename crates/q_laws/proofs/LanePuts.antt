@@ -31,6 +31,7 @@ use Rattle.q_invariants.proofs.Ways.{IsOn, route-goes}
 use Rattle.q_tree.specs.Lanes.{is_prio, limit_of, limit_along}
 use Rattle.q_device.specs.Worst.{most_bytes}
 use Rattle.q_laws.specs.Line.{line_in, line_own, line, bytes_in}
+use Rattle.q_laws.proofs.LaneLines.{IsFirst, first-line, is-first}
 use Rattle.q_laws.proofs.LineAsks.{line-worked}
 
 -- ---- bytes
@@ -58,11 +59,6 @@ pub record IsPutLast (bytes : ℕ) (p : Descriptor) (before after : List Descrip
   pub within : bytes_in before + p.len ≤ bytes
 
 -- ---- the first child
-
-pub first-line : (s : Shape) (c : Shape) → slice_get (children s) 0 ≡ Some c → unwrap_or (slice_get (each line_own s.below) 0) [] ≡ line c
-first-line s c e =
-    ap (λ ls. unwrap_or (slice_get ls 0) []) (each-nodes line_own s.below)
-    ∙ ap (λ (o : Option (List Descriptor)). unwrap_or o []) (slice_get-map (from_below line_own) (nodes_in s.below) 0 ∙ ap (option_map (from_below line_own)) e)
 
 set-line : (cs : List Shape) (c : Shape) (m : Worked) → slice_get cs 0 ≡ Some c → unwrap_or (slice_get (map line (set (map quiet cs) 0 m)) 0) [] ≡ line m
 set-line [] c m e = absurd (none-some c e)
@@ -134,21 +130,6 @@ module _ (mtu now : ℕ) (p : Descriptor) (short : p.len ≤ mtu) where
     prio-puts bytes path held (Tbf b limit) c is there h on = absurd (false≢true is)
     prio-puts bytes path held (Drr s) c is there h on = absurd (false≢true is)
     prio-puts bytes path held (FqCodel s) c is there h on = absurd (false≢true is)
-
-  -- what is known of a path through a first band
-  record IsFirst (i : ℕ) (path : List ℕ) (s : Shape) (limit : Limit) : Type 0 where
-    first : i ≡ 0
-    prio : is_prio s.own.discipline ≡ true
-    rest : option_and_then (limit_along path) (slice_get (children s) i) ≡ Some limit
-
-  is-first : (i : ℕ) (path : List ℕ) (s : Shape) (limit : Limit) → limit_along (i ∷ path) s ≡ Some limit → IsFirst i path s limit
-  is-first i path s limit e = by (i == 0 && is_prio s.own.discipline) refl e
-    where
-      by : (t : Bool) → (i == 0 && is_prio s.own.discipline) ≡ t → (if t then option_and_then (limit_along path) (slice_get (children s) i) else None) ≡ Some limit → IsFirst i path s limit
-      by false is e = absurd (none-some limit e)
-      by true is e =
-          let both = and_parts (i == 0) (is_prio s.own.discipline) is in
-          record { first = eqb-true i 0 both.0; prio = both.1; rest = e }
 
   pub lane-puts : (path : List ℕ) (s : Shape) (limit : Limit) → IsLawfulRoot mtu now s → limit_along path s ≡ Some limit → route p s ≡ record { path = path; refusal = None }
       → IsPutLast (most_bytes mtu limit) p (line s) (line (put_along now p None path s).node)

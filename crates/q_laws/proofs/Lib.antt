@@ -2,7 +2,9 @@ mod DelayRows
 mod FlowService
 mod GivenPaid
 mod HoldsNone
+mod LaneLines
 mod LaneNumbers
+mod LatestKept
 mod LanePuts
 mod LeastShare
 mod LevelsLeft

@@ -147,7 +147,7 @@ lines-leave-in-time settings range before during e link rate burst late first al
 
 -- ---- within a limit
 
-ceil-rises : (x y r : ℕ) → 1 ≤ r → x ≤ y → div_ceil x r ≤ div_ceil y r
+pub ceil-rises : (x y r : ℕ) → 1 ≤ r → x ≤ y → div_ceil x r ≤ div_ceil y r
 ceil-rises x y r some less = elim (cases_lt (div_ceil y r) (div_ceil x r)) [
   | inl over ↦
       let first = (div_ceil_times x r (omega (arith, some))).1 in
@@ -158,7 +158,7 @@ ceil-rises x y r some less = elim (cases_lt (div_ceil y r) (div_ceil x r)) [
   | inr past ↦ omega (arith, past)
 ]
 
-later-still : (at by late : ℕ) (d next : DeviceState (List Note)) → at ≤ by → PaysInTime at late d next → PaysInTime by late d next
+pub later-still : (at by late : ℕ) (d next : DeviceState (List Note)) → at ≤ by → PaysInTime at late d next → PaysInTime by late d next
 later-still at by late d next after h = record { in_time = let soon = h.in_time in omega (arith, soon, after); polled_out = λ out. let soon = h.polled_out out in omega (arith, soon, after) }
 
 pub limits-are-delays : (settings : DeviceSettings) → IsInRange settings → LimitsAreDelays settings

@@ -71,16 +71,16 @@ use Rattle.q_laws.proofs.PromiseNumbers.{late-room}
 -- ---- a lane that was found
 
 -- beneath a tbf at the root
-record IsLinked (root : Node (List Note)) (path : List ℕ) (lane : Lane) : Type 0 where
-  bucket : TokenBucket
-  most : ℕ
-  is : root.own.discipline ≡ Tbf bucket most
-  place : ℕ
-  rest : List ℕ
-  split : path ≡ place ∷ rest
-  child : Node (List Note)
-  there : slice_get (children root) place ≡ Some child
-  limit : limit_along rest child ≡ Some lane.limit
+pub record IsLinked (root : Node (List Note)) (path : List ℕ) (lane : Lane) : Type 0 where
+  pub bucket : TokenBucket
+  pub most : ℕ
+  pub is : root.own.discipline ≡ Tbf bucket most
+  pub place : ℕ
+  pub rest : List ℕ
+  pub split : path ≡ place ∷ rest
+  pub child : Node (List Note)
+  pub there : slice_get (children root) place ≡ Some child
+  pub limit : limit_along rest child ≡ Some lane.limit
 
 -- the limit of a lane
 limit-is : (link : Option Link) (lane : Lane) (t : Bool) (o : Option Limit) → (if t then None else option_map (λ (limit : Limit). record { link = link; limit = limit }) o) ≡ Some lane → o ≡ Some lane.limit
@@ -91,7 +91,7 @@ limit-is link lane false (Some limit) e = ap Some (ap (λ (l : Lane). l.limit) (
 below-limit : (link : Option Link) (path : List ℕ) (n : Node (List Note)) (lane : Lane) → lane_below link path n ≡ Some lane → limit_along path n ≡ Some lane.limit
 below-limit link path n lane e = limit-is link lane (has_tbf n) (limit_along path n) e
 
-lane-found : (root : Node (List Note)) (path : List ℕ) (lane : Lane) → lane_from path root root.own.discipline ≡ Some lane → (limit_along path root ≡ Some lane.limit) ⊎ IsLinked root path lane
+pub lane-found : (root : Node (List Note)) (path : List ℕ) (lane : Lane) → lane_from path root root.own.discipline ≡ Some lane → (limit_along path root ≡ Some lane.limit) ⊎ IsLinked root path lane
 lane-found root path lane e = by path refl root.own.discipline refl e
   where
     beneath : (b : TokenBucket) (most i : ℕ) (rest : List ℕ) (link : Option Link) (o : Option (Node (List Note))) → path ≡ i ∷ rest → root.own.discipline ≡ Tbf b most → slice_get (children root) i ≡ o
@@ -115,6 +115,25 @@ lane-found root path lane e = by path refl root.own.discipline refl e
     by steps split (Prio priomap) is e = inl (bare steps split e)
     by steps split (Drr s) is e = inl (bare steps split e)
     by steps split (FqCodel s) is e = inl (bare steps split e)
+
+-- ---- a tbf at the root
+
+module _ (d : DeviceState (List Note)) (kept : IsKept d) where
+  abbrev root : Node (List Note)
+  root = d.tree.root
+
+  -- a tbf has one child
+  first-child : (b : TokenBucket) (most i : ℕ) (c : Node (List Note)) → root.own.discipline ≡ Tbf b most → slice_get (children root) i ≡ Some c → children root ≡ c ∷ []
+  first-child b most i c is there =
+      let law = subst (IsLawfulDiscipline d.tree.device.mtu d.clock (each beneath_own root.below)) is kept.lawful.0.discipline in
+      one-child (children root) i c (sym (length-map (children root) (from_below beneath_own)) ∙ ap length (sym (each-nodes beneath_own root.below)) ∙ law.one) there
+
+  pub in-first : (b : TokenBucket) (most i : ℕ) (c : Node (List Note)) → root.own.discipline ≡ Tbf b most → slice_get (children root) i ≡ Some c → i ≡ 0
+  in-first b most i c is there = by i (subst (λ (ns : List (Node (List Note))). slice_get ns i ≡ Some c) (first-child b most i c is there) there)
+    where
+      by : (i : ℕ) → slice_get (c ∷ []) i ≡ Some c → i ≡ 0
+      by zero e = refl
+      by (suc i) e = absurd (none-some c e)
 
 -- ---- a packet that is kept
 
@@ -140,24 +159,11 @@ module _ (d : DeviceState (List Note)) (now : ℕ) (kept : IsKept d) (later : d.
   lawful : IsLawfulRoot mtu now bare
   lawful = lawful-with_memory mtu now (λ m. tt) root (root-later d.clock now later mtu root kept.lawful)
 
-  -- a tbf has one child
-  first-child : (b : TokenBucket) (most i : ℕ) (c : Node (List Note)) → root.own.discipline ≡ Tbf b most → slice_get (children root) i ≡ Some c → children root ≡ c ∷ []
-  first-child b most i c is there =
-      let law = subst (IsLawfulDiscipline mtu d.clock (each beneath_own root.below)) is kept.lawful.0.discipline in
-      one-child (children root) i c (sym (length-map (children root) (from_below beneath_own)) ∙ ap length (sym (each-nodes beneath_own root.below)) ∙ law.one) there
-
-  in-first : (b : TokenBucket) (most i : ℕ) (c : Node (List Note)) → root.own.discipline ≡ Tbf b most → slice_get (children root) i ≡ Some c → i ≡ 0
-  in-first b most i c is there = by i (subst (λ (ns : List (Node (List Note))). slice_get ns i ≡ Some c) (first-child b most i c is there) there)
-    where
-      by : (i : ℕ) → slice_get (c ∷ []) i ≡ Some c → i ≡ 0
-      by zero e = refl
-      by (suc i) e = absurd (none-some c e)
-
   puts : (path : List ℕ) (lane : Lane) → p.len ≤ mtu → (limit_along path root ≡ Some lane.limit) ⊎ IsLinked root path lane → route p bare ≡ record { path = path; refusal = None }
       → IsPutLast (most_bytes mtu lane.limit) p (line bare) (line (put_along now p None path bare).node)
   puts path lane short (inl limit) goes = lane-puts mtu now p short path bare lane.limit lawful (limit-stands (λ m. tt) path root ∙ limit) goes
   puts path lane short (inr l) goes =
-      let first : l.place ≡ 0 = in-first l.bucket l.most l.place l.child l.is l.there in
+      let first : l.place ≡ 0 = in-first d kept l.bucket l.most l.place l.child l.is l.there in
       let there : slice_get (children root) 0 ≡ Some l.child = subst (λ k. slice_get (children root) k ≡ Some l.child) first l.there in
       let steps : path ≡ 0 ∷ l.rest = l.split ∙ ap (λ k. k ∷ l.rest) first in
       subst (λ (xs : List ℕ). IsPutLast (most_bytes mtu lane.limit) p (line bare) (line (put_along now p None xs bare).node)) (sym steps)

@@ -2,6 +2,7 @@
 ghost use Rattle.q_laws.specs.Delay.{BytesArePaidInTime};
 ghost use Rattle.q_laws.specs.Delivered.{LatenessIsTheGreatest, ServiceIsDelivered, ShareIsDelivered, SlackIsTheLaws};
 ghost use Rattle.q_laws.specs.InTime.{ClassesShareInTime, SharesMultiply};
+ghost use Rattle.q_laws.specs.Latest.{LatestIsEnough, LatestIsInTime};
 ghost use Rattle.q_laws.specs.Line.{LimitsAreDelays, LinesLeaveFirst, LinesLeaveInTime};
 ghost use Rattle.q_laws.specs.NewFlow.{NewFlowsGoBefore};
 ghost use Rattle.q_laws.specs.Order.{FlowsKeepOrder};
@@ -237,6 +238,21 @@ pub fn worst_is_enough(settings: Settings)
     ensures limit { LinesKeepLimits settings }
     ensures enough { WorstIsEnough settings }
     ensures in_time { WorstIsInTime settings }
+{
+    settings.ranges();
+}
+
+/// What `Device::latest` of `q_device` answers of a fifo in line is true of the packet that was queued there last, from the state on in
+/// which it was asked. The bytes that it answers are in line, and polls give these packets before all others (`enough`). Where a tbf is at
+/// the root, the next event comes by the time that it answers, or `late` after that, as long as polls have given fewer bytes since; and a
+/// poll that gives nothing was before that. So the packet has left by then (`in_time`). The device is polled as [`rate_is_delivered`] says,
+/// and no later than was answered; a poll is due at once where `Device::ready_at` answers no time ahead of the clock.
+///
+/// No tbf is added below the root, the one at the root stays as it is, and a command leaves the line as it was, or longer at its end. For
+/// all settings and every list of events whose fields are in their ranges.
+pub fn latest_is_enough(settings: Settings)
+    ensures enough { LatestIsEnough settings }
+    ensures in_time { LatestIsInTime settings }
 {
     settings.ranges();
 }

@@ -1,0 +1,44 @@
+-- That what a device answers of the packet that was queued last in a fifo is true of it, over every interval of every replay: q_device's
+-- specs/Latest.antt has the numbers. tc-pfifo(8), tc-bfifo(8) and tc-tbf(8).
+use Rattle.std.specs.Prelude.{◌≡◌, ℕ, ◌<◌, ◌≤◌, List, [], ◌∷◌, ◌++◌, All, Some}
+use Rattle.std.specs.List.{filter_map}
+use Rattle.q_codel.specs.declared.limit.Limit.{Limit}
+use Rattle.q_model.specs.declared.event.Event.{Event}
+use Rattle.q_model.specs.declared.place.Place.{Place}
+use Rattle.q_model.specs.Events.{IsEvent}
+use Rattle.q_model.specs.Settings.{DeviceSettings}
+use Rattle.q_model.specs.Step.{step}
+use Rattle.q_model.specs.Stretches.{Throughout}
+use Rattle.q_model.specs.Tally.{history}
+use Rattle.q_tree.specs.declared.lanes.Lane.{Lane}
+use Rattle.q_tree.specs.declared.ways.Link.{Link}
+use Rattle.q_tree.specs.Lanes.{lane_to}
+use Rattle.q_device.specs.declared.latest.Latest.{Latest}
+use Rattle.q_device.specs.Latest.{latest_of}
+use Rattle.q_device.specs.Laws.{given_in}
+use Rattle.q_device.specs.Sharing.{device_after}
+use Rattle.q_laws.specs.Delay.{PaysInTime}
+use Rattle.q_laws.specs.Line.{BeginsWith, IsAlone, IsLink, KeepLine, bytes_in, line_at_root}
+use Rattle.q_laws.specs.Order.{answers}
+use Rattle.q_laws.specs.Rate.{IsDrained}
+
+-- The bytes that were answered are those in line, and polls give these packets before all others.
+abbrev pub LatestIsEnough : DeviceSettings → Type 0
+LatestIsEnough settings =
+    (before during : List Event) (place : Place) (lane : Lane) (w : Latest) → All IsEvent before → All IsEvent during
+    → lane_to place (device_after settings before).tree.root ≡ Some lane → latest_of history place 0 settings.mtu (device_after settings before) ≡ Some w
+    → Throughout IsAlone settings before during → KeepLine line_at_root (device_after settings before) during
+    → (bytes_in (line_at_root (device_after settings before)) ≡ w.bytes)
+    × BeginsWith (line_at_root (device_after settings before)) (filter_map given_in (answers (device_after settings before) during) ++ line_at_root (device_after settings (before ++ during)))
+
+-- As long as polls have given fewer bytes since, so that the packet which was queued last has not left, the next event comes by the time that was
+-- answered, or as late as polls may be; and a poll that gives nothing was before that time.
+abbrev pub LatestIsInTime : DeviceSettings → Type 0
+LatestIsInTime settings =
+    (before during : List Event) (e : Event) (place : Place) (link : Link) (limit : Limit) (w : Latest) (at most late : ℕ) → All IsEvent before → All IsEvent during → IsEvent e
+    → lane_to place (device_after settings before).tree.root ≡ Some (record { link = Some link; limit = limit }) → latest_of history place 0 settings.mtu (device_after settings before) ≡ Some w
+    → w.at ≡ Some at → w.late ≡ Some most → late ≤ most
+    → Throughout (IsLink link.handle link.rate link.burst) settings before during → KeepLine line_at_root (device_after settings before) during
+    → IsDrained late (device_after settings before) (during ++ e ∷ [])
+    → bytes_in (filter_map given_in (answers (device_after settings before) during)) < w.bytes
+    → PaysInTime at late (device_after settings (before ++ during)) (step history (device_after settings (before ++ during)) e).device
