@@ -5,7 +5,6 @@ use Rattle.std.specs.Int.{div_ceil}
 use Rattle.q_bucket.specs.Level.{units_in_byte}
 use Rattle.q_model.specs.declared.place.Place.{Place}
 use Rattle.q_model.specs.declared.row.Row.{Row}
-use Rattle.q_model.specs.Node.{Node}
 use Rattle.q_model.specs.Step.{DeviceState}
 use Rattle.q_model.specs.Tally.{Tally}
 use Rattle.q_model.specs.TreeState.{stats}
@@ -39,7 +38,10 @@ latest_on mtu now bytes level link = if nat_lt bytes (2 ^ 64) then latest_of_byt
 
 -- with what is queued in this place and the length of a packet that comes there next (0 for the packet that was queued last), and the level of
 -- the bucket at the root, at the device's clock
+abbrev pub latest_below : {M : Type 0} → Tally M → Place → ℕ → ℕ → DeviceState M → Option Link → Option Latest
+latest_below t place len mtu d link =
+    option_and_then (λ (row : Row). latest_on mtu d.clock (row.queued.bytes + len) (level_of d.clock d.tree.root.own.discipline) link) (stats t place d.tree)
+
+-- where the fifo in this place is in line
 abbrev pub latest_of : {M : Type 0} → Tally M → Place → ℕ → ℕ → DeviceState M → Option Latest
-latest_of t place len mtu d =
-    option_and_then (λ (lane : Lane). option_and_then (λ (row : Row). latest_on mtu d.clock (row.queued.bytes + len) (level_of d.clock d.tree.root.own.discipline) lane.link) (stats t place d.tree))
-    (lane_to place d.tree.root)
+latest_of t place len mtu d = option_and_then (λ (lane : Lane). latest_below t place len mtu d lane.link) (lane_to place d.tree.root)

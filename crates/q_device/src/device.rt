@@ -20,15 +20,14 @@ ghost use Rattle.q_device.specs.Counters.{HasNotFallen};
 ghost use Rattle.q_device.specs.DeviceLaws.{HasItsMemory, IsReplayed};
 ghost use Rattle.q_device.specs.DeviceSeen.{IsRefusal, as_counted, longest, most_events, opened, polled_memory, reaped, with_event, HasNoFewerPlaces, HasRoomFor, IsCommanded, IsRefusedAt};
 ghost use Rattle.q_device.specs.Giving.{given_of, polled_in};
-ghost use Rattle.q_device.specs.Latest.{latest_of};
 ghost use Rattle.q_device.specs.Laws.{given_in};
 ghost use Rattle.q_device.specs.Promise.{promise_of, promise_seen};
 ghost use Rattle.q_device.specs.Worst.{worst_of};
 
 mod bursts;
+mod latest;
 
 use crate::given::Given;
-use crate::latest::{Latest, latest_in};
 use crate::recording::{has_room, record_arrival, record_command, record_poll};
 use crate::service::{Service, promised};
 use crate::worst::{Worst, worst_in};
@@ -266,23 +265,6 @@ impl Device {
             return None;
         };
         worst_in(lane, self.settings)
-    }
-
-    /// By when a packet of this length has left, if it comes next to the fifo in this place and is kept; for a length of 0 by when the packet
-    /// has left that was queued there last. `None` where [`Device::worst`] answers so for any limit, or where a number is too large. It takes
-    /// no memory.
-    pub fn latest(&self, place: Place, len: u16) -> Option<Latest>
-        ensures { result ≡ latest_of totals place len self.now.settings.mtu self.now.device }
-    {
-        let Some(lane) = self.tree.lane_to(place) else {
-            return None;
-        };
-        let Some(row) = self.stats(place) else {
-            return None;
-        };
-        let queued = row.queued.bytes;
-        let (level, now) = (self.tree.level(), self.tree.clock());
-        latest_in(lane.link, queued, len, level, now, self.settings)
     }
 
     /// Carries out what a line of tc asks for, or refuses it. Packets of what it removes are lost, and wait for [`Device::reap`].

@@ -44,9 +44,9 @@ pub record EndsAt {M : Type 0} (path : List ℕ) (n : Node M) (packets : List De
   pub queued : packets ≡ beneath at
 
 module _ {M : Type 0} (mtu now : ℕ) where
-  module _ (handle : Option ℕ) (filters : List Filter) (m : M) (below : Forest M) where
+  module _ (handle : Option ℕ) (filters : List Filter) (since : ℕ) (m : M) (below : Forest M) where
     abbrev node : Discipline → Option Descriptor → Node M
-    node d held = record { own = record { handle = handle; discipline = d; held = held; filters = filters }; memory = m; below = below }
+    node d held = record { own = record { handle = handle; discipline = d; held = held; since = since; filters = filters }; memory = m; below = below }
 
     here-line : (held : Option Descriptor) (d : Discipline) (limit : Limit) → limit_of d ≡ Some limit → IsLawfulRoot mtu now (node d held) → line (node d held) ≡ beneath (node d held)
     here-line (Some p) (Fifo most queue) limit is h = absurd (h.0.held refl)
@@ -66,7 +66,7 @@ module _ {M : Type 0} (mtu now : ℕ) where
     prio-line held (FqCodel s) c is there h = absurd (false≢true is)
 
   pub lane-line : (path : List ℕ) (n : Node M) (limit : Limit) → IsLawfulRoot mtu now n → limit_along path n ≡ Some limit → EndsAt path n (line n)
-  lane-line [] n limit h is = record { at = n; there = refl; queued = here-line n.own.handle n.own.filters n.memory n.below n.own.held n.own.discipline limit is h }
+  lane-line [] n limit h is = record { at = n; there = refl; queued = here-line n.own.handle n.own.filters n.own.since n.memory n.below n.own.held n.own.discipline limit is h }
   lane-line (i ∷ path) n limit h is = along (is-first i path n limit is) (λ c law rest. lane-line path c limit law rest)
     where
       along : IsFirst i path n limit → ((c : Node M) → IsLawfulRoot mtu now c → limit_along path c ≡ Some limit → EndsAt path c (line c)) → EndsAt (i ∷ path) n (line n)
@@ -80,5 +80,5 @@ module _ {M : Type 0} (mtu now : ℕ) where
               record {
                 at = r.at;
                 there = ap (option_and_then (node_at path)) e ∙ r.there;
-                queued = prio-line n.own.handle n.own.filters n.memory n.below n.own.held n.own.discipline c f.prio there h ∙ r.queued;
+                queued = prio-line n.own.handle n.own.filters n.own.since n.memory n.below n.own.held n.own.discipline c f.prio there h ∙ r.queued;
               }

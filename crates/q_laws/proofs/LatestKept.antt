@@ -1,6 +1,6 @@
 -- What a device answers of the packet that was queued last in a fifo in line is true of it.
 use Rattle.std.proofs.Common.{◌≡◌, ℕ, ◌+◌, ◌-◌, ◌*◌, ◌<◌, ◌≤◌, ◌^◌, ◌⊎◌, inl, inr, max, min, refl, sym, ap, subst, ◌∙◌, List, [], ◌∷◌, ◌++◌, Option, Some, None, option_map, option_and_then, option_to_list, arith}
-use Rattle.std.specs.Prelude.{Bool, true, false, ◌&&◌, nat_le, All, slice_get, unwrap_or, if◌then◌else◌}
+use Rattle.std.specs.Prelude.{Bool, true, false, ◌&&◌, nat_lt, nat_le, All, slice_get, unwrap_or, if◌then◌else◌}
 use Rattle.std.specs.Int.{div_ceil}
 use Rattle.std.specs.List.{filter_map}
 use Rattle.std.proofs.Math.Nat.{mul-le-mul_left}
@@ -33,7 +33,7 @@ use Rattle.q_tree.specs.declared.lanes.Lane.{Lane}
 use Rattle.q_tree.specs.declared.ways.Link.{Link}
 use Rattle.q_tree.specs.Lanes.{lane_from, lane_to, level_of, limit_along}
 use Rattle.q_device.specs.declared.latest.Latest.{Latest}
-use Rattle.q_device.specs.Latest.{counted_level, latest_at, latest_of, latest_on, paid_at}
+use Rattle.q_device.specs.Latest.{counted_level, latest_at, latest_of, latest_of_bytes, latest_on, paid_at}
 use Rattle.q_device.specs.Laws.{given_in}
 use Rattle.q_device.specs.Promise.{has_room, late_on}
 use Rattle.q_device.specs.Sharing.{device_after}
@@ -99,24 +99,31 @@ module _ (d : DeviceState (List Note)) (kept : IsKept d) (free : d.tree.root.own
           let ends = ends-at path lane (lane-found root path lane e) in
           record { counted = row history ends.at; there = row-at place path ends.at is ends.there; bytes = ap bytes_in (sym ends.queued) }
 
-  -- what was answered
-  on-row : (place : Place) (mtu : ℕ) (lane : Lane) (w : Latest) → lane_to place root ≡ Some lane → latest_of history place mtu d ≡ Some w
+  -- what is answered
+  pub answers-on : (place : Place) (len mtu : ℕ) (lane : Lane) → lane_to place root ≡ Some lane
+      → latest_of history place len mtu d ≡ latest_on mtu d.clock (bytes_in (line_at_root d) + len) (level_of d.clock root.own.discipline) lane.link
+  answers-on place len mtu lane found =
+      let r = is-row place lane found in
+      ap (option_and_then (λ (l : Lane). option_and_then (λ (x : Row). latest_on mtu d.clock (x.queued.bytes + len) (level_of d.clock root.own.discipline) l.link) (stats history place d.tree))) found
+      ∙ ap (option_and_then (λ (x : Row). latest_on mtu d.clock (x.queued.bytes + len) (level_of d.clock root.own.discipline) lane.link)) r.there
+      ∙ ap (λ n. latest_on mtu d.clock (n + len) (level_of d.clock root.own.discipline) lane.link) r.bytes
+
+  -- of the packet that was queued last
+  on-row : (place : Place) (mtu : ℕ) (lane : Lane) (w : Latest) → lane_to place root ≡ Some lane → latest_of history place 0 mtu d ≡ Some w
       → latest_on mtu d.clock (bytes_in (line_at_root d)) (level_of d.clock root.own.discipline) lane.link ≡ Some w
   on-row place mtu lane w found e =
-      let r = is-row place lane found in
-      ap (λ n. latest_on mtu d.clock n (level_of d.clock root.own.discipline) lane.link) (sym r.bytes)
-      ∙ ap (option_and_then (λ (x : Row). latest_on mtu d.clock x.queued.bytes (level_of d.clock root.own.discipline) lane.link)) (sym r.there)
-      ∙ ap (option_and_then (λ (l : Lane). option_and_then (λ (x : Row). latest_on mtu d.clock x.queued.bytes (level_of d.clock root.own.discipline) l.link) (stats history place d.tree))) (sym found) ∙ e
+      let same : bytes_in (line_at_root d) ≡ bytes_in (line_at_root d) + 0 = omega arith in
+      ap (λ n. latest_on mtu d.clock n (level_of d.clock root.own.discipline) lane.link) same ∙ sym (answers-on place 0 mtu lane found) ∙ e
 
 -- ---- its numbers
 
-record LatestIs (mtu now bytes level : ℕ) (link : Link) (w : Latest) : Type 0 where
-  bytes_are : w.bytes ≡ bytes
-  at : w.at ≡ Some (paid_at now link (counted_level (late_on mtu link) link level) bytes)
-  late : w.late ≡ Some (late_on mtu link)
-  room : has_room mtu (Some link) ≡ true
+pub record LatestIs (mtu now bytes level : ℕ) (link : Link) (w : Latest) : Type 0 where
+  pub bytes_are : w.bytes ≡ bytes
+  pub at : w.at ≡ Some (paid_at now link (counted_level (late_on mtu link) link level) bytes)
+  pub late : w.late ≡ Some (late_on mtu link)
+  pub room : has_room mtu (Some link) ≡ true
 
-below-is : (mtu now bytes level : ℕ) (link : Link) (w : Latest) → latest_at mtu now bytes link level ≡ Some w → LatestIs mtu now bytes level link w
+pub below-is : (mtu now bytes level : ℕ) (link : Link) (w : Latest) → latest_at mtu now bytes link level ≡ Some w → LatestIs mtu now bytes level link w
 below-is mtu now bytes level link w e = by (has_room mtu (Some link) && nat_le at (2 ^ 62)) refl e
   where
     at : ℕ
@@ -137,7 +144,19 @@ below-is mtu now bytes level link w e = by (has_room mtu (Some link) && nat_le a
           room = (and_parts (has_room mtu (Some link)) (nat_le (paid_at now link (counted_level (late_on mtu link) link level) bytes) (2 ^ 62)) is).0;
         }
 
-latest-bytes : (mtu now bytes : ℕ) (level : Option ℕ) (link : Option Link) (w : Latest) → latest_on mtu now bytes level link ≡ Some w → w.bytes ≡ bytes
+-- its bytes are a number of 64 bits
+pub record Fits (mtu now bytes : ℕ) (level : Option ℕ) (link : Option Link) (w : Latest) : Type 0 where
+  pub small : nat_lt bytes (2 ^ 64) ≡ true
+  pub is : latest_of_bytes mtu now bytes level link ≡ Some w
+
+pub fits : (mtu now bytes : ℕ) (level : Option ℕ) (link : Option Link) (w : Latest) → latest_on mtu now bytes level link ≡ Some w → Fits mtu now bytes level link w
+fits mtu now bytes level link w e = by (nat_lt bytes (2 ^ 64)) refl e
+  where
+    by : (t : Bool) → nat_lt bytes (2 ^ 64) ≡ t → (if t then latest_of_bytes mtu now bytes level link else None) ≡ Some w → Fits mtu now bytes level link w
+    by false is e = absurd (none-some w e)
+    by true is e = record { small = is; is = e }
+
+latest-bytes : (mtu now bytes : ℕ) (level : Option ℕ) (link : Option Link) (w : Latest) → latest_of_bytes mtu now bytes level link ≡ Some w → w.bytes ≡ bytes
 latest-bytes mtu now bytes level None w e = ap (λ (x : Latest). x.bytes) (sym (same_Some (record { bytes = bytes; at = None; late = None }) w e))
 latest-bytes mtu now bytes None (Some link) w e = absurd (none-some w e)
 latest-bytes mtu now bytes (Some level) (Some link) w e = (below-is mtu now bytes level link w e).bytes_are
@@ -147,9 +166,10 @@ latest-bytes mtu now bytes (Some level) (Some link) w e = (below-is mtu now byte
 pub latest-is-enough : (settings : DeviceSettings) → IsInRange settings → LatestIsEnough settings
 latest-is-enough settings range before during place lane w all_before all_during found e alone keep =
     let start : DeviceState (List Note) = device_after settings before in
-    let answer = on-row start (replay-kept settings before range all_before) (holds-none settings before range all_before) place settings.mtu lane w found e in
-    (sym (latest-bytes settings.mtu start.clock (bytes_in (line_at_root start)) (level_of start.clock start.tree.root.own.discipline) lane.link w answer),
-    lines-leave-first settings range before during all_before all_during alone keep)
+    let answer = on-row start (replay-kept settings before range all_before) (holds-none settings before range all_before) place settings.mtu lane w found e in (
+      sym (latest-bytes settings.mtu start.clock (bytes_in (line_at_root start)) (level_of start.clock start.tree.root.own.discipline) lane.link w (fits settings.mtu start.clock (bytes_in (line_at_root start)) (level_of start.clock start.tree.root.own.discipline) lane.link w answer).is),
+      lines-leave-first settings range before during all_before all_during alone keep,
+    )
 
 pub latest-is-in-time : (settings : DeviceSettings) → IsInRange settings → LatestIsInTime settings
 latest-is-in-time settings range before during e place link limit w at most late all_before all_during happens found answered timed lateness soon stays keep drained waits =
@@ -182,12 +202,14 @@ latest-is-in-time settings range before during e place link limit w at most late
     line_is : line_at_root (device_after settings before) ≡ line_below_root (device_after settings before)
     line_is = same-line link.handle link.rate link.burst (device_after settings before) (here, holds-none settings before range all_before)
 
-    answer : latest_on settings.mtu (device_after settings before).clock (bytes_in (line_at_root (device_after settings before))) (level_of (device_after settings before).clock (device_after settings before).tree.root.own.discipline) (Some link) ≡ Some w
-    answer = on-row (device_after settings before) (replay-kept settings before range all_before) (holds-none settings before range all_before) place settings.mtu (record { link = Some link; limit = limit }) w found answered
+    answer : latest_of_bytes settings.mtu (device_after settings before).clock (bytes_in (line_at_root (device_after settings before))) (level_of (device_after settings before).clock (device_after settings before).tree.root.own.discipline) (Some link) ≡ Some w
+    answer =
+        (fits settings.mtu (device_after settings before).clock (bytes_in (line_at_root (device_after settings before))) (level_of (device_after settings before).clock (device_after settings before).tree.root.own.discipline) (Some link) w
+        (on-row (device_after settings before) (replay-kept settings before range all_before) (holds-none settings before range all_before) place settings.mtu (record { link = Some link; limit = limit }) w found answered)).is
 
     numbers : LatestIs settings.mtu (device_after settings before).clock (bytes_in (line_at_root (device_after settings before))) level link w
     numbers = below-is settings.mtu (device_after settings before).clock (bytes_in (line_at_root (device_after settings before))) level link w
-        (sym (ap (λ (d : Discipline). latest_on settings.mtu (device_after settings before).clock (bytes_in (line_at_root (device_after settings before))) (level_of (device_after settings before).clock d) (Some link)) root_is.is) ∙ answer)
+        (sym (ap (λ (d : Discipline). latest_of_bytes settings.mtu (device_after settings before).clock (bytes_in (line_at_root (device_after settings before))) (level_of (device_after settings before).clock d) (Some link)) root_is.is) ∙ answer)
 
     latest_late : most ≡ late_on settings.mtu link
     latest_late = same_Some most (late_on settings.mtu link) (sym lateness ∙ numbers.late)

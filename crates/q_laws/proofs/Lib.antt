@@ -4,8 +4,10 @@ mod GivenPaid
 mod HoldsNone
 mod LaneLines
 mod LaneNumbers
-mod LatestKept
 mod LanePuts
+mod LanesStay
+mod LatestArrives
+mod LatestKept
 mod LeastShare
 mod LevelsLeft
 mod LineAsks

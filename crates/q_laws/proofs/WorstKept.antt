@@ -57,7 +57,7 @@ use Rattle.q_laws.specs.Delay.{PaysInTime}
 use Rattle.q_laws.specs.Line.{IsInLine, IsLink, bytes_in, line, line_at_root, line_below_root, line_own}
 use Rattle.q_laws.specs.Order.{answers}
 use Rattle.q_laws.specs.Rate.{HasRoom}
-use Rattle.q_laws.specs.Worst.{EndsWithin, LinesKeepLimits, WorstIsEnough, WorstIsInTime, with_arrival}
+use Rattle.q_laws.specs.Worst.{EndsWithin, IsKeptAt, LinesKeepLimits, WorstIsEnough, WorstIsInTime, with_arrival}
 use Rattle.q_laws.proofs.GivenPaid.{given-front, given-paid, keeps-below, same-line}
 use Rattle.q_laws.proofs.HoldsNone.{holds-none}
 use Rattle.q_laws.proofs.LaneNumbers.{WorstIs, worst-bytes, worst-is}
@@ -195,35 +195,50 @@ module _ (d : DeviceState (List Note)) (now : ℕ) (kept : IsKept d) (later : d.
       (subst (λ (xs : List Descriptor). IsPutLast (most_bytes mtu lane.limit) p (line root) xs) (sym after)
       (subst (λ (xs : List Descriptor). IsPutLast (most_bytes mtu lane.limit) p xs (line w)) before last))
 
+-- the state after it
+pub arrived : (settings : DeviceSettings) (before : List Event) (p : Descriptor) (moment : ℕ) → device_after settings (with_arrival before p moment) ≡ (step history (device_after settings before) (event.Arrive p moment)).device
+arrived settings before p moment = ap (λ (r : Replay (List Note)). r.device) (replay_from-append history (nothing_yet history settings) before (event.Arrive p moment))
+
+-- what the line has with one packet more
+pub bytes-last : (p : Descriptor) (others : List Descriptor) → bytes_in (others ++ p ∷ []) ≡ bytes_in others + p.len
+bytes-last p others =
+    let size = sum_by-append (λ (q : Descriptor). q.len) others (p ∷ []) in
+    let one = sum_by-cons (λ (q : Descriptor). q.len) p [] in
+    omega (arith, size, one)
+
 -- the path of a lane that was found
 lane-path : (place : Place) (root : Node (List Note)) (lane : Lane) (path : List ℕ) → lane_to place root ≡ Some lane → place_path place root ≡ Some path → lane_from path root root.own.discipline ≡ Some lane
 lane-path place root lane path e is = sym (ap (option_and_then (λ steps. lane_from steps root root.own.discipline)) is) ∙ e
 
+-- the packet is put last in line
+pub put-last : (settings : DeviceSettings) → IsInRange settings → (before : List Event) (p : Descriptor) (moment : ℕ) (place : Place) (lane : Lane) → All IsEvent before → IsEvent (event.Arrive p moment)
+    → lane_to place (device_after settings before).tree.root ≡ Some lane → IsKeptAt place p moment (device_after settings before)
+    → IsPutLast (most_bytes (device_after settings before).tree.device.mtu lane.limit) p (line_at_root (device_after settings before)) (line_at_root (device_after settings (with_arrival before p moment)))
+put-last settings range before p moment place lane all_before comes found at =
+    let d : DeviceState (List Note) = device_after settings before in
+    let kept : IsKept d = replay-kept settings before range all_before in
+    let path : List ℕ = (route p d.tree.root).path in
+    subst (λ (x : DeviceState (List Note)). IsPutLast (most_bytes d.tree.device.mtu lane.limit) p (line_at_root d) (line_at_root x)) (sym (arrived settings before p moment))
+    (puts-line d (max d.clock moment) kept (not-before d.clock moment) p comes.0.len.0 (holds-none settings before range all_before) path lane
+    (lane-path place d.tree.root lane path found at.goes) refl (nat_lt d.tree.device.mtu p.len) refl (no-loss (loss_on (max d.clock moment) p (if nat_lt d.tree.device.mtu p.len then None else Some (route p (shape d.tree.root))) (shape d.tree.root)) at.kept))
+
 pub lines-keep-limits : (settings : DeviceSettings) → IsInRange settings → LinesKeepLimits settings
 lines-keep-limits settings range before p moment place lane all_before comes found at =
     let d : DeviceState (List Note) = device_after settings before in
-    let e : Event = event.Arrive p moment in
-    let now : ℕ = max d.clock moment in
-    let kept : IsKept d = replay-kept settings before range all_before in
-    let stepped : device_after settings (with_arrival before p moment) ≡ (step history d e).device = ap (λ (r : Replay (List Note)). r.device) (replay_from-append history (nothing_yet history settings) before e) in
-    let path : List ℕ = (route p d.tree.root).path in
-    let put = puts-line d now kept (not-before d.clock moment) p comes.0.len.0 (holds-none settings before range all_before) path lane
-    (lane-path place d.tree.root lane path found at.goes) refl (nat_lt d.tree.device.mtu p.len) refl (no-loss (loss_on now p (if nat_lt d.tree.device.mtu p.len then None else Some (route p (shape d.tree.root))) (shape d.tree.root)) at.kept) in
+    let put = put-last settings range before p moment place lane all_before comes found at in
     let others : List Descriptor = line_at_root d in
-    let size = sum_by-append (λ (q : Descriptor). q.len) others (p ∷ []) in
-    let one = sum_by-cons (λ (q : Descriptor). q.len) p [] in
+    let size = bytes-last p others in
     let within = put.within in
-    let bytes : bytes_in (others ++ p ∷ []) ≤ most_bytes d.tree.device.mtu lane.limit = omega (arith, size, one, within) in
-    subst (λ (x : DeviceState (List Note)). EndsWithin (most_bytes settings.mtu lane.limit) p (line_at_root x)) (sym stepped)
-    (record {
+    let bytes : bytes_in (others ++ p ∷ []) ≤ most_bytes d.tree.device.mtu lane.limit = omega (arith, size, within) in
+    record {
       others = others;
       last = put.last;
       within = subst (λ (xs : List Descriptor). bytes_in xs ≤ most_bytes settings.mtu lane.limit) (sym put.last) (subst (λ m. bytes_in (others ++ p ∷ []) ≤ most_bytes m lane.limit) (mtu-stays settings before) bytes);
-    })
+    }
 
 -- ---- what leaves, and in which time
 
-all-with : (before : List Event) (p : Descriptor) (moment : ℕ) → All IsEvent before → IsEvent (event.Arrive p moment) → All IsEvent (with_arrival before p moment)
+pub all-with : (before : List Event) (p : Descriptor) (moment : ℕ) → All IsEvent before → IsEvent (event.Arrive p moment) → All IsEvent (with_arrival before p moment)
 all-with before p moment all comes = All-append IsEvent before (event.Arrive p moment ∷ []) all (All-cons IsEvent (event.Arrive p moment) [] comes (All-nil IsEvent))
 
 pub worst-is-enough : (settings : DeviceSettings) → IsInRange settings → WorstIsEnough settings

@@ -1,9 +1,11 @@
--- That what a device answers of the packet that was queued last in a fifo is true of it, over every interval of every replay: q_device's
--- specs/Latest.antt has the numbers. tc-pfifo(8), tc-bfifo(8) and tc-tbf(8).
-use Rattle.std.specs.Prelude.{◌≡◌, ℕ, ◌<◌, ◌≤◌, List, [], ◌∷◌, ◌++◌, All, Some}
+-- That what a device answers of the packet that was queued last in a fifo is true of it, over every interval of every replay, and that what it
+-- answers of a packet that is to come next is what it answers of it once it has come: q_device's specs/Latest.antt has the numbers. tc-pfifo(8), tc-bfifo(8) and tc-tbf(8).
+use Rattle.std.specs.Prelude.{◌≡◌, ℕ, ◌+◌, ◌-◌, ◌^◌, ◌<◌, ◌≤◌, List, [], ◌∷◌, ◌++◌, All, Option, Some}
 use Rattle.std.specs.List.{filter_map}
+use Rattle.q_packet.specs.Descriptor.{Descriptor}
 use Rattle.q_codel.specs.declared.limit.Limit.{Limit}
 use Rattle.q_model.specs.declared.event.Event.{Event}
+use Rattle.q_model.specs.declared.event.Event.TheVariants as event
 use Rattle.q_model.specs.declared.place.Place.{Place}
 use Rattle.q_model.specs.Events.{IsEvent}
 use Rattle.q_model.specs.Settings.{DeviceSettings}
@@ -21,6 +23,7 @@ use Rattle.q_laws.specs.Delay.{PaysInTime}
 use Rattle.q_laws.specs.Line.{BeginsWith, IsAlone, IsLink, KeepLine, bytes_in, line_at_root}
 use Rattle.q_laws.specs.Order.{answers}
 use Rattle.q_laws.specs.Rate.{IsDrained}
+use Rattle.q_laws.specs.Worst.{IsKeptAt, with_arrival}
 
 -- The bytes that were answered are those in line, and polls give these packets before all others.
 abbrev pub LatestIsEnough : DeviceSettings → Type 0
@@ -42,3 +45,31 @@ LatestIsInTime settings =
     → IsDrained late (device_after settings before) (during ++ e ∷ [])
     → bytes_in (filter_map given_in (answers (device_after settings before) during)) < w.bytes
     → PaysInTime at late (device_after settings (before ++ during)) (step history (device_after settings (before ++ during)) e).device
+
+-- ---- before an arrival
+
+-- What was answered of a packet of this length before it came is what is answered of it right after it was kept, if the clock stood meanwhile.
+abbrev pub LatestIsToldBefore : DeviceSettings → Type 0
+LatestIsToldBefore settings =
+    (before : List Event) (p : Descriptor) (moment : ℕ) (place : Place) (w : Latest) → All IsEvent before → IsEvent (event.Arrive p moment)
+    → latest_of history place p.len settings.mtu (device_after settings before) ≡ Some w → IsKeptAt place p moment (device_after settings before)
+    → moment ≤ (device_after settings before).clock
+    → latest_of history place 0 settings.mtu (device_after settings (with_arrival before p moment)) ≡ Some w
+
+-- the same bytes and the same lateness are answered, and a time that is no later than this one
+pub record IsToldBy (most : ℕ) (w : Latest) (answer : Option Latest) : Type 0 where
+  pub next : Latest
+  pub answered : answer ≡ Some next
+  pub bytes : next.bytes ≡ w.bytes
+  pub late : next.late ≡ w.late
+  pub at : ℕ
+  pub timed : next.at ≡ Some at
+  pub soon : at ≤ most
+
+-- If it came later, the time that is answered then is later by no more than that. (No time is later than 2^62.)
+abbrev pub LatestRisesNoFaster : DeviceSettings → Type 0
+LatestRisesNoFaster settings =
+    (before : List Event) (p : Descriptor) (moment : ℕ) (place : Place) (w : Latest) (at : ℕ) → All IsEvent before → IsEvent (event.Arrive p moment)
+    → latest_of history place p.len settings.mtu (device_after settings before) ≡ Some w → IsKeptAt place p moment (device_after settings before)
+    → w.at ≡ Some at → at + (moment - (device_after settings before).clock) ≤ 2 ^ 62
+    → IsToldBy (at + (moment - (device_after settings before).clock)) w (latest_of history place 0 settings.mtu (device_after settings (with_arrival before p moment)))

@@ -2,7 +2,7 @@
 ghost use Rattle.q_laws.specs.Delay.{BytesArePaidInTime};
 ghost use Rattle.q_laws.specs.Delivered.{LatenessIsTheGreatest, ServiceIsDelivered, ShareIsDelivered, SlackIsTheLaws};
 ghost use Rattle.q_laws.specs.InTime.{ClassesShareInTime, SharesMultiply};
-ghost use Rattle.q_laws.specs.Latest.{LatestIsEnough, LatestIsInTime};
+ghost use Rattle.q_laws.specs.Latest.{LatestIsEnough, LatestIsInTime, LatestIsToldBefore, LatestRisesNoFaster};
 ghost use Rattle.q_laws.specs.Line.{LimitsAreDelays, LinesLeaveFirst, LinesLeaveInTime};
 ghost use Rattle.q_laws.specs.NewFlow.{NewFlowsGoBefore};
 ghost use Rattle.q_laws.specs.Order.{FlowsKeepOrder};
@@ -247,11 +247,16 @@ pub fn worst_is_enough(settings: Settings)
 /// poll that gives nothing was before that. So the packet has left by then (`in_time`). The device is polled as [`rate_is_delivered`] says,
 /// and no later than was answered; a poll is due at once where `Device::ready_at` answers no time ahead of the clock.
 ///
-/// No tbf is added below the root, the one at the root stays as it is, and a command leaves the line as it was, or longer at its end. For
-/// all settings and every list of events whose fields are in their ranges.
+/// No tbf is added below the root, the one at the root stays as it is, and a command leaves the line as it was, or longer at its end.
+///
+/// What it answers of a packet that is to come next, by its length, is what it answers of that packet right after the fifo kept it, if it
+/// came at no time ahead of the clock (`told_before`). If it came later, the same bytes are answered then, and a time that is later by no
+/// more than that (`rises_no_faster`). For all settings and every list of events whose fields are in their ranges.
 pub fn latest_is_enough(settings: Settings)
     ensures enough { LatestIsEnough settings }
     ensures in_time { LatestIsInTime settings }
+    ensures told_before { LatestIsToldBefore settings }
+    ensures rises_no_faster { LatestRisesNoFaster settings }
 {
     settings.ranges();
 }
