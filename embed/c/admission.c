@@ -50,8 +50,8 @@ struct run {
 static bool leaves_by(const qtree_device *device, uint16_t len, uint64_t last_event, uint64_t now, uint64_t deadline,
                       uint64_t *by) {
     qtree_departure departure;
-    if (qtree_latest(device, QTREE_CLASS, 1, 1, len, &departure) != QTREE_DONE) {
-        return false; /* nothing is promised */
+    if (qtree_latest(device, QTREE_CLASS, 1, 1, len, &departure) != QTREE_DONE || departure.at == UINT64_MAX) {
+        return false; /* nothing is promised, or, without a tbf at the root, no time */
     }
     *by = departure.at + (now - last_event);
     return *by <= deadline;
@@ -64,7 +64,7 @@ static void set_up(struct run *run) {
     for (size_t i = 0; i < sizeof lines / sizeof lines[0]; i++) {
         CHECK(qtree_run(&run->device, lines[i], 0, NULL) == QTREE_DONE);
     }
-    bool is_promised = qtree_latest(&run->device, QTREE_CLASS, 1, 1, 0, &departure) == QTREE_DONE;
+    bool is_promised = qtree_latest(&run->device, QTREE_CLASS, 1, 1, 0, &departure) == QTREE_DONE && departure.at != UINT64_MAX;
     run->late = is_promised ? departure.late : 0;
     run->lateness.state = 7;
     run->poll_at = UINT64_MAX;
