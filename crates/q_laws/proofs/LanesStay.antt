@@ -27,7 +27,7 @@ use Rattle.q_tree.specs.Lanes.{is_prio, lane_below, lane_from, lane_to, level_of
 use Rattle.q_tree.specs.Ways.{has_tbf, is_tbf}
 
 -- What a discipline is without the packets that it queues, as far as places and lanes are found by it: an fq_codel has neither.
-setting : Discipline → Discipline
+abbrev pub setting : Discipline → Discipline
 setting (Fifo limit queue) = Fifo limit []
 setting (Prio priomap) = Prio priomap
 setting (Tbf b limit) = Tbf b limit
@@ -82,13 +82,13 @@ pub record IsAlike (a b : Own) : Type 0 where
   pub handle : b.handle ≡ a.handle
   pub set : setting b.discipline ≡ setting a.discipline
 
-AllAlike : Forest (List Note) → Forest (List Note) → Type 0
+abbrev pub AllAlike : Forest (List Note) → Forest (List Note) → Type 0
 AllAlike none none = Unit {0}
 AllAlike none (more own m below others) = ⊥
 AllAlike (more own m below others) none = ⊥
 AllAlike (more own m below others) (more own_after m_after below_after others_after) = IsAlike own own_after × AllAlike below below_after × AllAlike others others_after
 
-pub AreAlike : Node (List Note) → Node (List Note) → Type 0
+abbrev pub AreAlike : Node (List Note) → Node (List Note) → Type 0
 AreAlike n k = IsAlike n.own k.own × AllAlike n.below k.below
 
 -- what is found from below by handles and settings
@@ -106,7 +106,7 @@ many-alike (more own m below others) none h = absurd h
 many-alike (more own m below others) (more own_after m_after below_after others_after) h = ap suc (many-alike others others_after h.2)
 
 -- both or neither are there
-AlikeIfThere : Option (Node (List Note)) → Option (Node (List Note)) → Type 0
+abbrev AlikeIfThere : Option (Node (List Note)) → Option (Node (List Note)) → Type 0
 AlikeIfThere None None = Unit {0}
 AlikeIfThere None (Some k) = ⊥
 AlikeIfThere (Some n) None = ⊥

@@ -3,6 +3,7 @@ use Rattle.std.proofs.Common.{◌≡◌, ℕ, ◌+◌, ◌-◌, ◌*◌, ◌≤�
 use Rattle.std.specs.Prelude.{Bool, true, false, ◌&&◌, nat_lt, nat_le, All, if◌then◌else◌}
 use Rattle.std.specs.Int.{div_ceil}
 use Rattle.std.proofs.Math.Nat.{mul-le-mul_left}
+use Rattle.std.proofs.lemmas.Bool.{le-leb}
 use Rattle.std.proofs.lemmas.Option.{none-some, same_Some}
 use Rattle.q_packet.specs.Descriptor.{Descriptor}
 use Rattle.q_bucket.specs.Level.{TokenBucket, level_at, units_in_byte}
@@ -38,33 +39,33 @@ use Rattle.q_laws.proofs.WorstKept.{all-with, arrived, bytes-last, put-last}
 
 -- a level only rises
 record IsHigher (now : ℕ) (d : Discipline) (level : ℕ) : Type 0 where
-  then : ℕ
-  is : level_of now d ≡ Some then
-  rises : level ≤ then
+  level_then : ℕ
+  is : level_of now d ≡ Some level_then
+  rises : level ≤ level_then
 
 later-level : (clock now : ℕ) → clock ≤ now → (d : Discipline) (level : ℕ) → level_of clock d ≡ Some level → IsHigher now d level
 later-level clock now later (Tbf b limit) level e =
     let same : level_at b clock ≡ level = same_Some (level_at b clock) level e in
     let rises : b.rate * (clock - b.last) ≤ b.rate * (now - b.last) = mul-le-mul_left b.rate (omega (arith, later)) in
-    record { then = level_at b now; is = refl; rises = omega (arith, same, rises) }
+    record { level_then = level_at b now; is = refl; rises = omega (arith, same, rises) }
 later-level clock now later (Fifo limit queue) level e = absurd (none-some level e)
 later-level clock now later (Prio priomap) level e = absurd (none-some level e)
 later-level clock now later (Drr s) level e = absurd (none-some level e)
 later-level clock now later (FqCodel s) level e = absurd (none-some level e)
 
 -- the time that is answered at a later clock, where the level is no lower
-told-later : (mtu clock now more bytes level higher : ℕ) (link : Link) (w : Latest) (at : ℕ) → now ≤ clock + more → level ≤ higher → nat_lt bytes (2 ^ 64) ≡ true
-    → LatestIs mtu clock bytes level link w → w.at ≡ Some at → at + more ≤ 2 ^ 62 → IsToldBy (at + more) w (latest_on mtu now bytes (Some higher) (Some link))
-told-later mtu clock now more bytes level higher link w at soon rises small is timed early =
+told-later : (mtu clock now wait bytes level higher : ℕ) (link : Link) (w : Latest) (at : ℕ) → now ≤ clock + wait → level ≤ higher → nat_lt bytes (2 ^ 64) ≡ true
+    → LatestIs mtu clock bytes level link w → w.at ≡ Some at → at + wait ≤ 2 ^ 62 → IsToldBy (at + wait) w (latest_on mtu now bytes (Some higher) (Some link))
+told-later mtu clock now wait bytes level higher link w at soon rises small is timed early =
     let late : ℕ = late_on mtu link in
     let was : ℕ = paid_at clock link (counted_level late link level) bytes in
-    let then : ℕ = paid_at now link (counted_level late link higher) bytes in
+    let at_then : ℕ = paid_at now link (counted_level late link higher) bytes in
     let same : at ≡ clock + div_ceil (bytes * units_in_byte - counted_level late link level) (max link.rate 1) = same_Some at was (sym timed ∙ is.at) in
     let less : bytes * units_in_byte - counted_level late link higher ≤ bytes * units_in_byte - counted_level late link level = omega (arith, rises) in
     let ceil = ceil-rises (bytes * units_in_byte - counted_level late link higher) (bytes * units_in_byte - counted_level late link level) (max link.rate 1) (omega arith) less in
-    let no_later : then ≤ at + more = omega (arith, same, ceil, soon) in
-    let fits_in : nat_le then (2 ^ 62) ≡ true = le-leb then (2 ^ 62) (omega (arith, no_later, early)) in
-    let told : Latest = record { bytes = bytes; at = Some then; late = Some late } in
+    let no_later : at_then ≤ at + wait = omega (arith, same, ceil, soon) in
+    let fits_in : nat_le at_then (2 ^ 62) ≡ true = le-leb at_then (2 ^ 62) (omega (arith, no_later, early)) in
+    let told : Latest = record { bytes = bytes; at = Some at_then; late = Some late } in
     record {
       next = told;
       answered =
@@ -72,7 +73,7 @@ told-later mtu clock now more bytes level higher link w at soon rises small is t
           ∙ ap (λ t. if t then Some told else None) (ap₂ (λ a b. a && b) is.room fits_in);
       bytes = sym is.bytes_are;
       late = sym is.late;
-      at = then;
+      at = at_then;
       timed = refl;
       soon = no_later;
     }
@@ -153,7 +154,7 @@ module _ (settings : DeviceSettings) (range : IsInRange settings) (before : List
       on (Some link) (Some level) is told =
           let higher = later-level start.clock now (omega arith) start.tree.root.own.discipline level is in
           subst (λ (l : Option ℕ). IsToldBy (at + (moment - start.clock)) w (latest_on settings.mtu now bytes l (Some link))) (sym higher.is)
-          (told-later settings.mtu start.clock now (moment - start.clock) bytes level higher.then link w at (omega arith) higher.rises told.small
+          (told-later settings.mtu start.clock now (moment - start.clock) bytes level higher.level_then link w at (omega arith) higher.rises told.small
           (below-is settings.mtu start.clock bytes level link w told.is) timed early)
 
 -- ---- the laws
