@@ -715,9 +715,9 @@ typedef struct qtree_departure {
  * place, major, minor  as for qtree_stats
  * len                  the length of the packet that is to arrive, in bytes, as the len of its qtree_packet; 0 for the
  *                      packet that was queued last
- * departure            by when it has left, if QTREE_DONE is returned. This counts from the time of the device's last
- *                      event, which is an arrival, a poll or a command. If the packet arrives t nanoseconds after
- *                      that, the time until which it has left is later by at most t.
+ * departure            by when it has left, if QTREE_DONE is returned. The answer counts from the time of the device's
+ *                      last event, which is an arrival, a poll or a command. If the packet arrives t nanoseconds after
+ *                      that, the time by which it has left is later by at most t.
  *
  * Returns
  *   QTREE_DONE          *departure is by when the packet has left if it is queued, since the call does not look at the

@@ -472,10 +472,10 @@ impl Device {
     /// ```
     ///
     /// The answer counts from the time of the device's last event, which is an arrival, a poll or a
-    /// command. If the packet arrives some nanoseconds after that, the time until which it has left
-    /// is later by at most as many. It has left by then if it is queued: the limit of the qdisc is
-    /// not looked at. If the length is 0 and nothing is queued there, `bytes` is 0, and `at` the
-    /// time of the last event.
+    /// command. If the packet arrives some nanoseconds after that, the time by which it has left is
+    /// later by at most as many. It has left by then if it is queued: the limit of the qdisc is not
+    /// looked at. If the length is 0 and nothing is queued there, `bytes` is 0, and `at` is the time
+    /// of the last event.
     ///
     /// Returns `None` if nothing is promised, for one of the reasons of [`Device::worst`].
     #[must_use]
