@@ -53,18 +53,13 @@ later-level clock now later (Prio priomap) level e = absurd (none-some level e)
 later-level clock now later (Drr s) level e = absurd (none-some level e)
 later-level clock now later (FqCodel s) level e = absurd (none-some level e)
 
--- the time that is answered at a later clock, where the level is no lower
-told-later : (mtu clock now wait bytes level higher : ℕ) (link : Link) (w : Latest) (at : ℕ) → now ≤ clock + wait → level ≤ higher → nat_lt bytes (2 ^ 64) ≡ true
-    → LatestIs mtu clock bytes level link w → w.at ≡ Some at → at + wait ≤ 2 ^ 62 → IsToldBy (at + wait) w (latest_on mtu now bytes (Some higher) (Some link))
-told-later mtu clock now wait bytes level higher link w at soon rises small is timed early =
+-- the time that is answered at a later clock, if that is no later than this
+pub told-at : (mtu clock now bytes level higher by : ℕ) (link : Link) (w : Latest) → paid_at now link (counted_level (late_on mtu link) link higher) bytes ≤ by → by ≤ 2 ^ 62 → nat_lt bytes (2 ^ 64) ≡ true
+    → LatestIs mtu clock bytes level link w → IsToldBy by w (latest_on mtu now bytes (Some higher) (Some link))
+told-at mtu clock now bytes level higher by link w soon early small is =
     let late : ℕ = late_on mtu link in
-    let was : ℕ = paid_at clock link (counted_level late link level) bytes in
     let at_then : ℕ = paid_at now link (counted_level late link higher) bytes in
-    let same : at ≡ clock + div_ceil (bytes * units_in_byte - counted_level late link level) (max link.rate 1) = same_Some at was (sym timed ∙ is.at) in
-    let less : bytes * units_in_byte - counted_level late link higher ≤ bytes * units_in_byte - counted_level late link level = omega (arith, rises) in
-    let ceil = ceil-rises (bytes * units_in_byte - counted_level late link higher) (bytes * units_in_byte - counted_level late link level) (max link.rate 1) (omega arith) less in
-    let no_later : at_then ≤ at + wait = omega (arith, same, ceil, soon) in
-    let fits_in : nat_le at_then (2 ^ 62) ≡ true = le-leb at_then (2 ^ 62) (omega (arith, no_later, early)) in
+    let fits_in : nat_le at_then (2 ^ 62) ≡ true = le-leb at_then (2 ^ 62) (omega (arith, soon, early)) in
     let told : Latest = record { bytes = bytes; at = Some at_then; late = Some late } in
     record {
       next = told;
@@ -75,8 +70,19 @@ told-later mtu clock now wait bytes level higher link w at soon rises small is t
       late = sym is.late;
       at = at_then;
       timed = refl;
-      soon = no_later;
+      soon = soon;
     }
+
+-- it is later by no more than the clock
+told-later : (mtu clock now wait bytes level higher : ℕ) (link : Link) (w : Latest) (at : ℕ) → now ≤ clock + wait → level ≤ higher → nat_lt bytes (2 ^ 64) ≡ true
+    → LatestIs mtu clock bytes level link w → w.at ≡ Some at → at + wait ≤ 2 ^ 62 → IsToldBy (at + wait) w (latest_on mtu now bytes (Some higher) (Some link))
+told-later mtu clock now wait bytes level higher link w at soon rises small is timed early =
+    let late : ℕ = late_on mtu link in
+    let was : ℕ = paid_at clock link (counted_level late link level) bytes in
+    let same : at ≡ clock + div_ceil (bytes * units_in_byte - counted_level late link level) (max link.rate 1) = same_Some at was (sym timed ∙ is.at) in
+    let less : bytes * units_in_byte - counted_level late link higher ≤ bytes * units_in_byte - counted_level late link level = omega (arith, rises) in
+    let ceil = ceil-rises (bytes * units_in_byte - counted_level late link higher) (bytes * units_in_byte - counted_level late link level) (max link.rate 1) (omega arith) less in
+    told-at mtu clock now bytes level higher (at + wait) link w (omega (arith, same, ceil, soon)) early small is
 
 -- ---- a packet that is kept
 
@@ -113,12 +119,12 @@ module _ (settings : DeviceSettings) (range : IsInRange settings) (before : List
       (put-alike now p (device_route p start.tree.device.mtu (shape start.tree.root)) start.tree.root)
 
   -- what is answered before it comes
-  was : (lane : Lane) → lane_to place start.tree.root ≡ Some lane
+  pub was : (lane : Lane) → lane_to place start.tree.root ≡ Some lane
       → latest_of history place p.len settings.mtu start ≡ latest_on settings.mtu start.clock bytes (level_of start.clock start.tree.root.own.discipline) lane.link
   was lane there = answers-on start (replay-kept settings before range all_before) (holds-none settings before range all_before) place p.len settings.mtu lane there
 
   -- and once it has come
-  becomes : (lane : Lane) → lane_to place start.tree.root ≡ Some lane
+  pub becomes : (lane : Lane) → lane_to place start.tree.root ≡ Some lane
       → latest_of history place 0 settings.mtu next ≡ latest_on settings.mtu now bytes (level_of now start.tree.root.own.discipline) lane.link
   becomes lane there =
       let all = all-with before p moment all_before comes in
