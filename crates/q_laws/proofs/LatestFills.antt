@@ -42,23 +42,27 @@ record IsItsBucket (d : Discipline) (link : Link) : Type 0 where
 link-of : (link : Option Link) (path : List ℕ) (n : Node (List Note)) (lane : Lane) → lane_below link path n ≡ Some lane → link ≡ lane.link
 link-of link path n lane e = by (has_tbf n) (limit_along path n) e
   where
-    by : (t : Bool) (o : Option Limit) → (if t then None else option_map (λ (limit : Limit). record { link = link; limit = limit }) o) ≡ Some lane → link ≡ lane.link
+    by : (t : Bool) (o : Option Limit) → (if t then None else option_map (λ (limit : Limit). record { link = link; limit = limit }) o) ≡ Some lane
+        → link ≡ lane.link
     by true o e = absurd (none-some lane e)
     by false None e = absurd (none-some lane e)
     by false (Some limit) e = ap (λ (l : Lane). l.link) (same_Some (record { link = link; limit = limit }) lane e)
 
-its-bucket : (root : Node (List Note)) (path : List ℕ) (d : Discipline) (lane : Lane) (link : Link) → lane_from path root d ≡ Some lane → lane.link ≡ Some link → IsItsBucket d link
+its-bucket : (root : Node (List Note)) (path : List ℕ) (d : Discipline) (lane : Lane) (link : Link) → lane_from path root d ≡ Some lane
+    → lane.link ≡ Some link → IsItsBucket d link
 its-bucket root [] (Tbf b most) lane link e is = absurd (none-some lane e)
 its-bucket root (i ∷ rest) (Tbf b most) lane link e is = by root.own.handle e
   where
-    child : (h : ℕ) (o : Option (Node (List Note))) → option_and_then (lane_below (Some (record { handle = h; rate = b.rate; burst = b.burst })) rest) o ≡ Some lane → IsItsBucket (Tbf b most) link
+    child : (h : ℕ) (o : Option (Node (List Note))) → option_and_then
+        (lane_below (Some (record { handle = h; rate = b.rate; burst = b.burst })) rest) o ≡ Some lane → IsItsBucket (Tbf b most) link
     child h None e = absurd (none-some lane e)
     child h (Some c) e =
         let own : Link = record { handle = h; rate = b.rate; burst = b.burst } in
         let same : own ≡ link = same_Some own link (link-of (Some own) rest c lane e ∙ is) in
         record { bucket = b; most = most; is = refl; rate = ap (λ (l : Link). l.rate) same; burst = ap (λ (l : Link). l.burst) same }
 
-    by : (o : Option ℕ) → option_and_then (λ h. option_and_then (lane_below (Some (record { handle = h; rate = b.rate; burst = b.burst })) rest) (slice_get (children root) i)) o ≡ Some lane
+    by : (o : Option ℕ) → option_and_then (λ h. option_and_then (lane_below (Some (record { handle = h; rate = b.rate; burst = b.burst })) rest)
+        (slice_get (children root) i)) o ≡ Some lane
         → IsItsBucket (Tbf b most) link
     by None e = absurd (none-some lane e)
     by (Some h) e = child h (slice_get (children root) i) e
@@ -67,20 +71,24 @@ its-bucket root path (Prio priomap) lane link e is = absurd (none-some link (lin
 its-bucket root path (Drr s) lane link e is = absurd (none-some link (link-of None path root lane e ∙ is))
 its-bucket root path (FqCodel s) lane link e is = absurd (none-some link (link-of None path root lane e ∙ is))
 
-bucket-to : (root : Node (List Note)) (place : Place) (lane : Lane) (link : Link) → lane_to place root ≡ Some lane → lane.link ≡ Some link → IsItsBucket root.own.discipline link
+bucket-to : (root : Node (List Note)) (place : Place) (lane : Lane) (link : Link) → lane_to place root ≡ Some lane → lane.link ≡ Some link
+    → IsItsBucket root.own.discipline link
 bucket-to root place lane link e is = by (place_path place root) e
   where
-    by : (o : Option (List ℕ)) → option_and_then (λ path. lane_from path root root.own.discipline) o ≡ Some lane → IsItsBucket root.own.discipline link
+    by : (o : Option (List ℕ)) → option_and_then (λ path. lane_from path root root.own.discipline) o ≡ Some lane
+        → IsItsBucket root.own.discipline link
     by None e = absurd (none-some lane e)
     by (Some path) e = its-bucket root path root.own.discipline lane link e is
 
 -- ---- the numbers
 
 -- what its rate brings fills a bucket
-level-fills : (b : TokenBucket) (clock now : ℕ) → b.last ≤ clock → clock ≤ now → min (capacity b) (level_at b clock + b.rate * (now - clock)) ≤ level_at b now
+level-fills : (b : TokenBucket) (clock now : ℕ) → b.last ≤ clock → clock ≤ now
+    → min (capacity b) (level_at b clock + b.rate * (now - clock)) ≤ level_at b now
 level-fills b clock now old later =
     let parts : now - b.last ≡ (clock - b.last) + (now - clock) = omega (arith, old, later) in
-    let brings : b.rate * (now - b.last) ≡ b.rate * (clock - b.last) + b.rate * (now - clock) = ap (λ n. b.rate * n) parts ∙ mul-add b.rate (clock - b.last) (now - clock) in
+    let brings : b.rate * (now - b.last) ≡ b.rate * (clock - b.last) + b.rate * (now - clock) = ap (λ n. b.rate * n) parts
+    ∙ mul-add b.rate (clock - b.last) (now - clock) in
     omega (arith, brings)
 
 -- the time for what is missing, some time later
@@ -107,7 +115,8 @@ ceil-later x y z wait r some less = elim (cases_lt y x) [
 
 pub latest-stands-as-it-fills : (settings : DeviceSettings) → IsInRange settings → LatestStandsAsItFills settings
 latest-stands-as-it-fills settings range before p moment place link limit w at all_before comes found answered kept timed early =
-    subst (IsToldBy by w) (sym (becomes settings range before p moment place all_before comes kept lane found)) (on (level_of start.clock start.tree.root.own.discipline) refl told)
+    subst (IsToldBy by w) (sym (becomes settings range before p moment place all_before comes kept lane found))
+    (on (level_of start.clock start.tree.root.own.discipline) refl told)
   where
     start : DeviceState (List Note)
     start = device_after settings before
@@ -127,19 +136,22 @@ latest-stands-as-it-fills settings range before p moment place link limit w at a
     told : latest_on settings.mtu start.clock bytes (level_of start.clock start.tree.root.own.discipline) (Some link) ≡ Some w
     told = sym (was settings range before p moment place all_before comes kept lane found) ∙ answered
 
-    on : (level : Option ℕ) → level_of start.clock start.tree.root.own.discipline ≡ level → latest_on settings.mtu start.clock bytes level (Some link) ≡ Some w
+    on : (level : Option ℕ) → level_of start.clock start.tree.root.own.discipline ≡ level
+        → latest_on settings.mtu start.clock bytes level (Some link) ≡ Some w
         → IsToldBy by w (latest_on settings.mtu now bytes (level_of now start.tree.root.own.discipline) (Some link))
     on None is e = absurd (none-some w (fits settings.mtu start.clock bytes None (Some link) w e).is)
     on (Some level) is e =
         let root : Node (List Note) = start.tree.root in
         let its = bucket-to root place lane link found refl in
-        let law = subst (IsLawfulDiscipline start.tree.device.mtu start.clock (each beneath_own root.below)) its.is (replay-kept settings before range all_before).lawful.0.discipline in
+        let law = subst (IsLawfulDiscipline start.tree.device.mtu start.clock (each beneath_own root.below)) its.is
+        (replay-kept settings before range all_before).lawful.0.discipline in
         let told_is = fits settings.mtu start.clock bytes (Some level) (Some link) w e in
         let numbers = below-is settings.mtu start.clock bytes level link w told_is.is in
         let late : ℕ = late_on settings.mtu link in
         let most : ℕ = link.burst * units_in_byte - link.rate * late in
         let higher : ℕ = level_at its.bucket now in
-        let level_is : level_at its.bucket start.clock ≡ level = same_Some (level_at its.bucket start.clock) level (sym (ap (level_of start.clock) its.is) ∙ is) in
+        let level_is : level_at its.bucket start.clock ≡ level =
+        same_Some (level_at its.bucket start.clock) level (sym (ap (level_of start.clock) its.is) ∙ is) in
         let some : 1 ≤ max link.rate 1 = omega arith in
         let rate : its.bucket.rate ≡ max link.rate 1 = let from = law.level.rate_from in let same = its.rate in omega (arith, from, same) in
         let wait : ℕ = now - start.clock in
@@ -147,10 +159,13 @@ latest-stands-as-it-fills settings range before p moment place link limit w at a
         let brings : its.bucket.rate * wait ≡ max link.rate 1 * wait = ap (λ r. r * wait) rate in
         let burst = its.burst in
         let missing : ℕ = bytes * units_in_byte - counted_level late link level in
-        let less : bytes * units_in_byte - counted_level late link higher ≤ max (bytes * units_in_byte - most) (missing - max link.rate 1 * wait) = omega (arith, rises, brings, burst, level_is) in
-        let ceil = ceil-later (bytes * units_in_byte - counted_level late link higher) (bytes * units_in_byte - most) missing wait (max link.rate 1) some less in
+        let less : bytes * units_in_byte - counted_level late link higher ≤ max (bytes * units_in_byte - most) (missing - max link.rate 1 * wait) =
+        omega (arith, rises, brings, burst, level_is) in
+        let ceil = ceil-later (bytes * units_in_byte - counted_level late link higher) (bytes * units_in_byte - most) missing wait
+        (max link.rate 1) some less in
         let same : at ≡ start.clock + div_ceil (bytes * units_in_byte - counted_level late link level) (max link.rate 1) =
         same_Some at (paid_at start.clock link (counted_level late link level) bytes) (sym timed ∙ numbers.at) in
-        let best : at_best settings.mtu now link w.bytes ≡ now + div_ceil (bytes * units_in_byte - most) (max link.rate 1) = ap (at_best settings.mtu now link) numbers.bytes_are in
+        let best : at_best settings.mtu now link w.bytes ≡ now + div_ceil (bytes * units_in_byte - most) (max link.rate 1) =
+        ap (at_best settings.mtu now link) numbers.bytes_are in
         subst (λ (l : Option ℕ). IsToldBy by w (latest_on settings.mtu now bytes l (Some link))) (sym (ap (level_of now) its.is))
         (told-at settings.mtu start.clock now bytes level higher by link w (omega (arith, ceil, same, best)) early told_is.small numbers)
