@@ -721,6 +721,46 @@ typedef struct qtree_delay {
  *   QTREE_IS_CLOSED     the device is closed */
 qtree_code qtree_worst(const qtree_device *device, uint32_t place, uint16_t major, uint16_t minor, qtree_delay *delay);
 
+/* By when a packet has left that is last in a pfifo or bfifo whose packets no other packet overtakes, whatever comes
+ * meanwhile. Until it has left, the device sends no more bytes than the field bytes says, including those of the packet
+ * itself. A qtree_delay comes from the settings alone; this comes from what is queued, and from what is left of the
+ * burst of a tbf at the root.
+ *
+ * With a tbf at the root, let the program never poll later after the time of qtree_ready_at than late nanoseconds.
+ * Then the packet has left as soon as the program has polled until no packet came at the time at, or later, and so by
+ * at + late. Without a tbf at the root, at and late are UINT64_MAX.
+ *
+ * This holds as long as commands take no packet from the qdisc and put none before it, leave a tbf at the root as it
+ * is, and add no other tbf. */
+typedef struct qtree_departure {
+    uint64_t bytes; /* including those of the packet */
+    uint64_t at;    /* a time in nanoseconds, rounded up */
+    uint64_t late;  /* nanoseconds */
+} qtree_departure;
+
+/* Computes by when a packet has left that is to arrive next in the pfifo or bfifo in a place, so that the program can
+ * refuse it first if that is too late; or by when the packet has left that was queued there last.
+ *
+ * place, major, minor  as for qtree_stats
+ * len                  the length of the packet that is to arrive, in bytes, as the len of its qtree_packet; 0 for the
+ *                      packet that was queued last
+ * departure            by when it has left, if QTREE_DONE is returned. The answer counts from the time of the device's
+ *                      last event, which is an arrival, a poll or a command. If the packet arrives t nanoseconds after
+ *                      that, the time by which it has left is later by at most t.
+ *
+ * Returns
+ *   QTREE_DONE          *departure is by when the packet has left if it is queued, since the call does not look at the
+ *                       limit; if len is 0 and nothing is queued there, bytes is 0, and at the time of the last event
+ *   QTREE_NOTHING       nothing is promised, for one of the reasons for which qtree_worst returns this
+ *   QTREE_OUT_OF_RANGE  place, major or minor is out of its range
+ *   QTREE_IS_CLOSED     the device is closed
+ *
+ * For example, with a tbf with rate 8mbit at the root, which sends a byte in a microsecond, let 2000 bytes be queued
+ * and nothing be left of its burst. Then qtree_latest(&device, QTREE_CLASS, 1, 1, 1000, &departure) writes the bytes
+ * 3000, and a time 3,000,000 nanoseconds after the last event. */
+qtree_code qtree_latest(const qtree_device *device, uint32_t place, uint16_t major, uint16_t minor, uint16_t len,
+                        qtree_departure *departure);
+
 /* Which text qtree_show writes: that of `tc qdisc show`, `tc -s qdisc show`, `tc class show` or `tc filter show`. */
 enum { QTREE_SHOW_QDISCS = 0, QTREE_SHOW_COUNTERS = 1, QTREE_SHOW_CLASSES = 2, QTREE_SHOW_FILTERS = 3 };
 
@@ -1158,7 +1198,8 @@ enum {
     QTREE_TYPE_CLASS_VIEW = 14,
     QTREE_TYPE_DELAY = 15,
     QTREE_TYPE_REPORT = 16,
-    QTREE_TYPE_UNDONE = 17
+    QTREE_TYPE_UNDONE = 17,
+    QTREE_TYPE_DEPARTURE = 18
 };
 size_t qtree_size_of(uint32_t what);
 

@@ -52,7 +52,7 @@ path-stands place.Top n = refl
 path-stands place.Root n = refl
 path-stands (place.Class class) n = class-stands kept totals (λ (k : Kept). k.counts) (λ k. refl) class n
 
-lane-stands : (p : Place) (n : Node Kept) → lane_to p (counted n) ≡ lane_to p n
+pub lane-stands : (p : Place) (n : Node Kept) → lane_to p (counted n) ≡ lane_to p n
 lane-stands p n = ap (option_and_then (λ path. lane_from path (counted n) n.own.discipline)) (path-stands p n) ∙ by (place_path p n)
   where
     by : (o : Option (List ℕ)) → option_and_then (λ path. lane_from path (counted n) n.own.discipline) o ≡ option_and_then (λ path. lane_from path n n.own.discipline) o

@@ -10,6 +10,7 @@ pub mod Giving
 pub mod Keeping
 pub mod LastKept
 pub mod LastNoted
+pub mod Latest
 pub mod Laws
 pub mod Polls
 pub mod Promise

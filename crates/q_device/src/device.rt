@@ -25,6 +25,7 @@ ghost use Rattle.q_device.specs.Promise.{promise_of, promise_seen};
 ghost use Rattle.q_device.specs.Worst.{worst_of};
 
 mod bursts;
+mod latest;
 
 use crate::given::Given;
 use crate::recording::{has_room, record_arrival, record_command, record_poll};

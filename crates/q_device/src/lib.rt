@@ -11,7 +11,7 @@
 //! - [`play`] plays a list of events on a new device, and returns the [`Replies`].
 //! - [`LastEvents`] is a log in which a program notes the latest events. (The recorder of a device has the first ones.)
 //! - [`Service`] is what a class of a drr is promised; [`Device::service`] computes it. [`Worst`] is how long a packet waits in a fifo at most;
-//!   [`Device::worst`] computes it.
+//!   [`Device::worst`] computes it. [`Latest`] is by when the packet that is last in a fifo has left; [`Device::latest`] computes it.
 //! - [`Settings`] are the mtu, the txqueuelen and the size of the recorder, with which a device is opened.
 //! - An [`Event`] is an arrival, a poll or a command, with its time. A [`Reply`] is the answer to it: a [`Fate`], a [`Polled`], or whether the
 //!   command was carried out, and otherwise the [`Refusal`]. These types are those of `q_model`.
@@ -47,6 +47,7 @@ mod bursts;
 mod device;
 mod given;
 pub mod last_events;
+mod latest;
 pub mod laws;
 mod packets;
 mod playing;
@@ -59,6 +60,7 @@ pub use crate::answer::Answer;
 pub use crate::device::Device;
 pub use crate::given::Given;
 pub use crate::last_events::LastEvents;
+pub use crate::latest::Latest;
 pub use crate::service::Service;
 pub use crate::stopped::Stopped;
 pub use crate::worst::Worst;

@@ -1,13 +1,13 @@
 -- What an arrival that a fifo in line keeps makes of the line: the packet is last in it, and the line has no more bytes than the limit.
-use Rattle.std.proofs.Common.{◌≡◌, ℕ, suc, ◌+◌, ◌*◌, ◌<◌, ◌≤◌, ◌∙◌, refl, sym, ap, subst, List, [], ◌∷◌, ◌++◌, map, set, length, flat_map, Option, Some, None, option_map, option_and_then, option_to_list, arith}
-use Rattle.std.specs.Prelude.{Bool, true, false, ◌&&◌, ◌==◌, All, unwrap_or, slice_get, if◌then◌else◌}
+use Rattle.std.proofs.Common.{◌≡◌, ℕ, suc, ◌+◌, ◌*◌, ◌<◌, ◌≤◌, ◌∙◌, refl, sym, ap, subst, List, [], ◌∷◌, ◌++◌, map, set, length, flat_map, Option, Some, None, option_and_then, option_to_list, arith}
+use Rattle.std.specs.Prelude.{Bool, true, false, All, unwrap_or, slice_get, if◌then◌else◌}
 use Rattle.std.specs.Option.{option_map_or}
 use Rattle.std.proofs.Math.Nat.{add-mul, mul-le-mul_left, mul_comm}
-use Rattle.std.proofs.lemmas.Bool.{and_parts, eqb-true, false≢true, leb-true, ltb-true}
+use Rattle.std.proofs.lemmas.Bool.{false≢true, leb-true, ltb-true}
 use Rattle.std.proofs.lemmas.List.{map-append}
 use Rattle.std.proofs.lemmas.List.Elements.{All-head, All-tail}
 use Rattle.std.proofs.lemmas.List.Sums.{sum_by-cons}
-use Rattle.std.proofs.lemmas.Option.{none-some, same_Some, slice_get-map}
+use Rattle.std.proofs.lemmas.Option.{none-some, same_Some}
 use Rattle.q_packet.specs.Descriptor.{Descriptor}
 use Rattle.q_packet.specs.Totals.{count, size}
 use Rattle.q_packet.specs.declared.cause.Cause.TheVariants.{OverLimit}
@@ -18,12 +18,11 @@ use Rattle.q_codel.specs.declared.limit.Limit.TheVariants.{Packets, Bytes}
 use Rattle.q_bucket.specs.Level.{TokenBucket}
 use Rattle.q_model.specs.declared.filter.Filter.{Filter}
 use Rattle.q_model.specs.Beneath.{beneath_own, is_empty, packets_of}
-use Rattle.q_model.specs.Node.{Discipline, Fifo, Prio, Tbf, Drr, FqCodel, Own, Forest, Shape, nodes_in, children, each, from_below}
+use Rattle.q_model.specs.Node.{Discipline, Fifo, Prio, Tbf, Drr, FqCodel, Own, Forest, Shape, nodes_in, children, each}
 use Rattle.q_model.specs.Numbers.{IsWithin}
 use Rattle.q_model.specs.Put.{put_here, put_beneath, put_along}
 use Rattle.q_model.specs.Route.{Route, ends, refused, way, route}
 use Rattle.q_model.specs.Work.{Worked, quiet, settled_in}
-use Rattle.q_invariants.proofs.Forests.{each-nodes}
 use Rattle.q_invariants.proofs.Kept.{IsLawfulRoot}
 use Rattle.q_invariants.proofs.Members.{All-front}
 use Rattle.q_invariants.proofs.Quiet.{child-lawful}
@@ -31,6 +30,7 @@ use Rattle.q_invariants.proofs.Ways.{IsOn, route-goes}
 use Rattle.q_tree.specs.Lanes.{is_prio, limit_of, limit_along}
 use Rattle.q_device.specs.Worst.{most_bytes}
 use Rattle.q_laws.specs.Line.{line_in, line_own, line, bytes_in}
+use Rattle.q_laws.proofs.LaneLines.{IsFirst, first-line, is-first}
 use Rattle.q_laws.proofs.LineAsks.{line-worked}
 
 -- ---- bytes
@@ -58,11 +58,6 @@ pub record IsPutLast (bytes : ℕ) (p : Descriptor) (before after : List Descrip
   pub within : bytes_in before + p.len ≤ bytes
 
 -- ---- the first child
-
-pub first-line : (s : Shape) (c : Shape) → slice_get (children s) 0 ≡ Some c → unwrap_or (slice_get (each line_own s.below) 0) [] ≡ line c
-first-line s c e =
-    ap (λ ls. unwrap_or (slice_get ls 0) []) (each-nodes line_own s.below)
-    ∙ ap (λ (o : Option (List Descriptor)). unwrap_or o []) (slice_get-map (from_below line_own) (nodes_in s.below) 0 ∙ ap (option_map (from_below line_own)) e)
 
 set-line : (cs : List Shape) (c : Shape) (m : Worked) → slice_get cs 0 ≡ Some c → unwrap_or (slice_get (map line (set (map quiet cs) 0 m)) 0) [] ≡ line m
 set-line [] c m e = absurd (none-some c e)
@@ -134,21 +129,6 @@ module _ (mtu now : ℕ) (p : Descriptor) (short : p.len ≤ mtu) where
     prio-puts bytes path held (Tbf b limit) c is there h on = absurd (false≢true is)
     prio-puts bytes path held (Drr s) c is there h on = absurd (false≢true is)
     prio-puts bytes path held (FqCodel s) c is there h on = absurd (false≢true is)
-
-  -- what is known of a path through a first band
-  record IsFirst (i : ℕ) (path : List ℕ) (s : Shape) (limit : Limit) : Type 0 where
-    first : i ≡ 0
-    prio : is_prio s.own.discipline ≡ true
-    rest : option_and_then (limit_along path) (slice_get (children s) i) ≡ Some limit
-
-  is-first : (i : ℕ) (path : List ℕ) (s : Shape) (limit : Limit) → limit_along (i ∷ path) s ≡ Some limit → IsFirst i path s limit
-  is-first i path s limit e = by (i == 0 && is_prio s.own.discipline) refl e
-    where
-      by : (t : Bool) → (i == 0 && is_prio s.own.discipline) ≡ t → (if t then option_and_then (limit_along path) (slice_get (children s) i) else None) ≡ Some limit → IsFirst i path s limit
-      by false is e = absurd (none-some limit e)
-      by true is e =
-          let both = and_parts (i == 0) (is_prio s.own.discipline) is in
-          record { first = eqb-true i 0 both.0; prio = both.1; rest = e }
 
   pub lane-puts : (path : List ℕ) (s : Shape) (limit : Limit) → IsLawfulRoot mtu now s → limit_along path s ≡ Some limit → route p s ≡ record { path = path; refusal = None }
       → IsPutLast (most_bytes mtu limit) p (line s) (line (put_along now p None path s).node)

@@ -2,8 +2,13 @@ mod DelayRows
 mod FlowService
 mod GivenPaid
 mod HoldsNone
+mod LaneLines
 mod LaneNumbers
 mod LanePuts
+mod LanesStay
+mod LatestArrives
+mod LatestFills
+mod LatestKept
 mod LeastShare
 mod LevelsLeft
 mod LineAsks

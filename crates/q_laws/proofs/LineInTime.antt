@@ -79,6 +79,10 @@ module _ (link rate burst : ℕ) where
             ∙ ap (λ (z : TbfAt). bytes_spent z.noted) (sym t.is) ∙ ap (λ (n : Node (List Note)). bytes_spent n.memory) here;
       }
 
+  pub root-bucket : (d : DeviceState (List Note)) (h : Stays d) → (root-is d h).bucket ≡ h.tbf.tbf.bucket
+  unfolding root-is
+  root-bucket d h = refl
+
   -- what was paid for, and what is in line after it
   pub record Passes (d end : DeviceState (List Note)) : Type 0 where
     pub taken : List Descriptor

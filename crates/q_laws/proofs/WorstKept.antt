@@ -57,7 +57,7 @@ use Rattle.q_laws.specs.Delay.{PaysInTime}
 use Rattle.q_laws.specs.Line.{IsInLine, IsLink, bytes_in, line, line_at_root, line_below_root, line_own}
 use Rattle.q_laws.specs.Order.{answers}
 use Rattle.q_laws.specs.Rate.{HasRoom}
-use Rattle.q_laws.specs.Worst.{EndsWithin, LinesKeepLimits, WorstIsEnough, WorstIsInTime, with_arrival}
+use Rattle.q_laws.specs.Worst.{EndsWithin, IsKeptAt, LinesKeepLimits, WorstIsEnough, WorstIsInTime, with_arrival}
 use Rattle.q_laws.proofs.GivenPaid.{given-front, given-paid, keeps-below, same-line}
 use Rattle.q_laws.proofs.HoldsNone.{holds-none}
 use Rattle.q_laws.proofs.LaneNumbers.{WorstIs, worst-bytes, worst-is}
@@ -71,16 +71,16 @@ use Rattle.q_laws.proofs.PromiseNumbers.{late-room}
 -- ---- a lane that was found
 
 -- beneath a tbf at the root
-record IsLinked (root : Node (List Note)) (path : List ℕ) (lane : Lane) : Type 0 where
-  bucket : TokenBucket
-  most : ℕ
-  is : root.own.discipline ≡ Tbf bucket most
-  place : ℕ
-  rest : List ℕ
-  split : path ≡ place ∷ rest
-  child : Node (List Note)
-  there : slice_get (children root) place ≡ Some child
-  limit : limit_along rest child ≡ Some lane.limit
+pub record IsLinked (root : Node (List Note)) (path : List ℕ) (lane : Lane) : Type 0 where
+  pub bucket : TokenBucket
+  pub most : ℕ
+  pub is : root.own.discipline ≡ Tbf bucket most
+  pub place : ℕ
+  pub rest : List ℕ
+  pub split : path ≡ place ∷ rest
+  pub child : Node (List Note)
+  pub there : slice_get (children root) place ≡ Some child
+  pub limit : limit_along rest child ≡ Some lane.limit
 
 -- the limit of a lane
 limit-is : (link : Option Link) (lane : Lane) (t : Bool) (o : Option Limit) → (if t then None else option_map (λ (limit : Limit). record { link = link; limit = limit }) o) ≡ Some lane → o ≡ Some lane.limit
@@ -91,7 +91,8 @@ limit-is link lane false (Some limit) e = ap Some (ap (λ (l : Lane). l.limit) (
 below-limit : (link : Option Link) (path : List ℕ) (n : Node (List Note)) (lane : Lane) → lane_below link path n ≡ Some lane → limit_along path n ≡ Some lane.limit
 below-limit link path n lane e = limit-is link lane (has_tbf n) (limit_along path n) e
 
-lane-found : (root : Node (List Note)) (path : List ℕ) (lane : Lane) → lane_from path root root.own.discipline ≡ Some lane → (limit_along path root ≡ Some lane.limit) ⊎ IsLinked root path lane
+pub lane-found : (root : Node (List Note)) (path : List ℕ) (lane : Lane) → lane_from path root root.own.discipline ≡ Some lane
+    → (limit_along path root ≡ Some lane.limit) ⊎ IsLinked root path lane
 lane-found root path lane e = by path refl root.own.discipline refl e
   where
     beneath : (b : TokenBucket) (most i : ℕ) (rest : List ℕ) (link : Option Link) (o : Option (Node (List Note))) → path ≡ i ∷ rest → root.own.discipline ≡ Tbf b most → slice_get (children root) i ≡ o
@@ -115,6 +116,27 @@ lane-found root path lane e = by path refl root.own.discipline refl e
     by steps split (Prio priomap) is e = inl (bare steps split e)
     by steps split (Drr s) is e = inl (bare steps split e)
     by steps split (FqCodel s) is e = inl (bare steps split e)
+
+-- ---- a tbf at the root
+
+module _ (d : DeviceState (List Note)) (kept : IsKept d) where
+  abbrev top : Node (List Note)
+  top = d.tree.root
+
+  -- a tbf has one child
+  first-child : (b : TokenBucket) (most i : ℕ) (c : Node (List Note)) → top.own.discipline ≡ Tbf b most → slice_get (children top) i ≡ Some c
+      → children top ≡ c ∷ []
+  first-child b most i c is there =
+      let law = subst (IsLawfulDiscipline d.tree.device.mtu d.clock (each beneath_own top.below)) is kept.lawful.0.discipline in
+      one-child (children top) i c (sym (length-map (children top) (from_below beneath_own)) ∙ ap length (sym (each-nodes beneath_own top.below))
+      ∙ law.one) there
+
+  pub in-first : (b : TokenBucket) (most i : ℕ) (c : Node (List Note)) → top.own.discipline ≡ Tbf b most → slice_get (children top) i ≡ Some c → i ≡ 0
+  in-first b most i c is there = by i (subst (λ (ns : List (Node (List Note))). slice_get ns i ≡ Some c) (first-child b most i c is there) there)
+    where
+      by : (i : ℕ) → slice_get (c ∷ []) i ≡ Some c → i ≡ 0
+      by zero e = refl
+      by (suc i) e = absurd (none-some c e)
 
 -- ---- a packet that is kept
 
@@ -140,24 +162,11 @@ module _ (d : DeviceState (List Note)) (now : ℕ) (kept : IsKept d) (later : d.
   lawful : IsLawfulRoot mtu now bare
   lawful = lawful-with_memory mtu now (λ m. tt) root (root-later d.clock now later mtu root kept.lawful)
 
-  -- a tbf has one child
-  first-child : (b : TokenBucket) (most i : ℕ) (c : Node (List Note)) → root.own.discipline ≡ Tbf b most → slice_get (children root) i ≡ Some c → children root ≡ c ∷ []
-  first-child b most i c is there =
-      let law = subst (IsLawfulDiscipline mtu d.clock (each beneath_own root.below)) is kept.lawful.0.discipline in
-      one-child (children root) i c (sym (length-map (children root) (from_below beneath_own)) ∙ ap length (sym (each-nodes beneath_own root.below)) ∙ law.one) there
-
-  in-first : (b : TokenBucket) (most i : ℕ) (c : Node (List Note)) → root.own.discipline ≡ Tbf b most → slice_get (children root) i ≡ Some c → i ≡ 0
-  in-first b most i c is there = by i (subst (λ (ns : List (Node (List Note))). slice_get ns i ≡ Some c) (first-child b most i c is there) there)
-    where
-      by : (i : ℕ) → slice_get (c ∷ []) i ≡ Some c → i ≡ 0
-      by zero e = refl
-      by (suc i) e = absurd (none-some c e)
-
   puts : (path : List ℕ) (lane : Lane) → p.len ≤ mtu → (limit_along path root ≡ Some lane.limit) ⊎ IsLinked root path lane → route p bare ≡ record { path = path; refusal = None }
       → IsPutLast (most_bytes mtu lane.limit) p (line bare) (line (put_along now p None path bare).node)
   puts path lane short (inl limit) goes = lane-puts mtu now p short path bare lane.limit lawful (limit-stands (λ m. tt) path root ∙ limit) goes
   puts path lane short (inr l) goes =
-      let first : l.place ≡ 0 = in-first l.bucket l.most l.place l.child l.is l.there in
+      let first : l.place ≡ 0 = in-first d kept l.bucket l.most l.place l.child l.is l.there in
       let there : slice_get (children root) 0 ≡ Some l.child = subst (λ k. slice_get (children root) k ≡ Some l.child) first l.there in
       let steps : path ≡ 0 ∷ l.rest = l.split ∙ ap (λ k. k ∷ l.rest) first in
       subst (λ (xs : List ℕ). IsPutLast (most_bytes mtu lane.limit) p (line bare) (line (put_along now p None xs bare).node)) (sym steps)
@@ -189,35 +198,58 @@ module _ (d : DeviceState (List Note)) (now : ℕ) (kept : IsKept d) (later : d.
       (subst (λ (xs : List Descriptor). IsPutLast (most_bytes mtu lane.limit) p (line root) xs) (sym after)
       (subst (λ (xs : List Descriptor). IsPutLast (most_bytes mtu lane.limit) p xs (line w)) before last))
 
+-- the state after it
+pub arrived : (settings : DeviceSettings) (before : List Event) (p : Descriptor) (moment : ℕ)
+    → device_after settings (with_arrival before p moment) ≡ (step history (device_after settings before) (event.Arrive p moment)).device
+arrived settings before p moment = ap (λ (r : Replay (List Note)). r.device)
+    (replay_from-append history (nothing_yet history settings) before (event.Arrive p moment))
+
+-- what the line has with one packet more
+pub bytes-last : (p : Descriptor) (others : List Descriptor) → bytes_in (others ++ p ∷ []) ≡ bytes_in others + p.len
+bytes-last p others =
+    let size = sum_by-append (λ (q : Descriptor). q.len) others (p ∷ []) in
+    let one = sum_by-cons (λ (q : Descriptor). q.len) p [] in
+    omega (arith, size, one)
+
 -- the path of a lane that was found
 lane-path : (place : Place) (root : Node (List Note)) (lane : Lane) (path : List ℕ) → lane_to place root ≡ Some lane → place_path place root ≡ Some path → lane_from path root root.own.discipline ≡ Some lane
 lane-path place root lane path e is = sym (ap (option_and_then (λ steps. lane_from steps root root.own.discipline)) is) ∙ e
 
+-- the packet is put last in line
+pub put-last : (settings : DeviceSettings) → IsInRange settings → (before : List Event) (p : Descriptor) (moment : ℕ) (place : Place) (lane : Lane)
+    → All IsEvent before → IsEvent (event.Arrive p moment)
+    → lane_to place (device_after settings before).tree.root ≡ Some lane → IsKeptAt place p moment (device_after settings before)
+    → IsPutLast (most_bytes (device_after settings before).tree.device.mtu lane.limit) p (line_at_root (device_after settings before))
+    (line_at_root (device_after settings (with_arrival before p moment)))
+put-last settings range before p moment place lane all_before comes found at =
+    let d : DeviceState (List Note) = device_after settings before in
+    let kept : IsKept d = replay-kept settings before range all_before in
+    let path : List ℕ = (route p d.tree.root).path in
+    subst (λ (x : DeviceState (List Note)). IsPutLast (most_bytes d.tree.device.mtu lane.limit) p (line_at_root d) (line_at_root x))
+    (sym (arrived settings before p moment))
+    (puts-line d (max d.clock moment) kept (not-before d.clock moment) p comes.0.len.0 (holds-none settings before range all_before) path lane
+    (lane-path place d.tree.root lane path found at.goes) refl (nat_lt d.tree.device.mtu p.len) refl
+    (no-loss (loss_on (max d.clock moment) p (if nat_lt d.tree.device.mtu p.len then None else Some (route p (shape d.tree.root)))
+    (shape d.tree.root)) at.kept))
+
 pub lines-keep-limits : (settings : DeviceSettings) → IsInRange settings → LinesKeepLimits settings
 lines-keep-limits settings range before p moment place lane all_before comes found at =
     let d : DeviceState (List Note) = device_after settings before in
-    let e : Event = event.Arrive p moment in
-    let now : ℕ = max d.clock moment in
-    let kept : IsKept d = replay-kept settings before range all_before in
-    let stepped : device_after settings (with_arrival before p moment) ≡ (step history d e).device = ap (λ (r : Replay (List Note)). r.device) (replay_from-append history (nothing_yet history settings) before e) in
-    let path : List ℕ = (route p d.tree.root).path in
-    let put = puts-line d now kept (not-before d.clock moment) p comes.0.len.0 (holds-none settings before range all_before) path lane
-    (lane-path place d.tree.root lane path found at.goes) refl (nat_lt d.tree.device.mtu p.len) refl (no-loss (loss_on now p (if nat_lt d.tree.device.mtu p.len then None else Some (route p (shape d.tree.root))) (shape d.tree.root)) at.kept) in
+    let put = put-last settings range before p moment place lane all_before comes found at in
     let others : List Descriptor = line_at_root d in
-    let size = sum_by-append (λ (q : Descriptor). q.len) others (p ∷ []) in
-    let one = sum_by-cons (λ (q : Descriptor). q.len) p [] in
+    let size = bytes-last p others in
     let within = put.within in
-    let bytes : bytes_in (others ++ p ∷ []) ≤ most_bytes d.tree.device.mtu lane.limit = omega (arith, size, one, within) in
-    subst (λ (x : DeviceState (List Note)). EndsWithin (most_bytes settings.mtu lane.limit) p (line_at_root x)) (sym stepped)
-    (record {
+    let bytes : bytes_in (others ++ p ∷ []) ≤ most_bytes d.tree.device.mtu lane.limit = omega (arith, size, within) in
+    record {
       others = others;
       last = put.last;
       within = subst (λ (xs : List Descriptor). bytes_in xs ≤ most_bytes settings.mtu lane.limit) (sym put.last) (subst (λ m. bytes_in (others ++ p ∷ []) ≤ most_bytes m lane.limit) (mtu-stays settings before) bytes);
-    })
+    }
 
 -- ---- what leaves, and in which time
 
-all-with : (before : List Event) (p : Descriptor) (moment : ℕ) → All IsEvent before → IsEvent (event.Arrive p moment) → All IsEvent (with_arrival before p moment)
+pub all-with : (before : List Event) (p : Descriptor) (moment : ℕ) → All IsEvent before → IsEvent (event.Arrive p moment)
+    → All IsEvent (with_arrival before p moment)
 all-with before p moment all comes = All-append IsEvent before (event.Arrive p moment ∷ []) all (All-cons IsEvent (event.Arrive p moment) [] comes (All-nil IsEvent))
 
 pub worst-is-enough : (settings : DeviceSettings) → IsInRange settings → WorstIsEnough settings

@@ -1,6 +1,7 @@
 pub mod Delay
 pub mod Delivered
 pub mod InTime
+pub mod Latest
 pub mod Line
 pub mod NewFlow
 pub mod Order

@@ -2,6 +2,7 @@
 ghost use Rattle.q_laws.specs.Delay.{BytesArePaidInTime};
 ghost use Rattle.q_laws.specs.Delivered.{LatenessIsTheGreatest, ServiceIsDelivered, ShareIsDelivered, SlackIsTheLaws};
 ghost use Rattle.q_laws.specs.InTime.{ClassesShareInTime, SharesMultiply};
+ghost use Rattle.q_laws.specs.Latest.{LatestIsEnough, LatestIsInTime, LatestIsToldBefore, LatestRisesNoFaster, LatestStandsAsItFills};
 ghost use Rattle.q_laws.specs.Line.{LimitsAreDelays, LinesLeaveFirst, LinesLeaveInTime};
 ghost use Rattle.q_laws.specs.NewFlow.{NewFlowsGoBefore};
 ghost use Rattle.q_laws.specs.Order.{FlowsKeepOrder};
@@ -236,6 +237,28 @@ pub fn worst_is_enough(settings: Settings)
     ensures limit { LinesKeepLimits settings }
     ensures enough { WorstIsEnough settings }
     ensures in_time { WorstIsInTime settings }
+{
+    settings.ranges();
+}
+
+/// What `Device::latest` of `q_device` answers of a fifo in line is true of the packet that was queued there last, from the state on in
+/// which it was asked. The bytes that it answers are in line, and polls give these packets before all others (`enough`). Where a tbf is at
+/// the root, the next event comes by the time that it answers, or `late` after that, as long as polls have given fewer bytes since; and a
+/// poll that gives nothing was before that. So the packet has left by then (`in_time`). The device is polled as [`rate_is_delivered`] says,
+/// and no later than was answered; a poll is due at once where `Device::ready_at` answers no time ahead of the clock.
+///
+/// No tbf is added below the root, the one at the root stays as it is, and a command leaves the line as it was, or longer at its end.
+///
+/// What it answers of a packet that is to come next, by its length, is what it answers of that packet right after the fifo kept it, if it
+/// came at no time ahead of the clock (`told_before`). If it came later, the same bytes are answered then, and a time that is later by no
+/// more than that (`rises_no_faster`), and no later than the first answer or than that which a full bucket would give then
+/// (`stands_as_it_fills`). For all settings and every list of events whose fields are in their ranges.
+pub fn latest_is_enough(settings: Settings)
+    ensures enough { LatestIsEnough settings }
+    ensures in_time { LatestIsInTime settings }
+    ensures told_before { LatestIsToldBefore settings }
+    ensures rises_no_faster { LatestRisesNoFaster settings }
+    ensures stands_as_it_fills { LatestStandsAsItFills settings }
 {
     settings.ranges();
 }

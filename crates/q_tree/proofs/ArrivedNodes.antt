@@ -1,32 +1,29 @@
 -- A node at which a packet has arrived: what its discipline came to, booked.
-use Rattle.std.proofs.Common.{◌≡◌, ℕ, ◌≤◌, ◌-◌, ◌∙◌, List, [], ◌∷◌, ◌++◌, length, refl, sym, ap, subst, Option, Some, None, option_and_then, arith}
-use Rattle.std.specs.Prelude.{IfSome, slice_get, slice_index}
-use Rattle.std.specs.Option.{option_map_or, option_to_list}
+use Rattle.std.proofs.Common.{◌≡◌, ℕ, ◌≤◌, ◌∙◌, List, [], ◌∷◌, ◌++◌, length, refl, sym, ap, subst, Option, Some, None, option_and_then, arith}
+use Rattle.std.specs.Prelude.{IfSome, slice_get}
+use Rattle.std.specs.Option.{option_to_list}
 use Rattle.std.specs.List.{flat_map}
 use Rattle.std.proofs.lemmas.List.{length-append}
 use Rattle.std.proofs.lemmas.Option.{same_Some}
 use Rattle.q_packet.specs.Descriptor.{Descriptor}
 use Rattle.q_packet.specs.declared.cause.Cause.{Cause}
-use Rattle.q_packet.specs.declared.cause.Cause.TheVariants.{NoClass}
 use Rattle.q_codel.specs.declared.loss.Loss.{Loss}
 use Rattle.q_model.specs.declared.filter.Filter.{Filter}
 use Rattle.q_model.specs.declared.row.Row.{Row}
 use Rattle.q_model.specs.Beneath.{beneath, beneath_own, packets_in}
-use Rattle.q_model.specs.Filters.{named_class}
 use Rattle.q_model.specs.Find.{node_at}
 use Rattle.q_model.specs.Node as spec
-use Rattle.q_model.specs.Node.{Own, Node, Shape, shape, side_by_side}
+use Rattle.q_model.specs.Node.{Node, Shape, shape, side_by_side}
 use Rattle.q_model.specs.Put.{put_along}
-use Rattle.q_model.specs.Route.{Route, route, way, refused, through, class_at}
+use Rattle.q_model.specs.Route.{Route, route}
 use Rattle.q_model.specs.Tally.{Note}
 use Rattle.q_invariants.proofs.Forests.{nodes-side, each-side, lawful-with_memory}
 use Rattle.q_invariants.proofs.Kept.{IsLawfulRoot}
 use Rattle.q_invariants.proofs.Members.{All-at}
 use Rattle.q_invariants.proofs.Quiet.{child-lawful}
-use Rattle.q_tree.specs.Ahead.{ways}
 use Rattle.q_tree.specs.Arrivals.{CanPut, HasPlace, HasPlaceIn, IsLostOf, with_arrival}
 use Rattle.q_tree.specs.ArriveSteps.{CanCome, CanComeIn, HasCome, HasComeIn, HasPlaceOn, IsPlaced, IsPlacedIn, IsPutOn, rises_along, way_in}
-use Rattle.q_tree.specs.AskSteps.{IsToldOf, own_of, packets_within}
+use Rattle.q_tree.specs.AskSteps.{IsToldOf, packets_within}
 use Rattle.q_tree.specs.Kept.{Kept}
 use Rattle.q_tree.specs.PutSteps.{IsPutInto, packets_beneath}
 use Rattle.q_tree.specs.Seen.{seen, discipline_seen, children_seen, IsKept, IsCountedWithin}
@@ -36,16 +33,9 @@ use Rattle.q_tree.specs.declared.outcome.Outcome.{Outcome}
 use Rattle.q_tree.proofs.Arriving.{same-shape, same-route}
 use Rattle.q_tree.proofs.PlacesLemmas.{kept-places, place-off, same-places, seen-places}
 use Rattle.q_tree.proofs.Puts.{IsDone, can-flow, here-lost, here-at, here-rises, on-into, on-lost, on-at, on-rises}
+use Rattle.q_tree.proofs.RouteLemmas.{way-from}
 use Rattle.q_tree.proofs.TreeLemmas.{root-back}
 use Rattle.q_tree.specs.Holding.{packet_held, since_held}
-
--- a way looks at the filters of a node alone
-way-filters : (p : Descriptor) (own : Own) (filters : List Filter) (below : List Route) (d : spec.Discipline) → filters ≡ own.filters → way p (own_of None filters d) below d ≡ way p own below d
-way-filters p own filters below (spec.Fifo limit queue) e = refl
-way-filters p own filters below (spec.FqCodel s) e = refl
-way-filters p own filters below (spec.Prio priomap) e = ap (λ fs. through below (option_map_or (λ minor. minor - 1) (named_class fs p) (slice_index priomap p.prio))) e
-way-filters p own filters below (spec.Tbf bucket limit) e = refl
-way-filters p own filters below (spec.Drr s) e = ap (λ fs. elim (named_class fs p) [ None ↦ refused NoClass | Some minor ↦ option_map_or (through below) (class_at minor s) (refused NoClass) ]) e
 
 pub lawful-placed : (mtu now : ℕ) (n m : Node Kept) → IsPlaced n m → IsLawfulRoot mtu now n → IsLawfulRoot mtu now m
 lawful-placed mtu now n m h lawful = root-back mtu now (λ (k : Kept). k.counts) m (subst (IsLawfulRoot mtu now) (sym h.same) (lawful-with_memory mtu now (λ (k : Kept). k.counts) n lawful))
@@ -73,11 +63,8 @@ module _ (now : ℕ) (p : Descriptor) (a : Inside) (n : Node Kept) (k : IsKept a
       }
 
   module _ (filters : List Filter) (same : filters ≡ a.filters) where
-    pub way-is : way_in p filters a.discipline ≡ route p n
-    way-is =
-        way-filters p (seen a).own filters (ways p (children_seen a.discipline)) (discipline_seen a.discipline) same
-        ∙ ap (λ (below : List Route). way p (seen a).own below (discipline_seen a.discipline)) (sym (each-side (λ own below. way p own below own.discipline) (children_seen a.discipline)))
-        ∙ ap (route p) view
+    way-is : way_in p filters a.discipline ≡ route p n
+    way-is = way-from p a n filters view same
 
     -- a place that is there for the node's route is there for the discipline's way
     pub place-within : ((route p n).refusal ≡ None → HasPlace (route p n).path n) → (way_in p filters a.discipline).refusal ≡ None → HasPlaceOn (way_in p filters a.discipline).path a.discipline

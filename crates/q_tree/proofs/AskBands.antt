@@ -9,9 +9,8 @@ use Rattle.q_codel.specs.declared.loss.Loss.{Loss}
 use Rattle.q_model.specs.Ask.{Asked, befores, ask, ask_prio}
 use Rattle.q_model.specs.Node.{Node, Own, shape, side_by_side}
 use Rattle.q_model.specs.Tally.{Note, counts_in}
-use Rattle.q_model.specs.Work.{Worked, booked, each_booked}
-use Rattle.q_tree.specs.Arrivals.{plus}
-use Rattle.q_tree.specs.AskSteps.{CanAskEach, CanAskOnce, AreAsked, IsShown, IsToldOf, answers}
+use Rattle.q_model.specs.Work.{Worked, each_booked}
+use Rattle.q_tree.specs.AskSteps.{CanAskEach, CanAskOnce, AreAsked, IsAskedOnce, IsToldOf, answers}
 use Rattle.q_tree.specs.PutSteps.{packets_beneath}
 use Rattle.q_tree.specs.Kept.{Kept, kept}
 use Rattle.q_tree.specs.Shown.{Shown}
@@ -48,7 +47,7 @@ told-next (b ∷ below) zero a e = ap (λ (x : Asked). x.rises) (sym (same_Some 
 told-next (b ∷ below) (suc i) a e = append_assoc b.rises (told_to i below) a.rises ∙ ap (λ xs. b.rises ++ xs) (told-next below i a e)
 
 -- what a band shows and counts
-abbrev pub next_of : ℕ → Node Kept → Shown
+abbrev next_of : ℕ → Node Kept → Shown
 next_of now band = let a = ask now (shape band) in record { packet = a.shown; dropped = (counts_in a.rises).dropped; marked = (counts_in a.rises).marked }
 
 abbrev pub NoneBefore : ℕ → List Asked → Type 0
@@ -117,23 +116,23 @@ module _ (now : ℕ) (ns ms : List (Node Kept)) (i : ℕ) (s : Shown) (each : Ca
   pub band-once : (losses losses_after : List Loss) (room room_after : ℕ) → IsToldOf (told_to i (answers now ns)) losses losses_after room room_after → length (packets_beneath ns) ≤ room → CanAskOnce now c s room_after
   band-once l l2 r r2 told room = can-ask-once now ns ms (peeked_to i (answers now ns)) (told_to i (answers now ns)) each h.asking i c at band-before s h.counted l l2 r r2 told room
 
-  module _ (d : Node Kept) (next result : Shown) (new : d ≡ booked kept c (ask now (shape c)).peeked) (arrived : d.memory.counts.arrived ≡ c.memory.counts.arrived) (shown : IsShown (ask now (shape c)) next)
-      (dropped : result.dropped ≡ plus s.dropped next.dropped) (marked : result.marked ≡ plus s.marked next.marked) (packet : result.packet ≡ next.packet) where
+  module _ (d : Node Kept) (result : Shown) (asked : IsAskedOnce now c d s result) where
     band-asked : IsAsking ns (set ms i d) (peeked_to (suc i) (answers now ns)) (told_to (suc i) (answers now ns))
     band-asked =
         subst (λ (notes : List Note). IsAsking ns (set ms i d) (peeked_to (suc i) (answers now ns)) notes) (told-next (answers now ns) i (ask now (shape c)) answer-at)
         (subst (λ (ws : List Worked). IsAsking ns (set ms i d) ws (told_to i (answers now ns) ++ (ask now (shape c)).rises)) (peeked-next (answers now ns) i (ask now (shape c)) answer-at)
-        (asking-goes now ns ms (peeked_to i (answers now ns)) (told_to i (answers now ns)) h.asking i c at band-before (can-ask now ns ms (peeked_to i (answers now ns)) (told_to i (answers now ns)) each h.asking i c at band-before) d new arrived))
+        (asking-goes now ns ms (peeked_to i (answers now ns)) (told_to i (answers now ns)) h.asking i c at band-before
+        (can-ask now ns ms (peeked_to i (answers now ns)) (told_to i (answers now ns)) each h.asking i c at band-before) d asked.peeked asked.arrived))
 
     band-counted : IsCounted (told_to (suc i) (answers now ns)) result
     band-counted = subst (λ (notes : List Note). IsCounted notes result) (told-next (answers now ns) i (ask now (shape c)) answer-at)
-        (counted-then (told_to i (answers now ns)) (ask now (shape c)).rises s next result h.counted shown.dropped shown.marked dropped marked)
+        (counted-then (told_to i (answers now ns)) (ask now (shape c)).rises s (next_of now c) result h.counted refl refl asked.dropped asked.marked)
 
     -- one that shows nothing is passed
     band-passed : is_some result.packet ≡ false → AreBandsAsked now ns (set ms i d) (suc i) result
     band-passed none = record {
       asking = band-asked;
-      nobody = omega (arith, h.nobody, first-later (answers now ns) i (ask now (shape c)) answer-at (sym (ap is_some (packet ∙ shown.packet)) ∙ none));
+      nobody = omega (arith, h.nobody, first-later (answers now ns) i (ask now (shape c)) answer-at (sym (ap is_some asked.packet) ∙ none));
       counted = band-counted;
       nothing = from result.packet none;
     }
@@ -144,7 +143,7 @@ module _ (now : ℕ) (ns ms : List (Node Kept)) (i : ℕ) (s : Shown) (each : Ca
 
     -- and the first that shows a packet ends it
     pub band-place : is_some result.packet ≡ true → first_showing (answers now ns) ≡ i
-    band-place some = omega (arith, h.nobody, first-here (answers now ns) i (ask now (shape c)) answer-at (sym (ap is_some (packet ∙ shown.packet)) ∙ some))
+    band-place some = omega (arith, h.nobody, first-here (answers now ns) i (ask now (shape c)) answer-at (sym (ap is_some asked.packet) ∙ some))
 
     pub band-shown : is_some result.packet ≡ true → (own : Own) → AreAsked (ask_prio own (answers now ns)) ns (set ms i d) result
     band-shown some own =
@@ -155,7 +154,7 @@ module _ (now : ℕ) (ns ms : List (Node Kept)) (i : ℕ) (s : Shown) (each : Ca
           nodes = ap side_by_side band-asked.children ∙ side-all ns (peeked_to (suc i) (answers now ns)) ∙ ap (each_booked kept (side_by_side ns)) (sym (prio-below own (answers now ns) i k));
           within = band-asked.within;
           shown = record {
-            packet = packet ∙ shown.packet ∙ sym (ap (option_and_then (λ (a : Asked). a.shown)) answer-at) ∙ sym (prio-shown own (answers now ns) i k);
+            packet = asked.packet ∙ sym (ap (option_and_then (λ (a : Asked). a.shown)) answer-at) ∙ sym (prio-shown own (answers now ns) i k);
             dropped = band-counted.dropped ∙ ap (λ notes. (counts_in notes).dropped) (sym all);
             marked = band-counted.marked ∙ ap (λ notes. (counts_in notes).marked) (sym all);
           };

@@ -3,9 +3,8 @@ use Rattle.std.proofs.Common.{◌≡◌, ℕ, refl, sym, Option, Some, None}
 use Rattle.std.proofs.lemmas.Bool.{false≢true}
 use Rattle.std.proofs.lemmas.Option.{none-some}
 use Rattle.std.proofs.Common.{ap}
-use Rattle.std.specs.Prelude.{true, false, is_some, unwrap_or, option_map}
+use Rattle.std.specs.Prelude.{true, false, is_some, unwrap_or}
 use Rattle.std.proofs.Common.{◌∙◌}
-use Rattle.std.specs.Option.{option_map_or}
 use Rattle.q_packet.specs.Descriptor.{Descriptor}
 use Rattle.q_packet.specs.declared.stamped.Stamped.{Stamped}
 use Rattle.q_model.specs.Since.{since_of}
@@ -46,12 +45,6 @@ pub placed : (o : Option Descriptor) (p place old : Descriptor) (at t : ℕ) →
 placed o p place old at t e is s =
     let same : place ≡ p = is ∙ ap (λ (x : Option Descriptor). unwrap_or x old) e in
     (λ i. Some (record { packet = same i; at = s i })) ∙ ap (λ (x : Option Descriptor). held_with x t) (sym e)
-
--- since when the packet has been held, where there is one
-pub arrival-held : (h : Option Stamped) (p : Descriptor) (other : Option ℕ) → packet_held h ≡ Some p
-    → option_map (λ (s : Stamped). s.at) h ≡ option_map_or (λ (q : Descriptor). Some (since_held h)) (packet_held h) other
-arrival-held None p other e = absurd (none-some p e)
-arrival-held (Some s) p other e = refl
 
 -- a packet that may be there
 pub some-there : (o : Option Descriptor) → is_some o ≡ true → (p : Descriptor) × (o ≡ Some p)

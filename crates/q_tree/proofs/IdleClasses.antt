@@ -19,6 +19,7 @@ use Rattle.q_model.specs.Work.{each_booked}
 use Rattle.q_model.proofs.ClassesAsked.{rises_of}
 use Rattle.q_tree.specs.AskSteps.{CanServe, AreAsked, IsToldOf, answers}
 use Rattle.q_tree.specs.Kept.{Kept, kept}
+use Rattle.q_tree.specs.Meeting.{AreUnserved}
 use Rattle.q_tree.specs.Shown.{Shown}
 use Rattle.q_tree.proofs.AskOnce.{IsCounted}
 use Rattle.q_tree.proofs.Asking.{side-all}
@@ -56,16 +57,16 @@ module _ {now : ℕ} {first s : Schedule} {ns ms : List (Node Kept)} {unasked : 
   idle-rises : (own : Own) → (ask_drr own (answers now ns) first).rises ≡ rises_to now first ns h.turns
   idle-rises own = ap (λ (x : Asked). x.rises) (idle-answer own) ∙ ap (λ (es : List Entry). rises_of first es (answers now ns)) nobody-to
 
-  pub idle-schedule : (own : Own) → spec.Drr s ≡ (ask_drr own (answers now ns) first).peeked.own.discipline
+  idle-schedule : (own : Own) → spec.Drr s ≡ (ask_drr own (answers now ns) first).peeked.own.discipline
   idle-schedule own = ap spec.Drr (served_nobody (heads_of now first ns) first s nobody no-turn) ∙ ap (λ (x : Asked). x.peeked.own.discipline) (sym (idle-answer own))
 
-  pub idle-since : (own : Own) → 0 ≡ (ask_drr own (answers now ns) first).peeked.own.since
+  idle-since : (own : Own) → 0 ≡ (ask_drr own (answers now ns) first).peeked.own.since
   idle-since own = ap (λ (x : Asked). x.peeked.own.since) (sym (idle-answer own))
 
   pub idle-told : (own : Own) → IsToldOf (ask_drr own (answers now ns) first).rises k.losses k.losses_now k.room k.room_now
   idle-told own = subst (λ notes. IsToldOf notes k.losses k.losses_now k.room k.room_now) (sym (idle-rises own)) h.told
 
-  pub idle-asked : {result : Shown} → result.packet ≡ None → IsCounted [] result → (own : Own) → AreAsked (ask_drr own (answers now ns) first) ns ms result
+  idle-asked : {result : Shown} → result.packet ≡ None → IsCounted [] result → (own : Own) → AreAsked (ask_drr own (answers now ns) first) ns ms result
   idle-asked empty counted own =
       let rises : rises_to now first ns h.turns ≡ [] = ap (λ k. rises_to now first ns k) idle.2 in
       record {
@@ -80,3 +81,6 @@ module _ {now : ℕ} {first s : Schedule} {ns ms : List (Node Kept)} {unasked : 
           marked = counted.marked ∙ ap (λ notes. (counts_in notes).marked) (sym (idle-rises own ∙ rises));
         };
       }
+
+  pub idle-unserved : {result : Shown} → result.packet ≡ None → IsCounted [] result → AreUnserved now first s ns ms result
+  idle-unserved empty counted = record { empty = empty; since = idle-since; schedule = idle-schedule; asked = idle-asked empty counted }

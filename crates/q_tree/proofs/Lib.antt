@@ -11,6 +11,7 @@ pub mod BurstArrivals
 pub mod BurstSends
 pub mod ChainsLemmas
 pub mod ChangeLemmas
+pub mod ChoosingLemmas
 pub mod ClassAdding
 pub mod ClassLemmas
 pub mod ClassPlaces

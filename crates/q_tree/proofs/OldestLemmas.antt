@@ -73,14 +73,6 @@ fq-oldest d s mtu clock below is alone h =
     ∙ ap earliest (sym (append-nil (arrivals_in (spec.FqCodel s))))
     ∙ sym (ap₂ (λ (k : spec.Discipline) (ns : List (Node Kept)). earliest (arrivals_in k ++ flat_map (λ (o : Option ℕ). option_to_list o) (map oldest ns))) is alone)
 
--- its children: a discipline that has no queues of its own
-pub kids-oldest : (d : Discipline) (ns : List (Node Kept)) → arrivals_in (discipline_seen d) ≡ [] → ns ≡ children_seen d → oldest_of (map oldest ns) ≡ oldest_within d
-kids-oldest d ns none is =
-    ap₂ (λ (ts : List ℕ) (ms : List (Node Kept)). earliest (ts ++ flat_map (λ (o : Option ℕ). option_to_list o) (map oldest ms))) (sym none) is
-
-pub child-oldest : (n : Node Kept) → oldest n ≡ oldest_of (map oldest (n ∷ []))
-child-oldest n = sym (earliest-one (oldest n)) ∙ ap earliest (sym (append-nil (option_to_list (oldest n))))
-
 -- nodes side by side, from this place on
 pub oldest-next : (ns : List (Node Kept)) (i : ℕ) (x : Node Kept) (first : Option ℕ) → i < length ns → x ≡ slice_index_or ns i x
     → earlier first (oldest_of (map oldest (drop i ns))) ≡ earlier (earlier first (oldest x)) (oldest_of (map oldest (drop (i + 1) ns)))
@@ -114,12 +106,6 @@ inside-order a n view h =
     from mtu clock (m ∷ ns) h = ((h.0, h.1), from mtu clock ns h.2)
 
 -- its children
-pub all-order : (d : Discipline) (ns : List (Node Kept)) → ns ≡ children_seen d → IsInOrderIn d → AreAllInOrder ns
-all-order d ns is h = record { mtu = h.mtu; clock = h.clock; lawful = subst (AreLawful h.mtu h.clock) (sym is) h.lawful }
-
-pub one-order : (d : Discipline) (n : Node Kept) → n ∷ [] ≡ children_seen d → IsInOrderIn d → IsInOrder n
-one-order d n is h = record { mtu = h.mtu; clock = h.clock; lawful = (subst (AreLawful h.mtu h.clock) (sym is) h.lawful).0 }
-
 pub each-order : (ns : List (Node Kept)) (i : ℕ) (x : Node Kept) → slice_get ns i ≡ Some x → AreAllInOrder ns → IsInOrder x
 each-order ns i x at h = record { mtu = h.mtu; clock = h.clock; lawful = found ns i at h.lawful }
   where

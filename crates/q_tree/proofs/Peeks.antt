@@ -26,19 +26,22 @@ use Rattle.q_invariants.proofs.Forests.{each-side, AreLawful}
 use Rattle.q_invariants.proofs.Kept.{AllLawful}
 use Rattle.q_invariants.proofs.Pops.{ask-popped, booked-then}
 use Rattle.q_invariants.proofs.Told.{root-booked}
-use Rattle.q_tree.specs.AskSteps.{CanAsk, CanAskEach, CanServe, CanAskIn, CanShow, IsShown, AreAsked, IsToldOf, IsAskedIn, answers, answer_of, own_of, held_in, packets_within, with_shown}
+use Rattle.q_tree.specs.AskSteps.{CanAsk, CanAskEach, CanServe, CanAskIn, CanShow, IsShown, IsPeeked, AreAsked, IsToldOf, IsAskedIn, answers, answer_of, own_of, held_in, packets_within, with_shown}
 use Rattle.q_tree.specs.Kept.{Kept, kept}
+use Rattle.q_tree.specs.Meeting.{IsAllowed, IsWaiting}
 use Rattle.q_tree.specs.PutSteps.{packets_beneath}
 use Rattle.q_tree.specs.Seen.{seen, discipline_seen, children_seen, places_seen, IsKept, IsCountedWithin}
 use Rattle.q_tree.specs.declared.node.Discipline.{Discipline}
 use Rattle.q_tree.specs.declared.node.Node.TheInside.{Inside}
 use Rattle.q_tree.specs.Shown.{Shown}
+use Rattle.q_tree.specs.declared.signals.Signals.{Signals}
 use Rattle.q_tree.proofs.AskForms.{ask-holding, ask-none, peeked-is}
 use Rattle.q_tree.proofs.RowsOf.{IsRowOf, row-of, kept-of, can-show, row-shown}
 use Rattle.q_invariants.proofs.Weights.{IsQuiet}
 use Rattle.q_tree.proofs.PopLemmas.{set-within}
 use Rattle.q_tree.proofs.Asking.{asked-told, asked-weighs, all-before, side-all}
 use Rattle.q_tree.specs.Holding.{packet_held, held_with}
+use Rattle.q_tree.proofs.HeldLemmas.{empty-held}
 use Rattle.q_packet.specs.declared.stamped.Stamped.{Stamped}
 use Rattle.q_model.specs.Since.{at_hand_since, since_own}
 
@@ -69,7 +72,7 @@ popped-asked now n m p can new shown =
     }
 
 -- a tbf whose bucket allows the packet of its child
-pub tbf-gave : (now : ℕ) (own : Own) (b : TokenBucket) (limit : ℕ) (n m c : Node Kept) (p : Descriptor) (s : Shown) → CanAsk now n → m ≡ booked kept n (ask now (shape n)).peeked → (ask now (shape n)).shown ≡ Some p
+tbf-gave : (now : ℕ) (own : Own) (b : TokenBucket) (limit : ℕ) (n m c : Node Kept) (p : Descriptor) (s : Shown) → CanAsk now n → m ≡ booked kept n (ask now (shape n)).peeked → (ask now (shape n)).shown ≡ Some p
     → allows b now p.len ≡ true → c ≡ booked kept m (pop m).after → c.memory.counts.arrived ≡ n.memory.counts.arrived → s.packet ≡ (pop m).shown
     → s.dropped ≡ (counts_in (ask now (shape n)).rises).dropped → s.marked ≡ (counts_in (ask now (shape n)).rises).marked
     → AreAsked (ask_child now own (ask now (shape n) ∷ []) b limit (ask now (shape n))) (n ∷ []) (c ∷ []) s
@@ -104,7 +107,7 @@ tbf-none now own b limit n m s new arrived shown none =
     })
 
 -- when the packet arrived that a tbf then has
-pub tbf-gave-since : (now : ℕ) (own : Own) (b : TokenBucket) (limit : ℕ) (n m : Node Kept) (p : Descriptor) → CanAsk now n → m ≡ booked kept n (ask now (shape n)).peeked → (ask now (shape n)).shown ≡ Some p
+tbf-gave-since : (now : ℕ) (own : Own) (b : TokenBucket) (limit : ℕ) (n m : Node Kept) (p : Descriptor) → CanAsk now n → m ≡ booked kept n (ask now (shape n)).peeked → (ask now (shape n)).shown ≡ Some p
     → allows b now p.len ≡ true → unwrap_or (at_hand_since m) 0 ≡ (ask_child now own (ask now (shape n) ∷ []) b limit (ask now (shape n))).peeked.own.since
 tbf-gave-since now own b limit n m p can new shown may =
     let a : Asked = ask now (shape n) in
@@ -122,8 +125,21 @@ tbf-none-since now own b limit n silent =
     let below : List Asked = a ∷ [] in
     ap (λ (o : Option Descriptor). (option_map_or (λ (p : Descriptor). if allows b now p.len then spends own below b limit now a p else waits own below a) o (waits own below a)).peeked.own.since) (sym silent)
 
+-- the bucket allows what the child shows
+pub tbf-allowed : (now : ℕ) (b : TokenBucket) (n m : Node Kept) (counted : Signals) (s : Shown) → CanAsk now n → IsPeeked now n m counted s → (p q : Descriptor) → s.packet ≡ Some p → s.packet ≡ Some q → allows b now q.len ≡ true
+    → IsAllowed now p b n m s
+tbf-allowed now b n m counted s can peeked p q is shown may =
+    let offered : (ask now (shape n)).shown ≡ Some q = sym peeked.shown.packet ∙ shown in
+    let given = hand-asked now n m can peeked.after in
+    record {
+      shown = given ∙ sym peeked.shown.packet ∙ is;
+      since = λ own limit. tbf-gave-since now own b limit n m q can peeked.after offered may;
+      asked = λ c after arrived own limit.
+          tbf-gave now own b limit n m c q s can peeked.after offered may after (arrived ∙ peeked.arrived) (peeked.shown.packet ∙ sym given) peeked.shown.dropped peeked.shown.marked;
+    }
+
 -- one whose bucket does not allow what its child shows
-pub tbf-waits : (now : ℕ) (own : Own) (b : TokenBucket) (limit : ℕ) (n m : Node Kept) (p : Descriptor) (r s : Shown) → m ≡ booked kept n (ask now (shape n)).peeked → m.memory.counts.arrived ≡ n.memory.counts.arrived → IsShown (ask now (shape n)) r
+tbf-waits : (now : ℕ) (own : Own) (b : TokenBucket) (limit : ℕ) (n m : Node Kept) (p : Descriptor) (r s : Shown) → m ≡ booked kept n (ask now (shape n)).peeked → m.memory.counts.arrived ≡ n.memory.counts.arrived → IsShown (ask now (shape n)) r
     → (ask now (shape n)).shown ≡ Some p → allows b now p.len ≡ false → s.packet ≡ None → s.dropped ≡ r.dropped → s.marked ≡ r.marked
     → AreAsked (ask_child now own (ask now (shape n) ∷ []) b limit (ask now (shape n))) (n ∷ []) (m ∷ []) s
 tbf-waits now own b limit n m p r s new arrived told shown may none dropped marked =
@@ -139,13 +155,23 @@ tbf-waits now own b limit n m p r s new arrived told shown may none dropped mark
       shown = record { packet = none; dropped = dropped ∙ told.dropped; marked = marked ∙ told.marked };
     })
 
-pub tbf-waits-since : (now : ℕ) (own : Own) (b : TokenBucket) (limit : ℕ) (n : Node Kept) (p : Descriptor) → (ask now (shape n)).shown ≡ Some p → allows b now p.len ≡ false
+tbf-waits-since : (now : ℕ) (own : Own) (b : TokenBucket) (limit : ℕ) (n : Node Kept) (p : Descriptor) → (ask now (shape n)).shown ≡ Some p → allows b now p.len ≡ false
     → 0 ≡ (ask_child now own (ask now (shape n) ∷ []) b limit (ask now (shape n))).peeked.own.since
 tbf-waits-since now own b limit n p shown may =
     let a : Asked = ask now (shape n) in
     let below : List Asked = a ∷ [] in
     ap (λ (t : Bool). (if t then spends own below b limit now a p else waits own below a).peeked.own.since) (sym may)
     ∙ ap (λ (o : Option Descriptor). (option_map_or (λ (p : Descriptor). if allows b now p.len then spends own below b limit now a p else waits own below a) o (waits own below a)).peeked.own.since) (sym shown)
+
+-- it does not allow what the child shows
+pub tbf-waiting : (now : ℕ) (own : Own) (b : TokenBucket) (limit : ℕ) (n m : Node Kept) (counted : Signals) (r s : Shown) → IsPeeked now n m counted r → (p : Descriptor) → r.packet ≡ Some p → allows b now p.len ≡ false
+    → s.packet ≡ None → s.dropped ≡ r.dropped → s.marked ≡ r.marked → IsWaiting now own limit b n m s
+tbf-waiting now own b limit n m counted r s peeked p is may none dropped marked =
+    let shown : (ask now (shape n)).shown ≡ Some p = sym peeked.shown.packet ∙ is in
+    record {
+      since = tbf-waits-since now own b limit n p shown may;
+      asked = tbf-waits now own b limit n m p r s peeked.after peeked.arrived peeked.shown shown may none dropped marked;
+    }
 
 -- children of a discipline that can be asked
 abbrev each-here : (now : ℕ) (d : Discipline) → CanAskIn now d → CanAskEach now (children_seen d)
@@ -205,7 +231,7 @@ asked-in now handle filters before after k k2 ns ns2 s is kids is2 kids2 places 
       places = places;
     })
 
--- a fifo shows its head, and stays as it is
+-- a fifo that shows its head
 pub fifo-asked : (now : ℕ) (handle : Option ℕ) (filters : List Filter) (d : Discipline) (limit : Limit) (queue : List Stamped) (s : Shown) → discipline_seen d ≡ spec.Fifo limit queue → children_seen d ≡ []
     → s.packet ≡ slice_get (packets_of queue) 0 → s.dropped ≡ no_totals → s.marked ≡ no_totals → IsAskedIn (answer_of now handle filters d) d d s
 fifo-asked now handle filters d limit queue s is kids packet dropped marked =
@@ -300,3 +326,11 @@ module _ (now : ℕ) (a : Inside) (n : Node Kept) (k : IsKept a) (view : seen a 
                 (subst (λ (y : Row). All (λ (child : Node Kept). IsCountedWithin child.memory.counts.arrived y.arrived) (children_seen d)) (sym row) (q.children.within a.row.arrived k.within));
             after = value ∙ ap (λ (m : Node Kept). booked kept m (ask now (shape m)).peeked) view;
           }
+
+    -- a fifo shows its head, and stays as it is
+    pub fifo-peeked : (limit : Limit) (queue : List Stamped) (s : Shown) → discipline_seen a.discipline ≡ spec.Fifo limit queue → IsAskedIn (answer_of now a.handle a.filters a.discipline) a.discipline a.discipline s
+        → CanShow s a.row → a.row ≡ with_shown s a.row → n ≡ booked kept n (ask now (shape n)).peeked
+    fifo-peeked limit queue s is asked fit row =
+        sym view
+        ∙ (peeked-done a.discipline s asked a.row a.held fit row
+        (empty-held a.held none ∙ sym (ap (λ k. held_with (held_in k s.packet) (answer_of now a.handle a.filters a.discipline).peeked.own.since) is))).after

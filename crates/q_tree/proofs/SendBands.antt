@@ -8,8 +8,7 @@ use Rattle.q_model.specs.Ask.{Asked, befores, ask, ask_prio}
 use Rattle.q_model.specs.Node.{Node, Own, shape, side_by_side}
 use Rattle.q_model.specs.Pop.{pop}
 use Rattle.q_model.specs.Work.{Worked, booked, each_booked}
-use Rattle.q_tree.specs.Arrivals.{plus}
-use Rattle.q_tree.specs.AskSteps.{CanAsk, CanAskEach, AreAsked, IsShown, answers}
+use Rattle.q_tree.specs.AskSteps.{CanAsk, CanAskEach, AreAsked, IsAskedOnce, answers}
 use Rattle.q_tree.specs.Kept.{Kept, kept}
 use Rattle.q_tree.specs.Meeting.{IsBandMet}
 use Rattle.q_tree.specs.SendSteps.{AreSent, left_of}
@@ -44,13 +43,12 @@ taken-below own below k p is some =
     sym (ap (λ n. side_by_side (taken_at n below)) is) ∙ sym (ap (λ (o : Option Descriptor). (if is_some o then a.taken else a.peeked).below) some)
 
 module _ (now : ℕ) (ns ms : List (Node Kept)) (i : ℕ) (s : Shown) (each : CanAskEach now ns) (h : AreBandsAsked now ns ms i s) (c : Node Kept) (at : slice_get ns i ≡ Some c)
-    (m : Node Kept) (next result : Shown) (new : m ≡ booked kept c (ask now (shape c)).peeked) (arrived : m.memory.counts.arrived ≡ c.memory.counts.arrived) (shown : IsShown (ask now (shape c)) next)
-    (dropped : result.dropped ≡ plus s.dropped next.dropped) (marked : result.marked ≡ plus s.marked next.marked) (packet : result.packet ≡ next.packet) (p : Descriptor) (some : result.packet ≡ Some p) where
+    (m : Node Kept) (result : Shown) (asked : IsAskedOnce now c m s result) (p : Descriptor) (some : result.packet ≡ Some p) where
   shows : is_some result.packet ≡ true
   shows = ap is_some some
 
   place : first_showing (answers now ns) ≡ i
-  place = band-place now ns ms i s each h c at m next result new arrived shown dropped marked packet shows
+  place = band-place now ns ms i s each h c at m result asked shows
 
   can : CanAsk now c
   can = can-ask now ns ms (peeked_to i (answers now ns)) (told_to i (answers now ns)) each h.asking i c at (band-before now ns ms i s each h c at)
@@ -64,7 +62,7 @@ module _ (now : ℕ) (ns ms : List (Node Kept)) (i : ℕ) (s : Shown) (each : Ca
   -- once it has handed out its packet, which it has at hand
   module _ (d : Node Kept) (gone : d ≡ booked kept m (pop m).after) (same : d.memory.counts.arrived ≡ m.memory.counts.arrived) where
     taken : d ≡ booked kept c (ask now (shape c)).taken
-    taken = gone ∙ (popped-asked now c m p can new (sym shown.packet ∙ sym packet ∙ some)).left
+    taken = gone ∙ (popped-asked now c m p can asked.peeked (sym asked.packet ∙ some)).left
 
     given-bands : set (set ms i m) i d ≡ booked_all ns (taken_at i (answers now ns))
     given-bands =
@@ -74,19 +72,19 @@ module _ (now : ℕ) (ns ms : List (Node Kept)) (i : ℕ) (s : Shown) (each : Ca
 
     band-sent : (own : Own) → AreSent (ask_prio own (answers now ns)) ns (set (set ms i m) i d) result
     band-sent own =
-        let asked = band-shown now ns ms i s each h c at m next result new arrived shown dropped marked packet shows own in
+        let all = band-shown now ns ms i s each h c at m result asked shows own in
         record {
-          long = length-set (set ms i m) i d ∙ asked.long;
+          long = length-set (set ms i m) i d ∙ all.long;
           nodes = ap side_by_side given-bands ∙ side-all ns (taken_at i (answers now ns))
-              ∙ ap (each_booked kept (side_by_side ns)) (taken-below own (answers now ns) i p place (sym asked.shown.packet ∙ some));
-          within = λ t all. set-within (set ms i m) i m d (set-at ms i c m still) same t (asked.within t all);
-          shown = asked.shown;
+              ∙ ap (each_booked kept (side_by_side ns)) (taken-below own (answers now ns) i p place (sym all.shown.packet ∙ some));
+          within = λ t fine. set-within (set ms i m) i m d (set-at ms i c m still) same t (all.within t fine);
+          shown = all.shown;
         }
 
   pub band-met : IsBandMet now i ns (set ms i m) result
   band-met = record {
     inside = omega (arith, slice_get_within ms i c still, length-set ms i m);
-    shown = λ n there. ap (λ (x : Node Kept). (pop x).shown) (here n there) ∙ hand-asked now c m can new ∙ sym shown.packet ∙ sym packet;
+    shown = λ n there. ap (λ (x : Node Kept). (pop x).shown) (here n there) ∙ hand-asked now c m can asked.peeked ∙ sym asked.packet;
     sent = λ n d there gone same. let is = here n there in
         band-sent d (gone ∙ ap (λ (x : Node Kept). booked kept x (pop x).after) is) (same ∙ ap (λ (x : Node Kept). x.memory.counts.arrived) is);
   }

@@ -1,6 +1,6 @@
 -- The classes of a drr that are asked in turn, until one is met that can send its packet, or shows none.
 use Rattle.std.proofs.Common.{◌≡◌, ℕ, zero, suc, ◌-◌, ◌≤◌, ◌<◌, ◌∙◌, List, [], ◌∷◌, ◌++◌, take, set, length, refl, sym, ap, ap₂, subst, inl, inr, ◌||◌, eq-eqb, Option, Some, None, option_and_then, option_map, arith}
-use Rattle.std.specs.Prelude.{Bool, true, false, nat_lt, ◌==◌, slice_get, slice_index_or, unwrap_or}
+use Rattle.std.specs.Prelude.{is_some, Bool, true, false, nat_lt, ◌==◌, slice_get, slice_index_or, unwrap_or}
 use Rattle.std.specs.List.{All, sum_by}
 use Rattle.std.specs.Option.{option_map_or}
 use Rattle.std.proofs.lemmas.Bool.{cases_lt, cases_Bool, eqb-true, ltb-true, ltb-false, false≢true}
@@ -33,6 +33,7 @@ use Rattle.q_invariants.proofs.Members.{All-at}
 use Rattle.q_invariants.proofs.Told.{root-booked}
 use Rattle.q_tree.specs.AskSteps.{CanAsk, CanAskOnce, CanServe, AreAsked, IsAskedOnce, IsGivenBy, IsToldOf, answers}
 use Rattle.q_tree.specs.Kept.{Kept, kept}
+use Rattle.q_tree.specs.Meeting as meeting
 use Rattle.q_tree.specs.PutSteps.{packets_beneath}
 use Rattle.q_tree.specs.Seen.{IsCountedWithin}
 use Rattle.q_tree.specs.Shown.{Shown}
@@ -320,18 +321,18 @@ module _ {now : ℕ} {first s : Schedule} {ns ms : List (Node Kept)} {unasked : 
       uncovered : (len : ℕ) → option_map (λ (x : Descriptor). x.len) None ≡ Some len → len ≤ met.front.first.deficit
       uncovered len e = cc
 
-      pub nothing-schedule : (own : Own) → spec.Drr s ≡ (ask_drr own (answers now ns) first).peeked.own.discipline
+      nothing-schedule : (own : Own) → spec.Drr s ≡ (ask_drr own (answers now ns) first).peeked.own.discipline
       nothing-schedule own =
           ap spec.Drr (served_nothing (heads_of now first ns) first s met.class met.front (shown-head None silent) (ready None silent uncovered))
           ∙ ap (λ (x : Asked). x.peeked.own.discipline) (sym (drr-answer None silent uncovered own))
 
-      pub nothing-since : (own : Own) → 0 ≡ (ask_drr own (answers now ns) first).peeked.own.since
+      nothing-since : (own : Own) → 0 ≡ (ask_drr own (answers now ns) first).peeked.own.since
       nothing-since own = ap (λ (x : Asked). x.peeked.own.since) (sym (drr-answer None silent uncovered own))
 
       pub nothing-told : (own : Own) → IsToldOf (ask_drr own (answers now ns) first).rises k.losses l2 k.room r2
       nothing-told own = subst (λ notes. IsToldOf notes k.losses l2 k.room r2) (sym (ap (λ (x : Asked). x.rises) (drr-answer None silent uncovered own) ∙ service-rises None silent uncovered)) shows.told
 
-      pub nothing-asked : (own : Own) → AreAsked (ask_drr own (answers now ns) first) ns (set ms place d) result
+      nothing-asked : (own : Own) → AreAsked (ask_drr own (answers now ns) first) ns (set ms place d) result
       nothing-asked own =
           let rises : (ask_drr own (answers now ns) first).rises ≡ rises_to now first ns (suc met.asked.turns) = ap (λ (x : Asked). x.rises) (drr-answer None silent uncovered own) ∙ service-rises None silent uncovered in
           record {
@@ -347,8 +348,11 @@ module _ {now : ℕ} {first s : Schedule} {ns ms : List (Node Kept)} {unasked : 
             };
           }
 
+      pub class-unserved : meeting.AreUnserved now first s ns (set ms place d) result
+      class-unserved = record { empty = empty; since = nothing-since; schedule = nothing-schedule; asked = nothing-asked }
+
     -- what it gives is what it showed
-    pub given-packet : (pop d).shown ≡ result.packet
+    given-packet : (pop d).shown ≡ result.packet
     given-packet = hand-asked now met.at.child d child-can shows.peeked ∙ sym shows.shown
 
     -- one that shows a packet of this length
@@ -367,7 +371,7 @@ module _ {now : ℕ} {first s : Schedule} {ns ms : List (Node Kept)} {unasked : 
         enough : (m : ℕ) → option_map (λ (x : Descriptor). x.len) (Some offer.0) ≡ Some m → m ≤ met.front.first.deficit
         enough m e = subst (λ m. m ≤ met.front.first.deficit) (sym offer.2 ∙ same_Some offer.0.len m e) (covers s met.class len met.front send)
 
-        pub given-since : (own : Own) → since_of result.packet (unwrap_or (at_hand_since d) 0) ≡ (ask_drr own (answers now ns) first).peeked.own.since
+        given-since : (own : Own) → since_of result.packet (unwrap_or (at_hand_since d) 0) ≡ (ask_drr own (answers now ns) first).peeked.own.since
         given-since own =
             ap (λ (o : Option Descriptor). since_of o (unwrap_or (at_hand_since d) 0)) offer.1
             ∙ ap (λ (o : Option ℕ). unwrap_or o 0) (since-asked now met.at.child d child-can shows.peeked)
@@ -399,12 +403,12 @@ module _ {now : ℕ} {first s : Schedule} {ns ms : List (Node Kept)} {unasked : 
         answer : (own : Own) → ask_drr own (answers now ns) first ≡ class_gives own (answers now ns) (service_of first (answers now ns)) place (ask now (shape met.at.child)) offer.0
         answer own = drr-answer (Some offer.0) offers covered own
 
-        pub given-schedule : (own : Own) → spec.Drr s2 ≡ (ask_drr own (answers now ns) first).peeked.own.discipline
+        given-schedule : (own : Own) → spec.Drr s2 ≡ (ask_drr own (answers now ns) first).peeked.own.discipline
         given-schedule own =
             ap spec.Drr (gift.schedule ∙ ap₂ (λ b t. settled_class place b t) emptied (served_head (heads_of now first ns) first s met.class len met.front offered-head pays (ready (Some offer.0) offers covered)))
             ∙ ap (λ (y : Asked). y.peeked.own.discipline) (sym (answer own))
 
-        pub given-asked : (own : Own) → AreAsked (ask_drr own (answers now ns) first) ns ms2 result
+        given-asked : (own : Own) → AreAsked (ask_drr own (answers now ns) first) ns ms2 result
         given-asked own =
             let a : Asked = ask now (shape met.at.child) in
             let ws : List Worked = classes_to now first ns (suc met.asked.turns) in
@@ -427,6 +431,19 @@ module _ {now : ℕ} {first s : Schedule} {ns ms : List (Node Kept)} {unasked : 
                 marked = shows.counted.marked ∙ ap (λ notes. (counts_in notes).marked) (sym rises);
               };
             }
+
+      pub class-sends : Send ≡ turn_answer len s.active → {s1 : Schedule} → s1 ≡ turned len s → meeting.IsMet now place first s1 ns (set ms place d) result
+      class-sends send turn = record {
+        inside = omega (arith, place-within, length-set ms place d);
+        some = ap is_some offer.1;
+        shown = λ class at. ap (λ (n : Node Kept). (pop n).shown) (here class at) ∙ given-packet;
+        since = λ class at own. ap (λ (n : Node Kept). since_of result.packet (unwrap_or (at_hand_since n) 0)) (here class at) ∙ given-since send turn own;
+        schedule = λ given ks gift own. given-schedule send turn gift own;
+        asked = λ given ks gift own. given-asked send turn gift own;
+      }
+        where
+          here : (class : Node Kept) → slice_get (set ms place d) place ≡ Some class → class ≡ d
+          here class at = same_Some class d (sym at ∙ shows.stored)
 
       -- and is granted its quantum where it cannot
       module _ (granted : Granted ≡ turn_answer len s.active) {s1 : Schedule} (turn : s1 ≡ turned len s) where

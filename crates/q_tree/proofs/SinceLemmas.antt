@@ -4,7 +4,7 @@ use Rattle.std.specs.Prelude.{Bool, false, not, cond, is_some, slice_get, slice_
 use Rattle.std.proofs.lemmas.List.{drop_more, drop_all}
 use Rattle.std.specs.List.{position_or_len}
 use Rattle.std.specs.Option.{option_map_or}
-use Rattle.std.proofs.lemmas.Option.{none-some, slice_get-map}
+use Rattle.std.proofs.lemmas.Option.{none-some}
 use Rattle.q_packet.specs.Descriptor.{Descriptor}
 use Rattle.q_packet.specs.declared.stamped.Stamped.{Stamped}
 use Rattle.q_model.specs.Node.{Discipline, Fifo, Prio, Tbf, Drr, FqCodel, Own, Forest, none, more, Node, each}
@@ -15,13 +15,11 @@ use Rattle.q_fqcodel.specs.FqState.{Flow, FqState}
 use Rattle.q_fqcodel.specs.Take.{head_sent, packet_sent, sender, sent_from}
 use Rattle.q_tree.specs.Kept.{Kept}
 use Rattle.q_tree.proofs.TakeCounts.{packet_of}
-use Rattle.q_tree.proofs.PopLemmas.{none-there}
 use Rattle.std.proofs.lemmas.Bool.{false≢true}
 use Rattle.q_invariants.proofs.Forests.{each-side}
 use Rattle.q_tree.specs.Holding.{packet_held, since_held}
 use Rattle.q_tree.specs.Seen.{seen, discipline_seen, children_seen}
 use Rattle.q_tree.specs.declared.node.Node.TheInside.{Inside}
-use Rattle.q_tree.proofs.HeldLemmas.{arrival-held}
 
 -- a time for each packet that is at hand
 abbrev pub AreTimed : List (Option ℕ) → List Popping → Type 0
@@ -70,28 +68,6 @@ all-alike (more own m below others) = (node-alike own (each since_own below) (ea
 pub since-alike : {M : Type 0} (n : Node M) → is_some (at_hand_since n) ≡ is_some (pop n).shown
 since-alike n = node-alike n.own (each since_own n.below) (each pop_own n.below) (all-alike n.below)
 
-sides-alike : (ns : List (Node Kept)) → AreTimed (map at_hand_since ns) (map pop ns)
-sides-alike [] = tt
-sides-alike (n ∷ ns) = (since-alike n, sides-alike ns)
-
--- the first band that has a packet at hand
-pub prio-since : (ns : List (Node Kept)) (k : ℕ) (c : Node Kept) (priomap : List ℕ) → slice_get ns k ≡ Some c → k ≡ first_ready (map pop ns)
-    → at_hand_since c ≡ since_in (map at_hand_since ns) (Prio priomap)
-prio-since ns k c priomap there first =
-    sym (ap (option_and_then (λ (o : Option ℕ). o)) (slice_get-map at_hand_since ns k ∙ ap (option_map at_hand_since) there))
-    ∙ ap (λ (n : ℕ). option_and_then (λ (o : Option ℕ). o) (slice_get (map at_hand_since ns) n)) (first ∙ sym (first-alike (map at_hand_since ns) (map pop ns) (sides-alike ns)))
-
--- and none where no band has one
-pub prio-none-since : (ns : List (Node Kept)) (priomap : List ℕ) → first_ready (map pop ns) ≡ length (map pop ns) → None ≡ since_in (map at_hand_since ns) (Prio priomap)
-prio-none-since ns priomap e =
-    let ts : List (Option ℕ) = map at_hand_since ns in
-    sym (ap (option_and_then (λ (o : Option ℕ). o)) (none-there ts))
-    ∙ ap (λ (n : ℕ). option_and_then (λ (o : Option ℕ). o) (slice_get ts n)) (same ns ∙ sym e ∙ sym (first-alike ts (map pop ns) (sides-alike ns)))
-  where
-    same : (ns : List (Node Kept)) → length (map at_hand_since ns) ≡ length (map pop ns)
-    same [] = refl
-    same (n ∷ ns) = ap suc (same ns)
-
 -- what an fq_codel sends
 pub sent-since : (o : Option Descriptor) (head : Option Stamped) (at : ℕ) → (o ≡ None → head ≡ None) → Some at ≡ option_map (λ (s : Stamped). s.at) head
     → since_of o at ≡ option_map_or (λ (s : Stamped). s.at) head 0
@@ -119,10 +95,7 @@ unsent now s e = by (sender s) e
     by None e = refl
     by (Some f) e = gone (marks f.codel now f.queue) (sent f.codel now f.queue) e
 
--- a node of the code: one that holds a packet, and one that holds none
-pub held-since : (a : Inside) (p : Descriptor) → packet_held a.held ≡ Some p → option_map (λ (s : Stamped). s.at) a.held ≡ at_hand_since (seen a)
-held-since a p e = arrival-held a.held p (since_in (each since_own (seen a).below) (discipline_seen a.discipline)) e
-
+-- a node of the code that holds no packet
 pub own-since : (a : Inside) → packet_held a.held ≡ None → since_in (map at_hand_since (children_seen a.discipline)) (discipline_seen a.discipline) ≡ at_hand_since (seen a)
 own-since a e =
     ap (λ (ts : List (Option ℕ)). since_in ts (discipline_seen a.discipline)) (sym (each-side since_own (children_seen a.discipline)))

@@ -2,6 +2,7 @@
 -- first band of a prio that is such a place itself. tc-pfifo(8) and tc-bfifo(8) have the limits, and tc-prio(8) says that a band goes
 -- before those behind it.
 use Rattle.std.specs.Prelude.{ℕ, Bool, true, false, ◌&&◌, ◌==◌, if◌then◌else◌, List, [], ◌∷◌, Option, Some, None, option_map, option_and_then, slice_get}
+use Rattle.q_bucket.specs.Level.{level_at}
 use Rattle.q_codel.specs.declared.limit.Limit.{Limit}
 use Rattle.q_model.specs.declared.place.Place.{Place}
 use Rattle.q_model.specs.Find.{place_path}
@@ -46,3 +47,11 @@ lane_from path n (FqCodel s) = lane_below None path n
 -- the fifo in this place, if its packets are passed by no other
 abbrev pub lane_to : {M : Type 0} → Place → Node M → Option Lane
 lane_to place n = option_and_then (λ path. lane_from path n n.own.discipline) (place_path place n)
+
+-- the level at this time of the bucket of a tbf
+abbrev pub level_of : ℕ → Discipline → Option ℕ
+level_of now (Tbf bucket limit) = Some (level_at bucket now)
+level_of now (Fifo limit queue) = None
+level_of now (Prio priomap) = None
+level_of now (Drr s) = None
+level_of now (FqCodel s) = None

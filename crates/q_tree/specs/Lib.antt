@@ -6,6 +6,7 @@ pub mod Bursts
 pub mod Chains
 pub mod ChainsSeen
 pub mod Changing
+pub mod Choosing
 pub mod Commanding
 pub mod Commands
 pub mod CountersSeen

@@ -1,9 +1,10 @@
 //! An arrival, in one walk down the packet's route and back.
 //!
 //! On the way down each node either takes the packet, refuses it, or passes it on to one child: a leaf queues it or drops at its limit, a
-//! qdisc with classes goes by its filters, and where none matches by its own rule. The leaf makes the place for it, which is all that can
-//! fail, before anything else has changed. On the way back each node books the outcome in its row: that the packet came, whether it was
-//! kept, and what was lost for it below, as where an fq_codel drops from its fattest flow; a drr also makes the class active.
+//! qdisc with classes goes by its filters, and where none matches by its own rule, which is `choose` in the file of its discipline. The
+//! leaf makes the place for it, which is all that can fail, before anything else has changed. On the way back each node books the outcome
+//! in its row: that the packet came, whether it was kept, and what was lost for it below, as where an fq_codel drops from its fattest flow;
+//! a drr also makes the class active.
 //!
 //! A fifo that has a place is met without a call, at the root and wherever the walk comes to one, since most packets end there.
 ghost use Rattle.std.specs.Prelude.{◌≡◌, ◌≤◌, ◌+◌, ◌++◌, IfOk, IsOk, List, None, OnErr, OnOk, length, true, ℕ};
@@ -26,10 +27,11 @@ ghost use Rattle.q_tree.specs.RouteSeen.{RouteSeen, route_seen};
 ghost use Rattle.q_tree.specs.TreeSeen.{CanArrive, numbers, tree_numbers};
 
 use crate::arrived::{Arrived, NOTHING_LOST, book_arrival, book_kept, refuse};
-use crate::disciplines::drr::{class_place, settle};
+use crate::choice::Choice;
+use crate::disciplines::drr::settle;
 use crate::disciplines::fifo::enqueue_in_fifo;
 use crate::disciplines::fq_codel::enqueue_in_flows;
-use crate::disciplines::prio::band;
+use crate::disciplines::{drr, prio, tbf};
 use crate::filters::Filters;
 use crate::node::{Discipline, Node};
 use crate::outcome::Outcome;
@@ -319,32 +321,35 @@ impl Discipline {
         match self {
             Discipline::Fifo(fifo) => return enqueue_in_fifo(fifo, packet, now, lost, sink),
             Discipline::FqCodel(queue) => return enqueue_in_flows(queue, packet, now, lost, sink),
-            Discipline::Prio { priomap, .. } => {
-                let place = band(filters, priomap, packet);
+            Discipline::Prio { .. } => {
+                let Discipline::Prio { priomap, bands } = &*self else {
+                    unreachable!()
+                };
+                let choice = prio::choose(filters, priomap, bands.len(), packet);
                 let Discipline::Prio { bands, .. } = self else {
                     unreachable!()
                 };
-                if place >= bands.len() {
-                    return Ok(refuse(packet, Cause::NoClass, lost, sink));
+                match choice {
+                    Choice::Child(place) => return bands[place].enqueue(packet, now, lost, sink),
+                    Choice::Refused(cause) => return Ok(refuse(packet, cause, lost, sink)),
+                    Choice::Here => unreachable!(),
                 }
-                return bands[place].enqueue(packet, now, lost, sink);
             }
-            Discipline::Tbf { bucket, child, .. } => {
-                if u32::from(packet.stored.len) > bucket.burst() {
-                    return Ok(refuse(packet, Cause::TooLong, lost, sink));
-                }
-                return child.enqueue(packet, now, lost, sink);
-            }
+            Discipline::Tbf { bucket, child, .. } => match tbf::choose(bucket, packet) {
+                Choice::Child(_) => return child.enqueue(packet, now, lost, sink),
+                Choice::Refused(cause) => return Ok(refuse(packet, cause, lost, sink)),
+                Choice::Here => unreachable!(),
+            },
             Discipline::Drr { active, classes } => {
-                let Some(place) = class_place(active, filters, packet) else {
-                    return Ok(refuse(packet, Cause::NoClass, lost, sink));
-                };
-                if place >= classes.len() {
-                    return Ok(refuse(packet, Cause::NoClass, lost, sink));
+                match drr::choose(active, filters, classes.len(), packet) {
+                    Choice::Child(place) => {
+                        let outcome = classes[place].enqueue(packet, now, lost, sink)?;
+                        settle(active, place, classes[place].is_empty());
+                        return Ok(outcome);
+                    }
+                    Choice::Refused(cause) => return Ok(refuse(packet, cause, lost, sink)),
+                    Choice::Here => unreachable!(),
                 }
-                let outcome = classes[place].enqueue(packet, now, lost, sink)?;
-                settle(active, place, classes[place].is_empty());
-                return Ok(outcome);
             }
         }
     }

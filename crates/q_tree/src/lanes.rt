@@ -1,5 +1,5 @@
 ghost use Rattle.std.specs.Prelude.{◌≡◌};
-ghost use Rattle.q_tree.specs.Lanes.{is_prio, lane_below, lane_from, lane_to, limit_along, limit_of};
+ghost use Rattle.q_tree.specs.Lanes.{is_prio, lane_below, lane_from, lane_to, level_of, limit_along, limit_of};
 
 use crate::node::{Discipline, Node, child_at};
 use crate::tree::Tree;
@@ -24,6 +24,17 @@ impl Tree {
     {
         let path = self.qdiscs().place_path(place)?;
         self.root.lane_from(&path)
+    }
+
+    /// The level of the bucket of a tbf at the root at the time that the tree was given last, in units of 1/(8*10^9) byte; `None` where
+    /// something else is at the root.
+    pub fn level(&self) -> Option<u128>
+        ensures { result ≡ level_of self.now.clock self.now.tree.root.own.discipline }
+    {
+        let Discipline::Tbf { bucket, .. } = &self.root.discipline else {
+            return None;
+        };
+        Some(bucket.level_at(self.clock))
     }
 }
 

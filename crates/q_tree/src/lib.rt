@@ -20,6 +20,7 @@ mod arrived;
 mod booking;
 mod bursts;
 mod chains;
+mod choice;
 mod commands;
 mod counters;
 mod dequeue;

@@ -1,12 +1,11 @@
-ghost use Rattle.std.specs.Prelude.{◌≡◌, ◌<◌, ◌≤◌, ◌+◌, None, length, option_copied, slice_get};
+ghost use Rattle.std.specs.Prelude.{◌≡◌, ◌≤◌, ◌+◌, None, length, option_copied, slice_get};
 ghost use Rattle.q_model.specs.Beneath.{beneath, is_empty, totals_in};
-ghost use Rattle.q_model.specs.Find.{depth, greatest};
-ghost use Rattle.q_model.specs.Route.{route, through};
-ghost use Rattle.q_tree.specs.Ahead.{ahead, depths, ways};
+ghost use Rattle.q_model.specs.Find.{depth};
+ghost use Rattle.q_model.specs.Route.{route};
+ghost use Rattle.q_tree.specs.Ahead.{ahead};
 
+use crate::choice::Choice;
 use crate::counters::Counters;
-use crate::disciplines::drr::class_place;
-use crate::disciplines::prio::band;
 use crate::filters::Filters;
 use crate::held::Held;
 use crate::node_route::NodeRoute;
@@ -15,7 +14,7 @@ use q_codel::Fifo;
 use q_drr::Active;
 use q_fqcodel::FqCodel;
 use q_model::{Handle, Totals};
-use q_packet::{Cause, KeptPacket};
+use q_packet::KeptPacket;
 use std::marker::Model;
 
 /// A qdisc of the tree, with those below it.
@@ -102,56 +101,17 @@ impl Node {
         requires open { way.old.refusal ≡ None }
         ensures { way.new ≡ ahead way.old.path (route packet.now self.now) }
     {
-        match &self.discipline {
-            Discipline::Fifo(fifo) => {
-                if !fifo.fits(packet.stored.len) {
-                    way.refuse(Cause::OverLimit);
-                }
+        match self.discipline.choose(&self.filters, packet) {
+            Choice::Here => return,
+            Choice::Refused(cause) => {
+                way.refuse(cause);
                 return;
             }
-            Discipline::FqCodel(_) => return,
-            Discipline::Prio { priomap, bands } => {
-                let place = band(&self.filters, priomap, packet);
-                go_on(bands, place, packet, way);
+            Choice::Child(place) => {
+                way.push(place);
+                self.children()[place].go(packet, way);
                 return;
             }
-            Discipline::Tbf { bucket, child, .. } => {
-                if u32::from(packet.stored.len) > bucket.burst() {
-                    way.refuse(Cause::TooLong);
-                    return;
-                }
-                way.push(0);
-                child.go(packet, way);
-                return;
-            }
-            Discipline::Drr { active, classes } => {
-                let Some(place) = class_place(active, &self.filters, packet) else {
-                    way.refuse(Cause::NoClass);
-                    return;
-                };
-                go_on(classes, place, packet, way);
-                return;
-            }
-        }
-    }
-}
-
-// Goes on from the child in this place; a packet that has none is refused.
-#[cycle(go)]
-fn go_on(children: &[Node], place: usize, packet: &KeptPacket, way: &mut NodeRoute)
-    requires room { length way.old.path + greatest (depths children.now) < 8 }
-    requires open { way.old.refusal ≡ None }
-    ensures { way.new ≡ ahead way.old.path (through (ways packet.now children.now) place) }
-{
-    match child_at(children, place) {
-        None => {
-            way.refuse(Cause::NoClass);
-            return;
-        }
-        Some(child) => {
-            way.push(place);
-            child.go(packet, way);
-            return;
         }
     }
 }

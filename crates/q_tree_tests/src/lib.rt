@@ -17,6 +17,8 @@ mod device_calls;
 #[cfg(test)]
 mod device_commands;
 #[cfg(test)]
+mod device_latest;
+#[cfg(test)]
 mod device_ready;
 #[cfg(test)]
 mod device_scripts;

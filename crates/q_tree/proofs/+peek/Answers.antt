@@ -1,6 +1,5 @@
 use Rattle.std.proofs.Common.{◌≡◌, ◌∙◌, [], ◌∷◌, set, length, refl, sym, ap, ap₂, subst, arith, rules, Option, Some}
 use Rattle.std.specs.Prelude.{is_some, slice_index_or, unwrap_or, slice_get}
-use Rattle.std.proofs.lemmas.List.{length-set}
 use Rattle.std.specs.Box.{with_value}
 use Rattle.std.specs.Vec.{with_items}
 use Rattle.q_bucket.specs.Level.{allows}
@@ -9,21 +8,20 @@ use Rattle.q_fqcodel.specs.Take.{head_sent, selected}
 use Rattle.q_model.specs.Ask.{ask_tbf, ask_drr, ask_fq_codel}
 use Rattle.q_model.specs.Node as spec
 use Rattle.q_model.specs.Node.{Node, shape, side_by_side}
-use Rattle.q_model.specs.Pop.{pop}
-use Rattle.q_tree.specs.AskSteps.{IsToldOf, answers, held_in, own_of, signals_of, answer_of}
+use Rattle.q_tree.specs.AskSteps.{IsToldOf, answers, own_of, signals_of}
 use Rattle.q_tree.specs.Kept.{Kept}
 use Rattle.q_tree.specs.NodeCode.{forest_size}
 use Rattle.q_tree.specs.Seen.{children_seen, discipline_seen, places_seen}
 use Rattle.q_tree.specs.declared.node.Discipline.TheVariants as code
 use Rattle.q_tree.specs.Shown.{Shown}
-use Rattle.q_tree.proofs.AskBands.{next_of, band-at, band-once, band-shown, bands-go-on, bands-told, bands-start, bands-end, bands-rises}
+use Rattle.q_tree.proofs.AskBands.{band-at, band-once, band-shown, bands-go-on, bands-told, bands-start, bands-end, bands-rises}
 use Rattle.q_tree.proofs.SendBands.{band-met}
 use Rattle.q_tree.proofs.AskOnce.{fits-beside, told-nothing}
 use Rattle.q_tree.proofs.AtHandLemmas.{shown-len}
 use Rattle.q_tree.proofs.HereLemmas.{flow-packets}
-use Rattle.q_tree.proofs.Peeks.{asked-in, fifo-asked, held-of, told-in, each-of, room-of, own-room, items-are, serve-of, holding-after, can-in, enough, can-book, peeked-done, shown-here, told-here, tbf-gave, tbf-none, hand-asked, tbf-gave-since, tbf-none-since, tbf-waits, tbf-waits-since}
-use Rattle.q_tree.proofs.ServeLemmas.{classes-go-on, classes-start, class-once, class-shown, class-size, fewer-grants, front-met, given-asked, given-packet, given-schedule, given-told, nothing-asked, nothing-schedule, nothing-told, place-within, short-enough, nothing-since, given-since, class-given}
-use Rattle.q_tree.proofs.IdleClasses.{idle-asked, idle-schedule, idle-since, idle-told}
+use Rattle.q_tree.proofs.Peeks.{asked-in, fifo-asked, fifo-peeked, held-of, told-in, each-of, room-of, own-room, items-are, serve-of, holding-after, can-in, enough, can-book, peeked-done, shown-here, told-here, tbf-none, tbf-allowed, tbf-none-since, tbf-waiting}
+use Rattle.q_tree.proofs.ServeLemmas.{classes-go-on, classes-start, class-once, class-shown, class-size, fewer-grants, front-met, given-told, nothing-told, place-within, short-enough, class-given, class-sends, class-unserved}
+use Rattle.q_tree.proofs.IdleClasses.{idle-told, idle-unserved}
 use Rattle.q_tree.proofs.Quiet.{shown-nothing}
 use Rattle.q_tree.proofs.RouteLemmas.{child-size, children-size}
 use Rattle.q_tree.proofs.TakeCounts.{flow-told}
@@ -34,7 +32,7 @@ use Rattle.q_model.specs.Since.{at_hand_since, since_of}
 use Rattle.q_packet.specs.Descriptor.{Descriptor}
 use Rattle.q_packet.specs.declared.stamped.Stamped.{Stamped}
 use Rattle.std.specs.Option.{option_map_or}
-use Rattle.std.proofs.lemmas.Option.{none-some, same_Some, slice_get-get_or}
+use Rattle.std.proofs.lemmas.Option.{none-some, slice_get-get_or}
 
 pub node::Node::peek_after_counts-then-requires-clause-dropped_packets : goal.node::Node::peek_after_counts-then-requires-clause-dropped_packets
 node::Node::peek_after_counts-then-requires-clause-dropped_packets g t c = (fits-beside c.args.now c.args.self.now c.args.so_far c.peek-next.result (g.S.Sink.room c.args.sink.now) c.requires.ready c.peek-next.ensures.peeked.shown).dropped_packets
@@ -63,13 +61,9 @@ disciplines::tbf::allow_child-returns-then-not-spend-clause-allowed g t c = λ p
 pub disciplines::tbf::allow_child-returns-then-not-spend-clause-waits : goal.disciplines::tbf::allow_child-returns-then-not-spend-clause-waits
 disciplines::tbf::allow_child-returns-then-not-spend-clause-waits g t c = λ none own limit.
     let offer = shown-len c.peek-shown.result.packet c.packet_len.result c.in-Some.len c.packet_len.ensures.some c.in-Some.is in
-    let shown = sym c.peek-shown.ensures.peeked.shown.packet ∙ offer.1 in
     let may = ap (allows c.args.bucket.now c.args.now) offer.2 ∙ sym c.spend.ensures.answer ∙ c.if-not-spend.true in
-    record {
-      since = tbf-waits-since c.args.now own c.args.bucket.now limit c.args.child.now offer.0 shown may;
-      asked = tbf-waits c.args.now own c.args.bucket.now limit c.args.child.now c.peek-shown.new.self offer.0 c.peek-shown.result c.showing.result c.peek-shown.ensures.peeked.after c.peek-shown.ensures.peeked.arrived c.peek-shown.ensures.peeked.shown
-          shown may none (ap (λ (s : Shown). s.dropped) c.showing.ensures) (ap (λ (s : Shown). s.marked) c.showing.ensures);
-    }
+    tbf-waiting c.args.now own c.args.bucket.now limit c.args.child.now c.peek-shown.new.self c.peek-shown.new.signals c.peek-shown.result c.showing.result c.peek-shown.ensures.peeked offer.0 offer.1 may
+    none (ap (λ (s : Shown). s.dropped) c.showing.ensures) (ap (λ (s : Shown). s.marked) c.showing.ensures)
 
 pub disciplines::tbf::allow_child-returns-then-not-spend-clause-signals : goal.disciplines::tbf::allow_child-returns-then-not-spend-clause-signals
 disciplines::tbf::allow_child-returns-then-not-spend-clause-signals g t c = c.peek-shown.ensures.peeked.signals ∙ sym (ap signals_of c.showing.ensures)
@@ -77,16 +71,8 @@ disciplines::tbf::allow_child-returns-then-not-spend-clause-signals g t c = c.pe
 pub disciplines::tbf::allow_child-returns-clause-allowed : goal.disciplines::tbf::allow_child-returns-clause-allowed
 disciplines::tbf::allow_child-returns-clause-allowed g t c = λ p is.
     let offer = shown-len c.peek-shown.result.packet c.packet_len.result c.in-Some.len c.packet_len.ensures.some c.in-Some.is in
-    let shown = sym c.peek-shown.ensures.peeked.shown.packet ∙ offer.1 in
     let may = ap (allows c.args.bucket.now c.args.now) offer.2 ∙ sym c.spend.ensures.answer ∙ c.if-not-spend.false in
-    let given = hand-asked c.args.now c.args.child.now c.peek-shown.new.self c.requires.ready c.peek-shown.ensures.peeked.after in
-    record {
-      shown = given ∙ sym c.peek-shown.ensures.peeked.shown.packet ∙ is;
-      since = λ own limit. tbf-gave-since c.args.now own c.args.bucket.now limit c.args.child.now c.peek-shown.new.self offer.0 c.requires.ready c.peek-shown.ensures.peeked.after shown may;
-      asked = λ child after arrived own limit.
-          tbf-gave c.args.now own c.args.bucket.now limit c.args.child.now c.peek-shown.new.self child offer.0 c.peek-shown.result
-          c.requires.ready c.peek-shown.ensures.peeked.after shown may after (arrived ∙ c.peek-shown.ensures.peeked.arrived) (c.peek-shown.ensures.peeked.shown.packet ∙ sym given) c.peek-shown.ensures.peeked.shown.dropped c.peek-shown.ensures.peeked.shown.marked;
-    }
+    tbf-allowed c.args.now c.args.bucket.now c.args.child.now c.peek-shown.new.self c.peek-shown.new.signals c.peek-shown.result c.requires.ready c.peek-shown.ensures.peeked p offer.0 is offer.1 may
 
 pub disciplines::tbf::allow_child-returns-clause-waits : goal.disciplines::tbf::allow_child-returns-clause-waits
 disciplines::tbf::allow_child-returns-clause-waits g t c = λ none own limit.
@@ -201,24 +187,12 @@ pub disciplines::drr::meet_class-returns-in_default-packet_len-clause-nothing : 
 disciplines::drr::meet_class-returns-in_default-packet_len-clause-nothing g t c = λ none.
     let met = front-met c.requires.ready c.loop-place.invariant.0 c.front_place.ensures.lawful c.in-Some.place (sym c.in-Some.is ∙ c.front_place.ensures.place) in
     let shows = class-shown met c.index-classes-place.result c.peek_class-shown.ensures.asked c.peek_class-shown.ensures.told c.peek_class-shown.ensures.at_hand c.peek_class-shown.ensures.not_lost in
-    let empty = c.packet_len.ensures.none c.in_default-packet_len.is in
-    record {
-      empty = empty;
-      since = nothing-since met shows empty;
-      schedule = nothing-schedule met shows empty;
-      asked = nothing-asked met shows empty;
-    }
+    class-unserved met shows (c.packet_len.ensures.none c.in_default-packet_len.is)
 
 pub disciplines::drr::meet_class-returns-clause-nothing : goal.disciplines::drr::meet_class-returns-clause-nothing
 disciplines::drr::meet_class-returns-clause-nothing g t c = λ none.
-    let empty = ap (λ (s : Shown). s.packet) c.at_hand.ensures in
-    record {
-      empty = empty;
-      since = idle-since c.requires.ready c.loop-place.invariant.0 c.front_place.ensures.lawful _ c.in_default.is c.front_place.ensures.found;
-      schedule = idle-schedule c.requires.ready c.loop-place.invariant.0 c.front_place.ensures.lawful _ c.in_default.is c.front_place.ensures.found;
-      asked = idle-asked c.requires.ready c.loop-place.invariant.0 c.front_place.ensures.lawful _ c.in_default.is c.front_place.ensures.found empty
-          (record { dropped = ap (λ (s : Shown). s.dropped) c.at_hand.ensures; marked = ap (λ (s : Shown). s.marked) c.at_hand.ensures });
-    }
+    idle-unserved c.requires.ready c.loop-place.invariant.0 c.front_place.ensures.lawful _ c.in_default.is c.front_place.ensures.found (ap (λ (s : Shown). s.packet) c.at_hand.ensures)
+    (record { dropped = ap (λ (s : Shown). s.dropped) c.at_hand.ensures; marked = ap (λ (s : Shown). s.marked) c.at_hand.ensures })
 
 pub disciplines::drr::meet_class-returns-in_default-packet_len-clause-met : goal.disciplines::drr::meet_class-returns-in_default-packet_len-clause-met
 disciplines::drr::meet_class-returns-in_default-packet_len-clause-met g t c = λ p is. absurd (none-some p (sym (c.packet_len.ensures.none c.in_default-packet_len.is) ∙ is))
@@ -236,16 +210,7 @@ disciplines::drr::meet_class-returns-in-Send-clause-met g t c = λ p is.
     let met = front-met c.requires.ready c.loop-place.invariant.0 c.front_place.ensures.lawful c.in-Some.place (sym c.in-Some.is ∙ c.front_place.ensures.place) in
     let shows = class-shown met c.index-classes-place.result c.peek_class-shown.ensures.asked c.peek_class-shown.ensures.told c.peek_class-shown.ensures.at_hand c.peek_class-shown.ensures.not_lost in
     let offer = shown-len c.peek_class-shown.result.packet c.packet_len.result c.in-Some-packet_len.len c.packet_len.ensures.some c.in-Some-packet_len.is in
-    let send = sym c.in-Send.is ∙ c.turn.ensures.answer in
-    let here = λ (class : Node Kept) (at : slice_get (set c.loop-place.classes c.in-Some.place c.peek_class-shown.new.class) c.in-Some.place ≡ Some class). same_Some class c.peek_class-shown.new.class (sym at ∙ shows.stored) in
-    record {
-      inside = omega (arith, place-within met, length-set c.loop-place.classes c.in-Some.place c.peek_class-shown.new.class);
-      some = ap is_some offer.1;
-      shown = λ class at. ap (λ (n : Node Kept). (pop n).shown) (here class at) ∙ given-packet met shows;
-      since = λ class at own. ap (λ (n : Node Kept). since_of c.peek_class-shown.result.packet (unwrap_or (at_hand_since n) 0)) (here class at) ∙ given-since met shows offer send c.turn.ensures.after own;
-      schedule = λ given ks gift own. given-schedule met shows offer send c.turn.ensures.after gift own;
-      asked = λ given ks gift own. given-asked met shows offer send c.turn.ensures.after gift own;
-    }
+    class-sends met shows offer (sym c.in-Send.is ∙ c.turn.ensures.answer) c.turn.ensures.after
 
 pub disciplines::drr::peek_classes-bounds-classes-place : goal.disciplines::drr::peek_classes-bounds-classes-place
 disciplines::drr::peek_classes-bounds-classes-place g t c =
@@ -413,11 +378,8 @@ node::Node::peek-returns-in-Fifo-clause-peeked g t c =
     let can = can-book c.args.now c.self.inside c.args.self.now c.self.invariant c.self.view_is c.requires.ready none c.at_hand-in-Fifo.result asked.children.shown
     (omega (arith, c.self.ranges, c.fit.ensures.packets, c.fit.ensures.bytes)) (omega (arith, c.self.ranges, c.fit.ensures.packets, c.fit.ensures.bytes)) in
     record {
-      after = sym c.self.view_is
-          ∙ (peeked-done c.args.now c.self.inside c.args.self.now c.self.invariant c.self.view_is c.requires.ready none c.self.inside.discipline c.at_hand-in-Fifo.result asked c.self.inside.row c.self.inside.held can
-          (shown-nothing c.at_hand-in-Fifo.result c.self.inside.row dropped marked) (empty-held c.self.inside.held none
-          ∙ sym (ap (λ k. held_with (held_in k c.at_hand-in-Fifo.result.packet) (answer_of c.args.now c.self.inside.handle c.self.inside.filters c.self.inside.discipline).peeked.own.since)
-          (ap discipline_seen c.in-Fifo.is)))).after;
+      after = fifo-peeked c.args.now c.self.inside c.args.self.now c.self.invariant c.self.view_is c.requires.ready none c.in-Fifo.fifo.limit c.in-Fifo.fifo.packets c.at_hand-in-Fifo.result
+          (ap discipline_seen c.in-Fifo.is) asked can (shown-nothing c.at_hand-in-Fifo.result c.self.inside.row dropped marked);
       arrived = search rules;
       shown = shown-here c.args.now c.self.inside c.args.self.now c.self.invariant c.self.view_is c.requires.ready none c.at_hand-in-Fifo.result asked.children.shown;
       signals = c.requires.clean ∙ sym (ap signals_of c.at_hand-in-Fifo.ensures);
@@ -486,26 +448,19 @@ pub disciplines::prio::meet_band-returns-then-has_packet-clause-after : goal.dis
 disciplines::prio::meet_band-returns-then-has_packet-clause-after g t c = λ own.
     let band = slice_index_or c.loop-place.bands c.loop-place.place c.index-bands-place.result in
     let at = band-at c.args.now c.args.bands.now c.loop-place.bands c.loop-place.place c.loop-place.shown c.loop-place.invariant.0 c.index-bands-place.result c.loop-place-test.true in
-    let asked = c.peek_after-shown.ensures.asked in
-    band-shown c.args.now c.args.bands.now c.loop-place.bands c.loop-place.place c.loop-place.shown c.requires.ready c.loop-place.invariant.0 band at c.peek_after-shown.new.self (next_of c.args.now band) c.peek_after-shown.result asked.peeked asked.arrived (record { packet = refl; dropped = refl; marked = refl })
-    asked.dropped asked.marked asked.packet (sym c.if-has_packet.ensures) own
+    band-shown c.args.now c.args.bands.now c.loop-place.bands c.loop-place.place c.loop-place.shown c.requires.ready c.loop-place.invariant.0 band at c.peek_after-shown.new.self c.peek_after-shown.result c.peek_after-shown.ensures.asked (sym c.if-has_packet.ensures) own
 
 pub disciplines::prio::meet_band-returns-then-has_packet-clause-met : goal.disciplines::prio::meet_band-returns-then-has_packet-clause-met
 disciplines::prio::meet_band-returns-then-has_packet-clause-met g t c = λ p some.
     let band = slice_index_or c.loop-place.bands c.loop-place.place c.index-bands-place.result in
     let at = band-at c.args.now c.args.bands.now c.loop-place.bands c.loop-place.place c.loop-place.shown c.loop-place.invariant.0 c.index-bands-place.result c.loop-place-test.true in
-    let asked = c.peek_after-shown.ensures.asked in
-    band-met c.args.now c.args.bands.now c.loop-place.bands c.loop-place.place c.loop-place.shown c.requires.ready c.loop-place.invariant.0 band at c.peek_after-shown.new.self (next_of c.args.now band) c.peek_after-shown.result asked.peeked asked.arrived (record { packet = refl; dropped = refl; marked = refl })
-    asked.dropped asked.marked asked.packet p some
+    band-met c.args.now c.args.bands.now c.loop-place.bands c.loop-place.place c.loop-place.shown c.requires.ready c.loop-place.invariant.0 band at c.peek_after-shown.new.self c.peek_after-shown.result c.peek_after-shown.ensures.asked p some
 
 pub disciplines::prio::meet_band-returns-then-has_packet-clause-told : goal.disciplines::prio::meet_band-returns-then-has_packet-clause-told
 disciplines::prio::meet_band-returns-then-has_packet-clause-told g t c = λ own.
     let band = slice_index_or c.loop-place.bands c.loop-place.place c.index-bands-place.result in
     let at = band-at c.args.now c.args.bands.now c.loop-place.bands c.loop-place.place c.loop-place.shown c.loop-place.invariant.0 c.index-bands-place.result c.loop-place-test.true in
-    let asked = c.peek_after-shown.ensures.asked in
-    bands-told c.args.now c.args.bands.now c.loop-place.bands c.loop-place.place c.loop-place.shown c.requires.ready c.loop-place.invariant.0 band at
-    c.peek_after-shown.new.self (next_of c.args.now band) c.peek_after-shown.result asked.peeked asked.arrived (record { packet = refl; dropped = refl; marked = refl })
-    asked.dropped asked.marked asked.packet
+    bands-told c.args.now c.args.bands.now c.loop-place.bands c.loop-place.place c.loop-place.shown c.requires.ready c.loop-place.invariant.0 band at c.peek_after-shown.new.self c.peek_after-shown.result c.peek_after-shown.ensures.asked
     (g.S.Sink.losses c.args.sink.now) (g.S.Sink.losses c.loop-place.sink) (g.S.Sink.losses c.peek_after-shown.new.sink)
     (g.S.Sink.room c.args.sink.now) (g.S.Sink.room c.loop-place.sink) (g.S.Sink.room c.peek_after-shown.new.sink) c.loop-place.invariant.1 c.peek_after-shown.ensures.told (sym c.if-has_packet.ensures) own
 
@@ -517,10 +472,7 @@ pub disciplines::prio::meet_band-loop-place-preserved : goal.disciplines::prio::
 disciplines::prio::meet_band-loop-place-preserved g t c =
     let band = slice_index_or c.loop-place.bands c.loop-place.place c.index-bands-place.result in
     let at = band-at c.args.now c.args.bands.now c.loop-place.bands c.loop-place.place c.loop-place.shown c.loop-place.invariant.0 c.index-bands-place.result c.loop-place-test.true in
-    let asked = c.peek_after-shown.ensures.asked in
-    let goes = bands-go-on c.args.now c.args.bands.now c.loop-place.bands c.loop-place.place c.loop-place.shown c.requires.ready c.loop-place.invariant.0 band at
-    c.peek_after-shown.new.self (next_of c.args.now band) c.peek_after-shown.result asked.peeked asked.arrived (record { packet = refl; dropped = refl; marked = refl })
-    asked.dropped asked.marked asked.packet
+    let goes = bands-go-on c.args.now c.args.bands.now c.loop-place.bands c.loop-place.place c.loop-place.shown c.requires.ready c.loop-place.invariant.0 band at c.peek_after-shown.new.self c.peek_after-shown.result c.peek_after-shown.ensures.asked
     (g.S.Sink.losses c.args.sink.now) (g.S.Sink.losses c.loop-place.sink) (g.S.Sink.losses c.peek_after-shown.new.sink)
     (g.S.Sink.room c.args.sink.now) (g.S.Sink.room c.loop-place.sink) (g.S.Sink.room c.peek_after-shown.new.sink) c.loop-place.invariant.1 c.peek_after-shown.ensures.told (sym c.if-has_packet.ensures) in
     (goes.0, goes.1, g.met.S.Sink.keeps_on c.args.sink.now c.loop-place.sink c.peek_after-shown.new.sink c.loop-place.invariant.2 c.peek_after-shown.ensures.kept, c.peek_after-shown.ensures.signals)

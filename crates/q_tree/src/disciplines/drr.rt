@@ -11,6 +11,7 @@ ghost use Rattle.q_model.specs.Pop.{pop};
 ghost use Rattle.q_model.specs.Work.{settled_class};
 ghost use Rattle.q_tree.specs.AskSteps.{AreAsked, CanAskOnce, CanServe, IsAskedOnce, IsGivenBy, IsTold, IsToldOf, answers, no_signals, signals_of};
 ghost use Rattle.q_tree.specs.Changing.{drr_same};
+ghost use Rattle.q_tree.specs.Choosing.{drr_choice};
 ghost use Rattle.q_tree.specs.Holding.{held_with};
 ghost use Rattle.q_tree.specs.Kept.{Kept};
 ghost use Rattle.q_tree.specs.Meeting.{AreUnserved, IsMet};
@@ -22,6 +23,7 @@ ghost use Rattle.q_tree.specs.Seen.{children_seen, discipline_seen};
 ghost use Rattle.q_tree.specs.declared.commands.discipline_change.DisciplineChange.TheVariants.{AddClass, RemoveClass, SetQuantum};
 
 use crate::booking::NOTHING;
+use crate::choice::{Choice, child_of};
 use crate::commands::discipline_change::DisciplineChange;
 use crate::filters::Filters;
 use crate::held::Held;
@@ -32,11 +34,27 @@ use crate::signals::{NO_SIGNALS, Signals};
 use q_codel::Sink;
 use q_drr::{Active, Turn};
 use q_model::{Minor, Quantum, Refusal, Totals};
-use q_packet::{KeptPacket, Moment};
+use q_packet::{Cause, KeptPacket, Moment};
 use std::alloc::AllocError;
 
-/// The place of the class that a filter names, if there is one (tc-drr(8)).
-pub(crate) fn class_place(active: &Active, filters: &Filters, packet: &KeptPacket) -> Option<usize>
+/// A packet goes to the class that a filter names, and is refused where there is none (tc-drr(8)).
+#[inline(always)]
+pub(crate) fn choose(
+    active: &Active,
+    filters: &Filters,
+    classes: usize,
+    packet: &KeptPacket,
+) -> Choice
+    ensures { result ≡ drr_choice classes (option_and_then (λ minor. place_of minor active.now.classes) (named_class filters.now packet.now)) }
+{
+    let Some(place) = class_place(active, filters, packet) else {
+        return Choice::Refused(Cause::NoClass);
+    };
+    child_of(classes, place)
+}
+
+// The place of the class that a filter names, if there is one (tc-drr(8)).
+fn class_place(active: &Active, filters: &Filters, packet: &KeptPacket) -> Option<usize>
     ensures { result ≡ option_and_then (λ minor. place_of minor active.now.classes) (named_class filters.now packet.now) }
 {
     let minor = filters.named_class(packet)?;

@@ -1,11 +1,13 @@
-//! pfifo and bfifo: how one is made, enqueues, dequeues, shows its packet, is ready, and changes (tc-pfifo(8), tc-bfifo(8)).
-ghost use Rattle.std.specs.Prelude.{◌≡◌, ◌<◌, ◌≤◌, ◌*◌, [], IfOk, IsOk, List, OnErr, drop, length, option_map, slice_get, true, unwrap_or};
+//! pfifo and bfifo: how one is made, refuses, enqueues, dequeues, shows its packet, is ready, and changes (tc-pfifo(8), tc-bfifo(8)).
+ghost use Rattle.std.specs.Prelude.{◌≡◌, ◌<◌, ◌≤◌, ◌*◌, [], IfOk, IsOk, List, OnErr, drop, length, option_map};
+ghost use Rattle.std.specs.Prelude.{if◌then◌else◌, slice_get, true, unwrap_or};
 ghost use Rattle.q_codel.specs.FifoState.{takes};
 ghost use Rattle.q_fqcodel.specs.Oldest.{first_arrival};
 ghost use Rattle.q_model.specs.Beneath.{packets_of};
 ghost use Rattle.q_model.specs.Make.{implicit_pfifo};
 ghost use Rattle.q_model.specs.Tally.{no_totals};
 ghost use Rattle.q_model.specs.declared.filter.Filter.{Filter};
+ghost use Rattle.q_packet.specs.declared.cause.Cause.TheVariants.{OverLimit};
 ghost use Rattle.q_packet.specs.declared.stamped.Stamped.{Stamped};
 ghost use Rattle.q_tree.specs.ArriveSteps.{HasComeIn, IsPlacedIn, nothing_lost};
 ghost use Rattle.q_tree.specs.Changing.{bfifo_answer, pfifo_answer};
@@ -13,10 +15,12 @@ ghost use Rattle.q_tree.specs.Making.{IsNewNode};
 ghost use Rattle.q_tree.specs.Planning.{device_of};
 ghost use Rattle.q_tree.specs.ReadyAt.{of_fifo};
 ghost use Rattle.q_tree.specs.DisciplineChanges.{IsChangedBy};
+ghost use Rattle.q_tree.specs.declared.choice.Choice.TheVariants.{Here, Refused};
 ghost use Rattle.q_tree.specs.declared.commands.discipline_change.DisciplineChange.TheVariants.{SetLimit};
 ghost use Rattle.q_tree.specs.declared.node.Discipline.TheVariants as code;
 
 use crate::arrived::{Arrived, refuse};
+use crate::choice::Choice;
 use crate::commands::discipline_change::DisciplineChange;
 use crate::commands::planner::Planner;
 use crate::counters::Counters;
@@ -73,7 +77,18 @@ impl Planner<'_> {
     }
 }
 
-/// The packet is queued behind the others, or refused at the limit (tc-pfifo(8)).
+/// A packet is refused at the limit (tc-pfifo(8)).
+#[inline(always)]
+pub(crate) fn choose(fifo: &Fifo, packet: &KeptPacket) -> Choice
+    ensures { result ≡ (if takes fifo.now.limit fifo.now.packets packet.now.len then Here else Refused OverLimit) }
+{
+    if !fifo.fits(packet.stored.len) {
+        return Choice::Refused(Cause::OverLimit);
+    }
+    Choice::Here
+}
+
+/// The packet is queued behind the others, or refused (tc-pfifo(8)).
 #[inline(always)]
 pub(crate) fn enqueue_in_fifo<S: Sink>(
     fifo: &mut Fifo,
@@ -91,8 +106,10 @@ pub(crate) fn enqueue_in_fifo<S: Sink>(
     ensures lost_is { IfOk result (λ outcome. lost.new ≡ outcome) }
     ensures kept { S.keeps sink.old sink.new }
 {
-    if !fifo.fits(packet.stored.len) {
-        return Ok(refuse(packet, Cause::OverLimit, lost, sink));
+    match choose(fifo, packet) {
+        Choice::Here => {}
+        Choice::Refused(cause) => return Ok(refuse(packet, cause, lost, sink)),
+        Choice::Child(_) => unreachable!(),
     }
     fifo.reserve()?;
     fifo.put_from(packet, now);

@@ -17,6 +17,7 @@ ghost use Rattle.q_model.specs.declared.filter.Filter.{Filter};
 ghost use Rattle.q_model.specs.declared.kind.Kind.TheVariants as kind;
 ghost use Rattle.q_tree.specs.AskSteps.{AreAsked, CanAskEach, IsTold, IsToldOf, answers, no_signals, signals_of};
 ghost use Rattle.q_tree.specs.Changing.{IsChange, MakesChildren, leaves_answer, nodes_from};
+ghost use Rattle.q_tree.specs.Choosing.{child_of};
 ghost use Rattle.q_tree.specs.Making.{AreNew};
 ghost use Rattle.q_tree.specs.Planning.{device_of, root_of};
 ghost use Rattle.q_tree.specs.Meeting.{IsBandMet};
@@ -30,6 +31,7 @@ ghost use Rattle.q_tree.specs.SendSteps.{AreSent};
 ghost use Rattle.q_tree.specs.declared.commands.discipline_change.DisciplineChange.TheVariants.{SetBands};
 
 use crate::booking::{NOTHING, sum};
+use crate::choice::{Choice, child_of};
 use crate::commands::counting::MOST_NODES;
 use crate::commands::discipline_change::DisciplineChange;
 use crate::commands::planner::Planner;
@@ -58,8 +60,21 @@ impl Planner<'_> {
     }
 }
 
-/// The band of a packet: the class that a filter names, else that of its priority (tc-prio(8)).
-pub(crate) fn band(filters: &Filters, priomap: &[u8; 16], packet: &KeptPacket) -> usize
+/// A packet goes to its band (tc-prio(8)).
+#[inline(always)]
+pub(crate) fn choose(
+    filters: &Filters,
+    priomap: &[u8; 16],
+    bands: usize,
+    packet: &KeptPacket,
+) -> Choice
+    ensures { result ≡ child_of bands (option_map_or (λ n. n - 1) (named_class filters.now packet.now) (slice_index priomap.now packet.now.prio)) }
+{
+    child_of(bands, band(filters, priomap, packet))
+}
+
+// The band of a packet: the class that a filter names, else that of its priority (tc-prio(8)).
+fn band(filters: &Filters, priomap: &[u8; 16], packet: &KeptPacket) -> usize
     ensures { result ≡ option_map_or (λ minor. minor - 1) (named_class filters.now packet.now) (slice_index priomap.now packet.now.prio) }
 {
     match filters.named_class(packet) {

@@ -1,5 +1,5 @@
-//! tbf: how one is made, dequeues, shows its packet, is ready, and changes (tc-tbf(8)).
-ghost use Rattle.std.specs.Prelude.{◌≡◌, ◌≤◌, [], ◌∷◌, IfOk, None, Some, length, unwrap_or, ℕ};
+//! tbf: how one is made, refuses, dequeues, shows its packet, is ready, and changes (tc-tbf(8)).
+ghost use Rattle.std.specs.Prelude.{◌≡◌, ◌≤◌, [], ◌∷◌, IfOk, None, Some, length, nat_lt, unwrap_or, ℕ, if◌then◌else◌};
 ghost use Rattle.q_invariants.proofs.Kept.{IsLawfulRoot};
 ghost use Rattle.q_model.specs.Ask.{ask_tbf};
 ghost use Rattle.q_model.specs.Beneath.{beneath};
@@ -9,12 +9,15 @@ ghost use Rattle.q_tree.specs.AskSteps.{AreAsked, CanAsk, IsToldOf, answers, no_
 ghost use Rattle.q_tree.specs.Changing.{tbf_answer};
 ghost use Rattle.q_tree.specs.Holding.{held_with};
 ghost use Rattle.q_packet.specs.Descriptor.{Descriptor};
+ghost use Rattle.q_packet.specs.declared.cause.Cause.TheVariants.{TooLong};
 ghost use Rattle.q_tree.specs.Making.{IsNewTbf};
 ghost use Rattle.q_tree.specs.Meeting.{IsAllowed, IsWaiting};
 ghost use Rattle.q_tree.specs.ReadyAt.{covers_at, shaped, shaped_after};
 ghost use Rattle.q_tree.specs.DisciplineChanges.{IsChangedBy, leaf_limited};
+ghost use Rattle.q_tree.specs.declared.choice.Choice.TheVariants.{Child, Refused};
 ghost use Rattle.q_tree.specs.declared.commands.discipline_change.DisciplineChange.TheVariants.{SetBucket};
 
+use crate::choice::Choice;
 use crate::commands::discipline_change::DisciplineChange;
 use crate::commands::planner::Planner;
 use crate::held::Held;
@@ -25,7 +28,7 @@ use crate::signals::Signals;
 use q_bucket::Bucket;
 use q_codel::{Limit, Sink};
 use q_model::{Burst, Rate, Refusal, TbfLimit};
-use q_packet::{KeptPacket, Moment};
+use q_packet::{Cause, KeptPacket, Moment};
 use std::alloc::{AllocError, Global};
 
 /// A tbf with its bucket, over an implicit bfifo of so many bytes.
@@ -57,6 +60,17 @@ pub(crate) fn limit_bytes(rate: Rate, burst: Burst, limit: TbfLimit) -> u64
 
 /// Units of a bucket's level in a byte: a nanosecond brings as many units as the rate has bits a second.
 const UNITS_IN_BYTE: u128 = 8_000_000_000;
+
+/// A packet goes to the child, or is refused where it is longer than the burst: the bucket never allows it.
+#[inline(always)]
+pub(crate) fn choose(bucket: &Bucket, packet: &KeptPacket) -> Choice
+    ensures { result ≡ (if nat_lt bucket.now.burst packet.now.len then Refused TooLong else Child 0) }
+{
+    if u32::from(packet.stored.len) > bucket.burst() {
+        return Choice::Refused(Cause::TooLong);
+    }
+    Choice::Child(0)
+}
 
 /// Asks the child of a tbf, and writes the packet that it shows to `out` where the bucket allows it (tc-tbf(8)).
 pub(crate) fn dequeue_child<S: Sink>(

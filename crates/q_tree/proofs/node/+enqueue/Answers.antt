@@ -1,15 +1,18 @@
-use Rattle.std.proofs.Common.{◌≡◌, ℕ, ◌∙◌, ◌∷◌, List, [], length, refl, sym, ap, subst, arith, Option, Some}
-use Rattle.std.specs.Prelude.{if◌then◌else◌, IfOk, OnErr, slice_get}
+use Rattle.std.proofs.Common.{◌≡◌, ℕ, ◌<◌, ◌-◌, ◌∙◌, ◌∷◌, List, [], length, refl, sym, ap, subst, arith, Option, Some, option_and_then}
+use Rattle.std.specs.Prelude.{if◌then◌else◌, IfOk, OnErr, nat_lt, slice_get, slice_index, true}
 use Rattle.std.proofs.lemmas.Option.{slice_get_past, slice_get_read}
 use Rattle.std.proofs.lemmas.List.{get_or-set_same}
 use Rattle.std.proofs.lemmas.Bool.{false≢true}
 use Rattle.std.specs.Option.{option_map_or}
 use Rattle.std.specs.Box.{with_value}
 use Rattle.std.specs.Vec.{with_item}
-use Rattle.q_packet.specs.Descriptor.{Descriptor}
+use Rattle.q_packet.specs.Cause.{is_refusal}
+use Rattle.q_packet.specs.declared.cause.Cause.{Cause}
 use Rattle.q_packet.specs.declared.cause.Cause.TheVariants.{NoClass, TooLong}
+use Rattle.q_drr.specs.Schedule as drr
 use Rattle.q_fqcodel.specs.FqState.{FqView}
 use Rattle.q_model.specs.Beneath.{is_empty}
+use Rattle.q_model.specs.Filters.{named_class}
 use Rattle.q_model.specs.Node as spec
 use Rattle.q_model.specs.Node.{Node, shape, side_by_side}
 use Rattle.q_model.specs.Put.{put_along}
@@ -18,13 +21,14 @@ use Rattle.q_model.specs.Work.{settled_class, settled_in}
 use Rattle.q_tree.specs.Ahead.{ways}
 use Rattle.q_tree.specs.Arrivals.{CanCount}
 use Rattle.q_tree.specs.NodeCode.{forest_size}
-use Rattle.q_tree.specs.ArriveSteps.{HasComeIn, IsPlacedIn}
+use Rattle.q_tree.specs.ArriveSteps.{HasComeIn, IsPlacedIn, way_in}
 use Rattle.q_tree.specs.Kept.{Kept}
 use Rattle.q_tree.specs.Seen.{children_seen, places_seen, discipline_seen}
 use Rattle.q_tree.specs.declared.node.Discipline.{Discipline}
 use Rattle.q_tree.specs.declared.node.Discipline.TheVariants as code
 use Rattle.q_tree.specs.declared.outcome.Outcome.{Outcome}
-use Rattle.q_tree.proofs.Arriving.{drr-way, fifo-place, flows-after, flows-place, gone-after, gone-in, gone-same, lt-false, lt-true, nobody, on-err, place-below, placed-at, prio-way, refused-in, tbf-way, through-past}
+use Rattle.q_tree.proofs.Arriving.{drr-way, fifo-place, flows-after, flows-place, gone-after, gone-in, gone-same, nobody, on-err, place-below, placed-at, prio-way, refused-in, tbf-way, through-past}
+use Rattle.q_tree.proofs.ChoosingLemmas.{child-missing, child-there, drr-child, drr-refused, tbf-child, tbf-refused}
 use Rattle.q_tree.proofs.ArrivedNodes.{can-come-in, come-after, come-kept, come-lost, come-told, place-within, placed-after, placed-kept, within-room}
 use Rattle.q_tree.proofs.HereLemmas.{flow-packets}
 use Rattle.q_tree.proofs.Peeks.{own-room, room-of}
@@ -62,122 +66,326 @@ Discipline::enqueue-returns-in-FqCodel-clause-after g t c =
 pub Discipline::enqueue-returns-in-FqCodel-clause-succeeds : goal.Discipline::enqueue-returns-in-FqCodel-clause-succeeds
 Discipline::enqueue-returns-in-FqCodel-clause-succeeds g t c = λ h. c.enqueue_in_flows.ensures.succeeds (flows-place c.args.packet.now c.args.filters.now c.args.self.now c.deref_mut.result.now.state c.deref_mut.result.now.places (ap discipline_seen c.in-FqCodel.is ∙ ap (λ (q : FqView). spec.FqCodel q.state) (sym c.deref_mut.ensures.value)) (ap places_seen c.in-FqCodel.is ∙ ap (λ (q : FqView). q.places) (sym c.deref_mut.ensures.value)) h)
 
-pub Discipline::enqueue-returns-then-place-len-clause-after : goal.Discipline::enqueue-returns-then-place-len-clause-after
-Discipline::enqueue-returns-then-place-len-clause-after g t c =
-    subst (λ (d : Discipline). HasComeIn c.args.now c.args.packet.now c.args.filters.now c.args.self.now d c.refuse.result (g.S.Sink.losses c.args.sink.now) (g.S.Sink.losses c.refuse.new.sink) (g.S.Sink.room c.args.sink.now) (g.S.Sink.room c.refuse.new.sink)) (c.in-Prio.is ∙ c.in-Prio-self.is)
-    (refused-in c.args.now c.args.packet.now NoClass c.args.filters.now c.args.self.now c.refuse.result (g.S.Sink.losses c.args.sink.now) (g.S.Sink.losses c.refuse.new.sink) (g.S.Sink.room c.args.sink.now) (g.S.Sink.room c.refuse.new.sink) refl
-    (prio-way c.args.packet.now c.args.filters.now c.args.self.now c.in-Prio.priomap c.in-Prio-self.bands.items c.band-place.result (ap discipline_seen c.in-Prio.is) (ap children_seen (c.in-Prio.is ∙ c.in-Prio-self.is)) c.band-place.ensures ∙ through-past c.args.packet.now c.in-Prio-self.bands.items c.band-place.result (slice_get_past c.in-Prio-self.bands.items c.band-place.result (omega (arith, c.len.ensures, c.in-Prio-self.bands.ok, c.if-place-len.true)))) _ refl c.refuse.ensures.outcome c.refuse.ensures.told.lost c.refuse.ensures.told.room_taken)
-
-pub Discipline::enqueue-index_mut-requires : goal.Discipline::enqueue-index_mut-requires
-Discipline::enqueue-index_mut-requires g t c = omega (arith, c.len.ensures, c.in-Prio-self.bands.ok, c.if-place-len.false)
-
 pub Discipline::enqueue-enqueue-requires : goal.Discipline::enqueue-enqueue-requires
 Discipline::enqueue-enqueue-requires g t c κs within =
-    let on : slice_get c.in-Prio-self.bands.items c.band-place.result ≡ Some c.index_mut.result.now = slice_get_read c.in-Prio-self.bands.items (length c.in-Prio-self.bands.items) c.band-place.result c.index_mut.result.now refl (omega (arith, c.len.ensures, c.in-Prio-self.bands.ok, c.if-place-len.false)) c.index_mut.ensures.value in
-    let there : slice_get (children_seen c.args.self.now) c.band-place.result ≡ Some c.index_mut.result.now = ap (λ xs. slice_get xs c.band-place.result) (ap children_seen (c.in-Prio.is ∙ c.in-Prio-self.is)) ∙ on in (
-      omega (arith, child-size c.in-Prio-self.bands.items c.band-place.result c.index_mut.result.now on, ap (λ (ns : List (Node Kept)). forest_size (side_by_side ns)) (ap children_seen (c.in-Prio.is ∙ c.in-Prio-self.is)), c.decreases),
+    let same : c.args.self.now ≡ code.Prio c.in-Prio-self-2.priomap c.in-Prio-self-2.bands = c.in-Prio.is ∙ c.in-Prio-self-2.is in
+    let all : c.len.result ≡ length c.in-Prio-self-2.bands.items =
+    omega (
+      arith,
+      c.len.ensures,
+      c.in-Prio-self.bands.ok,
+      ap (λ (d : Discipline). length (children_seen d)) (sym c.in-Prio-self.is ∙
+          c.in-Prio-self-2.is),
+    ) in
+    let chosen = child-there c.len.result (option_map_or (λ minor. minor - 1) (named_class c.args.filters.now c.args.packet.now) (slice_index
+    c.in-Prio-self.priomap c.args.packet.now.prio)) c.in-Child.place (sym c.in-Child.is ∙ c.choose-choice.ensures) in
+    let inside : c.in-Child.place < length c.in-Prio-self-2.bands.items = omega (arith, chosen.1, all) in
+    let on : slice_get c.in-Prio-self-2.bands.items c.in-Child.place ≡ Some c.index_mut.result.now = slice_get_read c.in-Prio-self-2.bands.items
+    (length c.in-Prio-self-2.bands.items) c.in-Child.place c.index_mut.result.now refl inside c.index_mut.ensures.value in
+    let there : slice_get (children_seen c.args.self.now) c.in-Child.place ≡ Some c.index_mut.result.now = ap (λ (d : Discipline). slice_get
+    (children_seen d) c.in-Child.place) same ∙ on in (
+      omega (
+        arith,
+        child-size c.in-Prio-self-2.bands.items c.in-Child.place c.index_mut.result.now on,
+        ap (λ (d : Discipline). forest_size
+            (side_by_side (children_seen d))) same,
+        c.decreases,
+      ),
       (
         within,
         (
-          c.requires.ready.child c.band-place.result c.index_mut.result.now there,
-          (omega (arith, c.requires.sink, child-packets (children_seen c.args.self.now) c.band-place.result c.index_mut.result.now there, room-of c.args.self.now (children_seen c.args.self.now) refl), c.requires.clean),
+          c.requires.ready.child c.in-Child.place c.index_mut.result.now there,
+          (
+            omega (
+              arith,
+              c.requires.sink,
+              child-packets (children_seen c.args.self.now) c.in-Child.place c.index_mut.result.now there,
+              room-of
+                  c.args.self.now (children_seen c.args.self.now) refl,
+            ),
+            c.requires.clean,
+          ),
         ),
       ),
     )
 
-pub Discipline::enqueue-returns-in-Prio-clause-after : goal.Discipline::enqueue-returns-in-Prio-clause-after
-Discipline::enqueue-returns-in-Prio-clause-after g t c =
-    gone-after c.args.now c.args.packet.now c.args.filters.now c.args.self.now (code.Prio c.in-Prio-self.priomap (with_item c.in-Prio-self.bands c.band-place.result c.enqueue.new.self)) c.in-Prio-self.bands.items c.band-place.result c.index_mut.result.now c.enqueue.new.self (ap children_seen (c.in-Prio.is ∙ c.in-Prio-self.is)) (omega (arith, c.len.ensures, c.in-Prio-self.bands.ok, c.if-place-len.false)) c.index_mut.ensures.value (prio-way c.args.packet.now c.args.filters.now c.args.self.now c.in-Prio.priomap c.in-Prio-self.bands.items c.band-place.result (ap discipline_seen c.in-Prio.is) (ap children_seen (c.in-Prio.is ∙ c.in-Prio-self.is)) c.band-place.ensures)
-    (λ m. code.Prio c.in-Prio-self.priomap (with_item c.in-Prio-self.bands c.band-place.result m)) (λ m. refl) (λ m. sym (ap discipline_seen (c.in-Prio.is ∙ c.in-Prio-self.is))) (λ m. sym (ap places_seen (c.in-Prio.is ∙ c.in-Prio-self.is))) refl (sym (ap places_seen (c.in-Prio.is ∙ c.in-Prio-self.is)))
-    (λ b. sym (ap (λ (d : Discipline). settled_in c.band-place.result b (discipline_seen d)) (c.in-Prio.is ∙ c.in-Prio-self.is))) c.enqueue.result (g.S.Sink.losses c.args.sink.now) (g.S.Sink.losses c.enqueue.new.sink) (g.S.Sink.room c.args.sink.now) (g.S.Sink.room c.enqueue.new.sink) c.enqueue.ensures.after c.enqueue.ensures.told
+pub Discipline::enqueue-returns-in-Child-clause-after : goal.Discipline::enqueue-returns-in-Child-clause-after
+Discipline::enqueue-returns-in-Child-clause-after g t c =
+    let same : c.args.self.now ≡ code.Prio c.in-Prio-self-2.priomap c.in-Prio-self-2.bands = c.in-Prio.is ∙ c.in-Prio-self-2.is in
+    let all : c.len.result ≡ length c.in-Prio-self-2.bands.items =
+    omega (
+      arith,
+      c.len.ensures,
+      c.in-Prio-self.bands.ok,
+      ap (λ (d : Discipline). length (children_seen d)) (sym c.in-Prio-self.is ∙
+          c.in-Prio-self-2.is),
+    ) in
+    let chosen = child-there c.len.result (option_map_or (λ minor. minor - 1) (named_class c.args.filters.now c.args.packet.now) (slice_index
+    c.in-Prio-self.priomap c.args.packet.now.prio)) c.in-Child.place (sym c.in-Child.is ∙ c.choose-choice.ensures) in
+    let inside : c.in-Child.place < length c.in-Prio-self-2.bands.items = omega (arith, chosen.1, all) in
+    let to : way_in c.args.packet.now c.args.filters.now c.args.self.now ≡ through (ways c.args.packet.now c.in-Prio-self-2.bands.items)
+    c.in-Child.place =
+    prio-way c.args.packet.now c.args.filters.now c.args.self.now c.in-Prio-self.priomap c.in-Prio-self-2.bands.items c.in-Child.place (ap
+    discipline_seen (c.in-Prio.is ∙ c.in-Prio-self.is)) (ap children_seen same) chosen.0 in
+    gone-after c.args.now c.args.packet.now c.args.filters.now c.args.self.now (code.Prio c.in-Prio-self-2.priomap (with_item c.in-Prio-self-2.bands
+    c.in-Child.place c.enqueue.new.self)) c.in-Prio-self-2.bands.items c.in-Child.place c.index_mut.result.now c.enqueue.new.self (ap children_seen
+    same) inside c.index_mut.ensures.value to
+    (λ m. code.Prio c.in-Prio-self-2.priomap (with_item c.in-Prio-self-2.bands c.in-Child.place m)) (λ m. refl) (λ m. sym (ap discipline_seen same))
+    (λ m. sym (ap places_seen same)) refl (sym (ap places_seen same))
+    (λ b. sym (ap (λ (d : Discipline). settled_in c.in-Child.place b (discipline_seen d)) same)) c.enqueue.result (g.S.Sink.losses c.args.sink.now)
+    (g.S.Sink.losses c.enqueue.new.sink) (g.S.Sink.room c.args.sink.now) (g.S.Sink.room c.enqueue.new.sink) c.enqueue.ensures.after
+    c.enqueue.ensures.told
 
-pub Discipline::enqueue-returns-in-Prio-clause-same : goal.Discipline::enqueue-returns-in-Prio-clause-same
-Discipline::enqueue-returns-in-Prio-clause-same g t c = gone-same c.args.self.now (code.Prio c.in-Prio-self.priomap (with_item c.in-Prio-self.bands c.band-place.result c.enqueue.new.self)) c.in-Prio-self.bands.items c.band-place.result c.index_mut.result.now c.enqueue.new.self c.enqueue.result (ap children_seen (c.in-Prio.is ∙ c.in-Prio-self.is)) c.index_mut.ensures.value refl (sym (ap discipline_seen (c.in-Prio.is ∙ c.in-Prio-self.is))) (sym (ap places_seen (c.in-Prio.is ∙ c.in-Prio-self.is))) c.enqueue.ensures.same
+pub Discipline::enqueue-returns-in-Child-clause-same : goal.Discipline::enqueue-returns-in-Child-clause-same
+Discipline::enqueue-returns-in-Child-clause-same g t c =
+    let same : c.args.self.now ≡ code.Prio c.in-Prio-self-2.priomap c.in-Prio-self-2.bands = c.in-Prio.is ∙ c.in-Prio-self-2.is in
+    gone-same c.args.self.now (code.Prio c.in-Prio-self-2.priomap (with_item c.in-Prio-self-2.bands c.in-Child.place c.enqueue.new.self))
+    c.in-Prio-self-2.bands.items c.in-Child.place c.index_mut.result.now c.enqueue.new.self c.enqueue.result (ap children_seen same)
+    c.index_mut.ensures.value refl (sym (ap discipline_seen same)) (sym (ap places_seen same)) c.enqueue.ensures.same
 
-pub Discipline::enqueue-returns-in-Prio-clause-succeeds : goal.Discipline::enqueue-returns-in-Prio-clause-succeeds
-Discipline::enqueue-returns-in-Prio-clause-succeeds g t c = λ h. c.enqueue.ensures.succeeds (place-below c.args.now c.args.packet.now c.args.filters.now c.args.self.now c.args.self.now (code.Prio c.in-Prio-self.priomap (with_item c.in-Prio-self.bands c.band-place.result c.enqueue.new.self)) c.in-Prio-self.bands.items c.band-place.result c.index_mut.result.now c.enqueue.new.self nobody (ap children_seen (c.in-Prio.is ∙ c.in-Prio-self.is)) (omega (arith, c.len.ensures, c.in-Prio-self.bands.ok, c.if-place-len.false)) c.index_mut.ensures.value (prio-way c.args.packet.now c.args.filters.now c.args.self.now c.in-Prio.priomap c.in-Prio-self.bands.items c.band-place.result (ap discipline_seen c.in-Prio.is) (ap children_seen (c.in-Prio.is ∙ c.in-Prio-self.is)) c.band-place.ensures) h)
+pub Discipline::enqueue-returns-in-Child-clause-succeeds : goal.Discipline::enqueue-returns-in-Child-clause-succeeds
+Discipline::enqueue-returns-in-Child-clause-succeeds g t c =
+    let same : c.args.self.now ≡ code.Prio c.in-Prio-self-2.priomap c.in-Prio-self-2.bands = c.in-Prio.is ∙ c.in-Prio-self-2.is in
+    let all : c.len.result ≡ length c.in-Prio-self-2.bands.items =
+    omega (
+      arith,
+      c.len.ensures,
+      c.in-Prio-self.bands.ok,
+      ap (λ (d : Discipline). length (children_seen d)) (sym c.in-Prio-self.is ∙
+          c.in-Prio-self-2.is),
+    ) in
+    let chosen = child-there c.len.result (option_map_or (λ minor. minor - 1) (named_class c.args.filters.now c.args.packet.now) (slice_index
+    c.in-Prio-self.priomap c.args.packet.now.prio)) c.in-Child.place (sym c.in-Child.is ∙ c.choose-choice.ensures) in
+    let inside : c.in-Child.place < length c.in-Prio-self-2.bands.items = omega (arith, chosen.1, all) in
+    let to : way_in c.args.packet.now c.args.filters.now c.args.self.now ≡ through (ways c.args.packet.now c.in-Prio-self-2.bands.items)
+    c.in-Child.place =
+    prio-way c.args.packet.now c.args.filters.now c.args.self.now c.in-Prio-self.priomap c.in-Prio-self-2.bands.items c.in-Child.place (ap
+    discipline_seen (c.in-Prio.is ∙ c.in-Prio-self.is)) (ap children_seen same) chosen.0 in
+    λ h. c.enqueue.ensures.succeeds (place-below c.args.now c.args.packet.now c.args.filters.now c.args.self.now c.args.self.now (code.Prio
+    c.in-Prio-self-2.priomap (with_item c.in-Prio-self-2.bands c.in-Child.place c.enqueue.new.self)) c.in-Prio-self-2.bands.items c.in-Child.place
+    c.index_mut.result.now c.enqueue.new.self nobody (ap children_seen same) inside c.index_mut.ensures.value to h)
 
-pub Discipline::enqueue-returns-then-from-burst-clause-after : goal.Discipline::enqueue-returns-then-from-burst-clause-after
-Discipline::enqueue-returns-then-from-burst-clause-after g t c =
-    subst (λ (d : Discipline). HasComeIn c.args.now c.args.packet.now c.args.filters.now c.args.self.now d c.refuse-then-from-burst.result (g.S.Sink.losses c.args.sink.now) (g.S.Sink.losses c.refuse-then-from-burst.new.sink) (g.S.Sink.room c.args.sink.now) (g.S.Sink.room c.refuse-then-from-burst.new.sink)) c.in-Tbf.is
-    (refused-in c.args.now c.args.packet.now TooLong c.args.filters.now c.args.self.now c.refuse-then-from-burst.result (g.S.Sink.losses c.args.sink.now) (g.S.Sink.losses c.refuse-then-from-burst.new.sink) (g.S.Sink.room c.args.sink.now) (g.S.Sink.room c.refuse-then-from-burst.new.sink) refl
-    (tbf-way c.args.packet.now c.args.filters.now c.args.self.now c.in-Tbf.bucket c.in-Tbf.limit (children_seen c.args.self.now) (ap discipline_seen c.in-Tbf.is) refl ∙ ap (λ b. if b then refused TooLong else through (ways c.args.packet.now (children_seen c.args.self.now)) 0) (lt-true c.in-Tbf.bucket.burst c.args.packet.now.len (omega (arith, c.if-from-burst.true, c.from.ensures, c.burst.ensures.value, ap (λ (q : Descriptor). q.len) c.packet.view_is)))) _ refl c.refuse-then-from-burst.ensures.outcome c.refuse-then-from-burst.ensures.told.lost c.refuse-then-from-burst.ensures.told.room_taken)
+pub Discipline::enqueue-returns-in-Refused-clause-after : goal.Discipline::enqueue-returns-in-Refused-clause-after
+Discipline::enqueue-returns-in-Refused-clause-after g t c =
+    let same : c.args.self.now ≡ code.Prio c.in-Prio-self-2.priomap c.in-Prio-self-2.bands = c.in-Prio.is ∙ c.in-Prio-self-2.is in
+    let all : c.len.result ≡ length c.in-Prio-self-2.bands.items =
+    omega (
+      arith,
+      c.len.ensures,
+      c.in-Prio-self.bands.ok,
+      ap (λ (d : Discipline). length (children_seen d)) (sym c.in-Prio-self.is ∙
+          c.in-Prio-self-2.is),
+    ) in
+    let why = child-missing c.len.result (option_map_or (λ minor. minor - 1) (named_class c.args.filters.now c.args.packet.now) (slice_index
+    c.in-Prio-self.priomap c.args.packet.now.prio)) c.in-Refused.cause (sym c.in-Refused.is ∙ c.choose-choice.ensures) in
+    let to : way_in c.args.packet.now c.args.filters.now c.args.self.now ≡ refused c.in-Refused.cause =
+    prio-way c.args.packet.now c.args.filters.now c.args.self.now c.in-Prio-self.priomap c.in-Prio-self-2.bands.items (option_map_or (λ minor.
+    minor - 1) (named_class c.args.filters.now c.args.packet.now) (slice_index c.in-Prio-self.priomap c.args.packet.now.prio)) (ap
+    discipline_seen (c.in-Prio.is ∙ c.in-Prio-self.is)) (ap children_seen same) refl
+    ∙ through-past c.args.packet.now c.in-Prio-self-2.bands.items (option_map_or (λ minor. minor - 1) (named_class c.args.filters.now
+    c.args.packet.now) (slice_index c.in-Prio-self.priomap c.args.packet.now.prio)) (slice_get_past c.in-Prio-self-2.bands.items (option_map_or
+    (λ minor. minor - 1) (named_class c.args.filters.now c.args.packet.now) (slice_index c.in-Prio-self.priomap c.args.packet.now.prio)) (omega
+    (arith, why.1, all))) ∙ ap refused (sym why.0) in
+    subst (λ (d : Discipline). HasComeIn c.args.now c.args.packet.now c.args.filters.now c.args.self.now d c.refuse.result (g.S.Sink.losses
+    c.args.sink.now) (g.S.Sink.losses c.refuse.new.sink) (g.S.Sink.room c.args.sink.now) (g.S.Sink.room c.refuse.new.sink)) same
+    (refused-in c.args.now c.args.packet.now c.in-Refused.cause c.args.filters.now c.args.self.now c.refuse.result (g.S.Sink.losses c.args.sink.now)
+    (g.S.Sink.losses c.refuse.new.sink) (g.S.Sink.room c.args.sink.now) (g.S.Sink.room c.refuse.new.sink) (subst (λ (x : Cause). is_refusal x ≡
+    true) (sym why.0) refl) to _ refl c.refuse.ensures.outcome c.refuse.ensures.told.lost c.refuse.ensures.told.room_taken)
 
-pub Discipline::enqueue-enqueue-requires-in-Tbf : goal.Discipline::enqueue-enqueue-requires-in-Tbf
-Discipline::enqueue-enqueue-requires-in-Tbf g t c κs within =
-    let on : slice_get (c.deref_mut-in-Tbf.result.now ∷ []) 0 ≡ Some c.deref_mut-in-Tbf.result.now = slice_get_read (c.deref_mut-in-Tbf.result.now ∷ []) (length (c.deref_mut-in-Tbf.result.now ∷ [])) 0 c.deref_mut-in-Tbf.result.now refl (omega arith) refl in
-    let there : slice_get (children_seen c.args.self.now) 0 ≡ Some c.deref_mut-in-Tbf.result.now = ap (λ xs. slice_get xs 0) (ap children_seen c.in-Tbf.is ∙ ap (λ (x : Node Kept). x ∷ []) (sym c.deref_mut-in-Tbf.ensures.value)) ∙ on in (
-      omega (arith, child-size (c.deref_mut-in-Tbf.result.now ∷ []) 0 c.deref_mut-in-Tbf.result.now on, ap (λ (ns : List (Node Kept)). forest_size (side_by_side ns)) (ap children_seen c.in-Tbf.is ∙ ap (λ (x : Node Kept). x ∷ []) (sym c.deref_mut-in-Tbf.ensures.value)), c.decreases),
+pub Discipline::enqueue-enqueue-requires-in-Child-choose : goal.Discipline::enqueue-enqueue-requires-in-Child-choose
+Discipline::enqueue-enqueue-requires-in-Child-choose g t c κs within =
+    let kids : children_seen c.args.self.now ≡ c.deref_mut-in-Child-choose.result.now ∷ [] = ap children_seen c.in-Tbf.is ∙ ap (λ (x : Node Kept). x
+    ∷ []) (sym c.deref_mut-in-Child-choose.ensures.value) in
+    let on : slice_get (c.deref_mut-in-Child-choose.result.now ∷ []) 0 ≡ Some c.deref_mut-in-Child-choose.result.now = slice_get_read
+    (c.deref_mut-in-Child-choose.result.now ∷ []) (length (c.deref_mut-in-Child-choose.result.now ∷ [])) 0 c.deref_mut-in-Child-choose.result.now
+    refl (omega arith) refl in
+    let there : slice_get (children_seen c.args.self.now) 0 ≡ Some c.deref_mut-in-Child-choose.result.now = ap (λ xs. slice_get xs 0) kids ∙ on in (
+      omega (
+        arith,
+        child-size (c.deref_mut-in-Child-choose.result.now ∷ []) 0 c.deref_mut-in-Child-choose.result.now on,
+        ap (λ (ns : List (Node
+            Kept)). forest_size (side_by_side ns)) kids,
+        c.decreases,
+      ),
       (
         within,
         (
-          c.requires.ready.child 0 c.deref_mut-in-Tbf.result.now there,
-          (omega (arith, c.requires.sink, child-packets (children_seen c.args.self.now) 0 c.deref_mut-in-Tbf.result.now there, room-of c.args.self.now (children_seen c.args.self.now) refl), c.requires.clean),
+          c.requires.ready.child 0 c.deref_mut-in-Child-choose.result.now there,
+          (
+            omega (
+              arith,
+              c.requires.sink,
+              child-packets (children_seen c.args.self.now) 0 c.deref_mut-in-Child-choose.result.now there,
+              room-of
+                  c.args.self.now (children_seen c.args.self.now) refl,
+            ),
+            c.requires.clean,
+          ),
         ),
       ),
     )
 
-pub Discipline::enqueue-returns-in-Tbf-clause-after : goal.Discipline::enqueue-returns-in-Tbf-clause-after
-Discipline::enqueue-returns-in-Tbf-clause-after g t c =
-    gone-after c.args.now c.args.packet.now c.args.filters.now c.args.self.now (code.Tbf c.in-Tbf.bucket c.in-Tbf.limit (with_value c.in-Tbf.child c.enqueue-in-Tbf.new.self)) (c.deref_mut-in-Tbf.result.now ∷ []) 0 c.deref_mut-in-Tbf.result.now c.enqueue-in-Tbf.new.self (ap children_seen c.in-Tbf.is ∙ ap (λ (x : Node Kept). x ∷ []) (sym c.deref_mut-in-Tbf.ensures.value)) (omega arith) refl (tbf-way c.args.packet.now c.args.filters.now c.args.self.now c.in-Tbf.bucket c.in-Tbf.limit (c.deref_mut-in-Tbf.result.now ∷ []) (ap discipline_seen c.in-Tbf.is) (ap children_seen c.in-Tbf.is ∙ ap (λ (x : Node Kept). x ∷ []) (sym c.deref_mut-in-Tbf.ensures.value)) ∙ ap (λ b. if b then refused TooLong else through (ways c.args.packet.now (c.deref_mut-in-Tbf.result.now ∷ [])) 0) (lt-false c.in-Tbf.bucket.burst c.args.packet.now.len (omega (arith, c.if-from-burst.false, c.from.ensures, c.burst.ensures.value, ap (λ (q : Descriptor). q.len) c.packet.view_is))))
-    (λ m. code.Tbf c.in-Tbf.bucket c.in-Tbf.limit (with_value c.in-Tbf.child m)) (λ m. refl) (λ m. sym (ap discipline_seen c.in-Tbf.is)) (λ m. sym (ap places_seen c.in-Tbf.is)) refl (sym (ap places_seen c.in-Tbf.is))
-    (λ b. sym (ap (λ (d : Discipline). settled_in 0 b (discipline_seen d)) c.in-Tbf.is)) c.enqueue-in-Tbf.result (g.S.Sink.losses c.args.sink.now) (g.S.Sink.losses c.enqueue-in-Tbf.new.sink) (g.S.Sink.room c.args.sink.now) (g.S.Sink.room c.enqueue-in-Tbf.new.sink) c.enqueue-in-Tbf.ensures.after c.enqueue-in-Tbf.ensures.told
+pub Discipline::enqueue-returns-in-Child-choose-clause-after : goal.Discipline::enqueue-returns-in-Child-choose-clause-after
+Discipline::enqueue-returns-in-Child-choose-clause-after g t c =
+    let kids : children_seen c.args.self.now ≡ c.deref_mut-in-Child-choose.result.now ∷ [] = ap children_seen c.in-Tbf.is ∙ ap (λ (x : Node Kept). x
+    ∷ []) (sym c.deref_mut-in-Child-choose.ensures.value) in
+    let to : way_in c.args.packet.now c.args.filters.now c.args.self.now ≡ through (ways c.args.packet.now (c.deref_mut-in-Child-choose.result.now ∷
+    [])) 0 =
+    tbf-way c.args.packet.now c.args.filters.now c.args.self.now c.in-Tbf.bucket c.in-Tbf.limit (c.deref_mut-in-Child-choose.result.now ∷ [])
+    (ap discipline_seen c.in-Tbf.is) kids
+    ∙ ap (λ b. if b then refused TooLong else through (ways c.args.packet.now (c.deref_mut-in-Child-choose.result.now ∷ [])) 0) (tbf-child
+    (nat_lt c.in-Tbf.bucket.burst c.args.packet.now.len) c.in-Child-choose.field-0 (sym c.in-Child-choose.is ∙ c.choose.ensures)) in
+    gone-after c.args.now c.args.packet.now c.args.filters.now c.args.self.now (code.Tbf c.in-Tbf.bucket c.in-Tbf.limit (with_value c.in-Tbf.child
+    c.enqueue-in-Child-choose.new.self)) (c.deref_mut-in-Child-choose.result.now ∷ []) 0 c.deref_mut-in-Child-choose.result.now
+    c.enqueue-in-Child-choose.new.self kids (omega arith) refl to
+    (λ m. code.Tbf c.in-Tbf.bucket c.in-Tbf.limit (with_value c.in-Tbf.child m)) (λ m. refl) (λ m. sym (ap discipline_seen c.in-Tbf.is)) (λ m. sym
+    (ap places_seen c.in-Tbf.is)) refl (sym (ap places_seen c.in-Tbf.is))
+    (λ b. sym (ap (λ (d : Discipline). settled_in 0 b (discipline_seen d)) c.in-Tbf.is)) c.enqueue-in-Child-choose.result (g.S.Sink.losses
+    c.args.sink.now) (g.S.Sink.losses c.enqueue-in-Child-choose.new.sink) (g.S.Sink.room c.args.sink.now) (g.S.Sink.room
+    c.enqueue-in-Child-choose.new.sink) c.enqueue-in-Child-choose.ensures.after c.enqueue-in-Child-choose.ensures.told
 
-pub Discipline::enqueue-returns-in-Tbf-clause-same : goal.Discipline::enqueue-returns-in-Tbf-clause-same
-Discipline::enqueue-returns-in-Tbf-clause-same g t c = gone-same c.args.self.now (code.Tbf c.in-Tbf.bucket c.in-Tbf.limit (with_value c.in-Tbf.child c.enqueue-in-Tbf.new.self)) (c.deref_mut-in-Tbf.result.now ∷ []) 0 c.deref_mut-in-Tbf.result.now c.enqueue-in-Tbf.new.self c.enqueue-in-Tbf.result (ap children_seen c.in-Tbf.is ∙ ap (λ (x : Node Kept). x ∷ []) (sym c.deref_mut-in-Tbf.ensures.value)) refl refl (sym (ap discipline_seen c.in-Tbf.is)) (sym (ap places_seen c.in-Tbf.is)) c.enqueue-in-Tbf.ensures.same
+pub Discipline::enqueue-returns-in-Child-choose-clause-succeeds : goal.Discipline::enqueue-returns-in-Child-choose-clause-succeeds
+Discipline::enqueue-returns-in-Child-choose-clause-succeeds g t c =
+    let kids : children_seen c.args.self.now ≡ c.deref_mut-in-Child-choose.result.now ∷ [] = ap children_seen c.in-Tbf.is ∙ ap (λ (x : Node Kept). x
+    ∷ []) (sym c.deref_mut-in-Child-choose.ensures.value) in
+    let to : way_in c.args.packet.now c.args.filters.now c.args.self.now ≡ through (ways c.args.packet.now (c.deref_mut-in-Child-choose.result.now ∷
+    [])) 0 =
+    tbf-way c.args.packet.now c.args.filters.now c.args.self.now c.in-Tbf.bucket c.in-Tbf.limit (c.deref_mut-in-Child-choose.result.now ∷ [])
+    (ap discipline_seen c.in-Tbf.is) kids
+    ∙ ap (λ b. if b then refused TooLong else through (ways c.args.packet.now (c.deref_mut-in-Child-choose.result.now ∷ [])) 0) (tbf-child
+    (nat_lt c.in-Tbf.bucket.burst c.args.packet.now.len) c.in-Child-choose.field-0 (sym c.in-Child-choose.is ∙ c.choose.ensures)) in
+    λ h. c.enqueue-in-Child-choose.ensures.succeeds (place-below c.args.now c.args.packet.now c.args.filters.now c.args.self.now c.args.self.now
+    (code.Tbf c.in-Tbf.bucket c.in-Tbf.limit (with_value c.in-Tbf.child c.enqueue-in-Child-choose.new.self)) (c.deref_mut-in-Child-choose.result.now
+    ∷ []) 0 c.deref_mut-in-Child-choose.result.now c.enqueue-in-Child-choose.new.self nobody kids (omega arith) refl to h)
 
-pub Discipline::enqueue-returns-in-Tbf-clause-succeeds : goal.Discipline::enqueue-returns-in-Tbf-clause-succeeds
-Discipline::enqueue-returns-in-Tbf-clause-succeeds g t c = λ h. c.enqueue-in-Tbf.ensures.succeeds (place-below c.args.now c.args.packet.now c.args.filters.now c.args.self.now c.args.self.now (code.Tbf c.in-Tbf.bucket c.in-Tbf.limit (with_value c.in-Tbf.child c.enqueue-in-Tbf.new.self)) (c.deref_mut-in-Tbf.result.now ∷ []) 0 c.deref_mut-in-Tbf.result.now c.enqueue-in-Tbf.new.self nobody (ap children_seen c.in-Tbf.is ∙ ap (λ (x : Node Kept). x ∷ []) (sym c.deref_mut-in-Tbf.ensures.value)) (omega arith) refl (tbf-way c.args.packet.now c.args.filters.now c.args.self.now c.in-Tbf.bucket c.in-Tbf.limit (c.deref_mut-in-Tbf.result.now ∷ []) (ap discipline_seen c.in-Tbf.is) (ap children_seen c.in-Tbf.is ∙ ap (λ (x : Node Kept). x ∷ []) (sym c.deref_mut-in-Tbf.ensures.value)) ∙ ap (λ b. if b then refused TooLong else through (ways c.args.packet.now (c.deref_mut-in-Tbf.result.now ∷ [])) 0) (lt-false c.in-Tbf.bucket.burst c.args.packet.now.len (omega (arith, c.if-from-burst.false, c.from.ensures, c.burst.ensures.value, ap (λ (q : Descriptor). q.len) c.packet.view_is)))) h)
+pub Discipline::enqueue-returns-in-Refused-choose-clause-after : goal.Discipline::enqueue-returns-in-Refused-choose-clause-after
+Discipline::enqueue-returns-in-Refused-choose-clause-after g t c =
+    let why = tbf-refused (nat_lt c.in-Tbf.bucket.burst c.args.packet.now.len) c.in-Refused-choose.cause (sym c.in-Refused-choose.is ∙
+    c.choose.ensures) in
+    let to : way_in c.args.packet.now c.args.filters.now c.args.self.now ≡ refused c.in-Refused-choose.cause =
+    tbf-way c.args.packet.now c.args.filters.now c.args.self.now c.in-Tbf.bucket c.in-Tbf.limit (children_seen c.args.self.now) (ap
+    discipline_seen c.in-Tbf.is) refl
+    ∙ ap (λ b. if b then refused TooLong else through (ways c.args.packet.now (children_seen c.args.self.now)) 0) why.0 ∙ ap refused (sym why.1)
+    in
+    subst (λ (d : Discipline). HasComeIn c.args.now c.args.packet.now c.args.filters.now c.args.self.now d c.refuse-in-Refused-choose.result
+    (g.S.Sink.losses c.args.sink.now) (g.S.Sink.losses c.refuse-in-Refused-choose.new.sink) (g.S.Sink.room c.args.sink.now) (g.S.Sink.room
+    c.refuse-in-Refused-choose.new.sink)) c.in-Tbf.is
+    (refused-in c.args.now c.args.packet.now c.in-Refused-choose.cause c.args.filters.now c.args.self.now c.refuse-in-Refused-choose.result
+    (g.S.Sink.losses c.args.sink.now) (g.S.Sink.losses c.refuse-in-Refused-choose.new.sink) (g.S.Sink.room c.args.sink.now) (g.S.Sink.room
+    c.refuse-in-Refused-choose.new.sink) (subst (λ (x : Cause). is_refusal x ≡ true) (sym why.1) refl) to _ refl
+    c.refuse-in-Refused-choose.ensures.outcome c.refuse-in-Refused-choose.ensures.told.lost c.refuse-in-Refused-choose.ensures.told.room_taken)
 
-pub Discipline::enqueue-returns-in_default-class_place-clause-after : goal.Discipline::enqueue-returns-in_default-class_place-clause-after
-Discipline::enqueue-returns-in_default-class_place-clause-after g t c =
-    subst (λ (d : Discipline). HasComeIn c.args.now c.args.packet.now c.args.filters.now c.args.self.now d c.refuse-in_default-class_place.result (g.S.Sink.losses c.args.sink.now) (g.S.Sink.losses c.refuse-in_default-class_place.new.sink) (g.S.Sink.room c.args.sink.now) (g.S.Sink.room c.refuse-in_default-class_place.new.sink)) c.in-Drr.is
-    (refused-in c.args.now c.args.packet.now NoClass c.args.filters.now c.args.self.now c.refuse-in_default-class_place.result (g.S.Sink.losses c.args.sink.now) (g.S.Sink.losses c.refuse-in_default-class_place.new.sink) (g.S.Sink.room c.args.sink.now) (g.S.Sink.room c.refuse-in_default-class_place.new.sink) refl
-    (drr-way c.args.packet.now c.args.filters.now c.args.self.now c.in-Drr.active c.in-Drr.classes.items c.class_place.result (ap discipline_seen c.in-Drr.is) (ap children_seen c.in-Drr.is) c.class_place.ensures ∙ ap (λ (o : Option ℕ). option_map_or (through (ways c.args.packet.now c.in-Drr.classes.items)) o (refused NoClass)) c.in_default-class_place.is) _ refl c.refuse-in_default-class_place.ensures.outcome c.refuse-in_default-class_place.ensures.told.lost c.refuse-in_default-class_place.ensures.told.room_taken)
-
-pub Discipline::enqueue-returns-then-place-len-2-clause-after : goal.Discipline::enqueue-returns-then-place-len-2-clause-after
-Discipline::enqueue-returns-then-place-len-2-clause-after g t c =
-    subst (λ (d : Discipline). HasComeIn c.args.now c.args.packet.now c.args.filters.now c.args.self.now d c.refuse-then-place-len-2.result (g.S.Sink.losses c.args.sink.now) (g.S.Sink.losses c.refuse-then-place-len-2.new.sink) (g.S.Sink.room c.args.sink.now) (g.S.Sink.room c.refuse-then-place-len-2.new.sink)) c.in-Drr.is
-    (refused-in c.args.now c.args.packet.now NoClass c.args.filters.now c.args.self.now c.refuse-then-place-len-2.result (g.S.Sink.losses c.args.sink.now) (g.S.Sink.losses c.refuse-then-place-len-2.new.sink) (g.S.Sink.room c.args.sink.now) (g.S.Sink.room c.refuse-then-place-len-2.new.sink) refl
-    (drr-way c.args.packet.now c.args.filters.now c.args.self.now c.in-Drr.active c.in-Drr.classes.items c.class_place.result (ap discipline_seen c.in-Drr.is) (ap children_seen c.in-Drr.is) c.class_place.ensures ∙ ap (λ (o : Option ℕ). option_map_or (through (ways c.args.packet.now c.in-Drr.classes.items)) o (refused NoClass)) c.in-Some.is ∙ through-past c.args.packet.now c.in-Drr.classes.items c.in-Some.place (slice_get_past c.in-Drr.classes.items c.in-Some.place (omega (arith, c.len-in-Drr.ensures, c.in-Drr.classes.ok, c.if-place-len-2.true)))) _ refl c.refuse-then-place-len-2.ensures.outcome c.refuse-then-place-len-2.ensures.told.lost c.refuse-then-place-len-2.ensures.told.room_taken)
-
-pub Discipline::enqueue-index_mut-requires-in-Drr : goal.Discipline::enqueue-index_mut-requires-in-Drr
-Discipline::enqueue-index_mut-requires-in-Drr g t c = omega (arith, c.len-in-Drr.ensures, c.in-Drr.classes.ok, c.if-place-len-2.false)
-
-pub Discipline::enqueue-index-requires : goal.Discipline::enqueue-index-requires
-Discipline::enqueue-index-requires g t c = omega (arith, c.len-in-Drr.ensures, c.in-Drr.classes.ok, c.if-place-len-2.false)
-
-pub Discipline::enqueue-enqueue-requires-in-Drr : goal.Discipline::enqueue-enqueue-requires-in-Drr
-Discipline::enqueue-enqueue-requires-in-Drr g t c κs within =
-    let on : slice_get c.in-Drr.classes.items c.in-Some.place ≡ Some c.index_mut-in-Drr.result.now = slice_get_read c.in-Drr.classes.items (length c.in-Drr.classes.items) c.in-Some.place c.index_mut-in-Drr.result.now refl (omega (arith, c.len-in-Drr.ensures, c.in-Drr.classes.ok, c.if-place-len-2.false)) c.index_mut-in-Drr.ensures.value in
-    let there : slice_get (children_seen c.args.self.now) c.in-Some.place ≡ Some c.index_mut-in-Drr.result.now = ap (λ xs. slice_get xs c.in-Some.place) (ap children_seen c.in-Drr.is) ∙ on in (
-      omega (arith, child-size c.in-Drr.classes.items c.in-Some.place c.index_mut-in-Drr.result.now on, ap (λ (ns : List (Node Kept)). forest_size (side_by_side ns)) (ap children_seen c.in-Drr.is), c.decreases),
+pub Discipline::enqueue-enqueue-requires-in-Child-choose-2 : goal.Discipline::enqueue-enqueue-requires-in-Child-choose-2
+Discipline::enqueue-enqueue-requires-in-Child-choose-2 g t c κs within =
+    let all : c.len-in-Drr.result ≡ length c.in-Drr.classes.items = omega (arith, c.len-in-Drr.ensures, c.in-Drr.classes.ok) in
+    let chosen = drr-child c.len-in-Drr.result c.in-Child-choose-2.place (option_and_then (λ minor. drr.place_of minor c.in-Drr.active.classes)
+    (named_class c.args.filters.now c.args.packet.now)) (sym c.in-Child-choose-2.is ∙ c.choose-in-Drr.ensures) in
+    let inside : c.in-Child-choose-2.place < length c.in-Drr.classes.items = omega (arith, chosen.1, all) in
+    let on : slice_get c.in-Drr.classes.items c.in-Child-choose-2.place ≡ Some c.index_mut-in-Child-choose-2.result.now = slice_get_read
+    c.in-Drr.classes.items (length c.in-Drr.classes.items) c.in-Child-choose-2.place c.index_mut-in-Child-choose-2.result.now refl inside
+    c.index_mut-in-Child-choose-2.ensures.value in
+    let there : slice_get (children_seen c.args.self.now) c.in-Child-choose-2.place ≡ Some c.index_mut-in-Child-choose-2.result.now = ap (λ xs.
+    slice_get xs c.in-Child-choose-2.place) (ap children_seen c.in-Drr.is) ∙ on in (
+      omega (
+        arith,
+        child-size c.in-Drr.classes.items c.in-Child-choose-2.place c.index_mut-in-Child-choose-2.result.now on,
+        ap (λ (ns : List (Node
+            Kept)). forest_size (side_by_side ns)) (ap children_seen c.in-Drr.is),
+        c.decreases,
+      ),
       (
         within,
         (
-          c.requires.ready.child c.in-Some.place c.index_mut-in-Drr.result.now there,
-          (omega (arith, c.requires.sink, child-packets (children_seen c.args.self.now) c.in-Some.place c.index_mut-in-Drr.result.now there, room-of c.args.self.now (children_seen c.args.self.now) refl), c.requires.clean),
+          c.requires.ready.child c.in-Child-choose-2.place c.index_mut-in-Child-choose-2.result.now there,
+          (
+            omega (
+              arith,
+              c.requires.sink,
+              child-packets (children_seen c.args.self.now) c.in-Child-choose-2.place
+                  c.index_mut-in-Child-choose-2.result.now there,
+              room-of c.args.self.now (children_seen c.args.self.now) refl,
+            ),
+            c.requires.clean,
+          ),
         ),
       ),
     )
 
-pub Discipline::enqueue-returns-in_err-outcome-in-Drr-clause-same : goal.Discipline::enqueue-returns-in_err-outcome-in-Drr-clause-same
-Discipline::enqueue-returns-in_err-outcome-in-Drr-clause-same g t c = on-err c.from_residual.result (placed-at c.args.self.now (code.Drr c.in-Drr.active (with_item c.in-Drr.classes c.in-Some.place c.enqueue-in-Drr.new.self)) c.in-Drr.classes.items c.in-Some.place c.index_mut-in-Drr.result.now c.enqueue-in-Drr.new.self (ap children_seen c.in-Drr.is) c.index_mut-in-Drr.ensures.value c.in_err-outcome-in-Drr.ensures.same refl (sym (ap discipline_seen c.in-Drr.is)) (sym (ap places_seen c.in-Drr.is)))
+pub Discipline::enqueue-returns-in_err-outcome-in-Child-choose-2-clause-same :
+    goal.Discipline::enqueue-returns-in_err-outcome-in-Child-choose-2-clause-same
+Discipline::enqueue-returns-in_err-outcome-in-Child-choose-2-clause-same g t c =
+    on-err c.from_residual.result (placed-at c.args.self.now (code.Drr c.in-Drr.active (with_item c.in-Drr.classes c.in-Child-choose-2.place
+    c.enqueue-in-Child-choose-2.new.self)) c.in-Drr.classes.items c.in-Child-choose-2.place c.index_mut-in-Child-choose-2.result.now
+    c.enqueue-in-Child-choose-2.new.self (ap children_seen c.in-Drr.is) c.index_mut-in-Child-choose-2.ensures.value
+    c.in_err-outcome-in-Child-choose-2.ensures.same refl (sym (ap discipline_seen c.in-Drr.is)) (sym (ap places_seen c.in-Drr.is)))
 
-pub Discipline::enqueue-returns-in_err-outcome-in-Drr-clause-succeeds : goal.Discipline::enqueue-returns-in_err-outcome-in-Drr-clause-succeeds
-Discipline::enqueue-returns-in_err-outcome-in-Drr-clause-succeeds g t c = λ h. absurd (false≢true (c.in_err-outcome-in-Drr.ensures.succeeds (place-below c.args.now c.args.packet.now c.args.filters.now c.args.self.now c.args.self.now (code.Drr c.in-Drr.active (with_item c.in-Drr.classes c.in-Some.place c.enqueue-in-Drr.new.self)) c.in-Drr.classes.items c.in-Some.place c.index_mut-in-Drr.result.now c.enqueue-in-Drr.new.self nobody (ap children_seen c.in-Drr.is) (omega (arith, c.len-in-Drr.ensures, c.in-Drr.classes.ok, c.if-place-len-2.false)) c.index_mut-in-Drr.ensures.value (drr-way c.args.packet.now c.args.filters.now c.args.self.now c.in-Drr.active c.in-Drr.classes.items c.class_place.result (ap discipline_seen c.in-Drr.is) (ap children_seen c.in-Drr.is) c.class_place.ensures ∙ ap (λ (o : Option ℕ). option_map_or (through (ways c.args.packet.now c.in-Drr.classes.items)) o (refused NoClass)) c.in-Some.is) h)))
+pub Discipline::enqueue-returns-in_err-outcome-in-Child-choose-2-clause-succeeds :
+    goal.Discipline::enqueue-returns-in_err-outcome-in-Child-choose-2-clause-succeeds
+Discipline::enqueue-returns-in_err-outcome-in-Child-choose-2-clause-succeeds g t c =
+    let all : c.len-in-Drr.result ≡ length c.in-Drr.classes.items = omega (arith, c.len-in-Drr.ensures, c.in-Drr.classes.ok) in
+    let chosen = drr-child c.len-in-Drr.result c.in-Child-choose-2.place (option_and_then (λ minor. drr.place_of minor c.in-Drr.active.classes)
+    (named_class c.args.filters.now c.args.packet.now)) (sym c.in-Child-choose-2.is ∙ c.choose-in-Drr.ensures) in
+    let inside : c.in-Child-choose-2.place < length c.in-Drr.classes.items = omega (arith, chosen.1, all) in
+    let to : way_in c.args.packet.now c.args.filters.now c.args.self.now ≡ through (ways c.args.packet.now c.in-Drr.classes.items)
+    c.in-Child-choose-2.place =
+    drr-way c.args.packet.now c.args.filters.now c.args.self.now c.in-Drr.active c.in-Drr.classes.items (option_and_then (λ minor. drr.place_of
+    minor c.in-Drr.active.classes) (named_class c.args.filters.now c.args.packet.now)) (ap discipline_seen c.in-Drr.is) (ap children_seen
+    c.in-Drr.is) refl
+    ∙ ap (λ (o : Option ℕ). option_map_or (through (ways c.args.packet.now c.in-Drr.classes.items)) o (refused NoClass)) chosen.0 in
+    λ h. absurd (false≢true (c.in_err-outcome-in-Child-choose-2.ensures.succeeds (place-below c.args.now c.args.packet.now c.args.filters.now
+    c.args.self.now c.args.self.now (code.Drr c.in-Drr.active (with_item c.in-Drr.classes c.in-Child-choose-2.place
+    c.enqueue-in-Child-choose-2.new.self)) c.in-Drr.classes.items c.in-Child-choose-2.place c.index_mut-in-Child-choose-2.result.now
+    c.enqueue-in-Child-choose-2.new.self nobody (ap children_seen c.in-Drr.is) inside c.index_mut-in-Child-choose-2.ensures.value to h)))
 
-pub Discipline::enqueue-returns-in-Drr-clause-after : goal.Discipline::enqueue-returns-in-Drr-clause-after
-Discipline::enqueue-returns-in-Drr-clause-after g t c =
-    let h = c.in_ok-outcome-in-Drr.ensures.after in
-    let x : Node Kept = c.index_mut-in-Drr.result.now in
-    let place : ℕ = c.in-Some.place in
-    let stored : c.index.result.now ≡ c.enqueue-in-Drr.new.self = c.index.ensures ∙ get_or-set_same c.in-Drr.classes.items c.in-Some.place c.enqueue-in-Drr.new.self c.index.result.now (omega (arith, c.len-in-Drr.ensures, c.in-Drr.classes.ok, c.if-place-len-2.false)) in
-    let emptied = c.is_empty.ensures ∙ ap (λ (n : Node Kept). is_empty n) (stored ∙ h.becomes) ∙ is-empty-put c.args.now c.args.packet.now (route c.args.packet.now c.index_mut-in-Drr.result.now).path (route c.args.packet.now c.index_mut-in-Drr.result.now).refusal h.placed h.can in
-    gone-in c.args.now c.args.packet.now c.args.filters.now c.args.self.now (code.Drr c.in-Drr.active (with_item c.in-Drr.classes c.in-Some.place h.placed)) (code.Drr c.settle.new.active (with_item c.in-Drr.classes c.in-Some.place c.enqueue-in-Drr.new.self)) c.in-Drr.classes.items c.in-Some.place c.index_mut-in-Drr.result.now c.enqueue-in-Drr.new.self c.in_ok-outcome-in-Drr.outcome
-    (ap children_seen c.in-Drr.is) (omega (arith, c.len-in-Drr.ensures, c.in-Drr.classes.ok, c.if-place-len-2.false)) c.index_mut-in-Drr.ensures.value (drr-way c.args.packet.now c.args.filters.now c.args.self.now c.in-Drr.active c.in-Drr.classes.items c.class_place.result (ap discipline_seen c.in-Drr.is) (ap children_seen c.in-Drr.is) c.class_place.ensures ∙ ap (λ (o : Option ℕ). option_map_or (through (ways c.args.packet.now c.in-Drr.classes.items)) o (refused NoClass)) c.in-Some.is) h refl (sym (ap discipline_seen c.in-Drr.is)) (sym (ap places_seen c.in-Drr.is)) refl (sym (ap places_seen c.in-Drr.is))
-    (ap spec.Drr (c.settle.ensures ∙ ap (λ b. settled_class c.in-Some.place b c.in-Drr.active) emptied) ∙ sym (ap (λ (d : Discipline). settled_in c.in-Some.place (is_empty (put_along c.args.now c.args.packet.now (route c.args.packet.now c.index_mut-in-Drr.result.now).refusal (route c.args.packet.now c.index_mut-in-Drr.result.now).path (shape h.placed)).node) (discipline_seen d)) c.in-Drr.is))
-    (g.S.Sink.losses c.args.sink.now) (g.S.Sink.losses c.enqueue-in-Drr.new.sink) (g.S.Sink.room c.args.sink.now) (g.S.Sink.room c.enqueue-in-Drr.new.sink) c.in_ok-outcome-in-Drr.ensures.told
+pub Discipline::enqueue-returns-in-Child-choose-2-clause-after : goal.Discipline::enqueue-returns-in-Child-choose-2-clause-after
+Discipline::enqueue-returns-in-Child-choose-2-clause-after g t c =
+    let all : c.len-in-Drr.result ≡ length c.in-Drr.classes.items = omega (arith, c.len-in-Drr.ensures, c.in-Drr.classes.ok) in
+    let chosen = drr-child c.len-in-Drr.result c.in-Child-choose-2.place (option_and_then (λ minor. drr.place_of minor c.in-Drr.active.classes)
+    (named_class c.args.filters.now c.args.packet.now)) (sym c.in-Child-choose-2.is ∙ c.choose-in-Drr.ensures) in
+    let inside : c.in-Child-choose-2.place < length c.in-Drr.classes.items = omega (arith, chosen.1, all) in
+    let to : way_in c.args.packet.now c.args.filters.now c.args.self.now ≡ through (ways c.args.packet.now c.in-Drr.classes.items)
+    c.in-Child-choose-2.place =
+    drr-way c.args.packet.now c.args.filters.now c.args.self.now c.in-Drr.active c.in-Drr.classes.items (option_and_then (λ minor. drr.place_of
+    minor c.in-Drr.active.classes) (named_class c.args.filters.now c.args.packet.now)) (ap discipline_seen c.in-Drr.is) (ap children_seen
+    c.in-Drr.is) refl
+    ∙ ap (λ (o : Option ℕ). option_map_or (through (ways c.args.packet.now c.in-Drr.classes.items)) o (refused NoClass)) chosen.0 in
+    let h = c.in_ok-outcome-in-Child-choose-2.ensures.after in
+    let stored : c.index.result.now ≡ c.enqueue-in-Child-choose-2.new.self = c.index.ensures ∙ get_or-set_same c.in-Drr.classes.items
+    c.in-Child-choose-2.place c.enqueue-in-Child-choose-2.new.self c.index.result.now inside in
+    let emptied = c.is_empty.ensures ∙ ap (λ (n : Node Kept). is_empty n) (stored ∙ h.becomes) ∙ is-empty-put c.args.now c.args.packet.now (route
+    c.args.packet.now c.index_mut-in-Child-choose-2.result.now).path (route c.args.packet.now c.index_mut-in-Child-choose-2.result.now).refusal
+    h.placed h.can in
+    gone-in c.args.now c.args.packet.now c.args.filters.now c.args.self.now (code.Drr c.in-Drr.active (with_item c.in-Drr.classes
+    c.in-Child-choose-2.place h.placed)) (code.Drr c.settle.new.active (with_item c.in-Drr.classes c.in-Child-choose-2.place
+    c.enqueue-in-Child-choose-2.new.self)) c.in-Drr.classes.items c.in-Child-choose-2.place c.index_mut-in-Child-choose-2.result.now
+    c.enqueue-in-Child-choose-2.new.self c.in_ok-outcome-in-Child-choose-2.outcome
+    (ap children_seen c.in-Drr.is) inside c.index_mut-in-Child-choose-2.ensures.value to h refl (sym (ap discipline_seen c.in-Drr.is)) (sym (ap
+    places_seen c.in-Drr.is)) refl (sym (ap places_seen c.in-Drr.is))
+    (ap spec.Drr (c.settle.ensures ∙ ap (λ b. settled_class c.in-Child-choose-2.place b c.in-Drr.active) emptied) ∙ sym (ap (λ (d : Discipline).
+    settled_in c.in-Child-choose-2.place (is_empty (put_along c.args.now c.args.packet.now (route c.args.packet.now
+    c.index_mut-in-Child-choose-2.result.now).refusal (route c.args.packet.now c.index_mut-in-Child-choose-2.result.now).path (shape
+    h.placed)).node) (discipline_seen d)) c.in-Drr.is))
+    (g.S.Sink.losses c.args.sink.now) (g.S.Sink.losses c.enqueue-in-Child-choose-2.new.sink) (g.S.Sink.room c.args.sink.now) (g.S.Sink.room
+    c.enqueue-in-Child-choose-2.new.sink) c.in_ok-outcome-in-Child-choose-2.ensures.told
+
+pub Discipline::enqueue-returns-in-Refused-choose-2-clause-after : goal.Discipline::enqueue-returns-in-Refused-choose-2-clause-after
+Discipline::enqueue-returns-in-Refused-choose-2-clause-after g t c =
+    let all : c.len-in-Drr.result ≡ length c.in-Drr.classes.items = omega (arith, c.len-in-Drr.ensures, c.in-Drr.classes.ok) in
+    let why = drr-refused c.args.packet.now c.in-Drr.classes.items c.len-in-Drr.result c.in-Refused-choose-2.cause (option_and_then (λ minor.
+    drr.place_of minor c.in-Drr.active.classes) (named_class c.args.filters.now c.args.packet.now)) all (sym c.in-Refused-choose-2.is ∙
+    c.choose-in-Drr.ensures) in
+    let to : way_in c.args.packet.now c.args.filters.now c.args.self.now ≡ refused c.in-Refused-choose-2.cause =
+    drr-way c.args.packet.now c.args.filters.now c.args.self.now c.in-Drr.active c.in-Drr.classes.items (option_and_then (λ minor. drr.place_of
+    minor c.in-Drr.active.classes) (named_class c.args.filters.now c.args.packet.now)) (ap discipline_seen c.in-Drr.is) (ap children_seen
+    c.in-Drr.is) refl
+    ∙ why.1 ∙ ap refused (sym why.0) in
+    subst (λ (d : Discipline). HasComeIn c.args.now c.args.packet.now c.args.filters.now c.args.self.now d c.refuse-in-Refused-choose-2.result
+    (g.S.Sink.losses c.args.sink.now) (g.S.Sink.losses c.refuse-in-Refused-choose-2.new.sink) (g.S.Sink.room c.args.sink.now) (g.S.Sink.room
+    c.refuse-in-Refused-choose-2.new.sink)) c.in-Drr.is
+    (refused-in c.args.now c.args.packet.now c.in-Refused-choose-2.cause c.args.filters.now c.args.self.now c.refuse-in-Refused-choose-2.result
+    (g.S.Sink.losses c.args.sink.now) (g.S.Sink.losses c.refuse-in-Refused-choose-2.new.sink) (g.S.Sink.room c.args.sink.now) (g.S.Sink.room
+    c.refuse-in-Refused-choose-2.new.sink) (subst (λ (x : Cause). is_refusal x ≡ true) (sym why.0) refl) to _ refl
+    c.refuse-in-Refused-choose-2.ensures.outcome c.refuse-in-Refused-choose-2.ensures.told.lost c.refuse-in-Refused-choose-2.ensures.told.room_taken)
 
 pub Node::enqueue_further-enqueue-requires : goal.Node::enqueue_further-enqueue-requires
 Node::enqueue_further-enqueue-requires g t c κs within = (
