@@ -81,7 +81,7 @@ static void sentences(void) {
         { QTREE_REFUSED_NO_FILTER, "The qdisc has no filter with this prio: list its filters to see which prios it has." },
         { QTREE_IDLE, "No packet is queued: poll again when one has arrived." },
         { QTREE_LATER, "Packets are queued, but none may go yet: poll again at the time that qtree_ready_at returns." },
-        { QTREE_NOTHING, "What the call asks for does not exist, or no longer exists: go on without it." },
+        { QTREE_NOTHING, "What the call asks for does not exist, no longer exists, or is not promised: go on without it." },
         { QTREE_FULL, "The ring is full: offer the packet again after some packets have been taken in." },
         { QTREE_FAULTY, "The line cannot be read: qtree_explain says which word is wrong, and why." },
         { QTREE_NO_COMMAND, "The line is not a command: qtree_explain says what it is, and which call does what it asks for." },

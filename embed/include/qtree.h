@@ -1101,7 +1101,8 @@ static inline const char *qtree_code_sentence(qtree_code code) {
     case QTREE_IDLE: return "No packet is queued: poll again when one has arrived.";
     case QTREE_LATER:
         return "Packets are queued, but none may go yet: poll again at the time that qtree_ready_at returns.";
-    case QTREE_NOTHING: return "What the call asks for does not exist, or no longer exists: go on without it.";
+    case QTREE_NOTHING:
+        return "What the call asks for does not exist, no longer exists, or is not promised: go on without it.";
     case QTREE_FULL: return "The ring is full: offer the packet again after some packets have been taken in.";
     case QTREE_FAULTY: return "The line cannot be read: qtree_explain says which word is wrong, and why.";
     case QTREE_NO_COMMAND:

@@ -4,10 +4,12 @@
 
 #include "qtree.h"
 
+#include <inttypes.h>
+#include <stdbool.h>
 #include <stdio.h>
 #include <stdlib.h>
 
-enum { MTU = 1500, MOST_BUFFERS = 65536 };
+enum { MTU = 1500, MOST_PACKETS = 65536 };
 
 /* A packet that fills all bytes is longer than the mtu, and the device loses it. */
 struct buffer {
@@ -22,12 +24,17 @@ struct buffers {
     uint64_t lost[QTREE_LOST_MOST + 1]; /* packets by cause */
 };
 
+/* Whether the device can hold so few packets that the program will have a buffer for each. */
+static inline bool buffers_suffice(const qtree_device *device) {
+    uint64_t most;
+    return qtree_most_packets(device, &most) == QTREE_DONE && most < MOST_PACKETS;
+}
+
 /* Gets a buffer for each packet that the device can hold, and one for the packet that is being brought; false if there cannot be as many.
  * A program calls this after each command. If a command lowered a limit the buffers stay, since their packets may still be queued. */
 static inline bool buffers_grow(struct buffers *buffers, const qtree_device *device) {
     uint64_t most;
-    if (qtree_most_packets(device, &most) != QTREE_DONE || most >= MOST_BUFFERS) {
-        fprintf(stderr, "the device can hold %d packets or more: lower its limits\n", MOST_BUFFERS);
+    if (qtree_most_packets(device, &most) != QTREE_DONE || most >= UINT32_MAX) {
         return false;
     }
     if (most < buffers->count) {
@@ -53,6 +60,15 @@ static inline void buffers_reap(struct buffers *buffers, qtree_device *device) {
     while (qtree_reap(device, &loss) == QTREE_DONE) {
         buffers->lost[loss.cause]++;
         buffers_give(buffers, loss.packet.buf);
+    }
+}
+
+/* Prints how many packets were lost, by cause. */
+static inline void buffers_tell_lost(const struct buffers *buffers) {
+    for (uint32_t cause = 1; cause <= QTREE_LOST_MOST; cause++) {
+        if (buffers->lost[cause] > 0) {
+            printf(", %" PRIu64 " lost as %s", buffers->lost[cause], qtree_code_name(cause));
+        }
     }
 }
 

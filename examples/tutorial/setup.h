@@ -22,9 +22,8 @@ static inline void explain_line(const char *text, size_t len, const qtree_undone
     explain(line, (size_t)((newline == NULL ? end : newline) - line), undone->line, undone->code, &undone->fault);
 }
 
-/* Makes the tree what the file says, and prints how much of it that changed; false if the tree stays as it is, with the reason. */
-static inline bool set_up(qtree_device *device, const char *path, uint64_t now) {
-    static char text[FILE_SIZE];
+/* Reads a file into a text of FILE_SIZE bytes, and returns its length; FILE_SIZE, with the reason, if it cannot. */
+static inline size_t read_lines(const char *path, char *text) {
     FILE *file = fopen(path, "r");
     size_t len = file == NULL ? FILE_SIZE : fread(text, 1, FILE_SIZE, file);
     if (file != NULL) {
@@ -32,8 +31,12 @@ static inline bool set_up(qtree_device *device, const char *path, uint64_t now) 
     }
     if (len == FILE_SIZE) {
         printf("%s: cannot be read, or has %d bytes or more\n", path, FILE_SIZE);
-        return false;
     }
+    return len;
+}
+
+/* Makes the tree what the text of a file says, and prints how much of it that changed; false if it stays as it is, with the reason. */
+static inline bool set_up_text(qtree_device *device, const char *path, const char *text, size_t len, uint64_t now) {
     qtree_report report;
     qtree_undone undone[TOLD];
     qtree_code code = qtree_set_up(device, (const uint8_t *)text, len, now, &report, undone, TOLD);
@@ -48,7 +51,13 @@ static inline bool set_up(qtree_device *device, const char *path, uint64_t now) 
     return false;
 }
 
-/* Prints what `tc -s qdisc show` would. */
+static inline bool set_up(qtree_device *device, const char *path, uint64_t now) {
+    static char text[FILE_SIZE];
+    size_t len = read_lines(path, text);
+    return len < FILE_SIZE && set_up_text(device, path, text, len, now);
+}
+
+/* Prints the counters of all qdiscs. */
 static inline void show(const qtree_device *device) {
     uint8_t text[FILE_SIZE];
     size_t needed;

@@ -55,6 +55,8 @@ int main(int argc, char **argv) {
         printf("class 6:1: %" PRIu64 " bit/s, less %" PRIu64 " bytes, if polls are at most %" PRIu64 " ns late\n", promise.rate,
                promise.slack, late);
         try_lateness(&device, &promise, late);
+    } else {
+        puts("class 6:1: nothing is promised");
     }
     if (set_up(&device, argv[2], 0) && qtree_worst(&device, QTREE_CLASS, 3, 1, &delay) == QTREE_DONE) {
         printf("class 3:1: gone after %" PRIu64 " bytes, in %" PRIu64 " ns and the lateness, if that is at most %" PRIu64 " ns\n",

@@ -4,7 +4,6 @@
  *
  * FILE has the lines of tc, for both directions. At an empty line on the standard input the tunnel reads FILE again, and at any other one it
  * shows the counters. At the end of the input it ends. */
-#include "setup.h"
 #include "way.h"
 
 #include <fcntl.h>
@@ -25,16 +24,17 @@ static int open_tun(const char *name) {
 }
 
 static bool open_way(struct way *way, int from, int to) {
-    qtree_settings settings = QTREE_DEFAULTS;
-    settings.mtu = MTU; /* a frame of a TUN device has no header of Ethernet */
-    *way = (struct way){ .from = from, .to = to, .device = QTREE_CLOSED, .lateness = { .due = UINT64_MAX } };
-    return from >= 0 && to >= 0 && qtree_open(&way->device, &settings) == QTREE_DONE;
+    *way = (struct way){
+        .from = from, .to = to, .settings = QTREE_DEFAULTS, .device = QTREE_CLOSED, .lateness = { .due = UINT64_MAX }
+    };
+    way->settings.mtu = MTU; /* a frame of a TUN device has no header of Ethernet */
+    return from >= 0 && to >= 0 && qtree_open(&way->device, &way->settings) == QTREE_DONE;
 }
 
 /* Reads the file, and gets the buffers that the tree then needs; false if these cannot be had. */
 static bool read_file(struct way *way, const char *path) {
     uint64_t now = now_ns();
-    set_up(&way->device, path, now);
+    way_set_up(way, path, now);
     lateness_ask(&way->lateness, &way->device, now);
     buffers_reap(&way->buffers, &way->device);
     return buffers_grow(&way->buffers, &way->device);
@@ -46,11 +46,7 @@ static void tell(const struct way *way, const char *from, const char *to) {
     qtree_totals(&way->device, &row);
     printf("%s to %s: %" PRIu64 " frames: %" PRIu64 " written, %" PRIu64 " unwritten, %" PRIu64 " refused, %" PRIu64 " queued", from, to,
            way->read, way->written, way->unwritten, way->refused, row.queued.packets);
-    for (uint32_t cause = 1; cause <= QTREE_LOST_MOST; cause++) {
-        if (way->buffers.lost[cause] > 0) {
-            printf(", %" PRIu64 " lost as %s", way->buffers.lost[cause], qtree_code_name(cause));
-        }
-    }
+    buffers_tell_lost(&way->buffers);
     printf("; %" PRIu64 " marked\n", row.marked.packets);
     way_tell_lateness(way);
 }

@@ -5,6 +5,7 @@
 #include "buffers.h"
 #include "lateness.h"
 #include "qtree.h"
+#include "setup.h"
 
 #include <inttypes.h>
 #include <poll.h>
@@ -17,6 +18,7 @@ enum { BATCH = 64, CE = 3, BILLION = 1000000000 };
 
 struct way {
     int from, to; /* both nonblocking */
+    qtree_settings settings;
     qtree_device device;
     struct buffers buffers;
     struct lateness lateness;
@@ -27,6 +29,29 @@ static inline uint64_t now_ns(void) {
     struct timespec now;
     clock_gettime(CLOCK_MONOTONIC, &now);
     return (uint64_t)now.tv_sec * BILLION + (uint64_t)now.tv_nsec;
+}
+
+/* Whether the program will have enough buffers for the tree that the lines make, which it tries on a device of its own. If they make no
+ * tree, set_up_text says why. */
+static inline bool way_fits(const struct way *way, const char *path, const char *text, size_t len) {
+    qtree_device trial = QTREE_CLOSED;
+    qtree_report report;
+    bool is_made = qtree_open(&trial, &way->settings) == QTREE_DONE &&
+                   qtree_set_up(&trial, (const uint8_t *)text, len, 0, &report, NULL, 0) == QTREE_DONE;
+    bool fits = !is_made || buffers_suffice(&trial);
+    qtree_close(&trial);
+    if (!fits) {
+        printf("%s: refused, since the tree could hold %d packets or more (each byte of a limit in bytes may be a packet)\n", path,
+               MOST_PACKETS);
+    }
+    return fits;
+}
+
+/* Makes the tree what the file says; false if it stays as it is, with the reason. */
+static inline bool way_set_up(struct way *way, const char *path, uint64_t now) {
+    static char text[FILE_SIZE];
+    size_t len = read_lines(path, text);
+    return len < FILE_SIZE && way_fits(way, path, text, len) && set_up_text(&way->device, path, text, len, now);
 }
 
 /* Reads the frames that have come in, and lets each arrive. One buffer is always unused, since the device cannot queue as many packets. */
