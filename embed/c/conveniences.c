@@ -254,6 +254,79 @@ static void other_faults(void) {
     }
 }
 
+/* Lines that are done, or refused for each reason that there is for a line of their kind. Each refusal has a sentence of its own, below a
+ * mark under the word that it is about. */
+static void refusals(void) {
+    static const struct {
+        const char *line;
+        qtree_code code;
+        const char *word, *sentence;
+    } wanted[] = {
+        { "tc qdisc add dev e root handle 1: drr", QTREE_DONE, NULL, NULL },
+        { "tc class add dev e parent 1: classid 1:1 drr", QTREE_DONE, NULL, NULL },
+        { "tc filter add dev e parent 1: prio 1 flower src_port 1 classid 1:1", QTREE_DONE, NULL, NULL },
+        { "tc class add dev e parent 2: classid 1:2 drr", QTREE_REFUSED_NO_PARENT, "2:",
+          "the parent and the class id differ in their major number. A class is one of its parent." },
+        { "tc class add dev e parent 1: classid 1:1 drr", QTREE_REFUSED_EXISTS, "1:1", "the drr has this class. Change it by tc class change." },
+        { "tc class add dev e parent 7: classid 7:2 drr", QTREE_REFUSED_NO_QDISC, "7:",
+          "no qdisc has the major number of this class id. Add a drr of this handle first." },
+        { "tc class change dev e classid 1:9 drr quantum 1500", QTREE_REFUSED_NO_CLASS, "1:9",
+          "the drr has no such class. tc class show lists those that are there." },
+        { "tc class del dev e classid 1:1", QTREE_REFUSED_BUSY, "1:1", "a filter leads to this class. Remove the filter first by tc filter del." },
+        { "tc filter add dev e parent 7: prio 1 flower classid 7:1", QTREE_REFUSED_NO_QDISC, "7:",
+          "no qdisc has the handle of this parent. Add that qdisc first; tc qdisc show lists those that are there." },
+        { "tc filter add dev e parent 1: prio 1 flower classid 1:8", QTREE_REFUSED_NO_CLASS, "1:8",
+          "the qdisc has no such class, or the class id has another major number. tc class show lists the classes." },
+        { "tc filter del dev e parent 1: prio 9", QTREE_REFUSED_NO_FILTER, "9",
+          "no filter of the qdisc has this prio. tc filter show lists those that are there." },
+        { "tc qdisc add dev e parent 1:1 handle 2: pfifo", QTREE_DONE, NULL, NULL },
+        { "tc filter add dev e parent 2: prio 1 flower classid 2:1", QTREE_REFUSED_NOT_CLASSFUL, "2:",
+          "the qdisc is no prio and no drr, which alone take filters." },
+        { "tc class add dev e parent 2: classid 2:1 drr", QTREE_REFUSED_NOT_CLASSFUL, "2:",
+          "the qdisc is a pfifo, bfifo or fq_codel, which have no classes. A drr has them." },
+        { "tc qdisc add dev e parent 2:1 pfifo", QTREE_REFUSED_NOT_CLASSFUL, "2:1",
+          "the parent is a pfifo, bfifo or fq_codel, which have no classes. Choose a class of a prio, a tbf or a drr." },
+        { "tc qdisc add dev e parent 5:1 pfifo", QTREE_REFUSED_NO_PARENT, "5:1",
+          "no qdisc has the major number of this parent. Add that qdisc first; tc qdisc show lists those that are there." },
+        { "tc qdisc add dev e parent 1:1 handle 3: pfifo", QTREE_REFUSED_EXISTS, "1:1",
+          "a qdisc was added there before. Change it by tc qdisc change, or remove it by tc qdisc del first." },
+        { "tc qdisc add dev e parent 1:8 pfifo", QTREE_REFUSED_NO_CLASS, "1:8",
+          "the parent has no such class: a prio has one for each band, a tbf the class 1, and a drr those that tc class add adds." },
+        { "tc class add dev e parent 1: classid 1:2 drr", QTREE_DONE, NULL, NULL },
+        { "tc qdisc add dev e parent 1:2 handle 2: pfifo", QTREE_REFUSED_HANDLE_TAKEN, "2:",
+          "another qdisc has this handle. Choose one that tc qdisc show does not list." },
+        { "tc qdisc change dev e handle 2: bfifo limit 5000", QTREE_REFUSED_CANNOT_CHANGE, "bfifo",
+          "the qdisc is of another kind, or has another number of flows. Remove it by tc qdisc del, and add it anew." },
+        { "tc qdisc change dev e handle 9: pfifo", QTREE_REFUSED_NO_QDISC, "9:",
+          "no qdisc that was added has this place and this handle. tc qdisc show lists them; one of handle 0 came by itself, and add replaces it." },
+        { "tc qdisc add dev e parent 1:2 handle 4: prio bands 3", QTREE_DONE, NULL, NULL },
+        { "tc class add dev e parent 4: classid 4:9 drr", QTREE_REFUSED_CANNOT_CHANGE, "4:9",
+          "the classes of a prio or a tbf come with it. Those of a drr alone can be added, changed and removed." },
+        { "tc filter add dev e parent 4: prio 1 flower classid 4:3", QTREE_DONE, NULL, NULL },
+        { "tc qdisc change dev e handle 4: prio bands 2 priomap 1 1 1 1 1 1 1 1 1 1 1 1 1 1 1 1", QTREE_REFUSED_BUSY, "2",
+          "a filter leads to a band that would go. Remove the filter first by tc filter del." },
+    };
+    qtree_device device = opened();
+    const qtree_fault fault = { 0, 0 };
+    for (size_t i = 0; i < sizeof wanted / sizeof wanted[0]; i++) {
+        char text[600], whole[600];
+        size_t needed;
+        const char *line = wanted[i].line;
+        CHECK(qtree_run(&device, line, 0, NULL) == wanted[i].code);
+        if (wanted[i].code != QTREE_DONE) {
+            const qtree_code code = qtree_explain((const uint8_t *)line, strlen(line), 1, wanted[i].code, &fault, (uint8_t *)text,
+                                                  sizeof text - 1, &needed);
+            CHECK(code == QTREE_DONE);
+            text[needed] = '\0';
+            const size_t marked = strlen(wanted[i].word), before = (size_t)(strchr(text, '^') - strchr(text, '\n')) - 1;
+            CHECK(strncmp(text + before, wanted[i].word, marked) == 0);
+            snprintf(whole, sizeof whole, "line 1: %s\n%*s%.*s\n  %s\n", line, (int)before, "", (int)marked, "^^^^^^", wanted[i].sentence);
+            CHECK(strcmp(text, whole) == 0);
+        }
+    }
+    qtree_close(&device);
+}
+
 int main(void) {
     causes();
     lines();
@@ -262,6 +335,7 @@ int main(void) {
     numbered_frames();
     others();
     other_faults();
+    refusals();
     puts("conveniences: each answers as the header says");
     return 0;
 }

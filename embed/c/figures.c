@@ -93,6 +93,27 @@ static void fills(const char *line, uint32_t packets, bool in_order) {
     qtree_close(&device);
 }
 
+/* Three times so many packets are queued, and lost with their queue, while the losses before wait: all are handed out in order. */
+static void loses(const char *line, const char *removal, uint32_t packets) {
+    qtree_loss loss;
+    open_with(0);
+    for (uint32_t i = 0; i < 3 * packets; i++) {
+        if (i % packets == 0) {
+            run(line);
+        }
+        arrives(i, 0);
+        if (i % packets == packets - 1) {
+            run(removal);
+        }
+    }
+    for (uint32_t i = 0; i < 3 * packets; i++) {
+        CHECK(qtree_reap(&device, &loss) == QTREE_DONE && loss.packet.buf == i);
+    }
+    CHECK(qtree_reap(&device, &loss) == QTREE_NOTHING);
+    qtree_close(&device);
+    printf("figures: %u losses wait at once\n", 3 * packets);
+}
+
 /* A queue with one packet takes little memory: there may be 256 of them. */
 static void begins_small(const char *line, size_t most) {
     open_with(0);
@@ -209,6 +230,53 @@ static void calls_for_a_thousand(void) {
     puts("figures: one call takes, gives and hands out a thousand packets");
 }
 
+/* A port has no last packet: one of 64 places takes millions, far more than it has places, and far more than a test on threads sends. */
+static void a_port_takes_millions(void) {
+    enum { MANY = 50, PACKETS = 5000000 };
+    qtree_packet packets[MANY];
+    qtree_sent sent[MANY];
+    qtree_port port = QTREE_CLOSED;
+    qtree_outlet outlet = QTREE_CLOSED;
+    size_t count;
+    for (size_t i = 0; i < MANY; i++) {
+        packets[i] = (qtree_packet){ .len = 1500 };
+    }
+    open_with(0);
+    CHECK(qtree_ring_open(&port, &outlet, 0, 64) == QTREE_DONE);
+    for (uint32_t all = 0; all < PACKETS; all += MANY) {
+        if (all % 4 == 0) {
+            CHECK(qtree_offer_many(&port, packets, MANY, &count) == QTREE_DONE && count == MANY);
+        } else {
+            for (size_t i = 0; i < MANY; i++) {
+                CHECK(qtree_offer(&port, &packets[i]) == QTREE_DONE);
+            }
+        }
+        CHECK(qtree_take_in(&device, &outlet, 0, MANY, &count) == QTREE_DONE && count == MANY);
+        CHECK(qtree_poll_bufs(&device, 0, sent, MANY, &count) == QTREE_DONE && count == MANY && sent[MANY - 1].number == all + MANY);
+    }
+    qtree_port_close(&port);
+    qtree_outlet_close(&outlet);
+    qtree_close(&device);
+    printf("figures: a port of 64 places takes %d packets\n", PACKETS);
+}
+
+/* An fq_codel has any number of flows: powers of two, and one more and one less. */
+static void flows_of_all_sizes(void) {
+    char line[100];
+    open_with(0);
+    for (uint32_t power = 1; power <= 65536; power *= 2) {
+        for (uint32_t flows = power - 1; flows <= power + 1; flows++) {
+            if (flows >= 1 && flows <= 65536) {
+                snprintf(line, sizeof line, "tc qdisc add dev wan root fq_codel flows %u", flows);
+                run(line);
+                run("tc qdisc del dev wan root");
+            }
+        }
+    }
+    qtree_close(&device);
+    puts("figures: an fq_codel has as many flows as a power of two, and one more and one less");
+}
+
 /* A packet arrives and is polled, so many times. */
 static void pass(qtree_packet packet, unsigned long times) {
     qtree_sent sent;
@@ -287,6 +355,19 @@ static void through_codel(unsigned long times) {
     }
 }
 
+/* A full fq_codel loses a packet of its fat flow for each that arrives in another. */
+static void through_a_full_fq_codel(unsigned long times) {
+    qtree_loss loss;
+    run("tc qdisc add dev wan root fq_codel limit 30000 drop_batch 1");
+    for (uint32_t i = 0; i < 30000; i++) {
+        arrives(i, 0);
+    }
+    for (unsigned long i = 0; i < times; i++) {
+        arrives(0, (uint32_t)(i % 1000) + 1);
+        CHECK(qtree_reap(&device, &loss) == QTREE_DONE && loss.packet.buf == i);
+    }
+}
+
 /* One workload of these, with a device of its own. */
 static int steps(const char *name, const char *times) {
     static const struct {
@@ -300,6 +381,7 @@ static int steps(const char *name, const char *times) {
         { "many-filters", through_many_filters },
         { "filters-left", through_filters_left },
         { "codel", through_codel },
+        { "full-fq_codel", through_a_full_fq_codel },
     };
     for (size_t i = 0; i < sizeof all / sizeof all[0]; i++) {
         if (strcmp(all[i].name, name) == 0) {
@@ -320,11 +402,15 @@ int main(int count, char **words) {
     }
     fills("tc qdisc add dev wan root pfifo limit 1000000", 300000, true);
     fills("tc qdisc add dev wan root fq_codel limit 1000000", 300000, false);
+    fills("tc qdisc add dev wan root bfifo limit 100000000", 300000, true);
+    loses("tc qdisc add dev wan root pfifo limit 1000000", "tc qdisc del dev wan root", 100000);
     begins_small("tc qdisc add dev wan root pfifo", 2048);
     begins_small("tc qdisc add dev wan root fq_codel", 2048);
     keeps_events();
     filters_of_256_shapes();
     many_filters_have_an_index();
     calls_for_a_thousand();
+    a_port_takes_millions();
+    flows_of_all_sizes();
     return 0;
 }

@@ -326,6 +326,22 @@ static void delayed(qtree_device *device, struct input *input) {
     }
 }
 
+/* A departure has a time and a lateness or neither, and one that comes next leaves no sooner; nothing is written where nothing is promised. */
+static void departing(qtree_device *device, struct input *input) {
+    qtree_departure departure = { 7, 7, 7 }, last = { 7, 7, 7 };
+    uint32_t place = (uint32_t)take(input, 1) % 4;
+    uint16_t major = (uint16_t)take(input, 1), minor = (uint16_t)take(input, 1), len = (uint16_t)take(input, 2);
+    qtree_code code = qtree_latest(device, place, major, minor, len, &departure);
+    CHECK(code == QTREE_DONE || code == QTREE_NOTHING || code == QTREE_OUT_OF_RANGE || code == QTREE_IS_CLOSED);
+    if (code == QTREE_DONE) {
+        CHECK(qtree_latest(device, place, major, minor, 0, &last) == QTREE_DONE && last.bytes + len == departure.bytes);
+        CHECK(last.at <= departure.at && last.late == departure.late);
+        CHECK((departure.at == UINT64_MAX) == (departure.late == UINT64_MAX) && (departure.at == UINT64_MAX || departure.at <= QTREE_MOMENT_MAX));
+    } else {
+        CHECK(departure.bytes == 7 && departure.at == 7 && departure.late == 7);
+    }
+}
+
 /* Qdiscs and classes by their indexes: there are as many as can be asked for in a row, and each is one that the header describes. */
 static void read_nodes(const qtree_device *device, struct input *input) {
     qtree_node_view node, beside;
@@ -380,6 +396,7 @@ static void look(qtree_device *device, struct input *input) {
     CHECK(code == QTREE_DONE || code == QTREE_NOTHING || code == QTREE_OUT_OF_RANGE || code == QTREE_IS_CLOSED);
     promised(device, input);
     delayed(device, input);
+    departing(device, input);
     code = qtree_events(device, &events, &recorded);
     CHECK(code == QTREE_DONE ? recorded <= events : code == QTREE_IS_CLOSED && events == 0 && recorded == 0);
     code = qtree_recorded(device, (size_t)take(input, 1), &event);

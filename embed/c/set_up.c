@@ -188,6 +188,53 @@ static void noted(void) {
     qtree_close(&device);
 }
 
+enum { CLASSES = 255, FILTERS = 256, LINES = 1 + CLASSES + FILTERS };
+
+static char largest[LINES * 100];
+
+/* A file of a tree as large as one may be. Its last class has this quantum, and its last filter leads to this class. */
+static void write_largest(uint32_t quantum, uint32_t class) {
+    char *at = largest + sprintf(largest, "tc qdisc add dev wan root handle 1: drr\n");
+    for (uint32_t i = 1; i <= CLASSES; i++) {
+        at += sprintf(at, "tc class add dev wan parent 1: classid 1:%x drr quantum %u\n", i, i < CLASSES ? 1500 : quantum);
+    }
+    for (uint32_t i = 1; i <= FILTERS; i++) {
+        const uint32_t to = i < FILTERS ? i : class;
+        at += sprintf(at, "tc filter add dev wan parent 1: prio %u flower src_port %u classid 1:%x\n", i, i, to);
+    }
+}
+
+/* A tree may have 256 nodes, and a node 256 filters: a file that has them all is set up, and read again, by what differs alone. */
+static void largest_tree(void) {
+    open_it(0);
+    write_largest(1500, 1);
+    CHECK(sets_up(largest, 0) == QTREE_DONE && reports(LINES, LINES, 0, 0, 0));
+    for (uint32_t i = 1; i <= FILTERS; i++) {
+        CHECK(qtree_arrive(&device, &(qtree_packet){ .len = 1000, .sport = (uint16_t)i }, 0) == QTREE_DONE);
+    }
+    CHECK(sets_up(largest, 0) == QTREE_DONE && reports(LINES, 0, 0, 0, 0) && queued() == FILTERS);
+    write_largest(3000, 2);
+    CHECK(sets_up(largest, 0) == QTREE_DONE && reports(LINES, 1, 1, 1, 0) && queued() == FILTERS);
+    qtree_close(&device);
+}
+
+/* A tree may have eight levels: what is at the end of the lowest stays as well. */
+static void deepest_tree(void) {
+    char text[TEXT];
+    open_it(0);
+    for (uint32_t limit = 100; limit <= 101; limit++) {
+        char *at = text + sprintf(text, "tc qdisc add dev wan root handle 1: prio\n");
+        for (uint32_t level = 2; level < 8; level++) {
+            at += sprintf(at, "tc qdisc add dev wan parent %u:2 handle %u: prio\n", level - 1, level);
+        }
+        sprintf(at, "tc qdisc add dev wan parent 7:2 handle 8: pfifo limit %u\n", limit);
+        CHECK(sets_up(text, 0) == QTREE_DONE && queued() == (limit == 100 ? 0 : 10));
+        CHECK(limit == 100 ? reports(8, 8, 0, 0, 0) : reports(8, 0, 1, 0, 0));
+        fill();
+    }
+    qtree_close(&device);
+}
+
 static void answers(void) {
     CHECK(sets_up(home, 0) == QTREE_IS_CLOSED && reports(0, 0, 0, 0, 0));
     open_it(0);
@@ -221,6 +268,8 @@ int main(void) {
     read_again();
     wrong_lines();
     noted();
+    largest_tree();
+    deepest_tree();
     answers();
     without_memory("", home);
     without_memory(home, faster);

@@ -35,12 +35,12 @@ static void sizes(void) {
         sizeof(qtree_device), sizeof(qtree_settings), sizeof(qtree_packet), sizeof(qtree_loss),   sizeof(qtree_row),    sizeof(qtree_event),
         sizeof(qtree_fault),  sizeof(qtree_count),    sizeof(qtree_port),   sizeof(qtree_outlet), sizeof(qtree_layout),
         sizeof(qtree_sent),   sizeof(qtree_promise), sizeof(qtree_node_view), sizeof(qtree_class_view), sizeof(qtree_delay),
-        sizeof(qtree_report), sizeof(qtree_undone),
+        sizeof(qtree_report), sizeof(qtree_undone), sizeof(qtree_departure),
     };
-    for (uint32_t what = QTREE_TYPE_DEVICE; what <= QTREE_TYPE_UNDONE; what++) {
+    for (uint32_t what = QTREE_TYPE_DEVICE; what <= QTREE_TYPE_DEPARTURE; what++) {
         CHECK(qtree_size_of(what) == bytes[what]);
     }
-    CHECK(qtree_size_of(QTREE_TYPE_UNDONE + 1) == 0 && qtree_size_of(UINT32_MAX) == 0);
+    CHECK(qtree_size_of(QTREE_TYPE_DEPARTURE + 1) == 0 && qtree_size_of(UINT32_MAX) == 0);
     qtree_fault fault;
     qtree_sample_fault(&fault);
     CHECK(fault.word == 1 && fault.number == 2);
@@ -432,6 +432,63 @@ static void delays(void) {
     qtree_close(&device);
 }
 
+static bool is_departure(qtree_departure departure, uint64_t bytes, uint64_t at, uint64_t late) {
+    return departure.bytes == bytes && departure.at == at && departure.late == late;
+}
+
+/* Whether this is answered of a packet of this length in the class major:minor. */
+static bool leaves(const qtree_device *device, uint16_t major, uint16_t minor, uint16_t len, uint64_t bytes, uint64_t at, uint64_t late) {
+    qtree_departure departure = { 7, 7, 7 };
+    return qtree_latest(device, QTREE_CLASS, major, minor, len, &departure) == QTREE_DONE && is_departure(departure, bytes, at, late);
+}
+
+/* A packet leaves when was answered before it came. The first band of a prio has 2000 bytes queued, and the burst of the tbf is used up. */
+static void departures_below_a_tbf(qtree_device *device) {
+    const uint64_t late = 1485999;
+    qtree_packet packet = { .len = 1500, .prio = 6 };
+    CHECK(tc(device, "tc qdisc add dev a root handle 1: tbf rate 8mbit burst 3000 limit 20000") == QTREE_DONE);
+    CHECK(leaves(device, 1, 1, 1514, 1514, 0, late) && leaves(device, 1, 1, 3000, 3000, 1485999, late));
+    CHECK(tc(device, "tc qdisc add dev a parent 1:1 handle 2: prio") == QTREE_DONE);
+    CHECK(tc(device, "tc qdisc add dev a parent 2:2 handle 3: bfifo limit 3000") == QTREE_DONE);
+    for (int i = 0; i < 2; i++) {
+        CHECK(qtree_arrive(device, &packet, 50) == QTREE_DONE && qtree_poll(device, 50, &packet) == QTREE_DONE);
+    }
+    CHECK(leaves(device, 2, 1, 0, 0, 50, late));
+    for (packet.len = 1000; packet.number < 2; packet.number++) {
+        CHECK(qtree_arrive(device, &packet, 50) == QTREE_DONE);
+    }
+    CHECK(leaves(device, 2, 1, 0, 2000, 2000050, late) && leaves(device, 2, 1, 1000, 3000, 3000050, late));
+    CHECK(leaves(device, 2, 1, 65535, 67535, 67535050, late));
+    CHECK(qtree_arrive(device, &packet, 250050) == QTREE_DONE && leaves(device, 2, 1, 0, 3000, 3000050, late));
+    for (uint64_t now = 1000050; now <= 3000050; now += 1000000) {
+        CHECK(qtree_poll(device, now - 1, &packet) == QTREE_LATER && qtree_poll(device, now, &packet) == QTREE_DONE);
+    }
+    CHECK(packet.number == 2 && leaves(device, 2, 1, 0, 0, 3000050, late));
+}
+
+/* A packet that comes next, and one that was queued last. */
+static void departures(void) {
+    qtree_device device = QTREE_CLOSED;
+    qtree_departure departure = { 7, 7, 7 };
+    CHECK(qtree_latest(&device, QTREE_ROOT, 0, 0, 1, &departure) == QTREE_IS_CLOSED && is_departure(departure, 7, 7, 7));
+    CHECK(qtree_open(&device, &(qtree_settings){ 1000, 0, 1514 }) == QTREE_DONE);
+    CHECK(qtree_arrive(&device, &(qtree_packet){ .len = 300 }, 0) == QTREE_DONE);
+    CHECK(qtree_latest(&device, QTREE_ROOT, 0, 0, 700, &departure) == QTREE_DONE && is_departure(departure, 1000, UINT64_MAX, UINT64_MAX));
+    CHECK(qtree_latest(&device, QTREE_ROOT, 0, 0, 0, &departure) == QTREE_DONE && is_departure(departure, 300, UINT64_MAX, UINT64_MAX));
+    CHECK(qtree_poll(&device, 0, &(qtree_packet){ 0 }) == QTREE_DONE);
+    departures_below_a_tbf(&device);
+    departure = (qtree_departure){ 7, 7, 7 };
+    CHECK(qtree_latest(&device, QTREE_CLASS, 2, 2, 9, &departure) == QTREE_NOTHING);
+    CHECK(qtree_latest(&device, QTREE_CLASS, 1, 1, 9, &departure) == QTREE_NOTHING);
+    CHECK(qtree_latest(&device, QTREE_TOP, 0, 0, 9, &departure) == QTREE_NOTHING);
+    CHECK(qtree_latest(&device, QTREE_ROOT, 0, 0, 9, &departure) == QTREE_NOTHING);
+    CHECK(qtree_latest(&device, QTREE_CLASS, 2, 0, 9, &departure) == QTREE_OUT_OF_RANGE);
+    CHECK(qtree_latest(&device, 3, 0, 0, 9, &departure) == QTREE_OUT_OF_RANGE);
+    CHECK(tc(&device, "tc qdisc change dev a root tbf rate 8mbit burst 1514 limit 20000") == QTREE_DONE);
+    CHECK(qtree_latest(&device, QTREE_CLASS, 2, 1, 9, &departure) == QTREE_NOTHING && is_departure(departure, 7, 7, 7));
+    qtree_close(&device);
+}
+
 /* A tree with each kind of qdisc, as numbers. */
 static void nodes(void) {
     qtree_device device = QTREE_CLOSED;
@@ -550,6 +607,7 @@ int main(void) {
     rings();
     services();
     delays();
+    departures();
     qtree_device device = QTREE_CLOSED;
     CHECK(qtree_open(&device, &(qtree_settings){ 1000, 0, 1514 }) == QTREE_DONE);
     commands(&device);

@@ -22,15 +22,19 @@
  *
  *     cc program.c $(pkg-config --cflags --libs qtree)
  *
- * If the shared library is in a folder that the system does not search, add -Wl,-rpath,FOLDER to the command.
+ * If the shared library is in a folder that the system does not search, add -Wl,-rpath,FOLDER to the command. A library
+ * that is not installed is linked by its path: `make -C embed/c` leaves embed/c/build/libqtree.a, which has all that a
+ * program needs of it.
  *
  * What a program has to keep to
  *
- * What each function does to a device, and what it returns, is proved in Rattle (crates/qtree_c) for every call that
- * keeps to the following rules. No proof can check the rules themselves: they are up to the program.
+ * The library is written in Rattle, a Rust with contracts that a prover checks. What each function does to a device,
+ * and what it returns, is proved (crates/qtree_c) for every call that keeps to the following rules. No proof can check
+ * the rules themselves: they are up to the program.
  *
  *   - Pointers. Every pointer that a program passes is aligned and not null, and points to memory of the program that
- *     no other pointer of the same call overlaps. A pointer whose length is 0 may be null. A bool is false or true.
+ *     no other pointer of the same call overlaps. That includes pointers that the call does not read or write. A
+ *     pointer whose length is 0 may be null. A bool is false or true.
  *   - Structs. A program may place a qtree_device, a qtree_port or a qtree_outlet wherever it likes, and initializes
  *     it with QTREE_CLOSED (all bytes 0). From then on only the functions of this header read and write it. It may be
  *     moved: copied, if the old one is never used again. Of two copies of an open one, only one may be used. It is
@@ -39,20 +43,20 @@
  *     that take a pointer to a const one. Each of the three may go from one thread to another if the calls are
  *     ordered by a lock, by the start or the join of a thread, or by a sequentially consistent atomic. Devices are
  *     independent of each other, and so are the two ends of a ring: one thread may use the port while another uses
- *     the outlet. A port belongs to one sender and needs no lock. An outlet is used where its device is used, under
- *     the lock that guards the device. Functions that take none of these three may be called by several threads at
- *     once, each with memory of its own.
+ *     the outlet. A port belongs to one sender and needs no lock. An outlet is used by the thread that uses the
+ *     device, or under the lock that guards the device. Functions that take none of these three may be called by
+ *     several threads at once, each with memory of its own.
  *   - Signals and fork. No function is called from a signal handler, or in the child of a fork of a program with
  *     threads.
  *   - Stack. A thread that calls a function has at least 64 KB of stack left.
  *   - Memory. malloc, realloc and free are those of the C library, or behave as those have to.
  *   - System. The system is Linux with any C library (glibc, musl), and the processor has pointers of 64 bits and
- *     little-endian byte order. This header makes the compiler refuse all others. The library that the kit builds is
- *     proved and compiled for x86-64-v2 or later (SSE4.2 and POPCNT); nothing here can see that an x86-64 processor
- *     is older. The kit also proves and builds the library for aarch64, which was tried under qemu. The same library
- *     as a text that clang compiles was tried by ./check on x86-64 and, under qemu, on aarch64 and riscv64, and once
- *     on ppc64le and mips64el. Structs have the same sizes and offsets on all of these: a pointer and a size_t have 8
- *     bytes, and each number is aligned to its size.
+ *     little-endian byte order. This header makes the compiler refuse all others. The library that Rattle's compiler
+ *     builds is for x86-64-v2 or later (SSE4.2 and POPCNT); nothing here can see that an x86-64 processor is older.
+ *     Rattle also proves and builds the library for aarch64, which was tried under qemu. A portable package has the
+ *     same library as LLVM IR, which clang compiles; docs/ROUTER.md says on which processors that was tried. Structs
+ *     have the same sizes and offsets on all of these: a pointer and a size_t have 8 bytes, and each number is aligned
+ *     to its size.
  *
  * What holds for all functions
  *
@@ -184,7 +188,7 @@ typedef struct qtree_outlet {
 /* What a device is opened with. */
 typedef struct qtree_settings {
     uint32_t txqueuelen; /* how many packets a pfifo holds for which no limit is given */
-    uint32_t recorder;   /* how many events, the first ones, are recorded: 0 to 1000000 */
+    uint32_t recorder;   /* how many events are recorded, from the first one on: 0 to 1000000 */
     uint16_t mtu;        /* the length of the longest packet that is taken: 1 to 65535 bytes */
 } qtree_settings;
 
@@ -194,9 +198,9 @@ typedef struct qtree_settings {
 
 /* The descriptor of a packet. The packet's bytes stay with the program. A field that a packet lacks is 0. */
 typedef struct qtree_packet {
-    uint64_t src_high; /* the source address; an IPv4 address is in the low 32 bits of src_low, and all other bits */
-    uint64_t src_low;  /* are 0: 10.0.0.1 is 0x0a000001 */
-    uint64_t dst_high; /* the destination address, likewise */
+    uint64_t src_high; /* the high 64 bits of the source address; 0 if the address is one of IPv4 */
+    uint64_t src_low;  /* its low 64 bits; an IPv4 address is in the low 32 of them: 10.0.0.1 is 0x0a000001 */
+    uint64_t dst_high; /* the destination address, in the same way */
     uint64_t dst_low;
     uint64_t number; /* the packet's number among those of the port by which it came; otherwise the program's own */
     uint32_t port;   /* the index of that port; otherwise the program's own */
@@ -223,8 +227,8 @@ typedef struct qtree_count {
     uint64_t bytes;
 } qtree_count;
 
-/* Counters, as tc -s prints them. In packets and in bytes, what arrived is what was sent, refused or dropped, or is
- * queued. */
+/* The counters of a qdisc, or of a device. In packets and in bytes, what arrived is what was sent, refused or dropped,
+ * or is queued. */
 typedef struct qtree_row {
     qtree_count arrived; /* including what was refused */
     qtree_count sent;
@@ -236,7 +240,7 @@ typedef struct qtree_row {
 
 /* What is wrong with a line. */
 typedef struct qtree_fault {
-    size_t word;     /* the index of the word that is wrong, counted from 1 */
+    size_t word;     /* which word of the line is wrong: the index of a word, not a column, counted from 1 */
     uint32_t number; /* QTREE_FAULT_.. */
 } qtree_fault;
 enum {
@@ -267,9 +271,10 @@ qtree_code qtree_open(qtree_device *device, const qtree_settings *settings);
  * nothing happens. */
 void qtree_close(qtree_device *device);
 
-/* Carries out one line of tc that changes the tree, such as "tc qdisc add dev eth0 root handle 1: drr". qtree has a
- * part of tc's lines, which docs/LANGUAGE.md lists: its only filter is flower, for example. Packets of what the line
- * removes are lost, and wait to be reaped.
+/* Carries out one line of tc that changes the tree. A line adds, changes or deletes a qdisc or a class of a drr, or
+ * adds or deletes a filter. qtree has a part of tc's lines: there is no replace, and the only filter is flower. In the
+ * repository, docs/LANGUAGE.md has the words of each line, and docs/DISCIPLINES.md the options of each qdisc with their
+ * ranges and defaults. Packets of what the line removes are lost, and wait to be reaped.
  *
  * line   line_len bytes, with a newline at their end or without one. The name of the device in the line means
  *        nothing.
@@ -287,10 +292,29 @@ void qtree_close(qtree_device *device);
  *   QTREE_MEMORY        an allocation failed
  * The device changes only if QTREE_DONE is returned. qtree_explain writes out what is wrong with a line.
  *
- * For example, these two lines limit a link to 20 Mbit/s, and keep delays low while the link is full:
+ * For example, these lines limit a link to 20 Mbit/s, and give packets to the UDP port 5060 a third of it while there
+ * are any:
  *
- *     tc qdisc add dev wan root handle 1: tbf rate 20mbit burst 3028 latency 50ms
- *     tc qdisc add dev wan parent 1:1 handle 10: fq_codel */
+ *     tc qdisc add dev wan root handle 1: tbf rate 20mbit burst 6000 latency 50ms
+ *     tc qdisc add dev wan parent 1:1 handle 2: drr
+ *     tc class add dev wan parent 2: classid 2:1 drr quantum 1500
+ *     tc class add dev wan parent 2: classid 2:2 drr quantum 3000
+ *     tc qdisc add dev wan parent 2:1 handle 10: pfifo limit 100
+ *     tc qdisc add dev wan parent 2:2 handle 20: fq_codel
+ *     tc filter add dev wan parent 2: prio 1 flower ip_proto udp dst_port 5060 classid 2:1
+ *     tc filter add dev wan parent 2: prio 2 flower classid 2:2
+ *
+ * A drr loses each packet that no filter takes. So the last filter has no keys, and takes all that the others leave.
+ * (Unlike Linux's tc, a filter by port needs neither the word protocol nor ip_proto.)
+ *
+ * These lines change the rate, then the target of the fq_codel, and then delete the tree:
+ *
+ *     tc qdisc change dev wan root tbf rate 10mbit burst 6000 latency 50ms
+ *     tc qdisc change dev wan parent 2:2 fq_codel target 10ms
+ *     tc qdisc del dev wan root
+ *
+ * A change of a tbf or a prio says all that an add has to say. A change of another qdisc, or of a class of a drr,
+ * leaves alone what it does not name. */
 qtree_code qtree_command(qtree_device *device, const uint8_t *line, size_t line_len, uint64_t now, qtree_fault *fault);
 
 /* Does what qtree_command does, with a line that ends with a zero byte. Here fault may be null. */
@@ -528,7 +552,7 @@ qtree_code qtree_poll_bufs(qtree_device *device, uint64_t now, qtree_sent *sent,
  *     }
  *
  * Then it sleeps until the time again, or until a packet comes in, if qtree_ready_at returned QTREE_DONE. Otherwise
- * it sleeps until a packet comes in. */
+ * it sleeps until a packet comes in. A packet that a sender places in a ring wakes nobody: see qtree_offer. */
 qtree_code qtree_ready_at(const qtree_device *device, uint64_t *moment);
 
 /* Computes how many packets can be queued in the device at most, now and as long as no command changes it.
@@ -569,7 +593,9 @@ qtree_code qtree_reap_many(qtree_device *device, qtree_loss *losses, size_t room
 /* The places of a tree: the device itself, its root, and the classes. */
 enum { QTREE_TOP = 0, QTREE_ROOT = 1, QTREE_CLASS = 2 };
 
-/* Reads the counters of a place.
+/* Reads the counters of a place. A tbf, a drr or an fq_codel may hold the packet that it sends next. Such a packet is
+ * queued there and above, and has been sent by the qdiscs below: the counters of a class of a drr, for example, have a
+ * packet as sent that the drr still holds.
  *
  * place         QTREE_TOP for the device itself, QTREE_ROOT for the qdisc at its root, or QTREE_CLASS for the qdisc
  *               in the class major:minor
@@ -584,12 +610,14 @@ enum { QTREE_TOP = 0, QTREE_ROOT = 1, QTREE_CLASS = 2 };
  *   QTREE_IS_CLOSED     the device is closed */
 qtree_code qtree_stats(const qtree_device *device, uint32_t place, uint16_t major, uint16_t minor, qtree_row *row);
 
-/* Tells since when the oldest packet that is queued in a place has been there. A packet that a tbf, a drr or an
- * fq_codel there holds is queued too.
+/* Tells since when the oldest packet that is queued in a place has been there. The packets of a place are those that
+ * are queued at its qdisc and at all qdiscs below it, including packets that one of these qdiscs holds (see
+ * qtree_stats).
  *
  * place, major, minor  as for qtree_stats
  * moment               when that packet arrived, if QTREE_DONE is returned. Its waiting time is the present time less
- *                      this, and no other packet in the place has waited longer.
+ *                      this, and no other packet in the place has waited longer. A packet that came by a ring arrived
+ *                      when it was taken in, so the time that it spent in the ring does not count.
  *
  * Returns
  *   QTREE_DONE          *moment is that time
@@ -605,19 +633,20 @@ qtree_code qtree_totals(const qtree_device *device, qtree_row *row);
 /* What a class of a drr is promised while something is queued in it, whatever comes to the other classes. All numbers
  * are rounded against the class.
  *
- * With a tbf at the root: in any t nanoseconds between two times at which a poll returns no packet, the class sends
- * more than
+ * With a tbf at the root: take two polls that return no packet, the second one t nanoseconds after the first. Between
+ * them the class sends more than
  *
  *     rate * t / (8 * 10^9) - slack
  *
- * bytes, if the program polls until no packet comes, and then polls again no later after the time of qtree_ready_at
- * than qtree_lateness says.
+ * bytes, if each time the program polls until no packet comes, and polls again no later after the time of
+ * qtree_ready_at than qtree_lateness says.
  *
  * With a drr at the root: link and rate are 0, and the class sends at least the share part / 10^9 of what the root's
  * classes send, less slack.
  *
- * Both hold as long as the qdiscs, classes and quanta on the way to the class stay as they are, and no further tbf is
- * added below one at the root. */
+ * Both hold as long as the qdiscs on the way to the class stay as they are, with all classes and quanta of each drr
+ * among them, and no further tbf is added below one at the root. After a change of any of these the program asks again,
+ * since the promise may be another one. */
 typedef struct qtree_promise {
     uint64_t link;  /* the rate of the tbf at the root, in bits a second */
     uint64_t rate;  /* the class's share of that rate, in bits a second */
@@ -640,8 +669,8 @@ typedef struct qtree_promise {
  *
  * For example, with an mtu of 1514, a tbf with rate 20mbit and burst 1640 at the root, and below it a drr 2: whose
  * classes 2:1 and 2:2 have the quanta 3000 and 1500, qtree_service(&device, QTREE_CLASS, 2, 1, &promise) writes the
- * rate 13333333 and the slack 5532: in each second between two such polls the class sends more than 1666666 - 5532
- * bytes. */
+ * rate 13333333 and the slack 5532: between two such polls that are a second apart, the class sends more than
+ * 1666666 - 5532 bytes. */
 qtree_code qtree_service(const qtree_device *device, uint32_t place, uint16_t major, uint16_t minor,
                          qtree_promise *promise);
 
@@ -692,10 +721,51 @@ typedef struct qtree_delay {
  *   QTREE_IS_CLOSED     the device is closed */
 qtree_code qtree_worst(const qtree_device *device, uint32_t place, uint16_t major, uint16_t minor, qtree_delay *delay);
 
+/* By when a packet has left that is last in a pfifo or bfifo whose packets no other packet overtakes, whatever comes
+ * meanwhile. Until it has left, the device sends no more bytes than the field bytes says, including those of the packet
+ * itself. A qtree_delay comes from the settings alone; this comes from what is queued, and from what is left of the
+ * burst of a tbf at the root.
+ *
+ * With a tbf at the root, let the program never poll later after the time of qtree_ready_at than late nanoseconds.
+ * Then the packet has left as soon as the program has polled until no packet came at the time at, or later, and so by
+ * at + late. Without a tbf at the root, at and late are UINT64_MAX.
+ *
+ * This holds as long as commands take no packet from the qdisc and put none before it, leave a tbf at the root as it
+ * is, and add no other tbf. */
+typedef struct qtree_departure {
+    uint64_t bytes; /* including those of the packet */
+    uint64_t at;    /* a time in nanoseconds, rounded up */
+    uint64_t late;  /* nanoseconds */
+} qtree_departure;
+
+/* Computes by when a packet has left that is to arrive next in the pfifo or bfifo in a place, so that the program can
+ * refuse it first if that is too late; or by when the packet has left that was queued there last.
+ *
+ * place, major, minor  as for qtree_stats
+ * len                  the length of the packet that is to arrive, in bytes, as the len of its qtree_packet; 0 for the
+ *                      packet that was queued last
+ * departure            by when it has left, if QTREE_DONE is returned. The answer counts from the time of the device's
+ *                      last event, which is an arrival, a poll or a command. If the packet arrives t nanoseconds after
+ *                      that, the time by which it has left is later by at most t.
+ *
+ * Returns
+ *   QTREE_DONE          *departure is by when the packet has left if it is queued, since the call does not look at the
+ *                       limit; if len is 0 and nothing is queued there, bytes is 0, and at the time of the last event
+ *   QTREE_NOTHING       nothing is promised, for one of the reasons for which qtree_worst returns this
+ *   QTREE_OUT_OF_RANGE  place, major or minor is out of its range
+ *   QTREE_IS_CLOSED     the device is closed
+ *
+ * For example, with a tbf with rate 8mbit at the root, which sends a byte in a microsecond, let 2000 bytes be queued
+ * and nothing be left of its burst. Then qtree_latest(&device, QTREE_CLASS, 1, 1, 1000, &departure) writes the bytes
+ * 3000, and a time 3,000,000 nanoseconds after the last event. */
+qtree_code qtree_latest(const qtree_device *device, uint32_t place, uint16_t major, uint16_t minor, uint16_t len,
+                        qtree_departure *departure);
+
 /* Which text qtree_show writes: that of `tc qdisc show`, `tc -s qdisc show`, `tc class show` or `tc filter show`. */
 enum { QTREE_SHOW_QDISCS = 0, QTREE_SHOW_COUNTERS = 1, QTREE_SHOW_CLASSES = 2, QTREE_SHOW_FILTERS = 3 };
 
-/* Writes what tc shows of the tree, in words that docs/LANGUAGE.md explains.
+/* Writes a text about the tree, such as tc shows. The text has a form of its own, which Linux's tc does not write, and
+ * which docs/LANGUAGE.md explains.
  *
  * what    QTREE_SHOW_QDISCS to QTREE_SHOW_FILTERS
  * text    room bytes for the text; no zero byte ends it
@@ -774,7 +844,8 @@ typedef struct qtree_class_view {
  *   QTREE_IS_CLOSED  the device is closed */
 qtree_code qtree_class(const qtree_device *device, size_t index, size_t which, qtree_class_view *view);
 
-/* Opens both ends of a ring, through which one sender passes packets to a device.
+/* Opens both ends of a ring, through which one sender passes packets to a device. A ring belongs to no device: its
+ * packets arrive at the device with which qtree_take_in is called.
  *
  * port, outlet  closed ends, as QTREE_CLOSED initializes them
  * index         is written into each packet of the ring as its port
@@ -798,7 +869,13 @@ qtree_code qtree_ring_open(qtree_port *port, qtree_outlet *outlet, uint32_t inde
 /* Places a copy of a packet in the ring. In the copy, port is the index of the port, and number is how many packets
  * the port has placed, including this one. The packet itself stays as it is.
  *
+ * So of the sender's own numbers buf alone comes back.
+ *
  * The call takes no lock, allocates nothing and waits for no thread. Another thread may use the outlet meanwhile.
+ *
+ * The call wakes no thread either. If the thread that has the device sleeps, the sender signals it after the call, for
+ * example by an eventfd, and that thread clears the signal before it takes packets in. docs/EMBEDDING.md has a program
+ * that does this.
  *
  * What the sender wrote before the call, such as the packet's bytes, can be read by the thread that takes the packet
  * in, and by each thread that polls or reaps it: the ring publishes a packet by a sequentially consistent atomic, which
@@ -850,7 +927,8 @@ qtree_code qtree_take_in(qtree_device *device, qtree_outlet *outlet, uint64_t no
 qtree_code qtree_port_share(const qtree_port *port, qtree_count *share);
 qtree_code qtree_outlet_share(const qtree_outlet *outlet, qtree_count *share);
 
-/* Close one end of a ring. Either end may be closed first. If the end is closed already, nothing happens.
+/* Close one end of a ring. Either end may be closed first, before or after the device. If the end is closed already,
+ * nothing happens.
  *
  * Packets in the ring of a closed port can still be taken in. Packets in the ring of a closed outlet are discarded,
  * and are not losses; its port can go on offering until the ring is full. The ring's memory is freed with its second
@@ -859,7 +937,7 @@ void qtree_port_close(qtree_port *port);
 void qtree_outlet_close(qtree_outlet *outlet);
 
 /* Reads how many events there were. The events of a device are the arrivals, the polls and the commands that it
- * accepts.
+ * accepts. A poll that returns no packet is an event too.
  *
  * events    the number of all events
  * recorded  how many of them the recorder has, which are the first of them
@@ -923,11 +1001,12 @@ qtree_code qtree_recorded_script(const qtree_device *device, uint8_t *text, size
 /* From now on keeps the last events: if all places are taken, the oldest event makes way for a new one. The recorder
  * has only the first events; a program that runs for a long time asks what happened last.
  *
- * places  how many events are kept, 0 to 1000000. With 0 none are kept, which is how a device begins.
+ * places  how many events are kept, 0 to 1000000. With 0 none are kept, which is how a device begins. Each poll takes a
+ *         place, also one that returns no packet.
  *
- * The events are all arrivals, polls and commands that the device accepts, by whichever function, including those of
- * packets that are taken in from rings. The call allocates the memory for them, and no call that notes an event
- * allocates memory for that. Events that were kept because of an earlier call are gone.
+ * The events are those that qtree_events counts, by whichever function, including arrivals of packets that are taken
+ * in from rings. The call allocates the memory for them, and no call that notes an event allocates memory for that.
+ * Events that were kept because of an earlier call are gone.
  *
  * Returns
  *   QTREE_DONE          the events are kept from now on
@@ -942,8 +1021,9 @@ qtree_code qtree_keep_last(qtree_device *device, uint32_t places);
 qtree_code qtree_last_noted(const qtree_device *device, uint64_t *noted, size_t *kept);
 
 /* Read one of the last events, as qtree_recorded reads a recorded one, and write it as a line, as qtree_recorded_line
- * does. index counts from 0, which is the oldest event that is kept. Together the lines are not a script that plays
- * the session again, since they begin in the middle of it.
+ * does. index counts from 0, which is the oldest event that is kept. A line does not say when the event was:
+ * qtree_last_event does. Together the lines are not a script that plays the session again, since they begin in the
+ * middle of it.
  *
  * Return QTREE_DONE, QTREE_NOTHING or QTREE_IS_CLOSED as those do; qtree_last_line also returns QTREE_ROOM. */
 qtree_code qtree_last_event(const qtree_device *device, size_t index, qtree_event *event);
@@ -1055,18 +1135,20 @@ qtree_code qtree_name_of(uint32_t what, uint32_t number, uint8_t *text, size_t r
 
 /* Writes why qtree_command did not carry out a line, as `qtree play --explain` does: the line with its number, a mark
  * under the word at which it failed, and a sentence on what to do. Each ends with a newline. If qtree_command
- * returned QTREE_NO_COMMAND, the sentence says what the line is, and which call does what it asks for.
+ * returned QTREE_NO_COMMAND, the sentence says what the line is, and which call does what it asks for. The mark is all
+ * that says at which word a command is refused: only a line that cannot be read has a qtree_fault.
  *
  * line    line_len bytes: the line that was passed to qtree_command
- * number  the number of the line, which is written before it
+ * number  any number; "line N: " with this number is written before the line. For a line that is from no file, 1 does.
  * code    what qtree_command returned: QTREE_REFUSED_.., QTREE_MEMORY, QTREE_FAULTY or QTREE_NO_COMMAND
- * fault   the fault that qtree_command wrote; it is read only if the code is QTREE_FAULTY
+ * fault   the fault that qtree_command wrote; it is read only if the code is QTREE_FAULTY, and is never null
  * text    room bytes for the text; no zero byte ends it
  * needed  the length of the text in bytes
  *
  * Returns
  *   QTREE_DONE          the text is written
- *   QTREE_ROOM          room is less than *needed, and nothing is written to text
+ *   QTREE_ROOM          room is less than *needed, and nothing is written to text: a call with a room of 0, in which
+ *                       text may be null, asks for the length
  *   QTREE_OUT_OF_RANGE  there is nothing to explain: it is another code, or there is no such fault, or the code is
  *                       QTREE_NO_COMMAND and the line is a command or cannot be read
  *   QTREE_MEMORY        an allocation failed
@@ -1080,8 +1162,9 @@ qtree_code qtree_explain(const uint8_t *line, size_t line_len, uint64_t number, 
 
 /* The rest is for a test that this header and the library agree. */
 
-/* The sizes of some structs in bytes, and structs whose fields are 1, 2, 3 and so on in the order of their
- * declarations, including the fields of a struct in a struct. */
+/* qtree_layout_of writes the sizes of some structs in bytes. The other two functions fill the structs that they take:
+ * the first field gets the value 1, the next one 2, and so on, in the order in which the fields are declared. A struct
+ * in a struct is filled field by field. */
 typedef struct qtree_layout {
     size_t device;
     size_t settings;
@@ -1114,7 +1197,8 @@ enum {
     QTREE_TYPE_CLASS_VIEW = 14,
     QTREE_TYPE_DELAY = 15,
     QTREE_TYPE_REPORT = 16,
-    QTREE_TYPE_UNDONE = 17
+    QTREE_TYPE_UNDONE = 17,
+    QTREE_TYPE_DEPARTURE = 18
 };
 size_t qtree_size_of(uint32_t what);
 

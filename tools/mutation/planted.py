@@ -7,10 +7,10 @@ import re
 
 
 class Mutant:
-    """A mutant: its name, the crate above that has to refuse it, if one is named, and its changes in order."""
+    """A mutant: its name, the crate above or the function that has to refuse it, if one is named, and its changes in order."""
 
     def __init__(self, name, file, lines):
-        self.name, self.above, self.is_of_gate, self.changes = name, None, False, []
+        self.name, self.above, self.by, self.is_of_gate, self.changes = name, None, None, False, []
         old = within = None
         for word, rest in lines:
             if word == "file":
@@ -19,6 +19,8 @@ class Mutant:
                 within = rest.strip()
             elif word == "above":
                 self.above = rest.strip()
+            elif word == "by":
+                self.by = rest.strip()
             elif word == "gate":
                 self.is_of_gate = True
             elif word == "old":
@@ -36,10 +38,10 @@ class Mutant:
         return places[0] if len(places) == 1 else None
 
     def function(self, folder):
-        """The function that the first change lies in, if it lies in one."""
+        """The function that the first change lies in, or, if it lies in none, the one that is named to refuse it."""
         path, old, _, within = self.changes[0]
         if not path.startswith("src/"):
-            return None
+            return self.by
         with open(f"{folder}/{path}", encoding="utf-8") as file:
             text = file.read()
         at = self.place(folder, path, text, old, within)

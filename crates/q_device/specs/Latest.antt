@@ -40,7 +40,8 @@ latest_on mtu now bytes level link = if nat_lt bytes (2 ^ 64) then latest_of_byt
 -- the bucket at the root, at the device's clock
 abbrev pub latest_below : {M : Type 0} → Tally M → Place → ℕ → ℕ → DeviceState M → Option Link → Option Latest
 latest_below t place len mtu d link =
-    option_and_then (λ (row : Row). latest_on mtu d.clock (row.queued.bytes + len) (level_of d.clock d.tree.root.own.discipline) link) (stats t place d.tree)
+    option_and_then (λ (row : Row). latest_on mtu d.clock (row.queued.bytes + len) (level_of d.clock d.tree.root.own.discipline) link)
+    (stats t place d.tree)
 
 -- where the fifo in this place is in line
 abbrev pub latest_of : {M : Type 0} → Tally M → Place → ℕ → ℕ → DeviceState M → Option Latest

@@ -27,52 +27,59 @@ fn in_order(bucket: &Bucket, ns: u64) -> Option<Moment>
     if now < last { None } else { Some(now) }
 }
 
-// A full bucket.
-fn full(rate: u64, burst: u32, ns: u64) -> Result<Bucket, Fail> {
+// A bucket that is full at time 0.
+fn full(rate: u64, burst: u32) -> Option<Bucket> {
     if rate < 1 || rate > 1_000_000_000_000 || burst < 1 {
-        return Err(Fail::from("rate or burst"));
+        return None;
     }
-    let now = Moment::new(ns).ok_or("moment")?;
-    Ok(Bucket::new(rate, burst, now))
+    Some(Bucket::new(rate, burst, Moment::zero()))
 }
 
-fn change(bucket: &mut Bucket, ns: u64, rate: u64, burst: u32) -> Result<bool, Fail> {
-    let now = in_order(bucket, ns).ok_or("moment")?;
+fn spends(bucket: &mut Bucket, ns: u64, len: u16) -> Option<bool> {
+    let now = in_order(bucket, ns)?;
+    Some(bucket.spend(now, len))
+}
+
+fn level_at(bucket: &Bucket, ns: u64) -> Option<u128> {
+    let now = in_order(bucket, ns)?;
+    Some(bucket.level_at(now))
+}
+
+// Whether a change is there to be seen.
+fn changes(bucket: &mut Bucket, ns: u64, rate: u64, burst: u32) -> Option<bool> {
+    let now = in_order(bucket, ns)?;
     if rate < 1 || rate > 1_000_000_000_000 || burst < 1 {
-        return Err(Fail::from("rate or burst"));
+        return None;
     }
     bucket.change(rate, burst, now);
-    Ok(bucket.rate() == rate && bucket.burst() == burst)
+    Some(bucket.rate() == rate && bucket.burst() == burst)
 }
 
 // Whether a call answers as it has to.
-fn answers(bucket: &mut Bucket, call: Call) -> Result<bool, Fail> {
+fn answers(bucket: &mut Bucket, call: Call) -> bool {
     match call {
-        Call::Spend(ns, len, goes) => {
-            let now = in_order(bucket, ns).ok_or("moment")?;
-            Ok(bucket.spend(now, len) == goes)
-        }
-        Call::Ready(len, ns) => match bucket.ready_at(len) {
-            Some(at) => Ok(ns == Some(at.ns())),
-            None => Ok(ns.is_none()),
-        },
-        Call::Level(ns, level) => {
-            let now = in_order(bucket, ns).ok_or("moment")?;
-            Ok(bucket.level_at(now) == level)
-        }
-        Call::Change(ns, rate, burst) => change(bucket, ns, rate, burst),
+        Call::Spend(ns, len, goes) => spends(bucket, ns, len) == Some(goes),
+        Call::Ready(len, ns) => bucket.ready_at(len).map(|at| at.ns()) == ns,
+        Call::Level(ns, level) => level_at(bucket, ns) == Some(level),
+        Call::Change(ns, rate, burst) => changes(bucket, ns, rate, burst) == Some(true),
     }
 }
 
-// Plays these calls on a bucket that is full at time 0, and fails at the first that does not answer as it has to.
-fn play(rate: u64, burst: u32, calls: &[Call]) -> Result<(), Fail> {
-    let mut bucket = full(rate, burst, 0)?;
-    for (nth, call) in calls.iter().enumerate() {
-        if !answers(&mut bucket, *call)? {
+// Fails at the first call that does not answer as it has to.
+fn go_on(bucket: &mut Bucket, calls: &[Call]) -> Result<(), Fail> {
+    let mut nth = 0u64;
+    for call in calls {
+        if !answers(bucket, *call) {
             return Err(Fail::new(format_args!("call {nth} of the table")));
         }
+        nth = nth.saturating_add(1);
     }
     Ok(())
+}
+
+// Plays these calls on a bucket that is full at time 0.
+fn play(rate: u64, burst: u32, calls: &[Call]) -> Result<(), Fail> {
+    go_on(&mut full(rate, burst).ok_or("rate or burst")?, calls)
 }
 
 #[test]

@@ -151,10 +151,12 @@ impl Bench {
 
     // Fails at the first call that does not answer as it has to.
     fn play(&mut self, calls: &[Call]) -> Result<(), Fail> {
-        for (nth, call) in calls.iter().enumerate() {
+        let mut nth = 0u64;
+        for call in calls {
             if !self.answers(*call)? {
                 return Err(Fail::new(format_args!("call {nth} of the table")));
             }
+            nth = nth.saturating_add(1);
         }
         Ok(())
     }
@@ -219,17 +221,25 @@ fn a_smaller_quantum_cuts_the_deficit(rt: HostRuntime) -> Result<(), Fail> {
     )
 }
 
-#[test]
-fn a_quantum_of_one_byte_needs_a_grant_for_each_byte(rt: HostRuntime) -> Result<(), Fail> {
-    let mut active = Active::new(rt.alloc(), 1514);
+// What a take meets, and the turns that it took.
+type Taken = (Option<Met>, u64);
+
+// A take of a list on which the only class has a quantum of one byte.
+fn take_of_one_byte(alloc: Global) -> Result<Taken, Fail> {
+    let mut active = Active::new(alloc, 1514);
     active.add(0, 1)?;
     active.wake(0);
+    let met = take(&mut active, &[Some(1514)]);
+    Ok((met, active.turns()))
+}
+
+#[test]
+fn a_quantum_of_one_byte_needs_a_grant_for_each_byte(rt: HostRuntime) -> Result<(), Fail> {
     let sent = Met {
         class: 0,
         head: Some(1514),
     };
-    assert_eq!(rt; take(&mut active, &[Some(1514)]), Some(sent));
-    assert_eq!(rt; active.turns(), 1514);
+    assert!(rt; take_of_one_byte(rt.alloc())? == (Some(sent), 1514));
     Ok(())
 }
 
@@ -258,9 +268,6 @@ fn classes_come_and_go(rt: HostRuntime) -> Result<(), Fail> {
     )
 }
 
-// What a take meets, and the turns that it took.
-type Taken = (Option<Met>, u64);
-
 // A take of a list on which both classes are inactive.
 fn take_of_sleepers(alloc: Global) -> Result<Taken, Fail> {
     let mut active = Active::new(alloc, 100);
@@ -285,13 +292,13 @@ fn take_of_two(alloc: Global, heads: &[Option<u16>; 3]) -> Result<Taken, Fail>
 
 #[test]
 fn a_whole_take_meets_the_class_that_needs_fewest_grants(rt: HostRuntime) -> Result<(), Fail> {
-    assert_eq!(rt; take_of_sleepers(rt.alloc())?, (None, 0));
+    assert!(rt; take_of_sleepers(rt.alloc())? == (None, 0));
     let second = Met {
         class: 2,
         head: Some(14),
     };
     let taken = take_of_two(rt.alloc(), &[None, Some(25), Some(14)])?;
-    assert_eq!(rt; taken, (Some(second), 4));
+    assert!(rt; taken == (Some(second), 4));
     Ok(())
 }
 
@@ -390,28 +397,44 @@ fn two_asleep(alloc: Global) -> Result<Active, Fail> {
     Ok(active)
 }
 
+// The class in front, and its place.
+type InFront = (Option<u16>, Option<usize>);
+
+// Whether a list has two classes, and this one is in front.
+fn has_in_front(active: &Active, (class, place): InFront) -> bool {
+    front(active) == class && front_place(active) == place && active.count() == 2
+}
+
+fn set_at(active: &mut Active, place: usize, wakes: bool) -> Result<(), Fail> {
+    if wakes {
+        wake_at(active, place)
+    } else {
+        sleep_at(active, place)
+    }
+}
+
+// Whether a class wakes or is put to sleep in each place, and what is in front after that.
+fn expect_in_front(active: &mut Active, rows: &[(usize, bool, InFront)]) -> Result<(), Fail> {
+    for (place, wakes, in_front) in rows {
+        set_at(active, *place, *wakes)?;
+        if !has_in_front(active, *in_front) {
+            return Err(Fail::new(format_args!("place {place}, {wakes}")));
+        }
+    }
+    Ok(())
+}
+
 #[test]
 fn a_class_is_woken_and_put_to_sleep_by_its_place(rt: HostRuntime) -> Result<(), Fail> {
     let mut active = two_asleep(rt.alloc())?;
-    assert!(rt; front(&active).is_none() && front_place(&active).is_none());
-    assert_eq!(rt; active.count(), 2);
-    for (place, wakes, class, place_in_front) in [
-        (1, true, Some(5), Some(1)),
-        (0, true, Some(5), Some(1)),
-        (1, false, Some(7), Some(0)),
-        (0, false, None, None),
-    ] {
-        if wakes {
-            wake_at(&mut active, place)?;
-        } else {
-            sleep_at(&mut active, place)?;
-        }
-        assert!(rt; front(&active) == class, "place {place}, {wakes}");
-        assert!(rt;
-            front_place(&active) == place_in_front,
-            "place {place}, {wakes}"
-        );
-        assert!(rt; active.count() == 2, "place {place}, {wakes}");
-    }
-    Ok(())
+    assert!(rt; has_in_front(&active, (None, None)));
+    expect_in_front(
+        &mut active,
+        &[
+            (1, true, (Some(5), Some(1))),
+            (0, true, (Some(5), Some(1))),
+            (1, false, (Some(7), Some(0))),
+            (0, false, (None, None)),
+        ],
+    )
 }

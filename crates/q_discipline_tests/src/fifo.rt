@@ -76,30 +76,56 @@ fn limits_in_packets_and_in_bytes(rt: HostRuntime) {
     }
 }
 
+// Whether a queue of 1000 bytes takes five packets of 200 bytes, and then none of one byte.
+fn takes_five(queue: &mut Fifo) -> Result<bool, Fail> {
+    for number in 1..6 {
+        if !put(queue, stamped(number, 200)?)? {
+            return Ok(false);
+        }
+    }
+    Ok(!fits(queue, 1))
+}
+
+// Whether it has so many of them, from this one on.
+fn has(queue: &Fifo, packets: u64, number: u64) -> Result<bool, Fail> {
+    let first = stamped(number, 200)?;
+    Ok(held(queue) == (packets, packets.saturating_mul(200), Some(first)))
+}
+
+fn gives(queue: &mut Fifo, number: u64) -> Result<bool, Fail> {
+    let first = stamped(number, 200)?;
+    Ok(take(queue) == Some(first))
+}
+
+fn leave_in_order(queue: &mut Fifo) -> Result<bool, Fail> {
+    Ok(takes_five(queue)? && has(queue, 5, 1)? && gives(queue, 1)? && gives(queue, 2)?)
+}
+
+fn is_lost(losses: &mut Losses, number: u64) -> Result<bool, Fail> {
+    let lost = stamped(number, 200)?;
+    let loss = reap(losses).ok_or("a loss")?;
+    let packet = loss.packet;
+    Ok(packet == lost.packet && loss.cause == Cause::Purged)
+}
+
+fn are_lost(losses: &mut Losses) -> Result<bool, Fail> {
+    Ok(is_lost(losses, 3)? && is_lost(losses, 4)? && is_lost(losses, 5)?)
+}
+
+// Whether three of them stay under a lower limit, and a purge loses these in order.
+fn are_purged(alloc: Global, queue: &mut Fifo) -> Result<bool, Fail> {
+    set_limit(queue, Limit::Packets(1));
+    if !has(queue, 3, 3)? {
+        return Ok(false);
+    }
+    let mut losses = purge(alloc, queue, 3)?;
+    Ok(held(queue) == (0, 0, None) && are_lost(&mut losses)?)
+}
+
 #[test]
 fn packets_leave_in_order(rt: HostRuntime) -> Result<(), Fail> {
     let mut queue = Fifo::new(rt.alloc(), Limit::Bytes(1000));
-    for number in 1..6 {
-        assert!(rt; put(&mut queue, stamped(number, 200)?)?, "packet {number}");
-    }
-    assert!(rt; !fits(&queue, 1));
-    let first = stamped(1, 200)?;
-    assert!(rt; held(&queue) == (5, 1000, Some(first)));
-    assert!(rt; take(&mut queue) == Some(first));
-    assert!(rt; take(&mut queue) == Some(stamped(2, 200)?));
-
-    set_limit(&mut queue, Limit::Packets(1));
-    assert!(rt; held(&queue) == (3, 600, Some(stamped(3, 200)?)));
-    let mut losses = purge(rt.alloc(), &mut queue, 3)?;
-    assert!(rt; held(&queue) == (0, 0, None));
-    for number in 3..6 {
-        let loss = reap(&mut losses).ok_or("a loss")?;
-        let packet = loss.packet;
-        let lost = stamped(number, 200)?;
-        assert!(rt;
-            packet == lost.packet && loss.cause == Cause::Purged,
-            "packet {number}"
-        );
-    }
+    assert!(rt; leave_in_order(&mut queue)?);
+    assert!(rt; are_purged(rt.alloc(), &mut queue)?);
     Ok(())
 }

@@ -1,7 +1,7 @@
 //! fq_codel beside plain lists: the same calls give the same packets, losses, marks and counts.
 use crate::plain_fq_codel::PlainFqCodel;
 use crate::words::Words;
-use q_codel::Losses;
+use q_codel::{Losses, Taken};
 use q_fqcodel::{FqCodel, Settings};
 use q_packet::{Cause, Ecn, FlowKey, Moment, Packet};
 use std::alloc::Global;
@@ -40,24 +40,34 @@ impl Twins {
     }
 
     fn put(&mut self, rt: &impl Abort, packet: Packet, now: Moment) -> Result<(), Fail> {
-        self.fast.reserve()?;
-        let settings = self.fast.settings();
-        self.lost.reserve(settings.drop_batch as usize)?;
-        let is_lost = self.fast.put(packet, now, &mut self.lost);
-        assert_eq!(rt; self.plain.put(packet, now, &mut self.plain_lost)?, is_lost);
+        let is_lost = self.put_fast(packet, now)?;
+        let is_lost_plainly = self.plain.put(packet, now, &mut self.plain_lost)?;
+        assert!(rt; is_lost_plainly == is_lost);
         Ok(())
     }
 
+    fn put_fast(&mut self, packet: Packet, now: Moment) -> Result<bool, Fail> {
+        self.fast.reserve()?;
+        let settings = self.fast.settings();
+        self.lost.reserve(settings.drop_batch as usize)?;
+        Ok(self.fast.put(packet, now, &mut self.lost))
+    }
+
     fn take(&mut self, rt: &impl Abort, now: Moment) -> Result<(), Fail> {
-        let (packets, _) = self.fast.queued();
-        self.lost.reserve(packets as usize)?;
-        let taken = self.fast.take(now, &mut self.lost);
-        assert!(rt; self.plain.take(now, &mut self.plain_lost)? == taken);
+        let taken = self.take_fast(now)?;
+        let taken_plainly = self.plain.take(now, &mut self.plain_lost)?;
+        assert!(rt; taken_plainly == taken);
         if let Some(taken) = taken {
             self.sent = self.sent.saturating_add(1);
             self.marked = self.marked.saturating_add(u64::from(taken.marked));
         }
         Ok(())
+    }
+
+    fn take_fast(&mut self, now: Moment) -> Result<Option<Taken>, Fail> {
+        let (packets, _) = self.fast.queued();
+        self.lost.reserve(packets as usize)?;
+        Ok(self.fast.take(now, &mut self.lost))
     }
 
     // Other settings, by a word.
@@ -101,22 +111,36 @@ impl Twins {
 
     // Both have as many packets, bytes and listed flows, and have lost the same packets in the same order.
     fn compare(&mut self, rt: &impl Abort) {
-        let (packets, bytes) = self.fast.queued();
-        let (plain_packets, plain_bytes) = self.plain.queued();
-        assert_eq!(rt; plain_packets, packets);
-        assert_eq!(rt; plain_bytes, bytes);
+        assert!(rt; self.plain.queued() == self.fast.queued());
         assert!(rt; self.plain.listed() == self.fast.listed());
-        assert_eq!(rt; self.plain_lost.count(), self.lost.count());
-        for _ in 0..self.lost.count() {
-            let loss = self.lost.reap();
-            assert!(rt; self.plain_lost.reap() == loss);
-            if let Some(loss) = loss {
-                match loss.cause {
-                    Cause::CoDel => self.dropped = self.dropped.saturating_add(1),
-                    Cause::FatFlow => self.shed = self.shed.saturating_add(1),
-                    _ => self.purged = self.purged.saturating_add(1),
-                }
-            }
+        let count = self.lost.count();
+        assert!(rt; self.plain_lost.count() == count);
+        for _ in 0..count {
+            assert!(rt; self.reap());
+        }
+    }
+
+    // Whether what the calls are to try has come about.
+    fn saw_all_kinds(&self, flows: u32) -> bool {
+        let each = self.sent > 1000 && self.shed > 0 && self.purged > 0;
+        each && (flows > 3 || (self.marked > 0 && self.dropped > 0))
+    }
+
+    // Whether both have lost the same packet next, which is noted.
+    fn reap(&mut self) -> bool {
+        let loss = self.lost.reap();
+        let is_same = self.plain_lost.reap() == loss;
+        if let Some(loss) = loss {
+            self.note(loss.cause);
+        }
+        is_same
+    }
+
+    fn note(&mut self, cause: Cause) {
+        match cause {
+            Cause::CoDel => self.dropped = self.dropped.saturating_add(1),
+            Cause::FatFlow => self.shed = self.shed.saturating_add(1),
+            _ => self.purged = self.purged.saturating_add(1),
         }
     }
 }
@@ -159,10 +183,8 @@ fn settings_with(flows: u32, drop_batch: u32) -> Option<Settings> {
     )
 }
 
-/// Makes the calls of the word sequence.
-fn play(rt: &impl Abort, alloc: Global, flows: u32, drop_batch: u32) -> Result<(), Fail> {
-    let settings = settings_with(flows, drop_batch).ok_or("settings")?;
-    let mut twins = Twins::new(alloc, settings)?;
+// Makes the calls of the word sequence.
+fn go_on(rt: &impl Abort, twins: &mut Twins) -> Result<(), Fail> {
     let mut words = Words::new();
     let mut ns = 0u64;
     for number in 0..CALLS {
@@ -172,9 +194,14 @@ fn play(rt: &impl Abort, alloc: Global, flows: u32, drop_batch: u32) -> Result<(
         twins.call(rt, number, word, now)?;
         twins.compare(rt);
     }
-    // What the calls are to try has come about.
-    assert!(rt; twins.sent > 1000 && twins.shed > 0 && twins.purged > 0);
-    assert!(rt; flows > 3 || (twins.marked > 0 && twins.dropped > 0));
+    Ok(())
+}
+
+fn play(rt: &impl Abort, alloc: Global, flows: u32, drop_batch: u32) -> Result<(), Fail> {
+    let settings = settings_with(flows, drop_batch).ok_or("settings")?;
+    let mut twins = Twins::new(alloc, settings)?;
+    go_on(rt, &mut twins)?;
+    assert!(rt; twins.saw_all_kinds(flows));
     Ok(())
 }
 

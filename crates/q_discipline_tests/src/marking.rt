@@ -5,7 +5,6 @@
 use crate::words::Words;
 use q_packet::{Ecn, mark_head, read_head};
 use std::alloc::Global;
-use std::process::Abort;
 use std::test::Fail;
 
 // What it is, its bytes, whether it is marked, and the bytes after that.
@@ -140,12 +139,16 @@ const WORKED: &[Worked] = &[
     ("one byte", b"\x45", false, b"\x45"),
 ];
 
+// Whether a packet is marked or not, and what its bytes are after that.
+fn marks(alloc: Global, packet: &[u8], is_marked: bool, want: &[u8]) -> Result<bool, Fail> {
+    let mut bytes = Vec::from_slice(alloc, packet)?;
+    Ok(mark_head(&mut bytes) == is_marked && bytes.as_slice() == want)
+}
+
 #[test]
 fn marks_worked_heads(rt: HostRuntime) -> Result<(), Fail> {
     for (name, packet, is_marked, want) in WORKED {
-        let mut bytes = Vec::from_slice(rt.alloc(), packet)?;
-        assert_eq!(rt; mark_head(&mut bytes), *is_marked, "{name}");
-        assert_eq!(rt; bytes.as_slice(), *want, "{name}");
+        assert!(rt; marks(rt.alloc(), packet, *is_marked, want)?, "{name}");
     }
     Ok(())
 }
@@ -248,20 +251,21 @@ impl Seen {
     }
 }
 
-// One packet is marked as the plain body does, and then has the same head but for the codepoint.
-fn compare(rt: &impl Abort, alloc: Global, words: &mut Words, seen: &mut Seen) -> Result<(), Fail> {
-    let mut packet = random_packet(alloc, words)?;
-    let mut plain = Vec::from_slice(alloc, &packet)?;
-    let mut head = read_head(&packet);
+// Whether a packet is marked as the plain body marks its copy, and then has the same head but for the codepoint.
+fn agrees(packet: &mut [u8], plain: &mut [u8], seen: &mut Seen) -> bool {
+    let mut head = read_head(packet);
     seen.note(head.ecn, head.key.family);
-    let is_marked = mark_head(&mut packet);
-    assert_eq!(rt; is_marked, mark_plainly(&mut plain));
-    assert_eq!(rt; packet.as_slice(), plain.as_slice());
+    let is_marked = mark_head(packet);
     if is_marked {
         head.ecn = Ecn::Ce;
     }
-    assert!(rt; read_head(&packet) == head);
-    Ok(())
+    is_marked == mark_plainly(plain) && *packet == *plain && read_head(packet) == head
+}
+
+fn compare(alloc: Global, words: &mut Words, seen: &mut Seen) -> Result<bool, Fail> {
+    let mut packet = random_packet(alloc, words)?;
+    let mut plain = Vec::from_slice(alloc, &packet)?;
+    Ok(agrees(&mut packet, &mut plain, seen))
 }
 
 #[test]
@@ -273,8 +277,8 @@ fn marks_random_heads(rt: HostRuntime) -> Result<(), Fail> {
         ipv4: 0,
         ipv6: 0,
     };
-    for _ in 0..HEADS {
-        compare(&rt, rt.alloc(), &mut words, &mut seen)?;
+    for nth in 0..HEADS {
+        assert!(rt; compare(rt.alloc(), &mut words, &mut seen)?, "head {nth}");
     }
     // Each kind was tried.
     assert!(rt; seen.unmarked > 1000 && seen.marked_before > 1000);

@@ -52,64 +52,108 @@ impl PlainFqCodel {
 
     /// Whether the packet that is put is itself lost.
     pub fn put(&mut self, packet: Packet, at: Moment, losses: &mut Losses) -> Result<bool, Fail> {
-        let settings = self.settings;
-        let index = packet.hash.checked_rem(settings.flows).ok_or("no flows")?;
-        if !is_listed(&self.new_flows, index) && !is_listed(&self.old_flows, index) {
-            let credits = i64::from(settings.quantum);
-            self.new_flows.push_back(Entry {
-                flow: index,
-                credits,
-            })?;
+        let flows = self.settings.flows;
+        let index = packet.hash.checked_rem(flows).ok_or("no flows")?;
+        self.list(index)?;
+        self.push(index, Stamped { packet, at })?;
+        self.shed(index, losses)
+    }
+
+    // Lists a flow as new, where it is not listed.
+    fn list(&mut self, flow: u32) -> Result<(), Fail> {
+        if is_listed(&self.new_flows, flow) || is_listed(&self.old_flows, flow) {
+            return Ok(());
         }
-        self.flow(index)?.push(Stamped { packet, at })?;
+        let credits = i64::from(self.settings.quantum);
+        self.new_flows.push_back(Entry { flow, credits })?;
+        Ok(())
+    }
+
+    fn push(&mut self, flow: u32, stamped: Stamped) -> Result<(), Fail> {
+        self.flow(flow)?.push(stamped)
+    }
+
+    // Loses a batch of the fattest flow, where there are more packets than the limit; whether this flow has lost all that it had.
+    fn shed(&mut self, flow: u32, losses: &mut Losses) -> Result<bool, Fail> {
         let (packets, _) = self.queued();
-        if packets <= u64::from(settings.limit) {
+        if packets <= u64::from(self.settings.limit) {
             return Ok(false);
         }
+        let batch = u64::from(self.settings.drop_batch);
         let fat = self.fattest();
-        let batch = u64::from(settings.drop_batch);
-        let held = self.flow(fat)?.queue.count();
-        let lost = held.min(packets.saturating_sub(1)).min(batch);
-        self.flow(fat)?.lose(lost, losses)?;
-        Ok(fat == index && held == lost)
+        let most = packets.saturating_sub(1).min(batch);
+        let is_empty = self.flow(fat)?.lose_batch(most, losses)?;
+        Ok(fat == flow && is_empty)
     }
 
     /// The next packet to send.
     pub fn take(&mut self, now: Moment, losses: &mut Losses) -> Result<Option<Taken>, Fail> {
-        let settings = self.settings;
         for _ in 0..u64::MAX {
             let is_new = !self.new_flows.is_empty();
-            let front = if is_new {
-                self.new_flows.pop_front()
-            } else {
-                self.old_flows.pop_front()
-            };
-            let Some(mut entry) = front else {
+            let Some(entry) = self.front(is_new) else {
                 return Ok(None);
             };
-            if entry.credits <= 0 {
-                entry.credits = entry.credits.saturating_add(i64::from(settings.quantum));
-                self.old_flows.push_back(entry)?;
-                continue;
+            if let Some(taken) = self.turn(entry, is_new, now, losses)? {
+                return Ok(Some(taken));
             }
-            let flow = self.flow(entry.flow)?;
-            let Some(taken) = flow.send(now, losses)? else {
-                flow.codel.rest();
-                if is_new {
-                    self.old_flows.push_back(entry)?;
-                }
-                continue;
-            };
-            let packet = taken.packet;
-            entry.credits = entry.credits.saturating_sub(i64::from(packet.len));
-            if is_new {
-                self.new_flows.push_front(entry)?;
-            } else {
-                self.old_flows.push_front(entry)?;
-            }
-            return Ok(Some(taken));
         }
         Err("no end of turns".into())
+    }
+
+    // Takes the flow in front from its list.
+    fn front(&mut self, is_new: bool) -> Option<Entry> {
+        if is_new {
+            self.new_flows.pop_front()
+        } else {
+            self.old_flows.pop_front()
+        }
+    }
+
+    // What a flow sends in its turn: it has to have credits and a packet.
+    fn turn(
+        &mut self,
+        entry: Entry,
+        is_new: bool,
+        now: Moment,
+        losses: &mut Losses,
+    ) -> Result<Option<Taken>, Fail> {
+        if entry.credits <= 0 {
+            self.grant(entry)?;
+            return Ok(None);
+        }
+        let taken = self.flow(entry.flow)?.send(now, losses)?;
+        match &taken {
+            Some(taken) => self.pay(entry, is_new, taken.packet)?,
+            None => self.pass(entry, is_new)?,
+        }
+        Ok(taken)
+    }
+
+    // A flow without a packet becomes old, where it was new, and else is in no list.
+    fn pass(&mut self, entry: Entry, is_new: bool) -> Result<(), Fail> {
+        if is_new {
+            self.old_flows.push_back(entry)?;
+        }
+        Ok(())
+    }
+
+    // A flow gets a quantum, and goes to the end of the old ones.
+    fn grant(&mut self, mut entry: Entry) -> Result<(), Fail> {
+        let quantum = i64::from(self.settings.quantum);
+        entry.credits = entry.credits.saturating_add(quantum);
+        self.old_flows.push_back(entry)?;
+        Ok(())
+    }
+
+    // A flow pays for a packet, and stays in front.
+    fn pay(&mut self, mut entry: Entry, is_new: bool, packet: Packet) -> Result<(), Fail> {
+        entry.credits = entry.credits.saturating_sub(i64::from(packet.len));
+        if is_new {
+            self.new_flows.push_front(entry)?;
+        } else {
+            self.old_flows.push_front(entry)?;
+        }
+        Ok(())
     }
 
     pub fn change(&mut self, settings: Settings) {
@@ -203,8 +247,24 @@ impl Flow {
         Ok(())
     }
 
-    // The next packet by CoDel's law.
+    // Loses so many at most; whether that is all that it had.
+    fn lose_batch(&mut self, most: u64, losses: &mut Losses) -> Result<bool, Fail> {
+        let held = self.queue.count();
+        let lost = held.min(most);
+        self.lose(lost, losses)?;
+        Ok(held == lost)
+    }
+
+    // The next packet by CoDel's law, which comes to rest where none is left.
     fn send(&mut self, now: Moment, losses: &mut Losses) -> Result<Option<Taken>, Fail> {
+        let taken = self.take(now, losses)?;
+        if taken.is_none() {
+            self.codel.rest();
+        }
+        Ok(taken)
+    }
+
+    fn take(&mut self, now: Moment, losses: &mut Losses) -> Result<Option<Taken>, Fail> {
         if self.queue.count() == 0 {
             return Ok(None);
         }

@@ -19,7 +19,8 @@ use Rattle.q_laws.specs.Line.{line_own, line}
 pub first-line : {M : Type 0} (s c : Node M) → slice_get (children s) 0 ≡ Some c → unwrap_or (slice_get (each line_own s.below) 0) [] ≡ line c
 first-line s c e =
     ap (λ ls. unwrap_or (slice_get ls 0) []) (each-nodes line_own s.below)
-    ∙ ap (λ (o : Option (List Descriptor)). unwrap_or o []) (slice_get-map (from_below line_own) (nodes_in s.below) 0 ∙ ap (option_map (from_below line_own)) e)
+    ∙ ap (λ (o : Option (List Descriptor)). unwrap_or o []) (slice_get-map (from_below line_own) (nodes_in s.below) 0
+    ∙ ap (option_map (from_below line_own)) e)
 
 -- what is known of a path through a first band
 pub record IsFirst {M : Type 0} (i : ℕ) (path : List ℕ) (s : Node M) (limit : Limit) : Type 0 where
@@ -30,7 +31,8 @@ pub record IsFirst {M : Type 0} (i : ℕ) (path : List ℕ) (s : Node M) (limit 
 pub is-first : {M : Type 0} (i : ℕ) (path : List ℕ) (s : Node M) (limit : Limit) → limit_along (i ∷ path) s ≡ Some limit → IsFirst i path s limit
 is-first i path s limit e = by (i == 0 && is_prio s.own.discipline) refl e
   where
-    by : (t : Bool) → (i == 0 && is_prio s.own.discipline) ≡ t → (if t then option_and_then (limit_along path) (slice_get (children s) i) else None) ≡ Some limit → IsFirst i path s limit
+    by : (t : Bool) → (i == 0 && is_prio s.own.discipline) ≡ t
+        → (if t then option_and_then (limit_along path) (slice_get (children s) i) else None) ≡ Some limit → IsFirst i path s limit
     by false is e = absurd (none-some limit e)
     by true is e =
         let both = and_parts (i == 0) (is_prio s.own.discipline) is in
@@ -45,18 +47,26 @@ pub record EndsAt {M : Type 0} (path : List ℕ) (n : Node M) (packets : List De
 module _ {M : Type 0} (mtu now : ℕ) where
   module _ (handle : Option ℕ) (filters : List Filter) (since : ℕ) (m : M) (below : Forest M) where
     abbrev node : Discipline → Option Descriptor → Node M
-    node d held = record { own = record { handle = handle; discipline = d; held = held; since = since; filters = filters }; memory = m; below = below }
+    node d held = record {
+      own = record { handle = handle; discipline = d; held = held; since = since; filters = filters };
+      memory = m;
+      below =
+          below;
+    }
 
-    here-line : (held : Option Descriptor) (d : Discipline) (limit : Limit) → limit_of d ≡ Some limit → IsLawfulRoot mtu now (node d held) → line (node d held) ≡ beneath (node d held)
+    here-line : (held : Option Descriptor) (d : Discipline) (limit : Limit) → limit_of d ≡ Some limit → IsLawfulRoot mtu now (node d held)
+        → line (node d held) ≡ beneath (node d held)
     here-line (Some p) (Fifo most queue) limit is h = absurd (h.0.held refl)
     here-line None (Fifo most queue) limit is h =
-        sym (ap (λ (below : List (List Descriptor)). packets_of queue ++ flat_map (λ (ps : List Descriptor). ps) below) h.0.discipline.none ∙ append-nil (packets_of queue))
+        sym (ap (λ (below : List (List Descriptor)). packets_of queue ++ flat_map (λ (ps : List Descriptor). ps) below) h.0.discipline.none
+        ∙ append-nil (packets_of queue))
     here-line held (Prio priomap) limit is h = absurd (none-some limit is)
     here-line held (Tbf b most) limit is h = absurd (none-some limit is)
     here-line held (Drr s) limit is h = absurd (none-some limit is)
     here-line held (FqCodel s) limit is h = absurd (none-some limit is)
 
-    prio-line : (held : Option Descriptor) (d : Discipline) (c : Node M) → is_prio d ≡ true → slice_get (nodes_in below) 0 ≡ Some c → IsLawfulRoot mtu now (node d held) → line (node d held) ≡ line c
+    prio-line : (held : Option Descriptor) (d : Discipline) (c : Node M) → is_prio d ≡ true → slice_get (nodes_in below) 0 ≡ Some c
+        → IsLawfulRoot mtu now (node d held) → line (node d held) ≡ line c
     prio-line (Some p) (Prio priomap) c is there h = absurd (h.0.held refl)
     prio-line None (Prio priomap) c is there h = first-line (node (Prio priomap) None) c there
     prio-line held (Fifo limit queue) c is there h = absurd (false≢true is)
@@ -65,10 +75,16 @@ module _ {M : Type 0} (mtu now : ℕ) where
     prio-line held (FqCodel s) c is there h = absurd (false≢true is)
 
   pub lane-line : (path : List ℕ) (n : Node M) (limit : Limit) → IsLawfulRoot mtu now n → limit_along path n ≡ Some limit → EndsAt path n (line n)
-  lane-line [] n limit h is = record { at = n; there = refl; queued = here-line n.own.handle n.own.filters n.own.since n.memory n.below n.own.held n.own.discipline limit is h }
+  lane-line [] n limit h is = record {
+    at = n;
+    there = refl;
+    queued =
+        here-line n.own.handle n.own.filters n.own.since n.memory n.below n.own.held n.own.discipline limit is h;
+  }
   lane-line (i ∷ path) n limit h is = along (is-first i path n limit is) (λ c law rest. lane-line path c limit law rest)
     where
-      along : IsFirst i path n limit → ((c : Node M) → IsLawfulRoot mtu now c → limit_along path c ≡ Some limit → EndsAt path c (line c)) → EndsAt (i ∷ path) n (line n)
+      along : IsFirst i path n limit → ((c : Node M) → IsLawfulRoot mtu now c → limit_along path c ≡ Some limit → EndsAt path c (line c))
+          → EndsAt (i ∷ path) n (line n)
       along f on = by (slice_get (children n) i) refl f.rest
         where
           by : (o : Option (Node M)) → slice_get (children n) i ≡ o → option_and_then (limit_along path) o ≡ Some limit → EndsAt (i ∷ path) n (line n)

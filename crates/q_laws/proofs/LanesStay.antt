@@ -84,18 +84,21 @@ abbrev pub AllAlike : Forest (List Note) → Forest (List Note) → Type 0
 AllAlike none none = Unit {0}
 AllAlike none (more own m below others) = ⊥
 AllAlike (more own m below others) none = ⊥
-AllAlike (more own m below others) (more own_after m_after below_after others_after) = IsAlike own own_after × AllAlike below below_after × AllAlike others others_after
+AllAlike (more own m below others) (more own_after m_after below_after others_after) = IsAlike own own_after × AllAlike below below_after
+    × AllAlike others others_after
 
 abbrev pub AreAlike : Node (List Note) → Node (List Note) → Type 0
 AreAlike n k = IsAlike n.own k.own × AllAlike n.below k.below
 
 -- what is found from below by handles and settings
-each-alike : {A : Type 0} (f : Own → List A → A) → ((a b : Own) (xs : List A) → IsAlike a b → f b xs ≡ f a xs) → (x y : Forest (List Note)) → AllAlike x y → each f y ≡ each f x
+each-alike : {A : Type 0} (f : Own → List A → A) → ((a b : Own) (xs : List A) → IsAlike a b → f b xs ≡ f a xs) → (x y : Forest (List Note))
+    → AllAlike x y → each f y ≡ each f x
 each-alike f same none none h = refl
 each-alike f same none (more own m below others) h = absurd h
 each-alike f same (more own m below others) none h = absurd h
 each-alike f same (more own m below others) (more own_after m_after below_after others_after) h =
-    ap₂ (λ a b. a ∷ b) (ap (f own_after) (each-alike f same below below_after h.1) ∙ same own own_after (each f below) h.0) (each-alike f same others others_after h.2)
+    ap₂ (λ a b. a ∷ b) (ap (f own_after) (each-alike f same below below_after h.1) ∙ same own own_after (each f below) h.0)
+    (each-alike f same others others_after h.2)
 
 many-alike : (x y : Forest (List Note)) → AllAlike x y → length (nodes_in y) ≡ length (nodes_in x)
 many-alike none none h = refl
@@ -118,7 +121,8 @@ child-alike zero (more own m below others) (more own_after m_after below_after o
 child-alike (suc i) (more own m below others) (more own_after m_after below_after others_after) h = child-alike i others others_after h.2
 
 -- what alike nodes make alike
-both : {A : Type 0} (f : Node (List Note) → Option A) → (o p : Option (Node (List Note))) → AlikeIfThere o p → ((n k : Node (List Note)) → AreAlike n k → f k ≡ f n) → option_and_then f p ≡ option_and_then f o
+both : {A : Type 0} (f : Node (List Note) → Option A) → (o p : Option (Node (List Note))) → AlikeIfThere o p
+    → ((n k : Node (List Note)) → AreAlike n k → f k ≡ f n) → option_and_then f p ≡ option_and_then f o
 both f None None h same = refl
 both f None (Some k) h same = absurd h
 both f (Some n) None h same = absurd h
@@ -128,7 +132,8 @@ at-alike : (path : List ℕ) (n k : Node (List Note)) → AreAlike n k → Alike
 at-alike [] n k h = h
 at-alike (i ∷ path) n k h = by (slice_get (children n) i) (slice_get (children k) i) (child-alike i n.below k.below h.1) (λ c e. at-alike path c e)
   where
-    by : (o p : Option (Node (List Note))) → AlikeIfThere o p → ((c e : Node (List Note)) → AreAlike c e → AlikeIfThere (node_at path c) (node_at path e))
+    by : (o p : Option (Node (List Note))) → AlikeIfThere o p
+        → ((c e : Node (List Note)) → AreAlike c e → AlikeIfThere (node_at path c) (node_at path e))
         → AlikeIfThere (option_and_then (node_at path) o) (option_and_then (node_at path) p)
     by None None h rest = tt
     by None (Some e) h rest = absurd h
@@ -144,25 +149,31 @@ place-alike minor n k h =
     ∙ place-setting (length (children n)) minor n.own.discipline
 
 address-alike : (a b : Own) (xs : List (List Address)) → IsAlike a b → addresses_own b xs ≡ addresses_own a xs
-address-alike a b xs h = ap (λ (o : Option ℕ). option_map_or (λ handle. record { handle = handle; path = [] } ∷ from_parent xs) o (from_parent xs)) h.handle
+address-alike a b xs h = ap (λ (o : Option ℕ). option_map_or (λ handle. record { handle = handle; path = [] } ∷ from_parent xs) o
+    (from_parent xs)) h.handle
 
 to-alike : (handle : ℕ) (n k : Node (List Note)) → AreAlike n k → path_of handle k ≡ path_of handle n
 to-alike handle n k h =
     ap (λ (found : List Address). option_map (λ (a : Address). a.path) (find (λ (a : Address). a.handle == handle) found))
-    (ap (addresses_own k.own) (each-alike addresses_own address-alike n.below k.below h.1) ∙ address-alike n.own k.own (each addresses_own n.below) h.0)
+    (ap (addresses_own k.own) (each-alike addresses_own address-alike n.below k.below h.1)
+    ∙ address-alike n.own k.own (each addresses_own n.below) h.0)
 
 class-alike : (class : ClassId) (n k : Node (List Note)) → AreAlike n k → class_path class k ≡ class_path class n
 class-alike class n k h =
-    ap (option_and_then (λ path. option_and_then (λ parent. option_map (λ i. path ++ i ∷ []) (class_place class.minor parent)) (node_at path k))) (to-alike class.major n k h)
+    ap (option_and_then (λ path. option_and_then (λ parent. option_map (λ i. path ++ i ∷ []) (class_place class.minor parent)) (node_at path k)))
+    (to-alike class.major n k h)
     ∙ by (path_of class.major n)
   where
-    at : (path : List ℕ) → option_and_then (λ parent. option_map (λ i. path ++ i ∷ []) (class_place class.minor parent)) (node_at path k) ≡ option_and_then (λ parent. option_map (λ i. path ++ i ∷ []) (class_place class.minor parent)) (node_at path n)
+    at : (path : List ℕ) → option_and_then (λ parent. option_map (λ i. path ++ i ∷ []) (class_place class.minor parent))
+        (node_at path k) ≡ option_and_then (λ parent. option_map (λ i. path ++ i ∷ []) (class_place class.minor parent)) (node_at path n)
     at path =
         both (λ parent. option_map (λ i. path ++ i ∷ []) (class_place class.minor parent)) (node_at path n) (node_at path k) (at-alike path n k h)
         (λ a b alike. ap (option_map (λ i. path ++ i ∷ [])) (place-alike class.minor a b alike))
 
     by : (o : Option (List ℕ))
-        → option_and_then (λ path. option_and_then (λ parent. option_map (λ i. path ++ i ∷ []) (class_place class.minor parent)) (node_at path k)) o ≡ option_and_then (λ path. option_and_then (λ parent. option_map (λ i. path ++ i ∷ []) (class_place class.minor parent)) (node_at path n)) o
+        → option_and_then (λ path. option_and_then (λ parent. option_map (λ i. path ++ i ∷ []) (class_place class.minor parent))
+        (node_at path k)) o ≡ option_and_then (λ path. option_and_then
+        (λ parent. option_map (λ i. path ++ i ∷ []) (class_place class.minor parent)) (node_at path n)) o
     by None = refl
     by (Some path) = at path
 
@@ -177,29 +188,37 @@ limit-alike (i ∷ path) n k h =
     ap (λ t. if i == 0 && t then option_and_then (limit_along path) (slice_get (children k) i) else None)
     (sym (prio-setting k.own.discipline) ∙ ap is_prio h.0.set ∙ prio-setting n.own.discipline)
     ∙ ap (λ (o : Option Limit). if i == 0 && is_prio n.own.discipline then o else None)
-    (both (limit_along path) (slice_get (children n) i) (slice_get (children k) i) (child-alike i n.below k.below h.1) (λ c e alike. limit-alike path c e alike))
+    (both (limit_along path) (slice_get (children n) i) (slice_get (children k) i) (child-alike i n.below k.below h.1)
+    (λ c e alike. limit-alike path c e alike))
 
 tbf-alike : (n k : Node (List Note)) → AreAlike n k → has_tbf k ≡ has_tbf n
-tbf-alike n k h = ap (λ bs. is_tbf k.own.discipline || list_any (λ b. b) bs) (each-alike (λ own below. is_tbf own.discipline || list_any (λ b. b) below) here n.below k.below h.1) ∙ here n.own k.own (each (λ own below. is_tbf own.discipline || list_any (λ b. b) below) n.below) h.0
+tbf-alike n k h = ap (λ bs. is_tbf k.own.discipline || list_any (λ b. b) bs)
+    (each-alike (λ own below. is_tbf own.discipline || list_any (λ b. b) below) here n.below k.below h.1)
+    ∙ here n.own k.own (each (λ own below. is_tbf own.discipline || list_any (λ b. b) below) n.below) h.0
   where
     here : (a b : Own) (xs : List Bool) → IsAlike a b → (is_tbf b.discipline || list_any (λ x. x) xs) ≡ (is_tbf a.discipline || list_any (λ x. x) xs)
     here a b xs alike = ap (λ t. t || list_any (λ x. x) xs) (sym (tbf-setting b.discipline) ∙ ap is_tbf alike.set ∙ tbf-setting a.discipline)
 
 below-alike : (link : Option Link) (path : List ℕ) (n k : Node (List Note)) → AreAlike n k → lane_below link path k ≡ lane_below link path n
-below-alike link path n k h = ap₂ (λ (b : Bool) (o : Option Limit). if b then None else option_map (λ (limit : Limit). record { link = link; limit = limit }) o) (tbf-alike n k h) (limit-alike path n k h)
+below-alike link path n k h = ap₂ (λ (b : Bool) (o : Option Limit). if b then None else option_map
+    (λ (limit : Limit). record { link = link; limit = limit }) o) (tbf-alike n k h) (limit-alike path n k h)
 
 from-alike : (path : List ℕ) (n k : Node (List Note)) (d : Discipline) → AreAlike n k → lane_from path k d ≡ lane_from path n d
 from-alike [] n k (Tbf b limit) h = refl
 from-alike (i ∷ path) n k (Tbf b limit) h =
-    ap (option_and_then (λ handle. option_and_then (lane_below (Some (record { handle = handle; rate = b.rate; burst = b.burst })) path) (slice_get (children k) i))) h.0.handle
+    ap (option_and_then (λ handle. option_and_then (lane_below (Some (record { handle = handle; rate = b.rate; burst = b.burst })) path)
+    (slice_get (children k) i))) h.0.handle
     ∙ by n.own.handle
   where
     by : (o : Option ℕ)
-        → option_and_then (λ handle. option_and_then (lane_below (Some (record { handle = handle; rate = b.rate; burst = b.burst })) path) (slice_get (children k) i)) o ≡ option_and_then (λ handle. option_and_then (lane_below (Some (record { handle = handle; rate = b.rate; burst = b.burst })) path) (slice_get (children n) i)) o
+        → option_and_then (λ handle. option_and_then (lane_below (Some (record { handle = handle; rate = b.rate; burst = b.burst })) path)
+        (slice_get (children k) i)) o ≡ option_and_then (λ handle. option_and_then
+        (lane_below (Some (record { handle = handle; rate = b.rate; burst = b.burst })) path) (slice_get (children n) i)) o
     by None = refl
     by (Some handle) =
         let link : Option Link = Some (record { handle = handle; rate = b.rate; burst = b.burst }) in
-        both (lane_below link path) (slice_get (children n) i) (slice_get (children k) i) (child-alike i n.below k.below h.1) (λ c e alike. below-alike link path c e alike)
+        both (lane_below link path) (slice_get (children n) i) (slice_get (children k) i) (child-alike i n.below k.below h.1)
+        (λ c e alike. below-alike link path c e alike)
 from-alike path n k (Fifo limit queue) h = below-alike None path n k h
 from-alike path n k (Prio priomap) h = below-alike None path n k h
 from-alike path n k (Drr s) h = below-alike None path n k h
@@ -208,10 +227,12 @@ from-alike path n k (FqCodel s) h = below-alike None path n k h
 pub lane-alike : (p : Place) (n k : Node (List Note)) → AreAlike n k → lane_to p k ≡ lane_to p n
 lane-alike p n k h = ap (option_and_then (λ path. lane_from path k k.own.discipline)) (path-alike p n k h) ∙ by (place_path p n)
   where
-    by : (o : Option (List ℕ)) → option_and_then (λ path. lane_from path k k.own.discipline) o ≡ option_and_then (λ path. lane_from path n n.own.discipline) o
+    by : (o : Option (List ℕ)) → option_and_then (λ path. lane_from path k k.own.discipline) o ≡ option_and_then
+        (λ path. lane_from path n n.own.discipline) o
     by None = refl
     by (Some path) =
-        sym (lane-setting path k k.own.discipline) ∙ ap (lane_from path k) h.0.set ∙ lane-setting path k n.own.discipline ∙ from-alike path n k n.own.discipline h
+        sym (lane-setting path k k.own.discipline) ∙ ap (lane_from path k) h.0.set ∙ lane-setting path k n.own.discipline
+        ∙ from-alike path n k n.own.discipline h
 
 pub level-alike : (now : ℕ) (n k : Node (List Note)) → AreAlike n k → level_of now k.own.discipline ≡ level_of now n.own.discipline
 level-alike now n k h = sym (level-setting now k.own.discipline) ∙ ap (level_of now) h.0.set ∙ level-setting now n.own.discipline
@@ -241,7 +262,8 @@ module _ (now : ℕ) (p : Descriptor) (refusal : Option Cause) where
   along-setting [] s = here-setting refusal s
   along-setting (i ∷ path) s = by (slice_get (children s) i)
     where
-      by : (o : Option Shape) → setting (option_map_or (λ (child : Shape). put_beneath p i s (put_along now p refusal path child)) o (put_here now p refusal s)).node.own.discipline ≡ setting s.own.discipline
+      by : (o : Option Shape) → setting (option_map_or (λ (child : Shape). put_beneath p i s (put_along now p refusal path child)) o
+          (put_here now p refusal s)).node.own.discipline ≡ setting s.own.discipline
       by None = here-setting refusal s
       by (Some c) = settled-setting i (Rattle.q_model.specs.Beneath.is_empty (put_along now p refusal path c).node) s.own.discipline
 
@@ -254,7 +276,11 @@ module _ (now : ℕ) (p : Descriptor) (refusal : Option Cause) where
   below-booked none (more own notes below others) h = absurd h
   below-booked (more own m below others) none h = absurd h
   below-booked (more own m below others) (more own_after notes below_after others_after) h = (
-    record { handle = h.1; set = put-setting (record { own = own; memory = tt; below = forget below }) (record { own = own_after; memory = notes; below = below_after }) h.0 },
+    record {
+      handle = h.1;
+      set = put-setting (record { own = own; memory = tt; below = forget below })
+          (record { own = own_after; memory = notes; below = below_after }) h.0;
+    },
     below-booked below below_after h.2,
     below-booked others others_after h.3,
   )
@@ -262,6 +288,8 @@ module _ (now : ℕ) (p : Descriptor) (refusal : Option Cause) where
   booked-alike : (root : Node (List Note)) (w : Worked) → IsRelated (IsPutOf now p refusal) (shape root) w → AreAlike root (booked history root w)
   booked-alike root w h = (record { handle = h.1; set = put-setting (shape root) w h.0 }, below-booked root.below w.below h.2)
 
-pub put-alike : (now : ℕ) (p : Descriptor) (r : Option Route) (root : Node (List Note)) → AreAlike root (booked history root (put_on now p r (shape root)).node)
+pub put-alike : (now : ℕ) (p : Descriptor) (r : Option Route) (root : Node (List Note))
+    → AreAlike root (booked history root (put_on now p r (shape root)).node)
 put-alike now p None root = booked-alike now p None root (put_on now p None (shape root)).node (quiet-related now p None (shape root))
-put-alike now p (Some r) root = booked-alike now p r.refusal root (put_on now p (Some r) (shape root)).node (along-related now p r.refusal r.path (shape root))
+put-alike now p (Some r) root = booked-alike now p r.refusal root (put_on now p (Some r) (shape root)).node
+    (along-related now p r.refusal r.path (shape root))

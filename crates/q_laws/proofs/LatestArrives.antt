@@ -53,18 +53,14 @@ later-level clock now later (Prio priomap) level e = absurd (none-some level e)
 later-level clock now later (Drr s) level e = absurd (none-some level e)
 later-level clock now later (FqCodel s) level e = absurd (none-some level e)
 
--- the time that is answered at a later clock, where the level is no lower
-told-later : (mtu clock now wait bytes level higher : ℕ) (link : Link) (w : Latest) (at : ℕ) → now ≤ clock + wait → level ≤ higher → nat_lt bytes (2 ^ 64) ≡ true
-    → LatestIs mtu clock bytes level link w → w.at ≡ Some at → at + wait ≤ 2 ^ 62 → IsToldBy (at + wait) w (latest_on mtu now bytes (Some higher) (Some link))
-told-later mtu clock now wait bytes level higher link w at soon rises small is timed early =
+-- the time that is answered at a later clock, if that is no later than this
+pub told-at : (mtu clock now bytes level higher by : ℕ) (link : Link) (w : Latest)
+    → paid_at now link (counted_level (late_on mtu link) link higher) bytes ≤ by → by ≤ 2 ^ 62 → nat_lt bytes (2 ^ 64) ≡ true
+    → LatestIs mtu clock bytes level link w → IsToldBy by w (latest_on mtu now bytes (Some higher) (Some link))
+told-at mtu clock now bytes level higher by link w soon early small is =
     let late : ℕ = late_on mtu link in
-    let was : ℕ = paid_at clock link (counted_level late link level) bytes in
     let at_then : ℕ = paid_at now link (counted_level late link higher) bytes in
-    let same : at ≡ clock + div_ceil (bytes * units_in_byte - counted_level late link level) (max link.rate 1) = same_Some at was (sym timed ∙ is.at) in
-    let less : bytes * units_in_byte - counted_level late link higher ≤ bytes * units_in_byte - counted_level late link level = omega (arith, rises) in
-    let ceil = ceil-rises (bytes * units_in_byte - counted_level late link higher) (bytes * units_in_byte - counted_level late link level) (max link.rate 1) (omega arith) less in
-    let no_later : at_then ≤ at + wait = omega (arith, same, ceil, soon) in
-    let fits_in : nat_le at_then (2 ^ 62) ≡ true = le-leb at_then (2 ^ 62) (omega (arith, no_later, early)) in
+    let fits_in : nat_le at_then (2 ^ 62) ≡ true = le-leb at_then (2 ^ 62) (omega (arith, soon, early)) in
     let told : Latest = record { bytes = bytes; at = Some at_then; late = Some late } in
     record {
       next = told;
@@ -75,8 +71,24 @@ told-later mtu clock now wait bytes level higher link w at soon rises small is t
       late = sym is.late;
       at = at_then;
       timed = refl;
-      soon = no_later;
+      soon = soon;
     }
+
+-- it is later by no more than the clock
+told-later : (mtu clock now wait bytes level higher : ℕ) (link : Link) (w : Latest) (at : ℕ) → now ≤ clock + wait → level ≤ higher
+    → nat_lt bytes (2 ^ 64) ≡ true
+    → LatestIs mtu clock bytes level link w → w.at ≡ Some at → at + wait ≤ 2 ^ 62
+    → IsToldBy (at + wait) w (latest_on mtu now bytes (Some higher) (Some link))
+told-later mtu clock now wait bytes level higher link w at soon rises small is timed early =
+    let late : ℕ = late_on mtu link in
+    let was : ℕ = paid_at clock link (counted_level late link level) bytes in
+    let same : at ≡ clock + div_ceil (bytes * units_in_byte - counted_level late link level) (max link.rate 1) =
+    same_Some at was (sym timed ∙ is.at) in
+    let less : bytes * units_in_byte - counted_level late link higher ≤ bytes * units_in_byte - counted_level late link level =
+    omega (arith, rises) in
+    let ceil = ceil-rises (bytes * units_in_byte - counted_level late link higher) (bytes * units_in_byte - counted_level late link level)
+    (max link.rate 1) (omega arith) less in
+    told-at mtu clock now bytes level higher (at + wait) link w (omega (arith, same, ceil, soon)) early small is
 
 -- ---- a packet that is kept
 
@@ -85,16 +97,19 @@ record IsFound (place : Place) (len mtu : ℕ) (d : DeviceState (List Note)) : T
   lane : Lane
   there : lane_to place d.tree.root ≡ Some lane
 
-found : (place : Place) (len mtu : ℕ) (d : DeviceState (List Note)) (w : Latest) → latest_of history place len mtu d ≡ Some w → IsFound place len mtu d
+found : (place : Place) (len mtu : ℕ) (d : DeviceState (List Note)) (w : Latest) → latest_of history place len mtu d ≡ Some w
+    → IsFound place len mtu d
 found place len mtu d w e = by (lane_to place d.tree.root) refl e
   where
     by : (o : Option Lane) → lane_to place d.tree.root ≡ o
-        → option_and_then (λ (lane : Lane). option_and_then (λ (x : Row). latest_on mtu d.clock (x.queued.bytes + len) (level_of d.clock d.tree.root.own.discipline) lane.link) (stats history place d.tree)) o ≡ Some w
+        → option_and_then (λ (lane : Lane). option_and_then (λ (x : Row). latest_on mtu d.clock (x.queued.bytes + len)
+        (level_of d.clock d.tree.root.own.discipline) lane.link) (stats history place d.tree)) o ≡ Some w
         → IsFound place len mtu d
     by None is e = absurd (none-some w e)
     by (Some lane) is e = record { lane = lane; there = is }
 
-module _ (settings : DeviceSettings) (range : IsInRange settings) (before : List Event) (p : Descriptor) (moment : ℕ) (place : Place) (all_before : All IsEvent before) (comes : IsEvent (event.Arrive p moment)) (kept : IsKeptAt place p moment (device_after settings before)) where
+module _ (settings : DeviceSettings) (range : IsInRange settings) (before : List Event) (p : Descriptor) (moment : ℕ) (place : Place)
+    (all_before : All IsEvent before) (comes : IsEvent (event.Arrive p moment)) (kept : IsKeptAt place p moment (device_after settings before)) where
   abbrev start : DeviceState (List Note)
   start = device_after settings before
 
@@ -113,12 +128,14 @@ module _ (settings : DeviceSettings) (range : IsInRange settings) (before : List
       (put-alike now p (device_route p start.tree.device.mtu (shape start.tree.root)) start.tree.root)
 
   -- what is answered before it comes
-  was : (lane : Lane) → lane_to place start.tree.root ≡ Some lane
-      → latest_of history place p.len settings.mtu start ≡ latest_on settings.mtu start.clock bytes (level_of start.clock start.tree.root.own.discipline) lane.link
-  was lane there = answers-on start (replay-kept settings before range all_before) (holds-none settings before range all_before) place p.len settings.mtu lane there
+  pub was : (lane : Lane) → lane_to place start.tree.root ≡ Some lane
+      → latest_of history place p.len settings.mtu start ≡ latest_on settings.mtu start.clock bytes
+      (level_of start.clock start.tree.root.own.discipline) lane.link
+  was lane there = answers-on start (replay-kept settings before range all_before)
+      (holds-none settings before range all_before) place p.len settings.mtu lane there
 
   -- and once it has come
-  becomes : (lane : Lane) → lane_to place start.tree.root ≡ Some lane
+  pub becomes : (lane : Lane) → lane_to place start.tree.root ≡ Some lane
       → latest_of history place 0 settings.mtu next ≡ latest_on settings.mtu now bytes (level_of now start.tree.root.own.discipline) lane.link
   becomes lane there =
       let all = all-with before p moment all_before comes in
@@ -126,12 +143,15 @@ module _ (settings : DeviceSettings) (range : IsInRange settings) (before : List
       let last = ap bytes_in put.last ∙ bytes-last p (line_at_root start) in
       let same : bytes_in (line_at_root next) + 0 ≡ bytes = omega (arith, last) in
       let clock : next.clock ≡ now = ap (λ (x : DeviceState (List Note)). x.clock) (arrived settings before p moment) in
-      answers-on next (replay-kept settings (with_arrival before p moment) range all) (holds-none settings (with_arrival before p moment) range all) place 0 settings.mtu lane (lane-alike place start.tree.root next.tree.root alike ∙ there)
+      answers-on next (replay-kept settings (with_arrival before p moment) range all)
+      (holds-none settings (with_arrival before p moment) range all) place 0 settings.mtu lane
+      (lane-alike place start.tree.root next.tree.root alike ∙ there)
       ∙ ap (λ n. latest_on settings.mtu next.clock n (level_of next.clock next.tree.root.own.discipline) lane.link) same
       ∙ ap (λ (l : Option ℕ). latest_on settings.mtu next.clock bytes l lane.link) (level-alike next.clock start.tree.root next.tree.root alike)
       ∙ ap (λ k. latest_on settings.mtu k bytes (level_of k start.tree.root.own.discipline) lane.link) clock
 
-  told-before : (w : Latest) → latest_of history place p.len settings.mtu start ≡ Some w → moment ≤ start.clock → latest_of history place 0 settings.mtu next ≡ Some w
+  told-before : (w : Latest) → latest_of history place p.len settings.mtu start ≡ Some w → moment ≤ start.clock
+      → latest_of history place 0 settings.mtu next ≡ Some w
   told-before w e early =
       let f = found place p.len settings.mtu start w e in
       let stands : now ≡ start.clock = omega (arith, early) in
@@ -147,20 +167,25 @@ module _ (settings : DeviceSettings) (range : IsInRange settings) (before : List
       (on f.lane.link (level_of start.clock start.tree.root.own.discipline) refl
       (fits settings.mtu start.clock bytes (level_of start.clock start.tree.root.own.discipline) f.lane.link w (sym (was f.lane f.there) ∙ e)))
     where
-      on : (link : Option Link) (level : Option ℕ) → level_of start.clock start.tree.root.own.discipline ≡ level → Fits settings.mtu start.clock bytes level link w
+      on : (link : Option Link) (level : Option ℕ) → level_of start.clock start.tree.root.own.discipline ≡ level
+          → Fits settings.mtu start.clock bytes level link w
           → IsToldBy (at + (moment - start.clock)) w (latest_on settings.mtu now bytes (level_of now start.tree.root.own.discipline) link)
-      on None level is told = absurd (none-some at (ap (λ (x : Latest). x.at) (same_Some (record { bytes = bytes; at = None; late = None }) w told.is) ∙ timed))
+      on None level is told = absurd (none-some at (ap (λ (x : Latest). x.at)
+          (same_Some (record { bytes = bytes; at = None; late = None }) w told.is) ∙ timed))
       on (Some link) None is told = absurd (none-some w told.is)
       on (Some link) (Some level) is told =
           let higher = later-level start.clock now (omega arith) start.tree.root.own.discipline level is in
           subst (λ (l : Option ℕ). IsToldBy (at + (moment - start.clock)) w (latest_on settings.mtu now bytes l (Some link))) (sym higher.is)
-          (told-later settings.mtu start.clock now (moment - start.clock) bytes level higher.level_then link w at (omega arith) higher.rises told.small
+          (told-later settings.mtu start.clock now (moment - start.clock) bytes level higher.level_then link w at
+          (omega arith) higher.rises told.small
           (below-is settings.mtu start.clock bytes level link w told.is) timed early)
 
 -- ---- the laws
 
 pub latest-is-told-before : (settings : DeviceSettings) → IsInRange settings → LatestIsToldBefore settings
-latest-is-told-before settings range before p moment place w all_before comes answered kept early = told-before settings range before p moment place all_before comes kept w answered early
+latest-is-told-before settings range before p moment place w all_before comes answered kept early =
+    told-before settings range before p moment place all_before comes kept w answered early
 
 pub latest-rises-no-faster : (settings : DeviceSettings) → IsInRange settings → LatestRisesNoFaster settings
-latest-rises-no-faster settings range before p moment place w at all_before comes answered kept timed early = told-by settings range before p moment place all_before comes kept w at answered timed early
+latest-rises-no-faster settings range before p moment place w at all_before comes answered kept timed early =
+    told-by settings range before p moment place all_before comes kept w at answered timed early

@@ -60,16 +60,20 @@ module _ (d : DeviceState (List Note)) (kept : IsKept d) (free : d.tree.root.own
   link-ends path lane l =
       let first : l.place ≡ 0 = in-first d kept l.bucket l.most l.place l.child l.is l.there in
       let there : slice_get (children root) 0 ≡ Some l.child = subst (λ k. slice_get (children root) k ≡ Some l.child) first l.there in
-      let below = lane-line d.tree.device.mtu d.clock l.rest l.child lane.limit (child-lawful d.tree.device.mtu d.clock root.below 0 l.child kept.lawful.1 there) l.limit in
+      let below = lane-line d.tree.device.mtu d.clock l.rest l.child lane.limit
+      (child-lawful d.tree.device.mtu d.clock root.below 0 l.child kept.lawful.1 there) l.limit in
       record {
         at = below.at;
-        there = ap (λ (xs : List ℕ). node_at xs root) (l.split ∙ ap (λ k. k ∷ l.rest) first) ∙ ap (option_and_then (node_at l.rest)) there ∙ below.there;
+        there = ap (λ (xs : List ℕ). node_at xs root) (l.split ∙ ap (λ k. k ∷ l.rest) first) ∙ ap (option_and_then (node_at l.rest)) there
+            ∙ below.there;
         queued = tbf-line l.bucket l.most l.is l.child there ∙ below.queued;
       }
     where
-      tbf-line : (b : TokenBucket) (most : ℕ) → root.own.discipline ≡ Tbf b most → (c : Node (List Note)) → slice_get (children root) 0 ≡ Some c → line root ≡ line c
+      tbf-line : (b : TokenBucket) (most : ℕ) → root.own.discipline ≡ Tbf b most → (c : Node (List Note)) → slice_get (children root) 0 ≡ Some c
+          → line root ≡ line c
       tbf-line b most is c there =
-          below-line root b most is ∙ ap (λ (o : Option Descriptor). option_to_list o ++ unwrap_or (option_map line (slice_get (children root) 0)) []) free
+          below-line root b most is ∙ ap (λ (o : Option Descriptor). option_to_list o ++ unwrap_or
+          (option_map line (slice_get (children root) 0)) []) free
           ∙ ap (λ (o : Option (Node (List Note))). unwrap_or (option_map line o) []) there
 
   ends-at : (path : List ℕ) (lane : Lane) → (limit_along path root ≡ Some lane.limit) ⊎ IsLinked root path lane → EndsAt path root (line root)
@@ -77,10 +81,13 @@ module _ (d : DeviceState (List Note)) (kept : IsKept d) (free : d.tree.root.own
   ends-at path lane (inr l) = link-ends path lane l
 
   -- its row
-  row-at : (place : Place) (path : List ℕ) (at : Node (List Note)) → place_path place root ≡ Some path → node_at path root ≡ Some at → stats history place d.tree ≡ Some (row history at)
+  row-at : (place : Place) (path : List ℕ) (at : Node (List Note)) → place_path place root ≡ Some path → node_at path root ≡ Some at
+      → stats history place d.tree ≡ Some (row history at)
   row-at place.Top path at is there = absurd (none-some path is)
-  row-at place.Root path at is there = ap (λ (n : Node (List Note)). Some (row history n)) (same_Some root at (ap (λ (xs : List ℕ). node_at xs root) (same_Some [] path is) ∙ there))
-  row-at (place.Class class) path at is there = ap (λ (o : Option (List ℕ)). option_map (row history) (option_and_then (λ xs. node_at xs root) o)) is ∙ ap (option_map (row history)) there
+  row-at place.Root path at is there = ap (λ (n : Node (List Note)). Some (row history n))
+      (same_Some root at (ap (λ (xs : List ℕ). node_at xs root) (same_Some [] path is) ∙ there))
+  row-at (place.Class class) path at is there = ap (λ (o : Option (List ℕ)). option_map (row history)
+      (option_and_then (λ xs. node_at xs root) o)) is ∙ ap (option_map (row history)) there
 
   record IsRow (place : Place) : Type 0 where
     counted : Row
@@ -90,7 +97,8 @@ module _ (d : DeviceState (List Note)) (kept : IsKept d) (free : d.tree.root.own
   is-row : (place : Place) (lane : Lane) → lane_to place root ≡ Some lane → IsRow place
   is-row place lane e = by (place_path place root) refl e
     where
-      by : (o : Option (List ℕ)) → place_path place root ≡ o → option_and_then (λ path. lane_from path root root.own.discipline) o ≡ Some lane → IsRow place
+      by : (o : Option (List ℕ)) → place_path place root ≡ o → option_and_then (λ path. lane_from path root root.own.discipline) o ≡ Some lane
+          → IsRow place
       by None is e = absurd (none-some lane e)
       by (Some path) is e =
           let ends = ends-at path lane (lane-found root path lane e) in
@@ -101,7 +109,8 @@ module _ (d : DeviceState (List Note)) (kept : IsKept d) (free : d.tree.root.own
       → latest_of history place len mtu d ≡ latest_on mtu d.clock (bytes_in (line_at_root d) + len) (level_of d.clock root.own.discipline) lane.link
   answers-on place len mtu lane found =
       let r = is-row place lane found in
-      ap (option_and_then (λ (l : Lane). option_and_then (λ (x : Row). latest_on mtu d.clock (x.queued.bytes + len) (level_of d.clock root.own.discipline) l.link) (stats history place d.tree))) found
+      ap (option_and_then (λ (l : Lane). option_and_then (λ (x : Row). latest_on mtu d.clock (x.queued.bytes + len)
+      (level_of d.clock root.own.discipline) l.link) (stats history place d.tree))) found
       ∙ ap (option_and_then (λ (x : Row). latest_on mtu d.clock (x.queued.bytes + len) (level_of d.clock root.own.discipline) lane.link)) r.there
       ∙ ap (λ n. latest_on mtu d.clock (n + len) (level_of d.clock root.own.discipline) lane.link) r.bytes
 
@@ -120,7 +129,8 @@ pub record LatestIs (mtu now bytes level : ℕ) (link : Link) (w : Latest) : Typ
   pub late : w.late ≡ Some (late_on mtu link)
   pub room : has_room mtu (Some link) ≡ true
 
-pub below-is : (mtu now bytes level : ℕ) (link : Link) (w : Latest) → latest_at mtu now bytes link level ≡ Some w → LatestIs mtu now bytes level link w
+pub below-is : (mtu now bytes level : ℕ) (link : Link) (w : Latest) → latest_at mtu now bytes link level ≡ Some w
+    → LatestIs mtu now bytes level link w
 below-is mtu now bytes level link w e = by (has_room mtu (Some link) && nat_le at (2 ^ 62)) refl e
   where
     at : ℕ
@@ -130,10 +140,20 @@ below-is mtu now bytes level link w e = by (has_room mtu (Some link) && nat_le a
     told = record { bytes = bytes; at = Some (paid_at now link (counted_level (late_on mtu link) link level) bytes); late = Some (late_on mtu link) }
 
     by : (t : Bool) → (has_room mtu (Some link) && nat_le (paid_at now link (counted_level (late_on mtu link) link level) bytes) (2 ^ 62)) ≡ t
-        → (if t then Some (record { bytes = bytes; at = Some (paid_at now link (counted_level (late_on mtu link) link level) bytes); late = Some (late_on mtu link) }) else None) ≡ Some w → LatestIs mtu now bytes level link w
+        → (if t then Some (record {
+          bytes = bytes;
+          at = Some (paid_at now link (counted_level (late_on mtu link) link level) bytes);
+          late =
+              Some (late_on mtu link);
+        }) else None) ≡ Some w → LatestIs mtu now bytes level link w
     by false is e = absurd (none-some w e)
     by true is e =
-        let same = same_Some (record { bytes = bytes; at = Some (paid_at now link (counted_level (late_on mtu link) link level) bytes); late = Some (late_on mtu link) }) w e in
+        let same = same_Some (record {
+          bytes = bytes;
+          at = Some (paid_at now link (counted_level (late_on mtu link) link level) bytes);
+          late =
+              Some (late_on mtu link);
+        }) w e in
         record {
           bytes_are = ap (λ (x : Latest). x.bytes) (sym same);
           at = ap (λ (x : Latest). x.at) (sym same);
@@ -146,14 +166,17 @@ pub record Fits (mtu now bytes : ℕ) (level : Option ℕ) (link : Option Link) 
   pub small : nat_lt bytes (2 ^ 64) ≡ true
   pub is : latest_of_bytes mtu now bytes level link ≡ Some w
 
-pub fits : (mtu now bytes : ℕ) (level : Option ℕ) (link : Option Link) (w : Latest) → latest_on mtu now bytes level link ≡ Some w → Fits mtu now bytes level link w
+pub fits : (mtu now bytes : ℕ) (level : Option ℕ) (link : Option Link) (w : Latest) → latest_on mtu now bytes level link ≡ Some w
+    → Fits mtu now bytes level link w
 fits mtu now bytes level link w e = by (nat_lt bytes (2 ^ 64)) refl e
   where
-    by : (t : Bool) → nat_lt bytes (2 ^ 64) ≡ t → (if t then latest_of_bytes mtu now bytes level link else None) ≡ Some w → Fits mtu now bytes level link w
+    by : (t : Bool) → nat_lt bytes (2 ^ 64) ≡ t → (if t then latest_of_bytes mtu now bytes level link else None) ≡ Some w
+        → Fits mtu now bytes level link w
     by false is e = absurd (none-some w e)
     by true is e = record { small = is; is = e }
 
-latest-bytes : (mtu now bytes : ℕ) (level : Option ℕ) (link : Option Link) (w : Latest) → latest_of_bytes mtu now bytes level link ≡ Some w → w.bytes ≡ bytes
+latest-bytes : (mtu now bytes : ℕ) (level : Option ℕ) (link : Option Link) (w : Latest) → latest_of_bytes mtu now bytes level link ≡ Some w
+    → w.bytes ≡ bytes
 latest-bytes mtu now bytes level None w e = ap (λ (x : Latest). x.bytes) (sym (same_Some (record { bytes = bytes; at = None; late = None }) w e))
 latest-bytes mtu now bytes None (Some link) w e = absurd (none-some w e)
 latest-bytes mtu now bytes (Some level) (Some link) w e = (below-is mtu now bytes level link w e).bytes_are
@@ -163,14 +186,19 @@ latest-bytes mtu now bytes (Some level) (Some link) w e = (below-is mtu now byte
 pub latest-is-enough : (settings : DeviceSettings) → IsInRange settings → LatestIsEnough settings
 latest-is-enough settings range before during place lane w all_before all_during found e alone keep =
     let start : DeviceState (List Note) = device_after settings before in
-    let answer = on-row start (replay-kept settings before range all_before) (holds-none settings before range all_before) place settings.mtu lane w found e in (
-      sym (latest-bytes settings.mtu start.clock (bytes_in (line_at_root start)) (level_of start.clock start.tree.root.own.discipline) lane.link w (fits settings.mtu start.clock (bytes_in (line_at_root start)) (level_of start.clock start.tree.root.own.discipline) lane.link w answer).is),
+    let answer = on-row start (replay-kept settings before range all_before)
+    (holds-none settings before range all_before) place settings.mtu lane w found e in (
+      sym (latest-bytes settings.mtu start.clock (bytes_in (line_at_root start)) (level_of start.clock start.tree.root.own.discipline) lane.link w
+          (fits settings.mtu start.clock (bytes_in (line_at_root start))
+          (level_of start.clock start.tree.root.own.discipline) lane.link w answer).is),
       lines-leave-first settings range before during all_before all_during alone keep,
     )
 
 pub latest-is-in-time : (settings : DeviceSettings) → IsInRange settings → LatestIsInTime settings
-latest-is-in-time settings range before during e place link limit w at most late all_before all_during happens found answered timed lateness soon stays keep drained waits =
-    later-still (latest start.clock link.rate (level_counted late link.rate link.burst level) (bytes_in (line_below_root start))) at late (device_after settings (before ++ during)) (step history (device_after settings (before ++ during)) e).device
+latest-is-in-time settings range before during e place link limit w at most late all_before all_during happens found answered timed lateness soon
+    stays keep drained waits =
+    later-still (latest start.clock link.rate (level_counted late link.rate link.burst level) (bytes_in (line_below_root start))) at late
+    (device_after settings (before ++ during)) (step history (device_after settings (before ++ during)) e).device
     sooner
     (lines-leave-in-time settings range before during e link.handle link.rate link.burst late first all_before all_during happens room stays unpaid
     (keeps-below link.handle link.rate link.burst settings before during range all_before all_during holds keep) drained here.tbf.there)
@@ -185,7 +213,8 @@ latest-is-in-time settings range before during e place link limit w at most late
     first = (at-start (IsLink link.handle link.rate link.burst) settings before during stays).tbf.tbf
 
     level : ℕ
-    level = level_at (at-start (IsLink link.handle link.rate link.burst) settings before during stays).tbf.tbf.bucket (device_after settings before).clock
+    level = level_at (at-start (IsLink link.handle link.rate link.burst) settings before during stays).tbf.tbf.bucket
+        (device_after settings before).clock
 
     root_is : RootIs link.handle link.rate link.burst (device_after settings before)
     root_is = root-is link.handle link.rate link.burst (device_after settings before) here
@@ -194,47 +223,68 @@ latest-is-in-time settings range before during e place link limit w at most late
     front seen later is = All-front IsEvent seen later (subst (All IsEvent) (sym is) all_during)
 
     holds : Throughout (λ d. IsLink link.handle link.rate link.burst d × (d.tree.root.own.held ≡ None)) settings before during
-    holds seen later is = (stays seen later is, holds-none settings (before ++ seen) range (All-append IsEvent before seen all_before (front seen later is)))
+    holds seen later is = (
+      stays seen later is,
+      holds-none settings (before ++ seen) range
+          (All-append IsEvent before seen all_before (front seen later is)),
+    )
 
     line_is : line_at_root (device_after settings before) ≡ line_below_root (device_after settings before)
     line_is = same-line link.handle link.rate link.burst (device_after settings before) (here, holds-none settings before range all_before)
 
-    answer : latest_of_bytes settings.mtu (device_after settings before).clock (bytes_in (line_at_root (device_after settings before))) (level_of (device_after settings before).clock (device_after settings before).tree.root.own.discipline) (Some link) ≡ Some w
+    answer : latest_of_bytes settings.mtu (device_after settings before).clock (bytes_in (line_at_root (device_after settings before)))
+        (level_of (device_after settings before).clock (device_after settings before).tree.root.own.discipline) (Some link) ≡ Some w
     answer =
-        (fits settings.mtu (device_after settings before).clock (bytes_in (line_at_root (device_after settings before))) (level_of (device_after settings before).clock (device_after settings before).tree.root.own.discipline) (Some link) w
-        (on-row (device_after settings before) (replay-kept settings before range all_before) (holds-none settings before range all_before) place settings.mtu (record { link = Some link; limit = limit }) w found answered)).is
+        (fits settings.mtu (device_after settings before).clock (bytes_in (line_at_root (device_after settings before)))
+        (level_of (device_after settings before).clock (device_after settings before).tree.root.own.discipline) (Some link) w
+        (on-row (device_after settings before) (replay-kept settings before range all_before)
+        (holds-none settings before range all_before) place settings.mtu (record { link = Some link; limit = limit }) w found answered)).is
 
     numbers : LatestIs settings.mtu (device_after settings before).clock (bytes_in (line_at_root (device_after settings before))) level link w
     numbers = below-is settings.mtu (device_after settings before).clock (bytes_in (line_at_root (device_after settings before))) level link w
-        (sym (ap (λ (b : TokenBucket). latest_at settings.mtu (device_after settings before).clock (bytes_in (line_at_root (device_after settings before))) link (level_at b (device_after settings before).clock))
+        (sym (ap (λ (b : TokenBucket). latest_at settings.mtu (device_after settings before).clock
+        (bytes_in (line_at_root (device_after settings before))) link (level_at b (device_after settings before).clock))
         (root-bucket link.handle link.rate link.burst (device_after settings before) here))
-        ∙ sym (ap (λ (d : Discipline). latest_of_bytes settings.mtu (device_after settings before).clock (bytes_in (line_at_root (device_after settings before))) (level_of (device_after settings before).clock d) (Some link)) root_is.is) ∙ answer)
+        ∙ sym (ap (λ (d : Discipline). latest_of_bytes settings.mtu (device_after settings before).clock
+        (bytes_in (line_at_root (device_after settings before))) (level_of (device_after settings before).clock d) (Some link)) root_is.is)
+        ∙ answer)
 
     latest_late : most ≡ late_on settings.mtu link
     latest_late = same_Some most (late_on settings.mtu link) (sym lateness ∙ numbers.late)
 
     room : HasRoom settings.mtu late link.rate link.burst
     room =
-        let least : settings.mtu * units_in_byte + link.rate ≤ link.burst * units_in_byte = leb-true (settings.mtu * units_in_byte + link.rate) (link.burst * units_in_byte) numbers.room in
+        let least : settings.mtu * units_in_byte + link.rate ≤ link.burst * units_in_byte =
+        leb-true (settings.mtu * units_in_byte + link.rate) (link.burst * units_in_byte) numbers.room in
         let whole : HasRoom settings.mtu most link.rate link.burst = late-room settings.mtu most link least latest_late in
         let rises : link.rate * (late + 1) ≤ link.rate * (most + 1) = mul-le-mul_left link.rate (omega (arith, soon)) in
         omega (arith, whole, rises)
 
     some : 1 ≤ link.rate
-    some = subst (λ n. 1 ≤ n) here.tbf.same_rate (rate-some link.handle (device_after settings before) first (replay-kept settings before range all_before) here.tbf.there)
+    some = subst (λ n. 1 ≤ n) here.tbf.same_rate (rate-some link.handle (device_after settings before) first
+        (replay-kept settings before range all_before) here.tbf.there)
 
-    sooner : latest (device_after settings before).clock link.rate (level_counted late link.rate link.burst level) (bytes_in (line_below_root (device_after settings before))) ≤ at
+    sooner : latest (device_after settings before).clock link.rate (level_counted late link.rate link.burst level)
+        (bytes_in (line_below_root (device_after settings before))) ≤ at
     sooner =
         let bytes : ℕ = bytes_in (line_at_root (device_after settings before)) in
-        let size : bytes_in (line_at_root (device_after settings before)) ≡ bytes_in (line_below_root (device_after settings before)) = ap bytes_in line_is in
+        let size : bytes_in (line_at_root (device_after settings before)) ≡ bytes_in (line_below_root (device_after settings before)) =
+        ap bytes_in line_is in
         let rises : link.rate * late ≤ link.rate * late_on settings.mtu link = mul-le-mul_left link.rate (omega (arith, soon, latest_late)) in
         let whole : max link.rate 1 ≡ link.rate = omega (arith, some) in
-        let is : at ≡ (device_after settings before).clock + div_ceil (bytes * units_in_byte - counted_level (late_on settings.mtu link) link level) link.rate =
-        same_Some at (paid_at (device_after settings before).clock link (counted_level (late_on settings.mtu link) link level) bytes) (sym timed ∙ numbers.at)
-        ∙ ap (λ r. (device_after settings before).clock + div_ceil (bytes * units_in_byte - counted_level (late_on settings.mtu link) link level) r) whole in
-        let less : bytes_in (line_below_root (device_after settings before)) * units_in_byte - level_counted late link.rate link.burst level ≤ bytes * units_in_byte - counted_level (late_on settings.mtu link) link level =
+        let is : at ≡ (device_after settings before).clock + div_ceil
+        (bytes * units_in_byte - counted_level (late_on settings.mtu link) link level) link.rate =
+        same_Some at (paid_at (device_after settings before).clock link (counted_level (late_on settings.mtu link) link level) bytes)
+        (sym timed ∙ numbers.at)
+        ∙ ap (λ r. (device_after settings before).clock + div_ceil
+        (bytes * units_in_byte - counted_level (late_on settings.mtu link) link level) r) whole in
+        let less : bytes_in (line_below_root
+        (device_after settings before)) * units_in_byte - level_counted late link.rate link.burst level ≤ bytes * units_in_byte - counted_level
+        (late_on settings.mtu link) link level =
         omega (arith, size, rises) in
-        let ceil = ceil-rises (bytes_in (line_below_root (device_after settings before)) * units_in_byte - level_counted late link.rate link.burst level) (bytes * units_in_byte - counted_level (late_on settings.mtu link) link level) link.rate some less in
+        let ceil = ceil-rises
+        (bytes_in (line_below_root (device_after settings before)) * units_in_byte - level_counted late link.rate link.burst level)
+        (bytes * units_in_byte - counted_level (late_on settings.mtu link) link level) link.rate some less in
         omega (arith, is, ceil)
 
     unpaid : Throughout (IsInLine link.handle (device_after settings before)) settings before during

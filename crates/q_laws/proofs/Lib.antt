@@ -7,6 +7,7 @@ mod LaneNumbers
 mod LanePuts
 mod LanesStay
 mod LatestArrives
+mod LatestFills
 mod LatestKept
 mod LeastShare
 mod LevelsLeft

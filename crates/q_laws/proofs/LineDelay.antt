@@ -147,16 +147,20 @@ lines-leave-in-time settings range before during e link rate burst late first al
 
 -- ---- within a limit
 
-pub ceil-rises : (x y r : ℕ) → 1 ≤ r → x ≤ y → div_ceil x r ≤ div_ceil y r
-ceil-rises x y r some less = elim (cases_lt (div_ceil y r) (div_ceil x r)) [
+pub ceil-under : (x q r : ℕ) → 1 ≤ r → x ≤ r * q → div_ceil x r ≤ q
+ceil-under x q r some less = elim (cases_lt q (div_ceil x r)) [
   | inl over ↦
       let first = (div_ceil_times x r (omega (arith, some))).1 in
-      let last = (div_ceil_times y r (omega (arith, some))).0 in
-      let most : r * (div_ceil y r + 1) ≤ r * div_ceil x r = mul-le-mul_left r (omega (arith, over)) in
-      let parts : (div_ceil y r + 1) * r ≡ div_ceil y r * r + 1 * r = add-mul (div_ceil y r) 1 r in
-      absurd (omega (arith, first, last, most, parts, less, mul_comm r (div_ceil y r + 1), mul_comm r (div_ceil x r)))
+      let most : r * (q + 1) ≤ r * div_ceil x r = mul-le-mul_left r (omega (arith, over)) in
+      let parts : (q + 1) * r ≡ q * r + 1 * r = add-mul q 1 r in
+      absurd (omega (arith, first, most, parts, less, mul_comm r q, mul_comm r (q + 1), mul_comm r (div_ceil x r)))
   | inr past ↦ omega (arith, past)
 ]
+
+pub ceil-rises : (x y r : ℕ) → 1 ≤ r → x ≤ y → div_ceil x r ≤ div_ceil y r
+ceil-rises x y r some less =
+    let last = (div_ceil_times y r (omega (arith, some))).0 in
+    ceil-under x (div_ceil y r) r some (omega (arith, last, less, mul_comm r (div_ceil y r)))
 
 pub later-still : (at by late : ℕ) (d next : DeviceState (List Note)) → at ≤ by → PaysInTime at late d next → PaysInTime by late d next
 later-still at by late d next after h = record { in_time = let soon = h.in_time in omega (arith, soon, after); polled_out = λ out. let soon = h.polled_out out in omega (arith, soon, after) }

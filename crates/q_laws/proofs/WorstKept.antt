@@ -91,7 +91,8 @@ limit-is link lane false (Some limit) e = ap Some (ap (λ (l : Lane). l.limit) (
 below-limit : (link : Option Link) (path : List ℕ) (n : Node (List Note)) (lane : Lane) → lane_below link path n ≡ Some lane → limit_along path n ≡ Some lane.limit
 below-limit link path n lane e = limit-is link lane (has_tbf n) (limit_along path n) e
 
-pub lane-found : (root : Node (List Note)) (path : List ℕ) (lane : Lane) → lane_from path root root.own.discipline ≡ Some lane → (limit_along path root ≡ Some lane.limit) ⊎ IsLinked root path lane
+pub lane-found : (root : Node (List Note)) (path : List ℕ) (lane : Lane) → lane_from path root root.own.discipline ≡ Some lane
+    → (limit_along path root ≡ Some lane.limit) ⊎ IsLinked root path lane
 lane-found root path lane e = by path refl root.own.discipline refl e
   where
     beneath : (b : TokenBucket) (most i : ℕ) (rest : List ℕ) (link : Option Link) (o : Option (Node (List Note))) → path ≡ i ∷ rest → root.own.discipline ≡ Tbf b most → slice_get (children root) i ≡ o
@@ -123,10 +124,12 @@ module _ (d : DeviceState (List Note)) (kept : IsKept d) where
   top = d.tree.root
 
   -- a tbf has one child
-  first-child : (b : TokenBucket) (most i : ℕ) (c : Node (List Note)) → top.own.discipline ≡ Tbf b most → slice_get (children top) i ≡ Some c → children top ≡ c ∷ []
+  first-child : (b : TokenBucket) (most i : ℕ) (c : Node (List Note)) → top.own.discipline ≡ Tbf b most → slice_get (children top) i ≡ Some c
+      → children top ≡ c ∷ []
   first-child b most i c is there =
       let law = subst (IsLawfulDiscipline d.tree.device.mtu d.clock (each beneath_own top.below)) is kept.lawful.0.discipline in
-      one-child (children top) i c (sym (length-map (children top) (from_below beneath_own)) ∙ ap length (sym (each-nodes beneath_own top.below)) ∙ law.one) there
+      one-child (children top) i c (sym (length-map (children top) (from_below beneath_own)) ∙ ap length (sym (each-nodes beneath_own top.below))
+      ∙ law.one) there
 
   pub in-first : (b : TokenBucket) (most i : ℕ) (c : Node (List Note)) → top.own.discipline ≡ Tbf b most → slice_get (children top) i ≡ Some c → i ≡ 0
   in-first b most i c is there = by i (subst (λ (ns : List (Node (List Note))). slice_get ns i ≡ Some c) (first-child b most i c is there) there)
@@ -196,8 +199,10 @@ module _ (d : DeviceState (List Note)) (now : ℕ) (kept : IsKept d) (later : d.
       (subst (λ (xs : List Descriptor). IsPutLast (most_bytes mtu lane.limit) p xs (line w)) before last))
 
 -- the state after it
-pub arrived : (settings : DeviceSettings) (before : List Event) (p : Descriptor) (moment : ℕ) → device_after settings (with_arrival before p moment) ≡ (step history (device_after settings before) (event.Arrive p moment)).device
-arrived settings before p moment = ap (λ (r : Replay (List Note)). r.device) (replay_from-append history (nothing_yet history settings) before (event.Arrive p moment))
+pub arrived : (settings : DeviceSettings) (before : List Event) (p : Descriptor) (moment : ℕ)
+    → device_after settings (with_arrival before p moment) ≡ (step history (device_after settings before) (event.Arrive p moment)).device
+arrived settings before p moment = ap (λ (r : Replay (List Note)). r.device)
+    (replay_from-append history (nothing_yet history settings) before (event.Arrive p moment))
 
 -- what the line has with one packet more
 pub bytes-last : (p : Descriptor) (others : List Descriptor) → bytes_in (others ++ p ∷ []) ≡ bytes_in others + p.len
@@ -211,16 +216,21 @@ lane-path : (place : Place) (root : Node (List Note)) (lane : Lane) (path : List
 lane-path place root lane path e is = sym (ap (option_and_then (λ steps. lane_from steps root root.own.discipline)) is) ∙ e
 
 -- the packet is put last in line
-pub put-last : (settings : DeviceSettings) → IsInRange settings → (before : List Event) (p : Descriptor) (moment : ℕ) (place : Place) (lane : Lane) → All IsEvent before → IsEvent (event.Arrive p moment)
+pub put-last : (settings : DeviceSettings) → IsInRange settings → (before : List Event) (p : Descriptor) (moment : ℕ) (place : Place) (lane : Lane)
+    → All IsEvent before → IsEvent (event.Arrive p moment)
     → lane_to place (device_after settings before).tree.root ≡ Some lane → IsKeptAt place p moment (device_after settings before)
-    → IsPutLast (most_bytes (device_after settings before).tree.device.mtu lane.limit) p (line_at_root (device_after settings before)) (line_at_root (device_after settings (with_arrival before p moment)))
+    → IsPutLast (most_bytes (device_after settings before).tree.device.mtu lane.limit) p (line_at_root (device_after settings before))
+    (line_at_root (device_after settings (with_arrival before p moment)))
 put-last settings range before p moment place lane all_before comes found at =
     let d : DeviceState (List Note) = device_after settings before in
     let kept : IsKept d = replay-kept settings before range all_before in
     let path : List ℕ = (route p d.tree.root).path in
-    subst (λ (x : DeviceState (List Note)). IsPutLast (most_bytes d.tree.device.mtu lane.limit) p (line_at_root d) (line_at_root x)) (sym (arrived settings before p moment))
+    subst (λ (x : DeviceState (List Note)). IsPutLast (most_bytes d.tree.device.mtu lane.limit) p (line_at_root d) (line_at_root x))
+    (sym (arrived settings before p moment))
     (puts-line d (max d.clock moment) kept (not-before d.clock moment) p comes.0.len.0 (holds-none settings before range all_before) path lane
-    (lane-path place d.tree.root lane path found at.goes) refl (nat_lt d.tree.device.mtu p.len) refl (no-loss (loss_on (max d.clock moment) p (if nat_lt d.tree.device.mtu p.len then None else Some (route p (shape d.tree.root))) (shape d.tree.root)) at.kept))
+    (lane-path place d.tree.root lane path found at.goes) refl (nat_lt d.tree.device.mtu p.len) refl
+    (no-loss (loss_on (max d.clock moment) p (if nat_lt d.tree.device.mtu p.len then None else Some (route p (shape d.tree.root)))
+    (shape d.tree.root)) at.kept))
 
 pub lines-keep-limits : (settings : DeviceSettings) → IsInRange settings → LinesKeepLimits settings
 lines-keep-limits settings range before p moment place lane all_before comes found at =
@@ -238,7 +248,8 @@ lines-keep-limits settings range before p moment place lane all_before comes fou
 
 -- ---- what leaves, and in which time
 
-pub all-with : (before : List Event) (p : Descriptor) (moment : ℕ) → All IsEvent before → IsEvent (event.Arrive p moment) → All IsEvent (with_arrival before p moment)
+pub all-with : (before : List Event) (p : Descriptor) (moment : ℕ) → All IsEvent before → IsEvent (event.Arrive p moment)
+    → All IsEvent (with_arrival before p moment)
 all-with before p moment all comes = All-append IsEvent before (event.Arrive p moment ∷ []) all (All-cons IsEvent (event.Arrive p moment) [] comes (All-nil IsEvent))
 
 pub worst-is-enough : (settings : DeviceSettings) → IsInRange settings → WorstIsEnough settings

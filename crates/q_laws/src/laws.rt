@@ -2,7 +2,7 @@
 ghost use Rattle.q_laws.specs.Delay.{BytesArePaidInTime};
 ghost use Rattle.q_laws.specs.Delivered.{LatenessIsTheGreatest, ServiceIsDelivered, ShareIsDelivered, SlackIsTheLaws};
 ghost use Rattle.q_laws.specs.InTime.{ClassesShareInTime, SharesMultiply};
-ghost use Rattle.q_laws.specs.Latest.{LatestIsEnough, LatestIsInTime, LatestIsToldBefore, LatestRisesNoFaster};
+ghost use Rattle.q_laws.specs.Latest.{LatestIsEnough, LatestIsInTime, LatestIsToldBefore, LatestRisesNoFaster, LatestStandsAsItFills};
 ghost use Rattle.q_laws.specs.Line.{LimitsAreDelays, LinesLeaveFirst, LinesLeaveInTime};
 ghost use Rattle.q_laws.specs.NewFlow.{NewFlowsGoBefore};
 ghost use Rattle.q_laws.specs.Order.{FlowsKeepOrder};
@@ -251,12 +251,14 @@ pub fn worst_is_enough(settings: Settings)
 ///
 /// What it answers of a packet that is to come next, by its length, is what it answers of that packet right after the fifo kept it, if it
 /// came at no time ahead of the clock (`told_before`). If it came later, the same bytes are answered then, and a time that is later by no
-/// more than that (`rises_no_faster`). For all settings and every list of events whose fields are in their ranges.
+/// more than that (`rises_no_faster`), and no later than the first answer or than that which a full bucket would give then
+/// (`stands_as_it_fills`). For all settings and every list of events whose fields are in their ranges.
 pub fn latest_is_enough(settings: Settings)
     ensures enough { LatestIsEnough settings }
     ensures in_time { LatestIsInTime settings }
     ensures told_before { LatestIsToldBefore settings }
     ensures rises_no_faster { LatestRisesNoFaster settings }
+    ensures stands_as_it_fills { LatestStandsAsItFills settings }
 {
     settings.ranges();
 }

@@ -62,6 +62,24 @@ fn long_turn<P: Ledger, B: Ledger, R: Wait + Abort>(
     drain.end(rt);
 }
 
+// As many ports as there may be, with the longest rings, and as many gauges.
+#[test]
+fn all_ports_of_the_longest_rings(rt: HostRuntime) -> Result<(), Fail> {
+    let alloc = rt.alloc();
+    let device = device(alloc, 0).expect(&rt, "memory");
+    all_opened::<Brand, Brand, _>(&rt, alloc, Unbooked::new(device));
+    Ok(())
+}
+
+fn all_opened<P: Ledger, B: Ledger, R: Wait + Abort>(rt: &R, alloc: Global, unbooked: Unbooked)
+    requires { (unbooked.packets.name ≡ P.name) × (P.parts ≡ 65) × (unbooked.bytes.name ≡ B.name) × (B.parts ≡ 65) }
+{
+    let (_booked, drain, ports, gauges) = unbooked.opened::<P, B, R>(rt, alloc, (64, 65_536, 16));
+    assert_count(rt, ports.len() as u64, 64);
+    assert_count(rt, gauges.len() as u64, 16);
+    drain.end(rt);
+}
+
 // As many gauges as there may be, and none: each shows the turns before, learns of one more, and shows it.
 #[test]
 fn each_number_of_gauges_reads_and_learns(rt: HostRuntime) -> Result<(), Fail> {

@@ -166,6 +166,27 @@ fn an_arrival_after_the_answered_time_leaves_as_it_comes(rt: HostRuntime) -> Res
 }
 
 #[test]
+fn an_arrival_at_a_full_bucket_leaves_as_much_later_as_it_comes(
+    rt: HostRuntime,
+) -> Result<(), Fail> {
+    let mut device = shaped(rt.alloc())?;
+    happens(&mut device, arrival_at(1, 1_500, 0, 0))?;
+    tells(
+        &device,
+        FIRST,
+        1_000,
+        Some((2_500, Some((7_999_999, 1_119_999)))),
+    )?;
+    happens(&mut device, arrival_at(2, 1_000, 0, 5_000_000))?;
+    tells(
+        &device,
+        FIRST,
+        0,
+        Some((2_500, Some((12_999_999, 1_119_999)))),
+    )
+}
+
+#[test]
 fn without_a_tbf_there_are_bytes_alone(rt: HostRuntime) -> Result<(), Fail> {
     let mut device = opened(rt.alloc())?;
     set_up(&mut device, &[Ask::Graft(Spot::Root, 1, New::Prio(2))])?;

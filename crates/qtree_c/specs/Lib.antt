@@ -2,6 +2,7 @@ pub mod Buffers
 pub mod Calls
 pub mod Codes
 pub mod Delays
+pub mod Departures
 pub mod Ends
 pub mod Explaining
 pub mod Folds

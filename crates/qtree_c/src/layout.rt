@@ -5,6 +5,7 @@ ghost use Rattle.qtree_c.specs.Sample.{sample_packet, sample_row, size_of_struct
 use crate::c_class_view::CClassView;
 use crate::c_count::CCount;
 use crate::c_delay::CDelay;
+use crate::c_departure::CDeparture;
 use crate::c_device::CDevice;
 use crate::c_event::CEvent;
 use crate::c_fault::CFault;
@@ -47,7 +48,7 @@ pub extern "C" fn qtree_layout_of(layout: &mut CLayout)
     };
 }
 
-/// The bytes of the struct with this number, 0 to 17; 0 for any other.
+/// The bytes of the struct with this number, 0 to 18; 0 for any other.
 #[unsafe(no_mangle)]
 pub extern "C" fn qtree_size_of(what: u32) -> usize
     ensures { result ≡ size_of_struct what }
@@ -71,6 +72,7 @@ pub extern "C" fn qtree_size_of(what: u32) -> usize
         15 => size_of::<CDelay>(),
         16 => size_of::<CReport>(),
         17 => size_of::<CUndone>(),
+        18 => size_of::<CDeparture>(),
         _ => 0,
     }
 }

@@ -4,6 +4,7 @@ use crate::error::Error;
 use crate::event::{Event, EventKind};
 use crate::fate::Fate;
 use crate::fault::Fault;
+use crate::latest::Latest;
 use crate::loss::Loss;
 use crate::losses::Losses;
 use crate::node::Node;
@@ -450,6 +451,37 @@ impl Device {
     pub fn worst(&self, place: Place) -> Option<Worst> {
         let (code, delay) = self.0.worst(place.to_c());
         (code == sys::QTREE_DONE).then(|| Worst::of(delay))
+    }
+
+    /// Returns by when a packet has left that is to arrive next in the pfifo or bfifo in a place, so
+    /// that the program can refuse it first if that is too late. For a length of 0, returns by when
+    /// the packet has left that was queued there last.
+    ///
+    /// ```
+    /// # use qtree::{Device, Error, Packet, Place, Settings};
+    /// let mut device = Device::open(Settings::default())?;
+    /// let line = "tc qdisc add dev wan root handle 1: tbf rate 8mbit burst 3000 limit 20000";
+    /// device.command(line, 0)?;
+    /// for _ in 0..2 {
+    ///     device.arrive(&Packet::builder(1500).build()?, 5)?;
+    ///     device.poll(5)?; // until nothing is left of the burst
+    /// }
+    /// let latest = device.latest(Place::Class(1, 1), 1000).expect("the fifo of the tbf");
+    /// assert_eq!((latest.bytes, latest.at), (1000, Some(1_000_005)));
+    /// # Ok::<(), Error>(())
+    /// ```
+    ///
+    /// The answer counts from the time of the device's last event, which is an arrival, a poll or a
+    /// command. If the packet arrives some nanoseconds after that, the time by which it has left is
+    /// later by at most as many. It has left by then if it is queued: the limit of the qdisc is not
+    /// looked at. If the length is 0 and nothing is queued there, `bytes` is 0, and `at` is the time
+    /// of the last event.
+    ///
+    /// Returns `None` if nothing is promised, for one of the reasons of [`Device::worst`].
+    #[must_use]
+    pub fn latest(&self, place: Place, len: u16) -> Option<Latest> {
+        let (code, departure) = self.0.latest(place.to_c(), len);
+        (code == sys::QTREE_DONE).then(|| Latest::of(departure))
     }
 
     /// Returns the counters of the device itself.

@@ -121,3 +121,36 @@ fn a_fifo_in_line_is_promised_a_delay() -> Result<(), Error> {
     assert_eq!(device.worst(Place::Top), None);
     Ok(())
 }
+
+#[test]
+fn a_packet_that_comes_next_is_told_when_it_has_left() -> Result<(), Error> {
+    let mut device = Device::open(Settings::default())?;
+    device.arrive(&udp(300, 0), 0)?;
+    let latest = device.latest(Place::Root, 700).expect("the pfifo");
+    assert_eq!((latest.bytes, latest.at, latest.late), (1000, None, None));
+    device.poll(0)?;
+    for line in [
+        "tc qdisc add dev wan root handle 1: tbf rate 8mbit burst 3000 limit 20000",
+        "tc qdisc add dev wan parent 1:1 handle 2: prio",
+    ] {
+        device.command(line, 0)?;
+    }
+    for number in 0..2 {
+        device.arrive(&udp(1500, number), 50)?;
+        assert!(matches!(device.poll(50)?, Polled::Packet(_)));
+    }
+    let first = Place::Class(2, 1);
+    let voice = |len| Packet::builder(len).prio(6).build().expect("a length");
+    device.arrive(&voice(400), 50)?;
+    let latest = device.latest(first, 1000).expect("the first band");
+    assert_eq!((latest.bytes, latest.at), (1400, Some(1_400_050)));
+    assert_eq!(latest.late, Some(1_485_999));
+    device.arrive(&voice(1000), 50)?;
+    assert_eq!(device.latest(first, 0), Some(latest));
+    assert!(matches!(device.poll(400_050)?, Polled::Packet(_)));
+    assert!(matches!(device.poll(1_400_049)?, Polled::Later));
+    assert!(matches!(device.poll(1_400_050)?, Polled::Packet(_)));
+    assert_eq!(device.latest(Place::Class(2, 2), 1000), None);
+    assert_eq!(device.latest(Place::Root, 1000), None);
+    Ok(())
+}

@@ -205,6 +205,17 @@ impl RawDevice {
         (code, delay)
     }
 
+    pub(crate) fn latest(
+        &self,
+        (place, major, minor): (u32, u16, u16),
+        len: u16,
+    ) -> (u32, sys::Departure) {
+        let mut departure = sys::Departure::default();
+        // SAFETY: the device is open, and `departure` is another place.
+        let code = unsafe { sys::qtree_latest(&self.0, place, major, minor, len, &mut departure) };
+        (code, departure)
+    }
+
     /// Also the length of the text, which is written where there is room for it.
     pub(crate) fn show(&self, what: u32, text: &mut [u8]) -> (u32, usize) {
         let mut needed = 0;

@@ -130,6 +130,14 @@ pub struct Delay {
 
 #[repr(C)]
 #[derive(Clone, Copy, Default)]
+pub struct Departure {
+    pub bytes: u64,
+    pub at: u64,
+    pub late: u64,
+}
+
+#[repr(C)]
+#[derive(Clone, Copy, Default)]
 pub struct NodeView {
     pub row: Row,
     pub limit: u64,
@@ -229,6 +237,7 @@ layout!(Count, 16: packets 0, bytes 8);
 layout!(Row, 96: arrived 0, sent 16, refused 32, dropped 48, queued 64, marked 80);
 layout!(Promise, 32: link 0, rate 8, part 16, slack 24);
 layout!(Delay, 24: bytes 0, ns 8, late 16);
+layout!(Departure, 24: bytes 0, at 8, late 16);
 layout!(NodeView, 192: row 0, limit 96, rate 104, target 112, interval 120, burst 128, flows 132, new_flows 136,
     old_flows 140, quantum 144, drop_batch 148, kind 152, place 156, handle 160, parent_major 162, parent_minor 164,
     mtu 166, ecn 168, bands 169, priomap 170);
@@ -382,6 +391,14 @@ unsafe extern "C" {
         major: u16,
         minor: u16,
         delay: *mut Delay,
+    ) -> u32;
+    pub fn qtree_latest(
+        device: *const Device,
+        place: u32,
+        major: u16,
+        minor: u16,
+        len: u16,
+        departure: *mut Departure,
     ) -> u32;
     pub fn qtree_show(
         device: *const Device,

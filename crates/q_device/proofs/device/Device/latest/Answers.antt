@@ -12,5 +12,6 @@ returns-in_default c =
 pub returns : goal.returns
 returns c =
     c.latest_below.ensures
-    ∙ ap (option_and_then (λ (lane : Lane). latest_below totals c.args.place c.args.len c.args.self.now.settings.mtu c.args.self.now.device lane.link))
+    ∙ ap (option_and_then
+    (λ (lane : Lane). latest_below totals c.args.place c.args.len c.args.self.now.settings.mtu c.args.self.now.device lane.link))
     (sym c.in-Some.is ∙ c.lane_at.ensures)

@@ -21,7 +21,8 @@ returns c =
     let now : ℕ = c.self.inside.tree.clock in
     let level : Option ℕ = level_of now c.self.inside.tree.tree.root.own.discipline in
     c.latest_in.ensures
-    ∙ ap (λ (l : Option ℕ). latest_on c.self.inside.settings.mtu c.clock-now.result (c.in-Some.row.queued.bytes + c.args.len) l c.args.link) c.level-level.ensures
+    ∙ ap (λ (l : Option ℕ). latest_on c.self.inside.settings.mtu c.clock-now.result
+    (c.in-Some.row.queued.bytes + c.args.len) l c.args.link) c.level-level.ensures
     ∙ ap (λ n. latest_on c.self.inside.settings.mtu n (c.in-Some.row.queued.bytes + c.args.len) level c.args.link) c.clock-now.ensures
     ∙ ap (option_and_then (λ (row : Row). latest_on c.self.inside.settings.mtu now (row.queued.bytes + c.args.len) level c.args.link))
     (sym c.in-Some.is ∙ c.stats.ensures ∙ stats-stands kept totals (λ (k : Kept). k.counts) (λ k. refl) c.args.place.now c.self.inside.tree.tree)
