@@ -62,6 +62,53 @@ fn long_turn<P: Ledger, B: Ledger, R: Wait + Abort>(
     drain.end(rt);
 }
 
+// More turns of 1024 than bring 2^20 packets: neither a port nor a drain nor what gauges see ends there.
+const TURNS: u64 = 1100;
+
+#[test]
+fn more_than_a_million_go_through_a_drain(rt: HostRuntime) -> Result<(), Fail> {
+    let alloc = rt.alloc();
+    let given = packet(77).expect(&rt, "a packet");
+    let packets = vec![in alloc; given; 1024]?;
+    let device = limited(alloc, 2000, 0).expect(&rt, "memory");
+    many_turns::<Brand, Brand, _>(&rt, alloc, Unbooked::new(device), packets);
+    Ok(())
+}
+
+// Fills a ring for each turn, which takes and sends all that waits, and which a gauge shows.
+fn many_turns<P: Ledger, B: Ledger, R: Wait + Abort>(
+    rt: &R,
+    alloc: Global,
+    unbooked: Unbooked,
+    packets: Vec<Packet>,
+)
+    requires { (unbooked.packets.name ≡ P.name) × (P.parts ≡ 65) × (unbooked.bytes.name ≡ B.name) × (B.parts ≡ 65) }
+{
+    let (booked, drain, ports, gauges) = unbooked.opened::<P, B, R>(rt, alloc, (1, 1024, 1));
+    let (mut drain, mut ports, mut gauges) = (drain, ports, gauges);
+    let Some(mut gauge) = gauges.pop() else {
+        panic!(rt; "a gauge");
+    };
+    let mut shown = 0u64;
+    for _turn in 0..TURNS {
+        place_all(rt, &mut ports, &packets);
+        shown = shown.saturating_add(1024);
+        assert_tells(rt, alloc, &booked, &mut drain, 1024, 1024);
+        assert_shows(rt, &mut gauge, shown);
+    }
+    drain.end(rt);
+}
+
+// Places packets at the first port, in whose ring there is room for all.
+fn place_all<R: Abort>(rt: &R, ports: &mut Vec<Port>, packets: &Vec<Packet>) {
+    assert!(rt; !ports.is_empty());
+    assert_count(
+        rt,
+        ports[0].offer_many(packets) as u64,
+        packets.len() as u64,
+    );
+}
+
 // As many ports as there may be, with the longest rings, and as many gauges.
 #[test]
 fn all_ports_of_the_longest_rings(rt: HostRuntime) -> Result<(), Fail> {
