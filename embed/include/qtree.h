@@ -800,6 +800,10 @@ qtree_code qtree_ring_open(qtree_port *port, qtree_outlet *outlet, uint32_t inde
  *
  * The call takes no lock, allocates nothing and waits for no thread. Another thread may use the outlet meanwhile.
  *
+ * What the sender wrote before the call, such as the packet's bytes, can be read by the thread that takes the packet
+ * in, and by each thread that polls or reaps it: the ring publishes a packet by a sequentially consistent atomic, which
+ * qtree_take_in reads first. To give the buffer back to the sender, a program needs a means of its own.
+ *
  * Returns
  *   QTREE_DONE          the packet is in the ring
  *   QTREE_FULL          no place is free; places become free as packets are taken in
@@ -839,7 +843,8 @@ qtree_code qtree_offer_many(qtree_port *port, const qtree_packet *packets, size_
 qtree_code qtree_take_in(qtree_device *device, qtree_outlet *outlet, uint64_t now, size_t most, size_t *taken);
 
 /* Read how many packets and bytes a port has placed so far, and how many were taken in at an outlet so far. Once the
- * sender has ended and its ring is empty, both are equal.
+ * sender has ended and its ring is empty, both are equal. (The share of a class, in a qtree_promise, is something else:
+ * what the class gets of a rate, or of the bytes that the root sends.)
  *
  * Return QTREE_DONE, or QTREE_IS_CLOSED if the end is closed. */
 qtree_code qtree_port_share(const qtree_port *port, qtree_count *share);
@@ -1055,7 +1060,12 @@ qtree_code qtree_name_of(uint32_t what, uint32_t number, uint8_t *text, size_t r
  *   QTREE_ROOM          room is less than *needed, and nothing is written to text
  *   QTREE_OUT_OF_RANGE  there is nothing to explain: it is another code, or there is no such fault, or the code is
  *                       QTREE_NO_COMMAND and the line is a command or cannot be read
- *   QTREE_MEMORY        an allocation failed */
+ *   QTREE_MEMORY        an allocation failed
+ *
+ * The call does not check that the line has this fault, or that its command would be refused so. If the fault is not
+ * the one that qtree_command wrote, the text is about the fault that is passed, and its sentence may be wrong. The mark
+ * is under the word with the fault's index: under the first word if the index is 0, and behind the line if the index
+ * is past its last word. A number that is not one of QTREE_FAULT_.. is no fault. */
 qtree_code qtree_explain(const uint8_t *line, size_t line_len, uint64_t number, qtree_code code,
                          const qtree_fault *fault, uint8_t *text, size_t room, size_t *needed);
 

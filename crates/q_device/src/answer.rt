@@ -3,12 +3,12 @@ ghost use Rattle.q_model.specs.declared.fate.Fate.{Fate as Became};
 
 use q_model::Fate;
 
-/// What is written into a place of the caller's of what became of a packet.
+/// What [`crate::Device::arrive_many`] writes into a place of the caller about the fate of a packet: the [`Fate`] itself, or a number.
 pub trait Answer: Copy {
-    /// What it says of a fate.
+    /// The value that stands for a fate, in contracts.
     ghost answer: { Became → Self };
 
-    /// The same.
+    /// Returns the value that stands for a fate.
     fn of(fate: Fate) -> Self
         ensures { result ≡ answer fate };
 }
@@ -22,7 +22,7 @@ impl Answer for Fate {
     }
 }
 
-/// The number of the cause, and 0 where the packet is kept.
+/// The number of the cause of the loss, or 0 if the packet is kept.
 impl Answer for u8 {
     ghost use Rattle.q_device.specs.Answers.{fate_number};
 

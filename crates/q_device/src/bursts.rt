@@ -1,5 +1,5 @@
-//! Calls for many packets, all at the same time. Each does what so many single calls do; at a fifo at the root it asks once what each of them
-//! asks, and counts all packets at once.
+//! Calls for several packets, all at the same time. Each does what the single calls do, one for each packet. If a fifo is at the root, it makes the
+//! checks of the single calls once, and counts all packets together.
 ghost use Rattle.std.specs.Prelude.{◌≡◌, ◌≢◌, ◌≤◌, ◌++◌, IfErr, IfOk, OnErr, OnOk, None, Some, drop, length, option_map, replicate};
 ghost use Rattle.q_model.specs.declared.event.Event.TheVariants.{Poll};
 ghost use Rattle.q_model.specs.declared.fate.Fate.TheVariants.{Kept};
@@ -20,11 +20,13 @@ use q_model::Fate;
 use q_packet::{Moment, SOME_KEPT, StoredPacket};
 
 impl Device {
-    /// These packets arrive in order, as at [`Device::arrive_stored`], all at the time `now`, to the first that has a field out of its range or
-    /// for which an allocation fails. What became of each is written into the places, of which there are as many as packets at least.
+    /// Lets packets arrive in order, each as by [`Device::arrive_stored`], and all at the time `now`. The first packet that has a field out of
+    /// range, or for which an allocation fails, does not arrive, and ends the call.
     ///
-    /// Returns how many arrived, and why the next did not; `None` where all did. For that one nothing has changed but for places: what there was
-    /// room for there is room for still.
+    /// `fates` has at least as many places as there are packets. What becomes of `packets[i]` is written into `fates[i]`.
+    ///
+    /// Returns how many packets arrived, and why the next one did not, or `None` if all arrived. The packet that did not arrive changed nothing,
+    /// except that there may be more places in memory: what there was room for, there still is room for.
     ///
     /// ```
     /// let mut fates = [Fate::Kept; 32];
@@ -61,9 +63,11 @@ impl Device {
         (packets.len(), None)
     }
 
-    /// Polls, all at the time `now`, until there are as many packets as places, or to the first poll that gives none. What the type of the places
-    /// tells of a packet, as a [`StoredPacket`] all of it, is written into the first of them. Returns how many were given, and the answer to the
-    /// last poll. It takes no memory.
+    /// Polls until each place has a packet, or until a poll gives none, all at the time `now`. The packets are written into the first places, in
+    /// the form that the type of the places has: a [`StoredPacket`] has all fields of a packet.
+    ///
+    /// Returns how many packets were given, and the answer of the last poll, which is [`Given::Packet`] if each place has a packet. Allocates
+    /// nothing.
     pub fn poll_many<T: Told>(&mut self, now: Moment, places: &mut [T]) -> (usize, Given)
         ensures { IsPolls T.told now result.1 result.0 places.old places.new self.old self.new }
     {

@@ -37,12 +37,11 @@ use q_tree::Tree;
 use std::alloc::{AllocError, Global};
 use std::marker::Model;
 
-/// A device: a tree of qdiscs, the packets that it lost, and a recorder of what happened to it.
+/// A device: a tree of qdiscs with a clock, the losses that wait to be reaped, and a recorder of the first events.
 ///
-/// A contract sees it as the record `DeviceSeen`: its settings, the model's device with totals, the losses that wait, how many
-/// were handed out, the recorded events and the number of all, and its memory, which means nothing to what it answers. The type
-/// keeps that the device is what all events so far make of a new one, that the recorded ones are the first of them, and that
-/// there is room for every loss of what is queued.
+/// In contracts a device is the record `DeviceSeen`: its settings; the model's device with totals; the losses that wait, and how many were handed
+/// out; the recorded events, and how many events there were; and its memory, which no rule reads. Its invariant: the device is what all events so
+/// far make of a new one, the recorded events are the first of them, and there is room for the loss of each queued packet.
 #[derive(Drop)]
 pub struct Device {
     settings: Settings,
@@ -76,11 +75,11 @@ impl Model for Device {
 }
 
 impl Device {
-    /// A new device with an implicit root, to which nothing has happened. The recorder's room is taken here.
+    /// Opens a device with an implicit leaf at its root, to which nothing has happened, and allocates the memory of its recorder.
     ///
     /// # Errors
     ///
-    /// `AllocError` if the allocation of the recorder fails; never where it keeps no event.
+    /// Returns `AllocError` if the allocation of the recorder fails. This does not happen if the recorder keeps no event.
     pub fn open(alloc: Global, settings: Settings) -> Result<Device, AllocError>
         ensures new { IfOk result (λ device. device ≡ opened settings device.memory) }
         ensures nothing_arrived { IfOk result (λ device. device.device.tree.top ≡ no_counts) }
@@ -98,13 +97,12 @@ impl Device {
         })
     }
 
-    /// [`Device::arrive`] of a stored packet, each field of which is within its range ([`StoredPacket::in_range`] tells). It stays where
-    /// it is, and is copied from there to its queue.
+    /// Does what [`Device::arrive`] does, for a stored packet. Each of its fields must be in range; [`StoredPacket::in_range`] says whether they
+    /// are. The packet stays where it is, and is copied from there into its queue.
     ///
     /// # Errors
     ///
-    /// `AllocError` where [`Device::arrive`] returns it. Nothing has changed then but for places, and there was no event: what there
-    /// was room for there is room for still.
+    /// Returns `AllocError` where [`Device::arrive`] does, and has then changed as little.
     #[inline(always)]
     pub fn arrive_stored(&mut self, packet: &StoredPacket, now: Moment) -> Result<Fate, AllocError>
         requires { IsStored packet.now }
@@ -164,8 +162,8 @@ impl Device {
         Ok(fate)
     }
 
-    /// [`Device::poll`] into the caller's place, in the form in which packets are kept: the packet whose turn it is is copied to `out`,
-    /// which stays as it is if there is none. It takes no memory.
+    /// Does what [`Device::poll`] does, and copies the packet to `out`, in the form in which queues keep it. If no packet is given, `out` stays as
+    /// it is. Allocates nothing.
     #[inline(always)]
     pub fn poll_kept(&mut self, now: Moment, out: &mut KeptPacket) -> Given
         ensures event { self.new ≡ record (with_event (event.Poll now) self.old) { memory = self.new.memory } }
@@ -185,7 +183,7 @@ impl Device {
         given_of(sent, &self.tree)
     }
 
-    /// The same into a place in which anything may be: it has a stored packet then, or what it had.
+    /// Does what [`Device::poll_kept`] does, with a place in which anything may be. If no packet is given, `out` stays as it is.
     #[inline(always)]
     pub fn poll_stored(&mut self, now: Moment, out: &mut StoredPacket) -> Given
         ensures event { self.new ≡ record (with_event (event.Poll now) self.old) { memory = self.new.memory } }
@@ -205,14 +203,15 @@ impl Device {
         given_of(sent, &self.tree)
     }
 
-    /// The time before which no poll gives a packet, as long as nothing arrives and no command comes; `None` where none ever will:
-    /// nothing is queued, or no bucket will ever hold what waits for it. It is the clock where a poll may give one at once.
+    /// Computes until when a program may sleep: the time before which no poll gives a packet, as long as no packet arrives and no command comes.
     ///
-    /// A poll at that time need not give one. It does where the tree is sure of it (`some`): where every packet that it waits for is
-    /// known, and no drr has to grant a quantum first. Else it may answer `Later`, and then the time that follows is later: an
-    /// fq_codel that was not asked yet may drop what it would have sent, and a drr may pass its turn to another class.
+    /// Returns `None` if no poll will ever give a packet: none is queued, or no token bucket will ever hold enough for what waits. The time is
+    /// never before the clock, and it is the clock if a poll may give a packet at once. Changes nothing, allocates nothing, and visits each node of
+    /// the tree at most once.
     ///
-    /// It changes nothing and takes no memory, and visits each node of the tree at most once.
+    /// A poll at that time may still answer `Later`. It gives a packet if the tree is sure of the time (the clause `some`): every packet that the
+    /// time depends on is known, and no drr has to grant a quantum first. If the tree is not sure, an fq_codel that was not asked yet may drop the
+    /// packet that it would have sent, and a drr may pass its turn to another class. The next answer is then a later time.
     pub fn ready_at(&self) -> Option<Moment>
         ensures value { result ≡ ready_at self.now.device.clock self.now.device.tree.root }
         ensures from { IfSome result (λ at. self.now.device.clock ≤ at) }
@@ -223,12 +222,14 @@ impl Device {
         self.tree.ready_at(self.tree.clock())
     }
 
-    /// How many packets can be queued at most, now and later, while no command is done; at most `u64::MAX`. It is the sum of the limits
-    /// of the queues, in packets, and of one packet for each tbf, drr and fq_codel, which may hold the one that it shows
-    /// ([`Tree::most_packets`]). It changes nothing and takes no memory, and visits each node of the tree once.
+    /// Computes how many packets can be queued in the device at most, now and as long as no command is carried out.
     ///
-    /// A program that has a buffer for each packet needs so many, one for the packet that arrives, and those of losses that it has not
-    /// reaped and of packets that it has polled and not sent yet:
+    /// Returns the sum of the limits of all queues, in packets, and one packet for each tbf, drr and fq_codel, which may hold the packet that goes
+    /// next ([`Tree::most_packets`] says how limits count). If the sum is above `u64::MAX`, returns `u64::MAX`. Changes nothing, allocates nothing,
+    /// and visits each node of the tree once.
+    ///
+    /// A program that has a buffer for each packet needs this many, one for the packet that arrives, and one for each packet that was lost and not
+    /// yet reaped, or polled and not yet sent:
     ///
     /// ```
     /// let buffers = device.most_packets() + 1 + unreaped + unsent;
@@ -240,9 +241,9 @@ impl Device {
         self.tree.most_packets()
     }
 
-    /// What the class in this place is promised; `None` where it is no class of a drr, where something other than a drr is on the path
-    /// from the root, a tbf at the root apart, or where that tbf has no room in its burst for a longest packet and for what its rate
-    /// brings in a nanosecond, or another tbf is below it. It takes no memory.
+    /// Computes what the class in this place is promised as long as something is queued in it. Returns `None` if nothing is promised: the place is
+    /// no class of a drr; something other than drrs is between it and the root, apart from a tbf at the root; that tbf has another tbf below it; or
+    /// its burst has no room for a packet of the mtu and what its rate brings in a nanosecond. Allocates nothing.
     pub fn service(&self, place: Place) -> Option<Service>
         ensures value { option_map promise_seen result ≡ promise_of place self.now.settings.mtu self.now.device.tree.root }
         ensures ranges { IfSome result (λ s. All IsShare s.shares.items) }
@@ -253,9 +254,9 @@ impl Device {
         promised(self.tree.way_to(class)?, self.settings)
     }
 
-    /// The longest that a packet waits in the fifo in this place; `None` where nothing is promised: where no pfifo or bfifo is in the place,
-    /// where something other than the first band of a prio is on the path from the root, a tbf at the root apart, where that tbf has no room
-    /// in its burst, as [`Device::service`] needs it, where another tbf is in the tree, or where a number is too large. It takes no memory.
+    /// Computes how long a packet waits at most in the pfifo or bfifo in this place. Returns `None` if nothing is promised: the place has another
+    /// qdisc or none; something other than the first bands of prios leads there from the root, apart from a tbf at the root; another tbf is in the
+    /// tree; the burst of the tbf at the root is too small, as for [`Device::service`]; or a number would be too large. Allocates nothing.
     pub fn worst(&self, place: Place) -> Option<Worst>
         ensures { result ≡ worst_of place self.now.settings.mtu self.now.device.tree.root }
     {
@@ -265,16 +266,15 @@ impl Device {
         worst_in(lane, self.settings)
     }
 
-    /// Does what a line of tc asks for, or refuses it. What is removed is lost, and waits for [`Device::reap`].
+    /// Carries out what a line of tc asks for, or refuses it. Packets of what it removes are lost, and wait for [`Device::reap`].
     ///
-    /// A time before the device's clock counts as the clock. The event is recorded at the time that the clock shows
-    /// after it.
+    /// `now` is the time. A time before the device's clock counts as the clock. The event is recorded with the time that the clock shows after it.
     ///
     /// # Errors
     ///
-    /// The first refusal of the command that holds; `Memory` where none holds, the command takes memory, and an allocation fails. A change
-    /// of a prio takes memory only where it gets more bands.
-    /// Nothing has changed then, and there was no event.
+    /// Returns the first refusal that applies to the command. If none applies, the command takes memory, and an allocation fails, returns
+    /// [`Refusal::Memory`]. The change of a prio takes memory only if the prio gets more bands. On an error nothing has changed: there was no
+    /// event.
     pub fn command(&mut self, command: Command, now: Moment) -> Result<(), Refusal>
         ensures event { OnOk result (self.new ≡ record (with_event (event.Command command now) self.old) { memory = self.new.memory }) }
         ensures moment { OnOk result (as_counted self.old.device (event.Command command now) ≡ event.Command command self.new.device.clock) }
@@ -298,7 +298,7 @@ impl Device {
         Ok(())
     }
 
-    /// The oldest loss that was not handed out yet; `None` where none waits. It takes no memory and is no event.
+    /// Hands out the oldest loss that was not handed out yet. Returns `None` if no loss waits. Allocates nothing, and is no event.
     pub fn reap(&mut self) -> Option<Lost>
         ensures oldest { result ≡ slice_get self.old.waiting 0 }
         ensures rest { self.new ≡ reaped self.old }
@@ -309,37 +309,37 @@ impl Device {
         Some(lost)
     }
 
-    /// The latest time that counted.
+    /// Returns the device's clock: the latest time of all events so far, and 0 before the first.
     pub fn clock(&self) -> Moment
         ensures { result ≡ self.now.device.clock }
     {
         self.tree.clock()
     }
 
-    /// What the device counted, and what is queued at it.
+    /// Returns the counters of the device itself, and what is queued in it now.
     pub fn totals(&self) -> Row
         ensures { result ≡ row_of self.now.device.tree.top (beneath self.now.device.tree.root) }
     {
         self.tree.totals()
     }
 
-    /// What the node in this place counted, and what is queued there; `None` where there is none.
+    /// Returns the counters of the node in this place, and what is queued in it and below it now. Returns `None` if the place has no node.
     pub fn stats(&self, place: Place) -> Option<Row>
         ensures { result ≡ stats totals place self.now.device.tree }
     {
         self.tree.stats(place)
     }
 
-    /// When the packet arrived that has been queued longest at the node in this place or below it; `None` where nothing is queued there,
-    /// or where no node is. So [`Device::clock`] less this time is how long it has waited. It is found when it is asked for: it looks at
-    /// each node once, and at each flow of an fq_codel.
+    /// Tells since when the oldest packet that is queued at the node in this place, or below it, has been there. [`Device::clock`] less this time
+    /// is how long the packet had waited at the latest event. Returns `None` if nothing is queued there, or if the place has no node. Looks once at
+    /// each node, and at each flow of an fq_codel.
     pub fn oldest(&self, place: Place) -> Option<Moment>
         ensures { result ≡ oldest_at place self.now.device.tree }
     {
         self.tree.oldest(place)
     }
 
-    /// The tree. Its clock is the device's, since every event gives the tree the time at which it counts.
+    /// Returns the tree. Its clock is the device's, since each event gives the tree the time at which the event counts.
     pub fn tree(&self) -> &Tree
         ensures memory { result.now ≡ self.now.memory.tree }
         ensures numbers { tree_numbers result.now.tree ≡ self.now.device.tree }
@@ -349,21 +349,21 @@ impl Device {
         &self.tree
     }
 
-    /// The settings with which the device was opened.
+    /// Returns the settings with which the device was opened.
     pub fn settings(&self) -> Settings
         ensures { result ≡ self.now.settings }
     {
         self.settings
     }
 
-    /// The first events, as many as the settings say, each with the time at which it counted.
+    /// Returns the recorded events: the first ones, as many as the recorder keeps, each with the time at which it counted.
     pub fn recorded(&self) -> &[Event]
         ensures { result.now ≡ self.now.recorded }
     {
         self.recorded.as_slice()
     }
 
-    /// The number of events, recorded or not, which stays at 2^64 - 1 once there.
+    /// Returns how many events there were, recorded or not. The number stays at 2^64 - 1 once it is that.
     pub fn events(&self) -> u64
         ensures { result ≡ self.now.events }
     {

@@ -1,10 +1,10 @@
-/// The answer of a poll that writes its packet to a place.
+/// The answer of a poll that writes its packet into a place of the caller.
 #[derive(Clone, Copy, PartialEq, Eq, Debug)]
 pub enum Given {
-    /// A packet, which is there.
+    /// A packet, which is in that place now.
     Packet,
-    /// None, and nothing is queued.
+    /// No packet, since none is queued.
     Idle,
-    /// None, though something is queued.
+    /// No packet, although some are queued.
     Later,
 }

@@ -1,4 +1,4 @@
-//! The last events: a ring, for one who asks what happened just before.
+//! A log of the last events, for a program that wants to know what happened just before.
 ghost use Rattle.std.specs.Prelude.{◌≡◌, ◌≤◌, ◌-◌, ◌∷◌, ◌++◌, [], IfOk, IsOk, length, min, option_map, slice_get};
 ghost use Rattle.std.specs.VecDeque.{deque_capacity};
 ghost use Rattle.q_device.specs.LastNoted.{KeepsTheLast, last_of, none_noted, with_noted};
@@ -8,11 +8,12 @@ use std::alloc::{AllocError, Global};
 use std::collections::VecDeque;
 use std::marker::Model;
 
-/// The last events that were noted, as many as it has places: where all are taken the oldest makes way.
+/// The last events that a program has noted. The log has a fixed number of places: once all of them are taken, a new event takes the place of the
+/// oldest.
 ///
-/// A device records its *first* events, and is what those make of a new one. After a long time what happened *last* says more. A
-/// program that wants it has a ring beside the device, and notes each event that the device accepted, with the time that the
-/// device's clock shows then:
+/// A device records its *first* events, since a replay of those leads to the device. After a long time, what happened *last* says more. A program
+/// that wants it has such a log beside the device, and notes each event that the device accepted, with the time that the device's clock shows after
+/// the event:
 ///
 /// ```
 /// let mut last = LastEvents::new(alloc, 1024)?;
@@ -26,11 +27,11 @@ use std::marker::Model;
 /// }
 /// ```
 ///
-/// To read it one has to know that it is no replay: it begins in the midst, with event number [`LastEvents::noted`] less
-/// [`LastEvents::len`], counted from 0, and says neither what was queued then nor which tree there was. That tree is known where the
-/// program writes down what show prints of it, and reads the commands of the ring from there on.
+/// The log cannot be replayed. It begins in the middle, with the event number [`LastEvents::noted`] less [`LastEvents::len`], counted from 0, and
+/// it does not say what was queued then, nor what the tree was. A program knows the tree if it writes down what show prints of it, and reads the
+/// commands in the log from there on.
 ///
-/// A contract sees it as the record `LastNoted`. Only [`LastEvents::new`] allocates.
+/// In contracts a log is the record `LastNoted`. Only [`LastEvents::new`] allocates.
 #[derive(Drop)]
 pub struct LastEvents {
     places: u32,
@@ -51,11 +52,11 @@ impl Model for LastEvents {
 }
 
 impl LastEvents {
-    /// A ring of so many places, in which nothing was noted yet. All its memory is taken here.
+    /// Makes an empty log with this many places, and allocates all its memory.
     ///
     /// # Errors
     ///
-    /// `AllocError` if that allocation fails; never for a ring of no places.
+    /// Returns `AllocError` if that allocation fails. This does not happen for a log without places.
     pub fn new(alloc: Global, places: u32) -> Result<LastEvents, AllocError>
         ensures made { IfOk result (λ last. last ≡ none_noted places) }
         ensures succeeds { places ≡ 0 → IsOk result }
@@ -68,8 +69,8 @@ impl LastEvents {
         })
     }
 
-    /// Notes an event behind the others. Where all places are taken the oldest makes way; where there are no places it is counted
-    /// alone. It takes no memory.
+    /// Notes an event as the newest. If all places are taken, it takes the place of the oldest. If there are no places, the event is only counted.
+    /// Allocates nothing.
     pub fn note(&mut self, event: Event)
         ensures { self.new ≡ with_noted event self.old }
     {
@@ -77,14 +78,14 @@ impl LastEvents {
         push_last(&mut self.events, self.places as usize, event);
     }
 
-    /// The event in this place, from the oldest that is still there, which is 0; `None` past the newest.
+    /// Returns the event with this index: 0 is the oldest that is still in the log. Returns `None` if the index is past the newest event.
     pub fn get(&self, i: usize) -> Option<&Event>
         ensures { option_map (λ event. event.now) result ≡ slice_get self.now.events i }
     {
         self.events.get(i)
     }
 
-    /// How many events are there: all that were noted, or as many as there are places.
+    /// Returns how many events are in the log: all that were noted, but at most as many as there are places.
     pub fn len(&self) -> usize
         ensures events { result ≡ length self.now.events }
         ensures noted { result ≡ min self.now.places self.now.noted }
@@ -92,14 +93,14 @@ impl LastEvents {
         self.events.len()
     }
 
-    /// How many events there are places for.
+    /// Returns for how many events the log has places.
     pub fn places(&self) -> u32
         ensures { result ≡ self.now.places }
     {
         self.places
     }
 
-    /// How many events were noted in all, which stays at 2^64 - 1 once there.
+    /// Returns how many events were noted in all. The number stays at 2^64 - 1 once it is that.
     pub fn noted(&self) -> u64
         ensures { result ≡ self.now.noted }
     {
@@ -133,8 +134,8 @@ fn make_way<E: Copy>(events: &mut VecDeque<E>, places: usize)
     }
 }
 
-/// After any list of events was noted in a new ring, the last of them are there, as many as it has places, and all were counted. It
-/// does nothing.
+/// If any list of events is noted in a new log, the log has the last of them, as many as it has places, and has counted all. The function does
+/// nothing.
 pub fn last_events_are_kept()
     ensures { KeepsTheLast }
 {}

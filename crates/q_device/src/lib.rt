@@ -1,21 +1,24 @@
-//! A device: a tree of qdiscs with a clock, a recorder and a list of what it lost, the play of a list of events on one, and
-//! the laws of its replays.
+//! A device is one scheduler: a tree of qdiscs with a clock, a recorder, and a list of the packets that it lost. This crate also plays a list of
+//! events on a new device, and has the laws that hold for every device and every replay.
 //!
-//! - [`Device`] takes packets in, is polled for them, and does commands on its tree or refuses them. [`Device::arrive_at`] and
-//!   [`Device::poll_into`] read and write a packet where the caller has it; a [`Given`] is what such a poll answers.
-//! - Queues keep a packet as a [`KeptPacket`]: [`Device::arrive_kept`] and [`Device::poll_kept`] copy it whole, and the other calls
-//!   convert a [`Packet`], field by field. [`Device::arrive_stored`] and [`Device::poll_stored`] are for a [`StoredPacket`], whose fields
-//!   nobody vouches for.
-//! - [`play`] gives the [`Replies`] to a list of events, by a device of its own.
-//! - [`LastEvents`] is a ring in which a program notes what happened last, while a device records what happened first.
-//! - A [`Service`] is what a class of a drr is promised, which [`Device::service`] answers, and a [`Worst`] how long a packet of a fifo
-//!   waits at most, which [`Device::worst`] answers.
-//! - [`Settings`] are a device's mtu, queue length and recorder.
-//! - An [`Event`] is an arrival, a poll or a command, with its time. A [`Reply`] is what it is answered: a [`Fate`], a
-//!   [`Polled`], or whether the command was done, else the [`Refusal`]. They are those of `q_model`.
-//! - A [`Lost`] is a packet that was lost, with the cause.
-//! - A [`Command`] and its settings, places, views and rows are those of [`Tree`], which is `q_tree`'s. A [`Packet`] with its
-//!   key and hash is `q_packet`'s. So a program that embeds a device needs this crate alone.
+//! - [`Device`]: packets arrive at it, are polled from it, and are reaped if they are lost. Commands change its tree. [`Device::arrive_at`] and
+//!   [`Device::poll_into`] read and write a packet where the caller has it; such a poll returns a [`Given`].
+//! - [`KeptPacket`] is the form in which queues keep a packet. [`Device::arrive_kept`] and [`Device::poll_kept`] copy it as a whole, while the
+//!   calls that take or return a [`Packet`] convert it field by field. [`Device::arrive_stored`] and [`Device::poll_stored`] are for a
+//!   [`StoredPacket`], whose fields may be out of range until the caller has checked them.
+//! - [`Device::arrive_many`] lets several packets arrive at one time, and [`Device::poll_many`] polls for several. An [`Answer`] is what the first
+//!   of them writes about each packet.
+//! - [`play`] plays a list of events on a new device, and returns the [`Replies`].
+//! - [`LastEvents`] is a log in which a program notes the latest events. (The recorder of a device has the first ones.)
+//! - [`Service`] is what a class of a drr is promised; [`Device::service`] computes it. [`Worst`] is how long a packet waits in a fifo at most;
+//!   [`Device::worst`] computes it.
+//! - [`Settings`] are the mtu, the txqueuelen and the size of the recorder, with which a device is opened.
+//! - An [`Event`] is an arrival, a poll or a command, with its time. A [`Reply`] is the answer to it: a [`Fate`], a [`Polled`], or whether the
+//!   command was carried out, and otherwise the [`Refusal`]. These types are those of `q_model`.
+//! - A [`Lost`] is a lost packet and the cause of its loss.
+//!
+//! A [`Command`] and its settings, places, views and rows are those of [`Tree`], from `q_tree`. A [`Packet`], its key and its hash are from
+//! `q_packet`. All of them are named here again, so a program that embeds a device needs this crate alone.
 //!
 //! ```
 //! let mut device = Device::open(alloc, Settings::new(1514, 1000, 0)?)?;
@@ -31,11 +34,11 @@
 //! }
 //! ```
 //!
-//! What an event makes of a device is defined in `q_model` (`specs/Step.antt`), and what a list of them does
-//! (`specs/Replay.antt`). A device is the replay of all that happened to it (`specs/Replayed.antt`). [`laws`] carries what is
-//! true of every device and of every replay: that of a longer list is the step of the replay, and a device that keeps totals
-//! does what one does that keeps whole histories, with the same replies and losses. `q_worked_examples` has worked scripts that compute
-//! these definitions from commands, arrivals and polls to replies, losses and rows.
+//! What an event does to a device is defined in `specs/Step.antt` of `q_model`, and what a list of events does in `specs/Replay.antt` there. A
+//! device is the replay of all that happened to it (`specs/Replayed.antt`). The functions of [`laws`] say what holds for every device and every
+//! replay. Among them: the replay of a longer list is one more step of the replay; and a device that keeps totals gives the same replies and losses
+//! as one that keeps whole histories. `q_worked_examples` has worked scripts, which compute these definitions from commands, arrivals and polls to
+//! replies, losses and rows.
 #![tactic(auto)]
 
 mod answer;

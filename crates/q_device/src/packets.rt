@@ -1,5 +1,4 @@
-//! The calls for packets in the forms in which callers have them: a packet is converted on its way, or is in the form in which
-//! packets are kept.
+//! Arrivals and polls in the forms in which callers have their packets: a packet is converted, or already has the form in which queues keep it.
 ghost use Rattle.std.specs.Prelude.{◌≡◌, ◌≤◌, IfErr, IfOk, IsOk, OnErr, OnOk, unwrap_or};
 ghost use Rattle.q_model.specs.Step.{step};
 ghost use Rattle.q_model.specs.Tally.{totals, with_packet};
@@ -18,16 +17,19 @@ use q_packet::{KeptPacket, Moment, Packet, SOME_KEPT};
 use std::alloc::AllocError;
 
 impl Device {
-    /// A packet arrives, and is queued or lost. All memory is taken first: a place in its queue, and one for its loss.
+    /// A packet arrives at the device, which queues it or loses it. A lost packet is also handed out by [`Device::reap`]. An arrival at a full
+    /// fq_codel may lose other packets, which then wait to be reaped too. All memory is allocated first: a place in the packet's queue, and one for
+    /// its loss.
     ///
-    /// A time before the device's clock counts as the clock. The event is recorded at the time that the clock shows
-    /// after it.
+    /// `now` is the time. A time before the device's clock counts as the clock. The event is recorded with the time that the clock shows after it.
+    ///
+    /// Returns [`Fate::Kept`] if the packet is queued, and otherwise [`Fate::Lost`] with the cause.
     ///
     /// # Errors
     ///
-    /// The packet and `AllocError` if an allocation fails, or if one packet more could overflow what the device counts of
-    /// arrivals; never where there is room for the packet already. Nothing has changed then but for places, and there was no event:
-    /// what there was room for there is room for still.
+    /// Returns the packet and `AllocError` if an allocation fails, or if the counters of what arrived could overflow with one more packet. This
+    /// does not happen if there is room for the packet already. The packet has then not arrived, and nothing has changed, except that there may be
+    /// more places in memory: what there was room for, there still is room for.
     #[inline(always)]
     pub fn arrive(&mut self, packet: Packet, now: Moment) -> Result<Fate, (Packet, AllocError)>
         ensures event { OnOk result (self.new ≡ record (with_event (event.Arrive packet now) self.old) { memory = self.new.memory }) }
@@ -49,12 +51,12 @@ impl Device {
         }
     }
 
-    /// [`Device::arrive`] of a packet that stays where it is.
+    /// Does what [`Device::arrive`] does, for a packet that stays where it is.
     ///
     /// # Errors
     ///
-    /// `AllocError` where [`Device::arrive`] returns it. Nothing has changed then but for places, and there was no event: what there
-    /// was room for there is room for still.
+    /// Returns `AllocError` where [`Device::arrive`] does. The packet has then not arrived, and nothing has changed, except that there may be more
+    /// places in memory: what there was room for, there still is room for.
     #[inline(always)]
     pub fn arrive_at(&mut self, packet: &Packet, now: Moment) -> Result<Fate, AllocError>
         ensures event { OnOk result (self.new ≡ record (with_event (event.Arrive packet.now now) self.old) { memory = self.new.memory }) }
@@ -72,12 +74,13 @@ impl Device {
         self.arrive_kept(&KeptPacket::of(packet), now)
     }
 
-    /// [`Device::arrive`] of a packet in the form in which packets are kept. It stays where it is, and is copied from there to its queue.
+    /// Does what [`Device::arrive`] does, for a packet in the form in which queues keep it. The packet stays where it is, and is copied from there
+    /// into its queue.
     ///
     /// # Errors
     ///
-    /// `AllocError` where [`Device::arrive`] returns it. Nothing has changed then but for places, and there was no event: what there
-    /// was room for there is room for still.
+    /// Returns `AllocError` where [`Device::arrive`] does. The packet has then not arrived, and nothing has changed, except that there may be more
+    /// places in memory: what there was room for, there still is room for.
     #[inline(always)]
     pub fn arrive_kept(&mut self, packet: &KeptPacket, now: Moment) -> Result<Fate, AllocError>
         ensures event { OnOk result (self.new ≡ record (with_event (event.Arrive packet.now now) self.old) { memory = self.new.memory }) }
@@ -95,11 +98,11 @@ impl Device {
         self.arrive_stored(&packet.stored, now)
     }
 
-    /// Takes the packet whose turn it is. Returns `Idle` if there is none to send and nothing is queued, and `Later` if there is
-    /// none to send though something is queued. It takes no memory.
+    /// Takes the packet whose turn it is. CoDel may lose other packets in a poll, which then wait for [`Device::reap`].
     ///
-    /// A time before the device's clock counts as the clock. The event is recorded at the time that the clock shows
-    /// after it.
+    /// `now` is the time. A time before the device's clock counts as the clock. The event is recorded with the time that the clock shows after it.
+    ///
+    /// Returns the packet. If there is none to send, returns `Idle` if nothing is queued, and `Later` if packets are queued. Allocates nothing.
     #[inline(always)]
     pub fn poll(&mut self, now: Moment) -> Polled
         ensures event { self.new ≡ record (with_event (event.Poll now) self.old) { memory = self.new.memory } }
@@ -117,8 +120,7 @@ impl Device {
         }
     }
 
-    /// [`Device::poll`] into the caller's place: the packet whose turn it is is written to `out`, which stays as it is if there
-    /// is none. It takes no memory.
+    /// Does what [`Device::poll`] does, and writes the packet to `out`. If no packet is given, `out` stays as it is. Allocates nothing.
     #[inline(always)]
     pub fn poll_into(&mut self, now: Moment, out: &mut Packet) -> Given
         ensures event { self.new ≡ record (with_event (event.Poll now) self.old) { memory = self.new.memory } }

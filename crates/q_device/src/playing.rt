@@ -1,4 +1,4 @@
-//! Plays a list of events on a device of its own.
+//! Plays a list of events on a new device.
 ghost use Rattle.std.specs.Prelude.{◌≡◌, ◌++◌, [], IfOk, IsOk, OnOk, OnErr, length};
 ghost use Rattle.q_model.specs.Replay.{replay};
 ghost use Rattle.q_model.specs.Step.{step};
@@ -14,18 +14,18 @@ use q_model::{Command, Event, Fate, Refusal, Reply, Settings};
 use q_packet::{Moment, Packet};
 use std::alloc::{AllocError, Global};
 
-/// What a list of events is answered, one reply an event.
+/// The replies to a list of events, one for each.
 pub type Replies = Vec<Reply>;
 
-/// What these events are answered, one reply an event, by a new device to which they happen in turn.
+/// Plays a list of events on a new device with these settings, and returns its replies, one for each event.
 ///
-/// The replies are those of the model's replay, with totals and so with whole histories. A refused command is answered with
-/// its refusal, and the play goes on.
+/// The replies are those of the model's replay, both with totals and with whole histories. The reply to a refused command is its refusal, and the
+/// play goes on.
 ///
 /// # Errors
 ///
-/// `AllocError` if an allocation fails: for the replies, the recorder, a packet and its loss, or a command. The play ends
-/// there, since the model knows no allocation failure. It never comes where there are no events and the recorder keeps none.
+/// Returns `AllocError` if an allocation fails: for the replies, the recorder, a packet and its loss, or a command. The play ends there, since the
+/// model has no allocation failures. This does not happen if there are no events and the recorder keeps none.
 pub fn play(alloc: Global, settings: Settings, events: &[Event]) -> Result<Replies, AllocError>
     ensures replies { IfOk result (λ replies. replies.items ≡ (replay totals settings events.now).replies) }
     ensures histories { IfOk result (λ replies. replies.items ≡ (replay history settings events.now).replies) }

@@ -7,27 +7,29 @@ use q_model::Settings;
 use q_packet::Moment;
 use q_tree::{Link, Share, Way};
 
-/// What a class of a drr is promised while something is queued in it: its part of a rate, and the bytes that it may lack of that.
+/// What a class of a drr is promised while something is queued in it, whatever comes to the other classes.
 ///
-/// In t nanoseconds it sends more than `rate * t / (8 * 10^9) - slack` bytes, whatever comes to other classes, between two times at which
-/// a poll gives nothing, where the device is polled until none comes and then so again [`Service::late`] nanoseconds after the time that
-/// [`crate::Device::ready_at`] answers, at the latest. Where no tbf is at the root, it sends at least its part of what the drr at the root
-/// sends, less the slack. (`service_is_delivered` and `share_is_delivered` of `q_laws`)
+/// With a tbf at the root: in any t nanoseconds between two times at which a poll gives no packet, the class sends more than `rate * t / (8 * 10^9)
+/// - slack` bytes, if the program polls until no packet comes, and then does so again no later than [`Service::late`] nanoseconds after the time
+/// that [`crate::Device::ready_at`] returns (`service_is_delivered` of `q_laws`).
+///
+/// With a drr at the root: the class sends at least its share of what that drr sends, less the slack (`share_is_delivered` of `q_laws`).
 #[derive(Drop)]
 pub struct Service {
-    /// The rate of the tbf at the root in bits a second; `None` where a drr is at the root.
+    /// The rate of the tbf at the root, in bits a second; `None` if a drr is at the root.
     pub link: Option<u64>,
-    /// The classes on the path, from the root down: of the rate the class gets the product of each one's quantum of its quanta.
+    /// The classes on the way from the root to this class, each with its quantum and the sum of its drr's quanta. The share of this class is the
+    /// product of quantum / quanta over all of them.
     pub shares: ArrayVec<Share, 8>,
-    /// The bytes that it may lack, rounded up at each drr on the path.
+    /// The most bytes that the class can fall short of its share, rounded up at each drr on the way.
     pub slack: u64,
-    /// How many nanoseconds polls may be late: the tbf at the root loses nothing of its rate meanwhile. `None` where a drr is at the root,
-    /// which may be polled at any time.
+    /// How many nanoseconds late polls may be, since the tbf at the root loses nothing of its rate meanwhile; `None` if a drr is at the root, which
+    /// may be polled at any time.
     pub late: Option<u64>,
 }
 
 impl Service {
-    /// What the class gets of so many, as bits a second or bytes, rounded down at each drr on the path.
+    /// Returns the class's share of this number of bytes, or of bits a second, rounded down at each drr on the way from the root.
     pub fn part_of(&self, whole: u64) -> u64
         requires { All IsShare self.now.shares.items }
         ensures { result ≡ part_of self.now.shares.items whole }
@@ -35,7 +37,8 @@ impl Service {
         part_along(self.shares.as_slice(), whole)
     }
 
-    /// Its part of the rate of the tbf at the root in bits a second, rounded down at each drr; `None` where a drr is at the root.
+    /// Returns the class's share of the rate of the tbf at the root, in bits a second, rounded down at each drr on the way; `None` if a drr is at
+    /// the root.
     pub fn rate(&self) -> Option<u64>
         requires { All IsShare self.now.shares.items }
         ensures { result ≡ option_map (part_of self.now.shares.items) self.now.link }

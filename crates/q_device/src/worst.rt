@@ -8,18 +8,19 @@ use q_model::Settings;
 use q_packet::Moment;
 use q_tree::{Lane, Link};
 
-/// The longest that a packet waits in a fifo whose packets no other packet passes, from when the fifo kept it until it has left.
+/// How long a packet waits at most in a fifo whose packets no other packet overtakes, from when it is queued until it has left.
 ///
-/// The device sends no more than `bytes` until then, the packet among them, whatever comes meanwhile. Where a tbf is at the root, the packet
-/// has left once the device was polled until none came at or after `ns` nanoseconds from its arrival; so that is no later than `ns` and
-/// the lateness of the polls, if they are late by no more than `late`, as a [`crate::Service`] has it. (`worst_is_enough` of `q_laws`)
+/// Until the packet has left, the device sends at most `bytes` bytes, including those of the packet itself, whatever comes meanwhile. With a tbf at
+/// the root, the packet has left once the program has polled until no packet came, `ns` nanoseconds after the packet's arrival or later. So if
+/// polls are never later than `late` nanoseconds, as [`crate::Service`] describes it, the packet has left by `ns + late` (`worst_is_enough` of
+/// `q_laws`).
 #[derive(Clone, Copy, PartialEq, Eq, Debug)]
 pub struct Worst {
-    /// The most bytes that leave until the packet has left, with its own: what the fifo holds at most.
+    /// The most bytes that the device sends until the packet has left, including its own: what the fifo holds at most.
     pub bytes: u64,
-    /// The nanoseconds in which the tbf at the root pays for so many, rounded up; `None` where there is no tbf.
+    /// The nanoseconds in which the rate of the tbf at the root brings that many bytes, rounded up; `None` without a tbf.
     pub ns: Option<u64>,
-    /// How many nanoseconds polls may be late; `None` where there is no tbf.
+    /// How many nanoseconds late polls may be; `None` without a tbf.
     pub late: Option<u64>,
 }
 

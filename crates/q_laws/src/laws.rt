@@ -29,10 +29,9 @@ pub fn class_against_any(settings: Settings)
     settings.ranges();
 }
 
-/// Of all bytes that the classes of a drr send over an interval in which the drr keeps its classes and their quanta, a class that stays
-/// backlogged sends its quantum's part of the sum of the quanta, whatever comes to the others, but for a number of bytes
-/// that does not grow with the interval: twice its quantum times those of the others, and a longest packet less a byte times the others'
-/// quanta and, for each of the others, its own.
+/// Of all bytes that the classes of a drr send over an interval in which the drr keeps its classes and their quanta, a class that stays backlogged
+/// sends at least its share, whatever comes to the others, less a number of bytes that does not grow with the interval. With the quantum q of n
+/// classes, whose quanta add up to Q, its share is q/Q, and the number is `(2*q*(Q - q) + (mtu - 1)*((n - 1)*q + (Q - q))) / Q`.
 pub fn least_share(settings: Settings)
     ensures { ClassesGetTheirParts settings }
 {
@@ -119,17 +118,17 @@ pub fn bytes_are_paid_in_time(settings: Settings)
     settings.ranges();
 }
 
-/// A class of a drr gets its part of a rate, in time. A tbf at the root is over the drr alone, with no other tbf below, and is
-/// polled as [`rate_is_delivered`] says; the drr keeps its classes and their quanta. A class that stays backlogged then sends its quantum's
-/// part of what the rate brings in the time between, less a number of bytes that does not grow: its part of two longest packets, and what
-/// [`least_share`] says that it may lack (`below`).
+/// A class of a drr gets its share of a rate, in time. A tbf at the root is over the drr alone, with no other tbf below, and is polled as
+/// [`rate_is_delivered`] says; the drr keeps its classes and their quanta. A class that stays backlogged then sends its share of what the rate
+/// brings in the time between, less a number of bytes that does not grow: its share of two longest packets, and the bytes by which it may fall
+/// short by [`least_share`] (`below`).
 ///
-/// Where the child of a class is a drr again, and so on, the parts multiply: a class at the end of such a path down, all of whose classes
-/// stay backlogged, sends the product of their parts of the rate, less what may lack at each level and a longest packet for each drr that
-/// may hold one (`nested`).
+/// If the child of a class is a drr again, and so on, the shares multiply: a class at the end of such a path down, all of whose classes stay
+/// backlogged, sends the product of their shares of what the rate brings, less what it may fall short of at each level, and a longest packet for
+/// each drr that may hold one (`nested`).
 ///
-/// For all settings and every list of events whose fields are in their ranges, whatever comes to the other classes. Bytes are counted in
-/// units of 1/(8*10^9), times the sums of the quanta, so that nothing is rounded; they are those that the class's child hands to its drr.
+/// For all settings and every list of events whose fields are in their ranges, whatever comes to the other classes. Bytes are counted in units of
+/// 1/(8*10^9), times the sums of the quanta, so that nothing is rounded; they are those that the class's child hands to its drr.
 pub fn share_in_time(settings: Settings)
     ensures below { ClassesShareInTime settings }
     ensures nested { SharesMultiply settings }
@@ -137,11 +136,11 @@ pub fn share_in_time(settings: Settings)
     settings.ranges();
 }
 
-/// What `Device::service` of `q_device` answers is what the class gets. As long as the path to it stays as it is, which is the qdiscs on it
-/// with the classes and quanta of its drrs, and something is queued in the class, it sends its part of what the rate brings, less the
-/// slack (`delivered`): exactly, and of the rate in whole bits a second that `Service::rate` gives. No tbf is added below the one at the
-/// root, and the device is polled as [`rate_is_delivered`] says, no later than `Service::late`, which is the greatest lateness that the
-/// burst has room for (`late`). The slack is that of [`share_in_time`], rounded up by less than a byte for each drr on the path (`slack`).
+/// What `Device::service` of `q_device` answers is what the class gets. As long as the path to it stays as it is, which is the qdiscs on it with
+/// the classes and quanta of its drrs, and something is queued in the class, it sends its share of what the rate brings, less the slack
+/// (`delivered`): exactly, and of the rate in whole bits a second that `Service::rate` returns. No tbf is added below the one at the root, and the
+/// device is polled as [`rate_is_delivered`] says, no later than `Service::late`, which is the greatest lateness that the burst has room for
+/// (`late`). The slack is that of [`share_in_time`], rounded up by less than a byte for each drr on the path (`slack`).
 ///
 /// For all settings and every list of events whose fields are in their ranges, whatever comes to other classes.
 pub fn service_is_delivered(settings: Settings)
@@ -180,13 +179,13 @@ pub fn bands_are_strict(settings: Settings)
     settings.ranges();
 }
 
-/// No flow is reordered. Of packets with equal flow key, hash and priority, those that polls give over an interval are a part of those
-/// that arrive in it, in the order in which they arrived, but for the ECN codepoint of a mark. No such packet is queued at the start of the
-/// interval, at any node, and no command is accepted in it; a refused command changes nothing.
+/// No flow is reordered. Of packets with equal flow key, hash and priority, those that polls give over an interval are some of those that arrive in
+/// it, or all, in the order in which they arrived, apart from the ECN codepoint of a mark. No such packet is queued at the start of the interval,
+/// at any node, and no command is accepted in it; a refused command changes nothing.
 ///
-/// For all settings and every list of events whose fields are in their ranges, whatever the qdiscs and the other packets are. Those of the
-/// flow that are not given were refused, dropped, or wait. A filter, a class or a qdisc that a command puts in may send later packets
-/// of a flow along another path, which can be shorter.
+/// For all settings and every list of events whose fields are in their ranges, whatever the qdiscs and the other packets are. Packets of the flow
+/// that are not given were refused or dropped, or wait. A filter, a class or a qdisc that a command adds may send later packets of a flow along
+/// another path, which can be shorter.
 pub fn flows_keep_order(settings: Settings)
     ensures { FlowsKeepOrder settings }
 {

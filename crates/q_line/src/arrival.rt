@@ -1,11 +1,10 @@
 use q_packet::{Ecn, FlowKey};
 
-/// A packet that arrives at the device, as a `pkt` line says it. The widest fields come first, since fields are laid out in this
-/// order.
+/// A packet that arrives at the device, as a `pkt` line describes it. The widest fields come first, since fields are laid out in this order.
 #[derive(Clone, Copy, PartialEq, Eq, Debug)]
 pub struct Arrival {
     pub key: FlowKey,
-    /// The hash of its key, where the line gives one.
+    /// The hash of the flow, if the line gives one.
     pub hash: Option<u32>,
     /// Its length in bytes, 1 to 65535.
     pub len: u16,

@@ -1,13 +1,13 @@
-//! The lines of the whole script language, as definitions and their reader.
+//! The lines of the script language: their grammar, as definitions, and a reader that follows it.
 //!
-//! - `specs/Grammar.antt` says of every line's bytes which [`Line`] they are, or which `LineFault` of `q_words` is the leftmost;
-//!   its tables of words are in `specs/Positions.antt`, what the words have said so far in `specs/Drafts.antt`, and the words
-//!   and values in `q_words`.
-//! - [`read_line`] reads a line as the grammar says, and allocates nothing. It has one reader for the head of each object and
-//!   one for each kind. A [`Command`] and its settings are those of `q_model`.
-//! - `specs/Ranges.antt` says what a line may say, and `specs/Spelling.antt` has one way to write each such line; [`laws`] says
-//!   that it is read as itself, and where the fault of any other lies. By `proofs/PacketRanges.antt`
-//!   each packet that is read has a length of 1 to 65535 and a priority of at most 15.
+//! - [`read_line`] reads a line as the grammar says, and allocates nothing. It returns a [`Line`], or the leftmost fault. A [`Command`] and its
+//!   settings are those of `q_model`.
+//! - `specs/Grammar.antt` is the grammar: for the bytes of every line it says which [`Line`] they are, or which `LineFault` of `q_words` is the
+//!   leftmost. Its tables of words are in `specs/Positions.antt`, what the words so far have said is in `specs/Drafts.antt`, and the words and
+//!   values are in `q_words`.
+//! - `specs/Ranges.antt` says what a line may say, and `specs/Spelling.antt` has one way to write each such line. [`laws`] says that each of these
+//!   lines is read as itself, and where the fault of any other line is. By `proofs/PacketRanges.antt`, each packet that is read has a length of 1
+//!   to 65535 bytes and a priority of 0 to 15.
 //!
 //! ```
 //! match read_line(b"tc qdisc add dev eth0 root handle 1: drr") {

@@ -10,11 +10,11 @@ pub enum Line {
     Blank,
     /// A `tc` line that changes the tree.
     Tc(Command),
-    /// A `tc` line that asks for a show text.
+    /// A `tc` line that shows something: it asks for a text.
     Show(Show),
-    /// `at N`: the time of the lines that follow.
+    /// `at N`: sets the time of the lines that follow, in nanoseconds.
     At(Moment),
-    /// `pkt`: a packet arrives, of which the line gives the fields.
+    /// `pkt`: a packet arrives, whose fields the line gives.
     Pkt(Arrival),
     /// `frame`: a packet arrives, whose fields are read from its first bytes.
     Frame {
@@ -22,10 +22,10 @@ pub enum Line {
         len: u16,
         head: Head,
     },
-    /// `poll [N]`: the device is polled so many times, 1 to 100000.
+    /// `poll [N]`: polls the device this many times, 1 to 100000. Without a number it polls once.
     Poll(u32),
-    /// `reap`: the losses not yet handed out.
+    /// `reap`: asks for the losses that were not handed out yet.
     Reap,
-    /// `totals`: the device's counters.
+    /// `totals`: asks for the counters of the device itself.
     Totals,
 }

@@ -14,7 +14,11 @@ use q_words::{LineFault, number};
 /// The most polls that one line may ask for.
 const MAX_POLLS: u64 = 100_000;
 
-/// What a line of a script says, given its bytes without the newline; else its leftmost fault.
+/// Reads one line of a script. `line` has its bytes, without the newline. Allocates nothing.
+///
+/// # Errors
+///
+/// Returns the leftmost fault of the line: what is wrong, and the index of the word that is wrong, counted from 1.
 pub fn read_line(line: &[u8]) -> Result<Line, LineFault>
     ensures { result ≡ line_of line.now }
 {

@@ -1,10 +1,10 @@
 use crate::object::Object;
 
-/// A line that asks for a show text (tc(8), `show`).
+/// A line that asks for the text of what is there (tc(8), `show`).
 #[derive(Clone, Copy, PartialEq, Eq, Debug)]
 pub struct Show {
-    /// What is shown.
+    /// What the text shows.
     pub object: Object,
-    /// Whether the line has `-s`: each qdisc is then followed by its counters. Classes and filters have none.
+    /// Whether the line has `-s`. Then each qdisc is followed by its counters; classes and filters have none.
     pub counters: bool,
 }

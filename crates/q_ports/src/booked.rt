@@ -22,10 +22,10 @@ use std::alloc::AllocError;
 use std::marker::Model;
 use std::sync::ledger::{Blank, Book, Ledger};
 
-/// The value behind the lock: a device, and a book of its arrivals in packets and in bytes.
+/// A device with a book of its arrivals, in packets and in bytes. It is the value behind the lock.
 ///
-/// A contract sees it as its device. The type keeps that the book is what the device counts as arrived. `P` is the book's ledger
-/// of packets and `B` that of bytes, each of 65 parts.
+/// In contracts it is its device. Its invariant says that the book is what the device counts as arrived. `P` is the book's ledger of packets, and
+/// `B` that of bytes, each of 65 parts.
 #[derive(Drop)]
 pub struct Booked<P: Ledger, B: Ledger> {
     device: Device,
@@ -48,8 +48,9 @@ impl<P: Ledger, B: Ledger> Model for Booked<P, B> {
 }
 
 impl<P: Ledger, B: Ledger> Booked<P, B> {
-    /// A book of a device at which nothing has arrived, with the permit that has all its parts. The blanks are those of the two
-    /// ledgers.
+    /// Opens the book of a device at which nothing has arrived. Returns both, and the permit, which has all 65 parts of the book.
+    ///
+    /// `packets` and `bytes` are the blanks of the two ledgers.
     pub fn new(device: Device, packets: Blank, bytes: Blank) -> (Booked<P, B>, Seat<P, B>)
         requires nothing { device.device.tree.top.arrived ≡ no_totals }
         requires packets { (packets.name ≡ P.name) × (packets.parts ≡ P.parts) × (P.parts ≡ 65) }
@@ -72,13 +73,13 @@ impl<P: Ledger, B: Ledger> Booked<P, B> {
         (booked, seat)
     }
 
-    /// A packet arrives, as at [`Device::arrive`], and is booked with the permit. It, [`Booked::arrive_at`] and [`Booked::arrive_kept`] are the
-    /// only ways in.
+    /// A packet arrives, as by [`Device::arrive`], and is booked with the permit. Packets arrive only by this function, [`Booked::arrive_at`] and
+    /// [`Booked::arrive_kept`].
     ///
     /// # Errors
     ///
-    /// Those of [`Device::arrive`]: the packet and `AllocError`. Nothing has changed then but for places: what there was room for there
-    /// is room for still.
+    /// Returns the packet and `AllocError` where [`Device::arrive`] does. The packet has then not arrived, and nothing has changed, except that
+    /// there may be more places in memory: what there was room for, there still is room for.
     pub fn arrive(
         &mut self,
         seat: &mut Seat<P, B>,
@@ -106,11 +107,11 @@ impl<P: Ledger, B: Ledger> Booked<P, B> {
         }
     }
 
-    /// [`Booked::arrive`] of a packet that stays where it is, as at [`Device::arrive_at`].
+    /// Does what [`Booked::arrive`] does, for a packet that stays where it is, as [`Device::arrive_at`].
     ///
     /// # Errors
     ///
-    /// `AllocError` where [`Device::arrive_at`] returns it. Nothing has changed then but for places.
+    /// Returns `AllocError` where [`Device::arrive_at`] does, and has then changed as little.
     pub fn arrive_at(
         &mut self,
         seat: &mut Seat<P, B>,
@@ -134,11 +135,11 @@ impl<P: Ledger, B: Ledger> Booked<P, B> {
         self.arrive_kept(seat, &KeptPacket::of(packet), now)
     }
 
-    /// The same in the form in which packets are kept, as at [`Device::arrive_kept`].
+    /// Does what [`Booked::arrive`] does, for a packet in the form in which queues keep it, as [`Device::arrive_kept`].
     ///
     /// # Errors
     ///
-    /// `AllocError` where [`Device::arrive_kept`] returns it. Nothing has changed then but for places.
+    /// Returns `AllocError` where [`Device::arrive_kept`] does, and has then changed as little.
     pub fn arrive_kept(
         &mut self,
         seat: &mut Seat<P, B>,
@@ -165,7 +166,7 @@ impl<P: Ledger, B: Ledger> Booked<P, B> {
         Ok(fate)
     }
 
-    /// Takes the packet whose turn it is, as [`Device::poll`]. It takes no memory.
+    /// Takes the packet whose turn it is, as [`Device::poll`] does. Allocates nothing.
     pub fn poll(&mut self, now: Moment) -> Polled
         ensures event { self.new ≡ with_memory self.new.memory (after_event (event.Poll now) self.old) }
         ensures memory { self.new.memory ≡ polled_memory self.new.device.clock self.old.memory }
@@ -177,7 +178,7 @@ impl<P: Ledger, B: Ledger> Booked<P, B> {
         self.device.poll(now)
     }
 
-    /// [`Booked::poll`] into the caller's place, as [`Device::poll_into`]: `out` stays as it is where there is no packet.
+    /// Does what [`Booked::poll`] does, and writes the packet to `out`. If no packet is given, `out` stays as it is.
     pub fn poll_into(&mut self, now: Moment, out: &mut Packet) -> Given
         ensures event { self.new ≡ with_memory self.new.memory (after_event (event.Poll now) self.old) }
         ensures memory { self.new.memory ≡ polled_memory self.new.device.clock self.old.memory }
@@ -190,7 +191,7 @@ impl<P: Ledger, B: Ledger> Booked<P, B> {
         self.device.poll_into(now, out)
     }
 
-    /// The time before which no poll gives a packet, as [`Device::ready_at`]. A poll at that time need not give one.
+    /// Returns the time before which no poll gives a packet, as [`Device::ready_at`] does. A poll at that time may still give none.
     pub fn ready_at(&self) -> Option<Moment>
         ensures value { result ≡ ready_at self.now.device.clock self.now.device.tree.root }
         ensures from { IfSome result (λ at. self.now.device.clock ≤ at) }
@@ -201,11 +202,12 @@ impl<P: Ledger, B: Ledger> Booked<P, B> {
         self.device.ready_at()
     }
 
-    /// Does what a line of tc asks for, or refuses it, as [`Device::command`]. Nothing arrives by it.
+    /// Carries out what a line of tc asks for, or refuses it, as [`Device::command`] does. No packet arrives by that.
     ///
     /// # Errors
     ///
-    /// Those of [`Device::command`]: the first refusal of the command that holds, or that an allocation failed. Nothing has changed then.
+    /// Returns what [`Device::command`] returns: the first refusal that applies to the command, or that an allocation failed. Nothing has changed
+    /// then.
     pub fn command(&mut self, command: Command, now: Moment) -> Result<(), Refusal>
         ensures event { OnOk result (self.new ≡ with_memory self.new.memory (after_event (event.Command command now) self.old)) }
         ensures moment { OnOk result (as_counted self.old.device (event.Command command now) ≡ event.Command command self.new.device.clock) }
@@ -222,7 +224,7 @@ impl<P: Ledger, B: Ledger> Booked<P, B> {
         self.device.command(command, now)
     }
 
-    /// The oldest loss that was not handed out yet, as [`Device::reap`]. It takes no memory and is no event.
+    /// Hands out the oldest loss that was not handed out yet, as [`Device::reap`] does. Allocates nothing, and is no event.
     pub fn reap(&mut self) -> Option<Lost>
         ensures oldest { result ≡ slice_get self.old.waiting 0 }
         ensures rest { self.new ≡ reaped self.old }
@@ -231,7 +233,8 @@ impl<P: Ledger, B: Ledger> Booked<P, B> {
         self.device.reap()
     }
 
-    /// What the device counted, and what is queued at it. It is balanced: arrived is sent, refused, dropped and queued together.
+    /// Returns the counters of the device itself, and what is queued in it now. The row is balanced: what arrived is what was sent, refused or
+    /// dropped, or is queued.
     pub fn totals(&self) -> Row
         ensures row { result ≡ device_row self.now }
         ensures balanced { IsBalanced result }
@@ -240,28 +243,28 @@ impl<P: Ledger, B: Ledger> Booked<P, B> {
         self.device.totals()
     }
 
-    /// What the node in this place counted, and what is queued there; `None` where there is none.
+    /// Returns the counters of the node in this place, and what is queued in it and below it now. Returns `None` if the place has no node.
     pub fn stats(&self, place: Place) -> Option<Row>
         ensures { result ≡ stats totals place self.now.device.tree }
     {
         self.device.stats(place)
     }
 
-    /// The first events, as many as the settings say, each with the time at which it counted.
+    /// Returns the recorded events: the first ones, as many as the recorder keeps, each with the time at which it counted.
     pub fn recorded(&self) -> &[Event]
         ensures { result.now ≡ self.now.recorded }
     {
         self.device.recorded()
     }
 
-    /// The number of events, recorded or not, which stays at 2^64 - 1 once there.
+    /// Returns how many events there were, recorded or not. The number stays at 2^64 - 1 once it is that.
     pub fn events(&self) -> u64
         ensures { result ≡ self.now.events }
     {
         self.device.events()
     }
 
-    /// The device, when its book is closed.
+    /// Closes the book, and returns the device.
     pub fn into_device(self) -> Device
         ensures { result ≡ self }
     {

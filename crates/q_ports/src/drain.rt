@@ -20,10 +20,10 @@ use std::marker::Model;
 use std::sync::ledger::Ledger;
 use std::sync::{Mutex, Wait};
 
-/// The one who feeds the device: it holds the other ends of the rings, the whole permit, and the gauges' writer.
+/// Feeds the device from the rings: it has the receiver's ends of all rings, the whole permit, and the writer for the gauges.
 ///
-/// It is not `Drop`: end it by `settle` or `end`. A contract sees it as its rings, with what it received from each, and its board:
-/// the rows that it handed over for publication, and those that gauges see.
+/// It is not `Drop`: [`Drain::settle`] or [`Drain::end`] ends it. In contracts a drain is its rings, with what it received from each, and its
+/// board: the rows that it handed over to be published, and those that gauges see.
 pub struct Drain<P: Ledger, B: Ledger> {
     pub(crate) intake: Intake<P, B>,
     pub(crate) publisher: Publisher,
@@ -38,13 +38,17 @@ impl<P: Ledger, B: Ledger> Model for Drain<P, B> {
 }
 
 impl<P: Ledger, B: Ledger> Drain<P, B> {
-    /// A turn at this time: under one lock up to `most` packets arrive, 1 to 1024, one from each port in turn, going on after the
-    /// port that was taken from last; then come up to `most` polls, to the first that gives no packet. A packet arrives before it
-    /// leaves its ring. It may wait for the lock and for gauges.
+    /// Takes a turn: with the lock taken once, packets leave the rings and arrive at the device, and then the device is polled. May wait for the
+    /// lock and for gauges.
+    ///
+    /// `now` is the time of all arrivals and polls. `most` is how many packets arrive at most, and how many polls there are at most, 1 to 1024. The
+    /// drain takes one packet from each ring in turn, and goes on behind the ring that it took one from last. Each packet leaves its ring only when
+    /// it has arrived. The first poll that gives no packet is the last.
     ///
     /// # Errors
     ///
-    /// `AllocError` if the allocation of the list of sent packets fails. Nothing has changed then.
+    /// Returns `AllocError` if the list of the sent packets cannot be allocated. Nothing has changed then. An allocation that fails for a packet is
+    /// no error: [`Turn::memory`] tells of it.
     pub fn turn<R: Wait>(
         &mut self,
         rt: &R,
@@ -70,12 +74,13 @@ impl<P: Ledger, B: Ledger> Drain<P, B> {
         turn_on(self, rt, alloc, &mut *locked, now, most)
     }
 
-    /// Takes what is left in the rings, and gives up the whole permit. The ports are exactly this drain's, in order of index. It may
-    /// wait for the lock and for gauges.
+    /// Takes in all that is left in the rings, and gives up the permit. May wait for the lock and for gauges.
+    ///
+    /// `ports` are exactly the ports of this drain, in the order of their indexes. `now` is the time of all arrivals.
     ///
     /// # Errors
     ///
-    /// The drain and its ports, where an allocation fails: what was taken stays taken, and `settle` may be called again.
+    /// Returns the drain and its ports if an allocation fails. What was taken in stays taken in, and `settle` may be called again.
     pub fn settle<R: Wait>(
         self,
         rt: &R,
@@ -97,8 +102,8 @@ impl<P: Ledger, B: Ledger> Drain<P, B> {
         settle_on(self, rt, &mut *locked, ports, now)
     }
 
-    /// Ends the drain without settling: what is left in the rings is lost to the device. It may wait for gauges; from then on they
-    /// may read nothing.
+    /// Ends the drain without settling. Packets that are left in the rings do not arrive. From then on gauges may read nothing. May wait for
+    /// gauges.
     pub fn end<R: Wait>(self, rt: &R) {
         let Drain {
             intake: _intake,

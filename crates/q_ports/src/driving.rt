@@ -29,17 +29,20 @@ use std::thread::{Scope, Threads};
 /// The most packets that a turn of `drive` takes.
 const MOST: usize = 64;
 
-/// Drives a device: a thread for each port offers its load in order, each packet at most `tries` times, while the caller's thread
-/// takes turns of up to 64 packets, turn k at `start` and k times `step` nanoseconds or at the latest time, until all senders have
-/// ended. Then it settles. Every thread is joined. It may wait for the lock, for gauges and for its threads.
+/// Runs a sender for each port while the caller's thread takes turns of the drain, and then settles. May wait for the lock, for gauges and for the
+/// senders' threads, all of which are joined.
 ///
-/// The ports are exactly the drain's, in order of index, and there is a load for each. `gate` is called once before a packet's first
-/// offer, and after it was placed.
+/// `ports` are exactly the drain's, in the order of their indexes, and `loads` has a list of packets for each. A sender has a thread of its own,
+/// and offers the packets of its load in order, each at most `tries` times; a packet that is not placed by then is given up. `gate` is called once
+/// before the first offer of each packet, and once after the packet was placed. A turn takes up to 64 packets. Turn k, counted from 0, is at the
+/// time `start` and k times `step` nanoseconds, or at the latest time that there is.
+///
+/// Returns the settled drain, and how many packets were given up.
 ///
 /// # Errors
 ///
-/// The drain and all its ports: as of `settle`, where an allocation fails; or where a thread could not be started, whose sender has then
-/// offered nothing. What was placed and taken stays so, and `settle` may follow.
+/// Returns the drain and all its ports if settling fails, as [`Drain::settle`] does, if the memory for the senders cannot be allocated, or if a
+/// thread cannot be started, whose sender has then offered nothing. What was placed and taken in stays so, and `settle` may follow.
 pub fn drive<
     P: Ledger + Send + Sync,
     B: Ledger + Send + Sync,

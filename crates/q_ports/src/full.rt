@@ -1,5 +1,5 @@
 use q_packet::Packet;
 
-/// The packet that a port did not take, as it was offered.
+/// The packet that a port did not place, as it was offered.
 #[derive(Clone, Copy, PartialEq, Eq, Debug)]
 pub struct Full(pub Packet);

@@ -16,10 +16,10 @@ use std::marker::Model;
 /// What a gauge reads the board with.
 pub type BoardReader = Reader<Board, BoardView, Published>;
 
-/// A reader of the device's row, which never waits. It may move to a thread of its own.
+/// A reader of the device's counters, which never waits. It may be moved to another thread.
 ///
-/// A contract sees it as the record `GaugeSeen`: the rows that the board showed when the gauge read it last, those that it has
-/// learnt of, and how often it has read the board. It keeps no row.
+/// In contracts a gauge is the record `GaugeSeen`: the rows that the board showed when the gauge read it last, the rows that it has learnt of, and
+/// how often it has read the board. In code it keeps no row.
 #[derive(Drop)]
 pub struct Gauge {
     pub(crate) reader: BoardReader,
@@ -39,12 +39,14 @@ impl Model for Gauge {
 }
 
 impl Gauge {
-    /// The last row that the board shows, which is the device's as it was after some turn. It is balanced, and in no counter lower
-    /// than a row that was read or learnt of before. It waits for nobody and takes no memory.
+    /// Reads the last row that was published: the counters of the device as they were after some turn. Waits for no thread, and allocates nothing.
     ///
-    /// `None`, and nothing has changed, where the entry is refused, as it may be once the drain has ended. It is `None` too if the
-    /// board shows fewer rows than the gauge has learnt of: a turn publishes its row before it reports it, but no proof says that
-    /// the board shows it by then.
+    /// Returns the row. It is balanced (what arrived is what was sent, refused or dropped, or is queued), and no counter in it but `queued` is
+    /// lower than in a row that this gauge read or learnt of before.
+    ///
+    /// Returns `None`, and changes nothing, if the board cannot be entered, which may be once the drain has ended. Also returns `None` if the board
+    /// shows fewer rows than the gauge has learnt of: a turn publishes its row before it reports it, but it is not proved that the board shows the
+    /// row by then.
     pub fn read(&mut self) -> Option<Row>
         ensures row { IfSome result (λ r. r ≡ last_of self.new.rows) }
         ensures reads { IfSome result (λ r. self.new.reads ≡ self.old.reads + 1) }
@@ -62,7 +64,8 @@ impl Gauge {
         Some(front.last())
     }
 
-    /// Takes in what the drain reported of a turn: a row that is read from now on is that turn's or a later one.
+    /// Takes in what the drain of this gauge reported about a turn. From then on, each row that the gauge reads is the row of that turn or a later
+    /// one.
     pub fn learn(&mut self, told: Told)
         requires { told.book ≡ self.old.book }
         ensures old { IsPrefix self.old.learnt self.new.learnt }

@@ -1,4 +1,4 @@
-//! What is true of every book and of every ring.
+//! What holds for every book and every ring.
 ghost use Rattle.std.specs.Prelude.{◌≡◌, ◌≤◌, ◌++◌, length};
 ghost use mathlib.Core.List.{IsPrefix};
 ghost use Rattle.q_ports.specs.Placed.{placed_by, ring_of_port};
@@ -18,8 +18,8 @@ use q_device::laws::{
 };
 use std::sync::ledger::Ledger;
 
-/// Whenever the lock is free the device is the replay of all that happened to it; and of the recorded events, where there were
-/// no more than the recorder keeps.
+/// Whenever the lock is free, the device is the replay of all that happened to it. If there were no more events than the recorder keeps, it is also
+/// the replay of the recorded ones.
 pub fn booked_is_replayed<P: Ledger, B: Ledger>(booked: &Booked<P, B>)
     ensures all { IsReplayed booked.now }
     ensures recorded { IsReplayOfRecorded booked.now }
@@ -27,30 +27,30 @@ pub fn booked_is_replayed<P: Ledger, B: Ledger>(booked: &Booked<P, B>)
     device_is_replayed(booked.device());
 }
 
-/// Whenever the lock is free the tree is lawful, and each of its rows balanced: arrived is sent, refused, dropped and queued
-/// together, in packets and bytes.
+/// Whenever the lock is free, the tree is lawful, and each of its rows is balanced: what arrived is what was sent, refused or dropped, or is
+/// queued, in packets and in bytes.
 pub fn booked_is_lawful<P: Ledger, B: Ledger>(booked: &Booked<P, B>)
     ensures { IsLawfulDevice booked.now }
 {
     device_is_lawful(booked.device());
 }
 
-/// Whenever the lock is free, what was refused or dropped was handed out as a loss or waits for it.
+/// Whenever the lock is free, the device counts as many packets as refused or dropped as it has handed out as losses or keeps as losses that wait.
 pub fn booked_tells_its_losses<P: Ledger, B: Ledger>(booked: &Booked<P, B>)
     ensures { TellsItsLosses booked.now }
 {
     device_tells_its_losses(booked.device());
 }
 
-/// Whenever the lock is free, the lost list has room for every loss of what is queued.
+/// Whenever the lock is free, the device has room for the loss of each packet that is queued.
 pub fn booked_has_its_memory<P: Ledger, B: Ledger>(booked: &Booked<P, B>)
     ensures { HasItsMemory booked.now }
 {
     device_has_its_memory(booked.device());
 }
 
-/// The book is what the device counts as arrived: a permit holds at most that, and a permit with every part holds just that. It does
-/// nothing.
+/// The book is what the device counts as arrived: what was let in with a permit is at most that, and with a permit of all parts it is just that.
+/// The function does nothing.
 pub fn book_is_arrived<P: Ledger, B: Ledger>(booked: &mut Booked<P, B>, seat: &mut Seat<P, B>)
     ensures same { (booked.new ≡ booked.old) × (seat.new ≡ seat.old) }
     ensures bound { (seat.old.packets ≤ booked.old.device.tree.top.arrived.packets) × (seat.old.bytes ≤ booked.old.device.tree.top.arrived.bytes) }
@@ -60,8 +60,8 @@ pub fn book_is_arrived<P: Ledger, B: Ledger>(booked: &mut Booked<P, B>, seat: &m
     booked.audit(seat);
 }
 
-/// What has arrived at the device is the settled share: the permit that is kept is whole, and by its type of this book. It does
-/// nothing.
+/// What has arrived at the device is what the ports of the settled drain placed, since the permit that it keeps is whole, and by its type is of
+/// this book. Returns that, and does nothing else.
 pub fn settled<P: Ledger, B: Ledger>(
     booked: &mut Booked<P, B>,
     settled: &mut Settled<P, B>,
@@ -75,10 +75,10 @@ pub fn settled<P: Ledger, B: Ledger>(
     settled.share
 }
 
-/// What an outlet took in is a beginning of what the port of its ring placed, packet by packet; the rest waits in the ring, and the answer
-/// is how many packets that is. Where none waits, all that was placed was taken in.
+/// What was taken in at an outlet is a beginning of what the port of its ring placed, packet by packet, and the rest waits in the ring.
 ///
-/// It checks the ring with both of its ends in hand. Nothing is taken in, and nothing is placed.
+/// Returns how many packets wait. If none does, all that was placed was taken in. The function looks at the ring with both ends at hand. It places
+/// nothing, and takes nothing in.
 pub fn ring_loses_nothing(outlet: &mut Outlet, port: &mut Port) -> usize
     requires { ring_of_port port.old ≡ outlet.old.ring }
     ensures same { port.new ≡ port.old }

@@ -1,9 +1,9 @@
-//! Many sender threads, one thread that drains, and readers of the counters around one [`Device`](q_device::Device).
+//! One [`Device`](q_device::Device) for many threads: senders that pass packets to it, one thread that drains, and threads that read its counters.
 //!
-//! Each sender has a [`Port`], the producer's end of a ring of packets. [`Port::offer`] waits for nobody: it places the packet, or
-//! returns it where the ring is full; [`Port::offer_many`] places as many packets of a slice as fit. One thread has the [`Drain`]. Each
-//! [`Drain::turn`] takes the lock of the device once: packets leave the rings and arrive at the device, and then it is polled. A [`Gauge`]
-//! reads the device's counters as they were after some turn, and takes no lock.
+//! Each sender has a [`Port`], at which it places packets in a ring of its own. [`Port::offer`] waits for no thread: it places the packet, or
+//! returns it if the ring is full. [`Port::offer_many`] places as many packets of a slice as there is room for. One thread has the [`Drain`], with
+//! the other ends of all rings. Each [`Drain::turn`] takes the lock of the device once: packets leave the rings and arrive at the device, and then
+//! the device is polled. A [`Gauge`] reads the device's counters as they were after some turn, and takes no lock.
 //!
 //! ```
 //! // On a sender's thread: a packet that finds the ring full comes back.
@@ -18,14 +18,14 @@
 //! }
 //! ```
 //!
-//! [`open_ports`] opens the drain, ports and gauges of a device that the program guards by a `Mutex`. [`run_with_ports`] opens all of
-//! this for a [`PortTask`], and [`drive`] runs senders with a load each. A program that may not wait feeds its device from single rings, by
-//! [`open_ring`] and [`Outlet`].
+//! [`open_ports`] opens the drain, the ports and the gauges of a device that the program guards by a `Mutex`. [`run_with_ports`] opens all of this
+//! for a [`PortTask`], and [`drive`] runs a sender for each port, with a list of packets to offer. A program that may not wait opens single rings
+//! by [`open_ring`], and takes packets in by [`Outlet::take_in`].
 //!
-//! No packet is lost between a port and the device. The device is in a [`Booked`], whose ledger counts what has arrived, so that after
-//! [`Drain::settle`] the device's count of arrivals is the sum of what the ports placed ([`laws::settled`]). What a turn and settling do to the
-//! device is the contract of [`turn_on`] and [`settle_on`], their work once they have the lock: a contract can name the locked value only
-//! where it is in hand.
+//! No packet is lost between a port and the device. The device is in a [`Booked`], whose ledgers count what has arrived. So after [`Drain::settle`]
+//! the device counts as arrived just what the ports placed ([`laws::settled`]). A contract can name the value behind the lock only while a function
+//! has it. So what a turn and a settling do to the device is in the contracts of [`turn_on`] and [`settle_on`], which do that work once they have
+//! the lock.
 #![tactic(auto)]
 
 mod batch;

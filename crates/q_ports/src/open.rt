@@ -17,13 +17,14 @@ use std::alloc::{AllocError, Global};
 use std::sync::Wait;
 use std::sync::ledger::Ledger;
 
-/// The drain, the ports and the gauges of a book: so many ports, indexed from 0, with a ring of so many packets each, and so many
-/// gauges. There are 1 to 64 ports, a ring has 1 to 65536 places, and there are at most 16 gauges. The permit is whole, and nothing
-/// was let in with it.
+/// Opens the drain, the ports and the gauges of a booked device.
+///
+/// `seat` is the whole permit of the device's book, with which nothing was let in. `count` is how many ports there are, 1 to 64; their indexes
+/// count from 0. `ring` is how many packets the ring of each port holds, 1 to 65536. `gauges` is how many gauges there are, 0 to 16.
 ///
 /// # Errors
 ///
-/// The permit and `AllocError` where an allocation fails, or a gauge finds no place to read from.
+/// Returns the permit and `AllocError` if an allocation fails, or if a gauge finds no place to read from.
 pub fn open_ports<P: Ledger, B: Ledger, R: Wait>(
     rt: &R,
     alloc: Global,
@@ -57,12 +58,13 @@ pub fn open_ports<P: Ledger, B: Ledger, R: Wait>(
     Ok((Drain { intake, publisher }, ports, gauges))
 }
 
-/// A ring by itself, of so many packets, 1 to 65536: a port with this index, at which nothing was placed, and the other end, from which
-/// nothing was taken in.
+/// Opens both ends of one ring: a port that has placed nothing, and an outlet at which nothing was taken in.
+///
+/// `index` is written into each packet of the ring as its port. `places` is how many packets the ring holds, 1 to 65536.
 ///
 /// # Errors
 ///
-/// `AllocError` where an allocation fails.
+/// Returns `AllocError` if an allocation fails.
 pub fn open_ring(alloc: Global, index: u32, places: usize) -> Result<(Port, Outlet), AllocError>
     requires { (1 ≤ places) × (places ≤ 65536) }
     ensures port { IfOk result (λ r. r.0 ≡ port_seen index r.1.ring []) }

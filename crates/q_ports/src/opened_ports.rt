@@ -4,9 +4,9 @@ use crate::gauge::Gauge;
 use crate::port::Port;
 use std::sync::ledger::Ledger;
 
-/// A booked device, which no lock has yet, with its drain, ports and gauges.
+/// A booked device, which is behind no lock yet, with its drain, ports and gauges.
 ///
-/// It is not `Drop`, as its drain is not.
+/// It is not `Drop`, since the drain is not.
 pub struct OpenedPorts<P: Ledger, B: Ledger> {
     pub booked: Booked<P, B>,
     pub drain: Drain<P, B>,

@@ -17,9 +17,9 @@ use q_packet::{KeptPacket, Moment};
 use std::alloc::AllocError;
 use std::marker::Model;
 
-/// The other end of one port's ring, for who feeds a device and may not wait. It may move to a thread of its own.
+/// The receiver's end of a ring, for a program that feeds a device and may not wait. It may be moved to another thread.
 ///
-/// A contract sees it as the record `RingSeen`: its ring, the packets that were taken in, in order, and those that are known to wait.
+/// In contracts an outlet is the record `RingSeen`: its ring, the packets that were taken in, in order, and those that are known to wait.
 #[derive(Drop)]
 pub struct Outlet {
     ring: PacketConsumer,
@@ -55,10 +55,13 @@ impl Outlet {
         }
     }
 
-    /// Takes up to `most` packets, oldest first: each arrives at the device at this time, as by [`Device::arrive_kept`], and only then
-    /// leaves the ring. It waits for nobody, and takes memory only as the arrivals do.
+    /// Takes packets out of the ring, oldest first: each arrives at the device as by [`Device::arrive_kept`], and leaves the ring only then. Waits
+    /// for no thread, and allocates only as the arrivals do.
     ///
-    /// Where an arrival fails to allocate, its packet stays first in the ring, and nothing more is taken.
+    /// `now` is the time of all arrivals, and `most` is how many packets are taken at most.
+    ///
+    /// Returns how many packets arrived. If they are fewer than `most`, the ring was empty when the call looked last, or an allocation failed. In
+    /// the second case the packet stays first in the ring, nothing more is taken, and the field `memory` is true.
     pub fn take_in(&mut self, device: &mut Device, now: Moment, most: usize) -> TakenIn
         ensures few { result.taken ≤ most }
         ensures taken { TakesIn now self.old self.new device.old device.new result.taken }
@@ -88,7 +91,7 @@ impl Outlet {
         }
     }
 
-    /// The packets and bytes that were taken in.
+    /// Returns how many packets and bytes were taken in so far.
     pub fn share(&self) -> Share
         ensures { result ≡ totals_in self.now.received }
     {

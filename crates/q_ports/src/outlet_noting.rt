@@ -1,4 +1,4 @@
-//! What is taken in from a ring is noted among the last events.
+//! Packets that are taken in from a ring are noted among the last events.
 ghost use Rattle.std.specs.Prelude.{◌≡◌, ◌≤◌, ◌<◌, [], true, false, length, OnOk, OnErr};
 ghost use Rattle.q_device.specs.LastNoted.{all_noted};
 ghost use Rattle.q_model.specs.Step.{counts_at};
@@ -13,7 +13,7 @@ use q_packet::Moment;
 use std::alloc::AllocError;
 
 impl Outlet {
-    /// [`Outlet::take_in`], which notes each arrival in a ring of the last events that the program keeps beside the device.
+    /// Does what [`Outlet::take_in`] does, and notes each arrival in `last`, the log of the last events that the program keeps beside the device.
     pub fn take_in_noted(
         &mut self,
         device: &mut Device,

@@ -16,9 +16,9 @@ use std::marker::Model;
 /// How many packets are placed by one store.
 const BATCH: usize = 16;
 
-/// A sender's end of its ring. It may move to a thread of its own.
+/// A sender's end of a ring. It may be moved to another thread, and needs no lock there.
 ///
-/// A contract sees it as the record `PortSeen` of its index, its ring, and the packets that it placed, in order.
+/// In contracts a port is the record `PortSeen`: its index, its ring, and the packets that it placed, in order.
 #[derive(Drop)]
 pub struct Port {
     index: u32,
@@ -60,13 +60,13 @@ impl Port {
         }
     }
 
-    /// Places a packet in the port's ring. The port's index and its own count of placed packets, from 1, are written into
-    /// `port` and `number`. It waits for nobody and takes no memory.
+    /// Places a packet in the ring. In the placed packet, `port` is the index of the port, and `number` is how many packets the port has placed,
+    /// including this one. Waits for no thread, and allocates nothing.
     ///
     /// # Errors
     ///
-    /// `Full` with the packet as it was offered where the ring is full, or where the bytes placed would pass 2^64 - 1. Nothing has
-    /// changed then. A ring in which fewer packets were placed in all than it has places is not full.
+    /// Returns [`Full`] with the packet as it was offered if the ring is full, or if it would bring the bytes placed so far above 2^64 - 1. Nothing
+    /// has changed then. The ring is not full as long as fewer packets were placed in it, in all, than it has places.
     #[inline(always)]
     pub fn offer(&mut self, packet: Packet) -> Result<(), Full>
         ensures ok { OnOk result (self.new ≡ placing self.old packet) }
@@ -80,8 +80,8 @@ impl Port {
         }
     }
 
-    /// [`Port::offer`] of a packet in the form in which packets are kept, which stays where it is. Returns whether it was placed; nothing
-    /// has changed where it was not.
+    /// Does what [`Port::offer`] does, for a packet in the form in which queues keep it. The packet stays where it is. Returns whether it was
+    /// placed. If it was not, nothing has changed.
     #[inline(always)]
     pub fn offer_kept(&mut self, packet: &KeptPacket) -> bool
         ensures placed { result ≡ true → self.new ≡ placing self.old packet.now }
@@ -100,11 +100,11 @@ impl Port {
         true
     }
 
-    /// Places as many of the packets as fit the ring, from the first on and in order, each as by [`Port::offer`], and answers how
-    /// many. The receiver sees up to 16 of them at once, so that many packets cost less than as many offers. It waits for nobody and
-    /// takes no memory.
+    /// Places packets in the ring in order, each as by [`Port::offer`], up to the first that is not placed. The receiver sees up to 16 of them at
+    /// once, so that each costs less than an offer of its own. Waits for no thread, and allocates nothing.
     ///
-    /// It places fewer than all only where the next packet finds the ring full, or where the bytes placed would pass 2^64 - 1 by it.
+    /// Returns how many packets were placed. These are all packets, unless the ring is full for the next one, or the next one would bring the bytes
+    /// placed so far above 2^64 - 1.
     pub fn offer_many(&mut self, packets: &[Packet]) -> usize
         ensures few { result ≤ length packets.now }
         ensures placed { self.new ≡ fold placing self.old (take result packets.now) }
@@ -122,7 +122,7 @@ impl Port {
         placed
     }
 
-    /// The same in the form in which packets are kept, in which they are copied whole.
+    /// Does what [`Port::offer_many`] does, for packets in the form in which queues keep them, which are copied as a whole.
     pub fn offer_many_kept(&mut self, packets: &[KeptPacket]) -> usize
         ensures few { result ≤ length packets.now }
         ensures placed { self.new ≡ fold placing self.old (take result packets.now) }
@@ -189,7 +189,7 @@ impl Port {
         ring.slots_beside(&mut self.ring);
     }
 
-    /// The packets and bytes that it placed.
+    /// Returns how many packets and bytes the port has placed so far. (This share has nothing to do with the share of a rate that a class gets.)
     pub fn share(&self) -> Share
         ensures { result ≡ totals_in self.now.placed }
     {

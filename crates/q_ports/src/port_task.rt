@@ -6,16 +6,16 @@ use std::sync::Wait;
 use std::sync::ledger::Ledger;
 use std::thread::Threads;
 
-/// What a program does with a device that many senders feed, for [`run_with_ports`](crate::run_with_ports).
+/// What a program does with a device and its ports, drain and gauges, for [`run_with_ports`](crate::run_with_ports).
 pub trait PortTask: Sized {
-    /// What it returns.
+    /// What the task returns.
     type Output;
 
-    /// What is true of what it returns, for a device with these settings and so many ports: whatever its own clauses say, or nothing.
+    /// What holds of the output, for a device with these settings and these numbers of ports, places and gauges. A task says here what it promises;
+    /// by default that is nothing.
     ghost gives: { Self → DeviceSettings → PortCounts → Self.Output → Type 0 } = { λ _ _ _ _. ⊤ };
 
-    /// Does it. The device is a new one, nothing was placed at a port, and nothing was received; `P` and `B` are the ledgers of the
-    /// device's book.
+    /// Runs the task. The device is new, no port has placed anything, and nothing was received. `P` and `B` are the ledgers of the device's book.
     fn run<P: Ledger + Send + Sync, B: Ledger + Send + Sync, R: Threads + Wait + Sync>(
         self,
         rt: &R,

@@ -16,12 +16,15 @@ use std::thread::Threads;
 /// How many parts the right to let packets in has.
 const PARTS: u64 = 65;
 
-/// Opens a device with these settings, with its book and with so many ports and gauges, and runs a task with them. It may wait for gauges, and for what the task
-/// waits for.
+/// Opens a device with its book, and its drain, ports and gauges, and runs a task with them. May wait for gauges, and for whatever the task waits
+/// for.
+///
+/// `settings` are those of the device, and `counts` says how many ports and gauges there are, and how long the rings are. Returns what the task
+/// returns.
 ///
 /// # Errors
 ///
-/// `AllocError` where an allocation fails before the task runs.
+/// Returns `AllocError` if an allocation fails before the task runs.
 pub fn run_with_ports<T: PortTask + Drop, R: Threads + Wait + Sync>(
     rt: &R,
     alloc: Global,

@@ -4,11 +4,10 @@ ghost use Rattle.q_ports.specs.Held.{held, joined};
 use std::marker::Model;
 use std::sync::ledger::{Ledger, Share};
 
-/// A permit: the right to let packets into a device, and what was let in with it.
+/// A permit: the right to let packets arrive at a device, and a count of what was let in with it.
 ///
-/// The permits of one book have 65 parts in all, and each has at least one. A contract sees a permit as the record `Held` of its
-/// parts and of the packets and bytes that were let in with it. Which book it is of, its type says: `P` is the book's ledger of
-/// packets, and `B` that of bytes.
+/// All permits of one book have 65 parts together, and each has at least one. In contracts a permit is the record `Held`: its parts, and the
+/// packets and bytes that were let in with it. Its type says of which book it is: `P` is the book's ledger of packets, and `B` that of bytes.
 #[derive(Drop)]
 pub struct Seat<P: Ledger, B: Ledger> {
     pub(crate) parts: u64,
@@ -28,7 +27,7 @@ impl<P: Ledger, B: Ledger> Model for Seat<P, B> {
 }
 
 impl<P: Ledger, B: Ledger> Seat<P, B> {
-    /// How many of the book's 65 parts it has: at least one, and 65 for a whole one.
+    /// Returns how many of the book's 65 parts the permit has: at least one, and all 65 if it is the whole permit.
     pub fn parts(&self) -> u64
         ensures parts { result ≡ self.now.parts }
         ensures some { 1 ≤ result }
@@ -36,7 +35,7 @@ impl<P: Ledger, B: Ledger> Seat<P, B> {
         self.parts
     }
 
-    /// Takes off one part, with which nothing was let in.
+    /// Takes one part off, and returns it as a permit with which nothing was let in.
     pub fn split(&mut self) -> Seat<P, B>
         requires { 1 < self.old.parts }
         ensures left { self.new ≡ held (self.old.parts - 1) self.old.packets self.old.bytes }
@@ -50,7 +49,7 @@ impl<P: Ledger, B: Ledger> Seat<P, B> {
         }
     }
 
-    /// Takes in another permit of the same book, with its parts and with what was let in with it.
+    /// Takes in another permit of the same book: its parts, and what was let in with it.
     pub fn join(&mut self, other: Seat<P, B>)
         requires parts { P.parts ≡ 65 }
         ensures { self.new ≡ joined self.old other }

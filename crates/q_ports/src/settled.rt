@@ -5,9 +5,9 @@ use q_device::Totals as Share;
 use std::marker::Model;
 use std::sync::ledger::Ledger;
 
-/// What is left of a drain that has received all that its ports placed: the whole permit.
+/// What is left of a drain once it has taken in all that its ports placed: the whole permit.
 ///
-/// A contract sees it as the settled share.
+/// In contracts it is the sum of what the ports placed, in packets and bytes.
 #[derive(Drop)]
 pub struct Settled<P: Ledger, B: Ledger> {
     pub(crate) seat: Seat<P, B>,
@@ -27,7 +27,7 @@ impl<P: Ledger, B: Ledger> Model for Settled<P, B> {
 }
 
 impl<P: Ledger, B: Ledger> Settled<P, B> {
-    /// The packets and bytes that were let in with the permit: the sum of the ports' shares.
+    /// Returns how many packets and bytes were let in with the permit, which is what all ports placed together.
     pub fn share(&self) -> Share
         ensures { result ≡ self.now }
     {

@@ -15,14 +15,15 @@ use q_packet::Moment;
 use std::sync::Wait;
 use std::sync::ledger::Ledger;
 
-/// The work of [`Drain::settle`], with the locked value in hand. It may wait for gauges as the drain ends.
+/// Does the work of [`Drain::settle`], with the value behind the lock. May wait for gauges when the drain ends.
 ///
-/// One arrival for each packet that was left in the rings; then for each port what was received is what it placed.
+/// The device changes by one arrival for each packet that was left in the rings. Then the drain has received from each port just what the port
+/// placed.
 ///
 /// # Errors
 ///
-/// The drain and its ports, where an allocation fails: the device has no room for a packet that waits. What was received is then a
-/// beginning of what was placed.
+/// Returns the drain and its ports if an allocation fails, since the device has no room for a packet that waits. What was received from each port
+/// is then a beginning of what the port placed.
 pub fn settle_on<P: Ledger, B: Ledger, R: Wait>(
     drain: Drain<P, B>,
     rt: &R,

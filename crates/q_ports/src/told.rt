@@ -1,9 +1,9 @@
 use crate::note::Note;
 use std::marker::Model;
 
-/// A note of the rows that the board showed after one turn. A gauge that has learnt it reads no older row.
+/// A note that says which rows the board showed after a turn. A gauge that has learnt it reads no older row.
 ///
-/// It has no row. A contract sees it as the history up to there.
+/// In code it has no row. In contracts it is the history of the rows up to there.
 #[derive(Drop)]
 pub struct Told {
     pub(crate) note: Note,

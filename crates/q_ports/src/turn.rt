@@ -21,23 +21,23 @@ use std::sync::ledger::Ledger;
 pub struct Turn {
     /// How many packets arrived.
     pub taken: usize,
-    /// The packets that the polls returned, in order.
+    /// The packets that the polls gave, in order.
     pub sent: Vec<Packet>,
-    /// Whether a refused allocation ended the collecting.
+    /// Whether an allocation failed for a packet, so that no more packets were taken from the rings.
     pub memory: bool,
-    /// A note that the row after the turn was published; `None` if the allocation for the publication failed, or the row is lower
-    /// than the last one that was handed over.
+    /// A note that the row after the turn was published. `None` if an allocation for that failed, or if a counter of the row is lower than in the
+    /// last one that was handed over.
     pub told: Option<Told>,
 }
 
-/// The work of [`Drain::turn`], with the locked value in hand. It may wait for gauges.
+/// Does the work of [`Drain::turn`], with the value behind the lock. May wait for gauges.
 ///
-/// The device is changed by one arrival for each packet that was received, in the order of each ring, and then by the polls up to `most`,
-/// or to the first that gives no packet; `sent` is what they returned. `told` is there where the board then shows the row after the turn.
+/// The device changes by one arrival for each packet that leaves a ring, in the order of each ring, and then by `most` polls, or fewer if one gives
+/// no packet, which is then the last. [`Turn::sent`] is what they gave. [`Turn::told`] is there if the board then shows the row after the turn.
 ///
 /// # Errors
 ///
-/// `AllocError` if the allocation of the list of sent packets fails. Nothing has changed then.
+/// Returns `AllocError` if the list of the sent packets cannot be allocated. Nothing has changed then.
 pub fn turn_on<P: Ledger, B: Ledger, R: Wait>(
     drain: &mut Drain<P, B>,
     rt: &R,

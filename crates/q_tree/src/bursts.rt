@@ -1,5 +1,5 @@
-//! Packets that come to a fifo at the root, or leave it, in a burst. What each single call asks is asked once, and both rows, of the root
-//! and of the device above it, are counted once.
+//! Bursts of packets that come to a fifo at the root, or leave it. The checks of the single calls are made once for a burst, and the counters of
+//! the root and of the device above it are written once.
 ghost use Rattle.std.specs.Prelude.{◌≡◌, ◌≤◌, ◌<◌, ◌+◌, ◌*◌, ◌^◌, ◌++◌, All, IfSome, drop, length, map, slice_get, take};
 ghost use Rattle.q_packet.specs.Stored.{descriptor};
 ghost use Rattle.q_codel.specs.Bursts.{HasWidths, IsShort};
@@ -19,12 +19,12 @@ use q_model::Totals;
 use q_packet::{Moment, StoredPacket};
 
 impl Tree {
-    /// The first of these packets arrive one after another, all at the time `now`, which is at or after the latest time that the tree was
-    /// given: as many as a fifo at the root keeps with nothing more asked, whose limit is in packets. Returns how many.
+    /// Lets the first of these packets arrive in order, all at the time `now`, as long as the root is a fifo with a limit in packets that keeps
+    /// them without further checks. Returns how many arrived. Allocates nothing, and loses nothing.
     ///
-    /// It ends before a packet that has a field out of its range ([`StoredPacket::in_range`]) or is longer than the mtu, where the fifo is
-    /// full or has no place more, and at once where the root is something else: [`Tree::arrive_stored`] is for what follows. It takes no memory,
-    /// and loses nothing.
+    /// `now` is not before the latest time that the tree was given. The burst ends before a packet that has a field out of range
+    /// ([`StoredPacket::in_range`]) or is longer than the mtu, and where the fifo is full or has no further place. If the root is another qdisc, no
+    /// packet arrives. [`Tree::arrive_stored`] is for the packet that follows.
     #[inline(always)]
     pub fn arrive_burst(&mut self, packets: &[StoredPacket], now: Moment) -> usize
         requires order { self.old.clock ≤ now }
@@ -48,10 +48,11 @@ impl Tree {
         kept.packets as usize
     }
 
-    /// The first packets are sent one after another, all at the time `now`, which is at or after the latest time that the tree was given:
-    /// as many as there are places for, or as a fifo at the root has, and what is told of each is written into the places. Returns how many.
+    /// Sends packets in order, all at the time `now`, as many as there are places for and as a fifo at the root has. What is told of each packet is
+    /// written into the places. Returns how many packets were sent. Allocates nothing, and loses nothing.
     ///
-    /// It sends none where the root is something else, and [`Tree::send`] is for what follows. It takes no memory, and loses nothing.
+    /// `now` is not before the latest time that the tree was given. If the root is another qdisc, no packet is sent. [`Tree::send`] is for what
+    /// follows.
     #[inline(always)]
     pub fn send_burst<T: Told>(&mut self, now: Moment, places: &mut [T]) -> usize
         requires order { self.old.clock ≤ now }

@@ -1,4 +1,4 @@
-//! What a line of tc does to a tree: a command is planned, and the edit that comes of it is made.
+//! Commands on a tree: a command is planned, and then the edit that it comes to is made.
 ghost use Rattle.std.specs.Prelude.{◌≡◌, ◌≤◌, ◌+◌, ◌++◌, IfOk, length};
 ghost use Rattle.q_model.specs.Beneath.{beneath};
 ghost use Rattle.q_model.specs.Node.{shape};
@@ -33,14 +33,16 @@ use q_packet::Moment;
 use std::alloc::Global;
 
 impl Tree {
-    /// Does what a line of tc asks for, as [`Tree::graft`], [`Tree::change`], [`Tree::prune`], [`Tree::class_add`] and the others say.
-    /// `now` is at or after the latest time that the tree was given, and is given to the tree by each command that is done.
+    /// Carries out a command, which is what a line of tc asks for: as [`Tree::graft`], [`Tree::change`], [`Tree::prune`], [`Tree::class_add`] and
+    /// the others do.
     ///
-    /// What is removed is lost to `sink`, which needs room for what is queued in the tree.
+    /// `now` is not before the latest time that the tree was given. Each command that is carried out gives that time to the tree. Packets of what
+    /// is removed are lost to `sink`, which needs room for all that is queued in the tree.
     ///
     /// # Errors
     ///
-    /// The first refusal of the command that holds, memory last, and only of a command that takes some. The tree is as it was.
+    /// Returns the first refusal that applies to the command. `Memory` is the last of them, and only for a command that takes memory. The tree is
+    /// as it was.
     pub fn command<S: Sink>(
         &mut self,
         alloc: Global,

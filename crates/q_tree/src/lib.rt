@@ -1,19 +1,19 @@
-//! The tree of queueing disciplines.
+//! The tree of queueing disciplines of one device. It reads no clock: the caller passes the time. It knows no text and no threads.
 //!
-//! - [`Tree`] has the qdiscs of a device: packets are routed, put, peeked at and taken. [`Tree::arrive`] routes and puts a packet in
-//!   one call, [`Tree::send`] takes one into the caller's place, and [`Tree::ready_at`] is when the next take may give one.
-//!   [`Tree::most_packets`] is how many it can hold, and [`Tree::oldest`] since when the oldest packet of a place waits.
-//! - [`Route`] is the way of a packet down from the root, and [`Way`] that of a class: [`Link`] is the tbf at its root, and
-//!   [`Share`] a class of a drr on it, in numbers. A [`Lane`] is a fifo whose packets no other packet passes.
-//! - [`Command`] is a change of the tree, [`Kind`] a qdisc with its options, [`Place`] where it goes.
-//! - [`Refusal`] is why a change was not made, [`Row`] what a node counted, [`NodeView`], [`ClassView`] and
-//!   [`FilterView`] are what `show` prints, and [`ListedFlows`] how many flows an fq_codel has listed. [`Nodes`] goes over all
-//!   nodes of a tree, each a [`NodeRef`].
-//! - [`laws`] is what is true of every tree, and of every call for a packet.
+//! - [`Tree`] has the qdiscs. A packet is routed, put into its queue, peeked at and taken. [`Tree::arrive`] routes a packet and puts it in one
+//!   call, and [`Tree::send`] takes one into a place of the caller. [`Tree::ready_at`] returns when the next take may give a packet,
+//!   [`Tree::most_packets`] how many packets the tree can hold, and [`Tree::oldest`] since when the oldest packet of a place waits.
+//! - [`Route`] is the way of a packet down from the root, and [`Way`] is the way to a class of a drr. On a [`Way`], [`Link`] is the tbf at the
+//!   root, and each [`Share`] is a class of a drr in numbers. A [`Lane`] is a fifo whose packets no other packet overtakes.
+//! - [`Command`] is a change of the tree, [`Kind`] is a qdisc with its options, and [`Place`] is where the qdisc goes.
+//! - [`Refusal`] says why a command was not carried out. [`Row`] has the counters of a node. [`NodeView`], [`ClassView`] and [`FilterView`] are
+//!   what `show` prints, and [`ListedFlows`] says how many flows of an fq_codel are new and old. [`Nodes`] walks over all nodes of a tree, each of
+//!   which is a [`NodeRef`].
+//! - [`laws`] has what holds for every tree, and for every call that handles a packet.
 //!
-//! What a tree does is defined in the `specs/` of `q_model`. [`Tree::graft`], [`Tree::prune`] and [`Tree::change`] put a qdisc into a
-//! place, remove one and give it other settings, [`Tree::class_add`], [`Tree::class_change`] and [`Tree::class_del`] are for the
-//! classes of a drr, [`Tree::filter_add`] and [`Tree::filter_del`] for filters.
+//! What a tree does is defined in the `specs/` of `q_model`. [`Tree::command`] carries out any command. [`Tree::graft`], [`Tree::prune`] and
+//! [`Tree::change`] add, remove and change a qdisc; [`Tree::class_add`], [`Tree::class_change`] and [`Tree::class_del`] do so for the classes of a
+//! drr, and [`Tree::filter_add`] and [`Tree::filter_del`] add and remove filters.
 #![tactic(auto)]
 
 mod arrived;

@@ -5,7 +5,7 @@ use crate::node::{Discipline, Node};
 use crate::tree::Tree;
 use q_fqcodel::FqCodel;
 
-/// How many flows an fq_codel has in each of its lists (RFC 8290, section 4.2): together at most as many as it has flows.
+/// How many flows an fq_codel has in its lists of new and of old flows (RFC 8290, section 4.2). Together they are at most as many as its flows.
 #[derive(Clone, Copy, PartialEq, Eq, Debug)]
 pub struct ListedFlows {
     pub new_flows: u32,
@@ -13,8 +13,8 @@ pub struct ListedFlows {
 }
 
 impl Tree {
-    /// How many flows the node in this place of the order of [`Tree::node`] has listed, if it is an fq_codel; `None` if it is
-    /// another qdisc, and past the last. It walks no list of flows.
+    /// Returns how many flows are in the lists of the fq_codel with this index, which counts as for [`Tree::node`]. Returns `None` if the node is
+    /// another qdisc, and past the last node. Walks over no list of flows.
     pub fn flows(&self, i: usize) -> Option<ListedFlows>
         ensures { result ≡ flows_of i self.now.tree }
     {

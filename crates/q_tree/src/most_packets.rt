@@ -11,11 +11,12 @@ use q_codel::{Fifo, Limit};
 use q_fqcodel::FqCodel;
 
 impl Tree {
-    /// How many packets it can hold at most, while no command changes it, and at most `u64::MAX`. What is queued is never more.
+    /// Computes how many packets the tree can hold at most, now and as long as no command changes it. What is queued is never more. If the number
+    /// is above `u64::MAX`, returns `u64::MAX`.
     ///
-    /// That is the sum of the limits of its queues, or what one has queued where its limit was set below that, and one packet for each
-    /// tbf, drr and fq_codel, which may hold the packet that it shows. A limit in bytes counts as so many packets, since a packet has one
-    /// byte at least. It changes nothing and takes no memory, and visits each node once.
+    /// It is the sum of the limits of all queues, and one packet for each tbf, drr and fq_codel, which may hold the packet that it shows. If the
+    /// limit of a queue was set below what the queue has, what it has counts in place of the limit. A limit in bytes counts as that many packets,
+    /// since a packet has at least one byte. Changes nothing, allocates nothing, and visits each node once.
     pub fn most_packets(&self) -> u64
         ensures value { result ≡ min (most_packets self.now.tree.root) (2 ^ 64 - 1) }
         ensures bound { length (beneath self.now.tree.root) ≤ result }

@@ -9,9 +9,9 @@ use crate::node::Node;
 use q_model::{ClassView, FilterView, NodeView, Place};
 use std::marker::Model;
 
-/// A node of a tree, as [`crate::Nodes`] returns it: what show prints of it is read without looking for it again.
+/// A node of a tree, as [`crate::Nodes`] returns it. What show prints of it is read without another search for the node.
 ///
-/// A contract sees the place where it is, and the node.
+/// In contracts it is the place of the node, and the node.
 #[derive(Drop)]
 pub struct NodeRef<'a> {
     place: Place,
@@ -44,28 +44,28 @@ impl<'a> NodeRef<'a> {
         NodeRef { place, node }
     }
 
-    /// What `tc -s qdisc show` prints of it.
+    /// Returns what `tc -s qdisc show` prints of the node.
     pub fn view(&self) -> NodeView
         ensures { result ≡ node_view kept self.now.0 self.now.1 }
     {
         self.node.view(self.place)
     }
 
-    /// What `tc class show` prints of its class in this place, in class order; `None` past the last.
+    /// Returns what `tc class show` prints of the class with this index, in class order, or `None` past the last class.
     pub fn class(&self, j: usize) -> Option<ClassView>
         ensures { result ≡ slice_get (class_views self.now.1) j }
     {
         self.node.class_view(j)
     }
 
-    /// What `tc filter show` prints of its filter in this place, in the order in which filters are tried; `None` past the last.
+    /// Returns what `tc filter show` prints of the filter with this index, in the order in which filters are tried, or `None` past the last filter.
     pub fn filter(&self, j: usize) -> Option<FilterView>
         ensures { result ≡ slice_get (filter_views self.now.1) j }
     {
         self.node.filter_view(j)
     }
 
-    /// How many flows it has listed, if it is an fq_codel.
+    /// Returns how many flows are in the lists of an fq_codel, or `None` if the node is another qdisc.
     pub fn flows(&self) -> Option<ListedFlows>
         ensures { result ≡ listed_flows self.now.1.own.discipline }
     {

@@ -14,10 +14,10 @@ use crate::tree::Tree;
 use q_model::Place;
 use std::marker::Model;
 
-/// The nodes of a tree that are still to come in the order of show, from [`Tree::nodes`].
+/// A walk over the nodes of a tree, in the order of `tc qdisc show`: the nodes that are still to come. [`Tree::nodes`] returns it.
 ///
-/// It remembers the path to the node that it returned last, so that each step takes as many moves as the tree has levels at most,
-/// however many nodes it has. A contract sees the list of the nodes to come, each with the place where it is.
+/// It remembers the path to the node that it returned last. So a step takes at most as many moves as the tree has levels, however many nodes there
+/// are. In contracts it is the list of the nodes to come, each with its place.
 #[derive(Drop)]
 pub struct Nodes<'a> {
     root: &'a Node,
@@ -44,7 +44,7 @@ impl<'a> Model for Nodes<'a> {
 }
 
 impl<'a> Nodes<'a> {
-    /// The next node; `None` past the last.
+    /// Returns the next node, or `None` past the last.
     pub fn next(&mut self) -> Option<NodeRef<'a>>
         ensures found { MatchOption result (self.old ≡ []) (λ node. self.old ≡ node ∷ self.new) }
         ensures end { result ≡ None → self.new ≡ self.old }
@@ -64,7 +64,8 @@ impl<'a> Nodes<'a> {
 }
 
 impl Tree {
-    /// All nodes in the order in which `tc qdisc show` lists them: the k-th is the one that [`Tree::node`] of `k` shows.
+    /// Returns a walk over all nodes in the order of `tc qdisc show`. The k-th of them, counted from 0, is the node that [`Tree::node`] of `k`
+    /// shows.
     pub fn nodes(&self) -> Nodes<'_>
         ensures standing { result ≡ standing place.Root self.now.tree.root }
         ensures views { map (λ x. node_view kept x.0 x.1) result ≡ views kept self.now.tree }

@@ -10,11 +10,11 @@ use q_model::Place;
 use q_packet::Moment;
 
 impl Tree {
-    /// When the packet arrived that has been queued longest at the node in this place or below it; `None` where nothing is queued there,
-    /// or where no node is. The packet has waited since then, and no other one longer.
+    /// Tells since when the oldest packet that is queued at the node in this place, or below it, has been there: no other packet there has waited
+    /// longer. Returns `None` if nothing is queued there, or if the place has no node.
     ///
-    /// It is found when it is asked for: it looks at each node once, and at each flow of an fq_codel. On a packet's path one thing is
-    /// kept for it, which is when a packet arrived that is held.
+    /// The time is found when it is asked for: the call looks once at each node, and at each flow of an fq_codel. All that is kept for it on a
+    /// packet's path is when a held packet arrived.
     pub fn oldest(&self, place: Place) -> Option<Moment>
         ensures { result ≡ oldest_at place self.now.tree }
     {

@@ -59,12 +59,11 @@ impl Outlook {
 }
 
 impl Tree {
-    /// The time before which no take gives a packet, from `now` on, as long as nothing arrives and no command comes; `None` where
-    /// none ever will. It is `now` itself where a take may give one at once. `now` is at or after the latest time that the tree
-    /// was given.
+    /// Computes the time, from `now` on, before which no take gives a packet, as long as no packet arrives and no command comes. Returns `None` if
+    /// no take will ever give one, and `now` itself if a take may give one at once. `now` is not before the latest time that the tree was given.
     ///
-    /// A take at that time gives a packet where the length that each tbf waits for is known: that of what its child has at
-    /// hand. It changes nothing and takes no memory, and visits each node at most once.
+    /// A take at the returned time gives a packet if, for each tbf, the length is known that it waits for: that of the packet that its child has at
+    /// hand. Changes nothing, allocates nothing, and visits each node at most once.
     pub fn ready_at(&self, now: Moment) -> Option<Moment>
         requires order { self.now.clock ≤ now }
         ensures value { result ≡ ready_at now self.now.tree.root }

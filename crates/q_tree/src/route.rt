@@ -5,10 +5,10 @@ use crate::node_route::NodeRoute;
 use q_packet::Cause;
 use std::marker::Model;
 
-/// The route of a packet, as [`Tree::route`](crate::Tree::route) found it, and the tree was then.
+/// The route of a packet, as [`Tree::route`](crate::Tree::route) found it in the tree as it was then.
 ///
-/// A contract sees the packet's length, and the model's route; none where the packet is longer than the mtu, since it then never
-/// reaches the root.
+/// In contracts it is the packet's length and the model's route, which is none if the packet is longer than the mtu: such a packet never reaches
+/// the root.
 #[derive(Drop)]
 pub struct Route {
     pub(crate) way: NodeRoute,
@@ -27,8 +27,8 @@ impl Model for Route {
 }
 
 impl Route {
-    /// The place of the child, in class order, that the packet goes to at each node from the root down: at most eight. None where
-    /// the packet is longer than the mtu.
+    /// Returns, for each node from the root down, the index of the child to which the packet goes, in class order: at most eight. The path is empty
+    /// if the packet is longer than the mtu.
     pub fn path(&self) -> &[usize]
         ensures { result.now ≡ path_seen self.now.route }
     {
@@ -38,8 +38,8 @@ impl Route {
         self.way.places()
     }
 
-    /// The cause where the packet is refused: `TooLong` above the root, or what holds at the node where its path ends. `None`
-    /// where it is queued there.
+    /// Returns why the packet is refused: [`Cause::TooLong`] above the root, or what applies at the node where the path ends. Returns `None` if the
+    /// packet is queued there.
     pub fn refusal(&self) -> Option<Cause>
         ensures { result ≡ refusal_seen self.now.route }
     {

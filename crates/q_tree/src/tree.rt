@@ -37,11 +37,11 @@ use q_packet::{Cause, KeptPacket, Moment, Packet, SOME_KEPT};
 use std::alloc::{AllocError, Global};
 use std::marker::Model;
 
-/// The qdiscs of a device, and what the device itself counts above their root.
+/// The qdiscs of a device, and the counters of the device itself above their root.
 ///
-/// A contract sees the device of the model, whose nodes remember what they counted and the places of their queues. The type
-/// keeps all that holds of every device after any events: what each node counted is what it has passed on, lost and has still,
-/// every discipline is lawful, a tree has at most eight levels, and the index has its handles and no others, each with the path there.
+/// In contracts a tree is the device of the model, whose nodes remember what they counted and how many places their queues have. Its invariant is
+/// all that holds of every device after any events: what arrived at a node is what it has sent, lost or still has; every discipline is lawful;
+/// there are at most eight levels; and the index of handles has the handles of the tree and no others, each with the path to its qdisc.
 #[derive(Drop)]
 pub struct Tree {
     pub(crate) mtu: u16,
@@ -71,7 +71,7 @@ impl Model for Tree {
 }
 
 impl Tree {
-    /// A new tree: one pfifo of `txqueuelen` packets, for packets of at most `mtu` bytes, at least 1.
+    /// Makes a tree with one pfifo of `txqueuelen` packets, for packets of at most `mtu` bytes. The `mtu` is at least 1.
     pub fn new(alloc: Global, mtu: u16, txqueuelen: u32) -> Tree
         requires { 1 ≤ mtu }
         ensures { numbers result ≡ record { clock = 0; tree = new_tree totals (record { mtu = mtu; txqueuelen = txqueuelen }) } }
@@ -86,21 +86,21 @@ impl Tree {
         }
     }
 
-    /// The latest time that it was given.
+    /// Returns the latest time that the tree was given, and 0 before the first.
     pub fn clock(&self) -> Moment
         ensures { result ≡ self.now.clock }
     {
         self.clock
     }
 
-    /// What the device counted, above the root.
+    /// Returns the counters of the device itself, above the root, and what is queued in it now.
     pub fn totals(&self) -> Row
         ensures { result ≡ row_of self.now.tree.top.counts (beneath self.now.tree.root) }
     {
         self.top.row()
     }
 
-    /// What the node in this place counted, and what is queued there; `None` where there is none.
+    /// Returns the counters of the node in this place, and what is queued in it and below it now. Returns `None` if the place has no node.
     pub fn stats(&self, place: Place) -> Option<Row>
         ensures { result ≡ stats kept place self.now.tree }
     {
@@ -111,8 +111,8 @@ impl Tree {
         }
     }
 
-    /// The node in this place of the order in which `tc qdisc show` lists them, each before those below it and children in class
-    /// order, with all that is printed of it; `None` past the last.
+    /// Returns what `tc -s qdisc show` prints of the node with this index. Indexes count from 0 in the order of `tc qdisc show`: each node comes
+    /// before those below it, and children come in the order of their classes. Returns `None` past the last node.
     pub fn node(&self, i: usize) -> Option<NodeView>
         ensures { result ≡ node kept i self.now.tree }
     {
@@ -122,8 +122,8 @@ impl Tree {
         Some(node.view(place))
     }
 
-    /// A class of the node in this place of that order, with all that `tc class show` prints of it, in class order; `None` past
-    /// the last node or class. Only a qdisc with a handle has classes.
+    /// Returns what `tc class show` prints of a class. `i` is the index of the node, as for [`Tree::node`], and `j` is the index of the class, in
+    /// class order. Returns `None` past the last node or class. Only a qdisc with a handle has classes.
     pub fn class(&self, i: usize, j: usize) -> Option<ClassView>
         ensures { result ≡ class_of i j self.now.tree }
     {
@@ -133,8 +133,8 @@ impl Tree {
         node.class_view(j)
     }
 
-    /// A filter of the node in this place of that order, with all that `tc filter show` prints of it, in the order in which
-    /// filters are tried; `None` past the last node or filter. Only a qdisc with a handle has filters.
+    /// Returns what `tc filter show` prints of a filter. `i` is the index of the node, as for [`Tree::node`], and `j` is the index of the filter,
+    /// in the order in which filters are tried. Returns `None` past the last node or filter. Only a qdisc with a handle has filters.
     pub fn filter(&self, i: usize, j: usize) -> Option<FilterView>
         ensures { result ≡ filter_of i j self.now.tree }
     {
@@ -221,7 +221,7 @@ impl Tree {
         self.root.nth(Place::Root, &mut left)
     }
 
-    /// The route of a packet: at most eight children, each the one that a filter, a band or a class names. It takes no memory.
+    /// Finds the route of a packet: at each node the child that a filter, a band or a class names, at most eight in all. Allocates nothing.
     pub fn route(&self, packet: &Packet) -> Route
         ensures { result ≡ route_seen packet.now self.now.tree.device.mtu self.now.tree.root }
     {
@@ -237,13 +237,13 @@ impl Tree {
         route
     }
 
-    /// Makes the place that a packet on this route needs. Of `route`, `prepare` and `put` it alone allocates, and for a packet that is
-    /// refused it does not.
+    /// Makes a place for a packet with this route in the queue where the route ends. Of `route`, `prepare` and `put`, it alone allocates. For a
+    /// packet that is refused it allocates nothing.
     ///
     /// # Errors
     ///
-    /// `AllocError` if an allocation fails, or if the packet would take what the device counts of arrivals past 2^64 - 1, in packets
-    /// or in bytes. The tree is as it was, but for places, of which no queue has fewer.
+    /// Returns `AllocError` if an allocation fails, or if the packet would bring the count of what arrived at the device above 2^64 - 1, in packets
+    /// or in bytes. The tree is as it was, except that queues may have more places; none has fewer.
     pub fn prepare(&mut self, route: &Route) -> Result<(), AllocError>
         requires { IsRouteIn route.now self.old }
         ensures same { numbers self.new ≡ numbers self.old }
@@ -266,10 +266,10 @@ impl Tree {
         self.root.prepare(route.way.places())
     }
 
-    /// Puts a packet on its route, for which [`Tree::prepare`] has made the place, and says what became of it. `now` is at or
-    /// after the latest time that the tree was given.
+    /// Puts a packet on its route, for which [`Tree::prepare`] has made a place, and returns what becomes of the packet. Allocates nothing.
     ///
-    /// It takes no memory. What is lost for it goes to `sink`, which needs room for what is queued and one packet more.
+    /// `now` is not before the latest time that the tree was given. What is lost because of the packet goes to `sink`, which needs room for all
+    /// that is queued and one packet more.
     pub fn put<S: Sink>(&mut self, route: &Route, packet: Packet, now: Moment, sink: &mut S) -> Fate
         requires order { self.old.clock ≤ now }
         requires route { route.now ≡ route_seen packet self.old.tree.device.mtu self.old.tree.root }
@@ -289,11 +289,11 @@ impl Tree {
         }
     }
 
-    /// The packet whose turn it is, which a take at this time returns; `None` where none may go now. `now` is at or after the
-    /// latest time that the tree was given.
+    /// Returns the packet whose turn it is, which a take at this time returns too, or `None` if none may go now. Allocates nothing.
     ///
-    /// To show it, a tbf, a drr and an fq_codel dequeue it and hold it, which counts as queued at them alone. What CoDel drops
-    /// for it goes to `sink`, which needs room for what is queued. It takes no memory.
+    /// A tbf, a drr and an fq_codel dequeue the packet in order to show it, and hold it from then on. A held packet counts as queued at the node
+    /// that holds it, and no longer below it. `now` is not before the latest time that the tree was given. What CoDel drops meanwhile goes to
+    /// `sink`, which needs room for all that is queued.
     pub fn peek<S: Sink>(&mut self, now: Moment, sink: &mut S) -> Option<Packet>
         requires order { self.old.clock ≤ now }
         requires sink { length (beneath self.old.tree.root) ≤ S.room sink.old }
@@ -314,10 +314,10 @@ impl Tree {
         as_packet(self.root.at_hand())
     }
 
-    /// Takes the packet whose turn it is; `None` where none may go now. `now` is at or after the latest time that the tree
-    /// was given.
+    /// Takes the packet whose turn it is, and returns it, or `None` if none may go now. Allocates nothing.
     ///
-    /// It takes no memory. What CoDel drops for it goes to `sink`, which needs room for what is queued.
+    /// `now` is not before the latest time that the tree was given. What CoDel drops meanwhile goes to `sink`, which needs room for all that is
+    /// queued.
     pub fn take<S: Sink>(&mut self, now: Moment, sink: &mut S) -> Option<Packet>
         requires order { self.old.clock ≤ now }
         requires sink { length (beneath self.old.tree.root) ≤ S.room sink.old }

@@ -16,29 +16,31 @@ pub struct Link {
     pub burst: u32,
 }
 
-/// A class of a drr in numbers.
+/// A class of a drr in numbers: it gets `quantum` of every `quanta` bytes.
 #[derive(Clone, Copy, PartialEq, Eq, Debug, Default)]
 pub struct Share {
-    /// The bytes of each grant of the class.
+    /// The quantum of the class, in bytes.
     pub quantum: u32,
-    /// The same of all classes of the drr together.
+    /// The sum of the quanta of all classes of the drr, in bytes.
     pub quanta: u64,
     /// How many classes the drr has.
     pub classes: u32,
 }
 
-/// The path from the root down to a class, with nothing but drrs on it, below a tbf at the root or none.
+/// The way from the root down to a class of a drr: it leads through drrs alone, below a tbf at the root if there is one.
 #[derive(Drop)]
 pub struct Way {
-    /// The tbf at the root. There is no other in the tree then.
+    /// The tbf at the root, if there is one. There is no other tbf in the tree then.
     pub link: Option<Link>,
-    /// The classes on the path, from the root down. A tree has at most eight levels.
+    /// The classes on the way, from the root down, at most eight.
     pub shares: ArrayVec<Share, 8>,
 }
 
 impl Tree {
-    /// The path from the root down to a class of a drr; `None` where there is no such class, where something other than a drr is on
-    /// the path, a tbf at the root apart, or where another tbf is below that one. It takes no memory.
+    /// Finds the way from the root down to a class of a drr. Allocates nothing.
+    ///
+    /// Returns `None` if there is no such class, if something other than drrs is on the way, apart from a tbf at the root, or if another tbf is
+    /// below that one.
     pub fn way_to(&self, class: ClassId) -> Option<Way>
         ensures link { option_map (λ w. w.link) result ≡ option_map (λ w. w.link) (way_to class self.now.tree.root) }
         ensures shares { option_map (λ w. w.shares.items) result ≡ option_map shares_of (way_to class self.now.tree.root) }

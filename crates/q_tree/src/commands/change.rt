@@ -23,18 +23,21 @@ use q_packet::Moment;
 use std::alloc::Global;
 
 impl Tree {
-    /// Gives a qdisc, named by its place, its handle or both, which then name the same one, other settings of its kind
-    /// (`tc qdisc change`, tc(8)). What is not given stays as it is. `now` is at or after the latest time that the tree was given.
+    /// Gives a qdisc other settings of its kind (`tc qdisc change`, tc(8)). Settings that are not given stay as they are.
     ///
-    /// A smaller limit removes nothing. A bucket first fills at its old rate up to `now`. New bands of a prio are implicit pfifos; of
-    /// bands fewer the last go, and what waits there is lost to `sink`, which needs room for what is queued in the tree.
+    /// The qdisc is named by its place, by its handle, or by both, which then name the same qdisc. `now` is not before the latest time that the
+    /// tree was given.
+    ///
+    /// A smaller limit drops no packet. A token bucket first fills at its old rate up to `now`. If a prio gets more bands, the new ones are
+    /// implicit pfifos. If it gets fewer, the last ones go, and what is queued there is lost to `sink`, which needs room for all that is queued in
+    /// the tree.
     ///
     /// # Errors
     ///
-    /// `NoQdisc` where no qdisc is named so. `CannotChange` where it is of another kind, or an fq_codel would have another number of
-    /// flows. `SmallBurst` where a tbf's burst would fall below both what it was and the mtu. Of a prio the first that holds: `Busy`
-    /// where a filter names a band that would go; `TooMany` beyond 256 nodes, implicit leaves among them; `Memory`, where it gets more
-    /// bands. The tree is as it was.
+    /// Returns `NoQdisc` if no qdisc is named so; `CannotChange` if it is of another kind, or if an fq_codel would have another number of flows;
+    /// `SmallBurst` if the burst of a tbf would be below both its present burst and the mtu. For a prio, returns the first of these that applies:
+    /// `Busy` if a filter names a band that would go; `TooMany` if there would be more than 256 nodes, including implicit leaves; `Memory` if the
+    /// prio gets more bands and an allocation fails. The tree is as it was.
     pub fn change<S: Sink>(
         &mut self,
         alloc: Global,

@@ -24,15 +24,15 @@ use q_model::{ClassId, Command, Handle, Minor, Quantum, Refusal};
 use std::alloc::Global;
 
 impl Tree {
-    /// Adds a class to a drr, behind the others, with an implicit pfifo (`tc class add`, tc-drr(8)). Its quantum is the mtu where
-    /// none is given.
+    /// Adds a class to a drr, behind its other classes, with an implicit pfifo in it (`tc class add`, tc-drr(8)). If no quantum is given, the
+    /// quantum is the mtu.
     ///
     /// # Errors
     ///
-    /// The first that holds: `NoParent` where `parent` is not the class's qdisc; `NoQdisc` where that is not there;
-    /// `NotClassful` where it has no classes; `CannotChange` where its classes come with it; `Exists` where it has the class;
-    /// `TooDeep` where the pfifo would be below 8 levels; `TooMany` beyond 256 nodes, implicit leaves among them; `Memory`.
-    /// The tree is as it was.
+    /// Returns the first of these that applies: `NoParent` if `parent` is not the qdisc of the class; `NoQdisc` if there is no such qdisc;
+    /// `NotClassful` if it has no classes; `CannotChange` if its classes come with it, as those of a prio do; `Exists` if it has the class already;
+    /// `TooDeep` if the pfifo would be below the eighth level; `TooMany` if there would be more than 256 nodes, including implicit leaves; `Memory`
+    /// if an allocation fails. The tree is as it was.
     pub fn class_add(
         &mut self,
         alloc: Global,
@@ -50,15 +50,15 @@ impl Tree {
         self.lossless(alloc, command)
     }
 
-    /// Removes a class of a drr, with all that is below it (`tc class del`, tc-drr(8)).
+    /// Removes a class of a drr, with all that is below it (`tc class del`, tc-drr(8)). Allocates nothing.
     ///
-    /// What waits there is lost to `sink`, which needs room for what is queued in the tree. It takes no memory.
+    /// What is queued there is lost to `sink`, which needs room for all that is queued in the tree.
     ///
     /// # Errors
     ///
-    /// The first that holds: `NoParent` where `parent` is not the class's qdisc; `NoQdisc` where that is not there;
-    /// `NotClassful` where it has no classes; `CannotChange` where its classes come with it; `NoClass` where it has no such
-    /// class; `Busy` where one of its filters names the class. The tree is as it was.
+    /// Returns the first of these that applies: `NoParent` if `parent` is not the qdisc of the class; `NoQdisc` if there is no such qdisc;
+    /// `NotClassful` if it has no classes; `CannotChange` if its classes come with it, as those of a prio do; `NoClass` if it lacks the class;
+    /// `Busy` if one of its filters names the class. The tree is as it was.
     pub fn class_del<S: Sink>(
         &mut self,
         parent: Option<Handle>,
@@ -76,14 +76,14 @@ impl Tree {
         self.command(alloc, command, self.clock, sink)
     }
 
-    /// Gives a class of a drr another quantum, where one is given (`tc class change`, tc-drr(8)). A deficit above what the new
-    /// quantum allows is cut.
+    /// Gives a class of a drr another quantum, if one is given (`tc class change`, tc-drr(8)). If the deficit is above what the new quantum allows,
+    /// it is cut to that.
     ///
     /// # Errors
     ///
-    /// The first that holds: `NoParent` where `parent` is not the class's qdisc; `NoQdisc` where that is not there;
-    /// `NotClassful` where it has no classes; `CannotChange` where its classes come with it; `NoClass` where it has no such
-    /// class. The tree is as it was.
+    /// Returns the first of these that applies: `NoParent` if `parent` is not the qdisc of the class; `NoQdisc` if there is no such qdisc;
+    /// `NotClassful` if it has no classes; `CannotChange` if its classes come with it, as those of a prio do; `NoClass` if it lacks the class. The
+    /// tree is as it was.
     pub fn class_change(
         &mut self,
         parent: Option<Handle>,

@@ -21,13 +21,13 @@ use q_model::{Command, Filter, FilterPrio, Handle, Refusal};
 const MOST_FILTERS: usize = 256;
 
 impl Tree {
-    /// Adds a filter to the qdisc with this handle, behind those of the same priority (`tc filter add`, tc(8)). `major` is the
-    /// handle in the class that the line names.
+    /// Adds a filter to the qdisc with the handle `parent`, behind its filters of the same priority (`tc filter add`, tc(8)). `major` is the major
+    /// number of the class that the line names.
     ///
     /// # Errors
     ///
-    /// The first that holds: `NoQdisc` where no qdisc has the handle; `NotClassful` where it is no prio and no drr; `NoClass`
-    /// where it has no such class; `TooMany` where it has 256 filters; `Memory`. The tree is as it was.
+    /// Returns the first of these that applies: `NoQdisc` if no qdisc has the handle; `NotClassful` if the qdisc is neither a prio nor a drr;
+    /// `NoClass` if it lacks the class; `TooMany` if it has 256 filters; `Memory` if an allocation fails. The tree is as it was.
     pub fn filter_add(
         &mut self,
         parent: Handle,
@@ -45,12 +45,12 @@ impl Tree {
         self.lossless(alloc, command)
     }
 
-    /// Removes all filters of this priority from the qdisc with this handle (`tc filter del`, tc(8)).
+    /// Removes all filters of this priority from the qdisc with the handle `parent` (`tc filter del`, tc(8)).
     ///
     /// # Errors
     ///
-    /// The first that holds: `NoQdisc` where no qdisc has the handle; `NotClassful` where it is no prio and no drr; `NoFilter`
-    /// where no filter has the priority. The tree is as it was.
+    /// Returns the first of these that applies: `NoQdisc` if no qdisc has the handle; `NotClassful` if the qdisc is neither a prio nor a drr;
+    /// `NoFilter` if no filter has the priority. The tree is as it was.
     pub fn filter_del(&mut self, parent: Handle, prio: FilterPrio) -> Result<(), Refusal>
         ensures { IsAnswered takes_none self.old.clock (plan_of (FilterDel parent prio) self.old.clock self.old) self.old self.new result }
     {

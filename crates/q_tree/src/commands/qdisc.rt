@@ -26,17 +26,18 @@ use q_packet::Moment;
 use std::alloc::Global;
 
 impl Tree {
-    /// Puts a new qdisc into a place, instead of the implicit leaf there (`tc qdisc add`, tc(8)). Without a handle it gets the least
-    /// major number from 8001 (hexadecimal) on that no qdisc has. `now` is at or after the latest time that the tree was given.
+    /// Puts a new qdisc into a place, instead of the implicit leaf there (`tc qdisc add`, tc(8)). If no handle is given, the qdisc gets the least
+    /// major number from 8001 (hexadecimal) on that no qdisc has.
     ///
-    /// What waits in the leaf is lost to `sink`, which needs room for what is queued in the tree.
+    /// `now` is not before the latest time that the tree was given. What is queued in the leaf is lost to `sink`, which needs room for all that is
+    /// queued in the tree.
     ///
     /// # Errors
     ///
-    /// The first that holds: `Exists` where the place is the device itself; `NoParent` where the class's qdisc is not there;
-    /// `NotClassful` where it has no classes; `NoClass` where it has no such class; `Exists` where a qdisc with a handle is
-    /// there; `HandleTaken`; `TooDeep` beyond 8 levels; `TooMany` beyond 256 nodes, implicit leaves among them; `Memory`,
-    /// of a prio, a tbf or an fq_codel. The tree is as it was.
+    /// Returns the first of these that applies: `Exists` if the place is the device itself; `NoParent` if there is no qdisc with the major number
+    /// of the class; `NotClassful` if that qdisc has no classes; `NoClass` if it lacks the class; `Exists` if a qdisc with a handle is in the
+    /// place; `HandleTaken` if another qdisc has the handle; `TooDeep` if there would be more than 8 levels; `TooMany` if there would be more than
+    /// 256 nodes, including implicit leaves; `Memory` if an allocation fails, for a prio, a tbf or an fq_codel. The tree is as it was.
     pub fn graft<S: Sink>(
         &mut self,
         alloc: Global,
@@ -61,14 +62,14 @@ impl Tree {
         self.command(alloc, command, now, sink)
     }
 
-    /// Removes a qdisc with all that is below it, named by its place, its handle or both, which then name the same one
-    /// (`tc qdisc del`, tc(8)). The implicit leaf of its place comes back, empty.
+    /// Removes a qdisc with all that is below it (`tc qdisc del`, tc(8)). Its place gets back the implicit leaf, which is empty. Allocates nothing.
     ///
-    /// What waits there is lost to `sink`, which needs room for what is queued in the tree. It takes no memory.
+    /// The qdisc is named by its place, by its handle, or by both, which then name the same qdisc. What is queued there is lost to `sink`, which
+    /// needs room for all that is queued in the tree.
     ///
     /// # Errors
     ///
-    /// `NoQdisc` where no qdisc is named so. The tree is as it was.
+    /// Returns `NoQdisc` if no qdisc is named so. The tree is as it was.
     pub fn prune<S: Sink>(
         &mut self,
         alloc: Global,
