@@ -18,6 +18,8 @@ mod LinePuts
 mod LineStretches
 mod LinkAsks
 mod LinkStretches
+mod MostTurns
+mod MostTurnRows
 mod NeverLate
 mod NewFlowService
 mod NewFlowSums

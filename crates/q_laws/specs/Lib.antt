@@ -3,6 +3,7 @@ pub mod Delivered
 pub mod InTime
 pub mod Latest
 pub mod Line
+pub mod MostOfTurn
 pub mod NewFlow
 pub mod Order
 pub mod Rate

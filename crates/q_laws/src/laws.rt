@@ -4,6 +4,7 @@ ghost use Rattle.q_laws.specs.Delivered.{LatenessIsTheGreatest, ServiceIsDeliver
 ghost use Rattle.q_laws.specs.InTime.{ClassesShareInTime, SharesMultiply};
 ghost use Rattle.q_laws.specs.Latest.{LatestIsEnough, LatestIsInTime, LatestIsToldBefore, LatestRisesNoFaster, LatestStandsAsItFills};
 ghost use Rattle.q_laws.specs.Line.{LimitsAreDelays, LinesLeaveFirst, LinesLeaveInTime};
+ghost use Rattle.q_laws.specs.MostOfTurn.{ClassesWaitAtMost, TurnsAreBounded};
 ghost use Rattle.q_laws.specs.NewFlow.{NewFlowsGoBefore};
 ghost use Rattle.q_laws.specs.Order.{FlowsKeepOrder};
 ghost use Rattle.q_laws.specs.Rate.{NeverLateIsDrained, RateIsDelivered, RateIsSpent};
@@ -272,6 +273,21 @@ pub fn latest_is_enough(settings: Settings)
 /// events whose fields are in their ranges, whatever comes to the other classes. Bytes are those that a class's child hands to the drr.
 pub fn classes_wait_their_turn(settings: Settings)
     ensures { ClassesWaitTheirTurn settings }
+{
+    settings.ranges();
+}
+
+/// The most that [`classes_wait_their_turn`] can come to, in any state of any device: a number of the class and its drr alone, which can be
+/// promised before a packet comes. Of n classes with the quantum q of Q, that is `bytes + ceil(bytes/q)*(Q - q)`, and for the deficits of the
+/// others `(Q - q) + (n - 1)*(mtu - 1)` (`bytes_of_turn`). No deficit is above a quantum and the mtu less a byte, also where a command has lowered
+/// the quantum, since the deficit is cut with it. So until a packet has left that ends within `bytes` bytes of its class, the classes of the drr
+/// send no more, the packet among them, under the conditions of that law (`sent`).
+///
+/// For all settings and every list of events whose fields are in their ranges, whatever comes to the other classes. Bytes are those that a class's
+/// child hands to the drr, which may hold one packet more.
+pub fn turns_are_bounded(settings: Settings)
+    ensures bytes_of_turn { TurnsAreBounded settings }
+    ensures sent { ClassesWaitAtMost settings }
 {
     settings.ranges();
 }

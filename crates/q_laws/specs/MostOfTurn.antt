@@ -1,0 +1,43 @@
+-- The most that the classes of a drr send before a packet of one of them, whatever state the drr is in: numbers of the class and its drr alone,
+-- so that they can be promised beforehand. A deficit is below a quantum and the mtu together (M. Shreedhar and G. Varghese, "Efficient Fair
+-- Queuing Using Deficit Round-Robin" (1995)), and this is what `bytes_of_turn` comes to where each of the others has the greatest.
+use Rattle.std.specs.Prelude.{◌≡◌, ℕ, ◌+◌, ◌-◌, ◌*◌, ◌^◌, ◌≤◌, List, ◌++◌, All, Some}
+use Rattle.std.specs.Int.{div_ceil}
+use Rattle.q_drr.specs.Schedule.{Class, Schedule, quantum_of}
+use Rattle.q_model.specs.declared.event.Event.{Event}
+use Rattle.q_model.specs.Events.{IsEvent}
+use Rattle.q_model.specs.Settings.{DeviceSettings}
+use Rattle.q_model.specs.Stretches.{ClassAt, class_in, IsBackloggedClass, Throughout}
+use Rattle.q_tree.specs.declared.ways.Share.{Share}
+use Rattle.q_tree.specs.Ways.{share_among}
+use Rattle.q_device.specs.Sharing.{device_after}
+use Rattle.q_laws.specs.Service.{HasClasses, all_sent}
+use Rattle.q_laws.specs.Turn.{StaysLeft, bytes_of_turn, shown_by}
+
+-- For each grant that the class may need from no deficit on, the quanta of the others, and the greatest deficit of each of them.
+abbrev pub most_of_turn : ℕ → ℕ → Share → ℕ
+most_of_turn mtu bytes share =
+    let others = share.quanta - share.quantum in
+    bytes + div_ceil bytes share.quantum * others + (others + (share.classes - 1) * (mtu - 1))
+
+-- the share of class i
+abbrev pub share_in : ℕ → Schedule → Share
+share_in i s = share_among (record { name = i; quantum = quantum_of i s.classes }) s.classes
+
+abbrev pub TurnsAreBounded : DeviceSettings → Type 0
+TurnsAreBounded settings =
+    (events : List Event) (major i bytes : ℕ) (class : ClassAt) → All IsEvent events
+    → class_in major i (device_after settings events) ≡ Some class
+    → bytes_of_turn i (quantum_of i class.schedule.classes) class.schedule.classes class.schedule.active bytes
+    ≤ most_of_turn settings.mtu bytes (share_in i class.schedule)
+
+-- So a packet that ends within so many bytes of its class waits for no more, whatever the deficits and the active list were when it came.
+abbrev pub ClassesWaitAtMost : DeviceSettings → Type 0
+ClassesWaitAtMost settings =
+    (before during : List Event) (major i quantum bytes : ℕ) (classes : List Class) (last : ClassAt) (t : ℕ)
+    → All IsEvent before → All IsEvent during
+    → Throughout (HasClasses major classes) settings before during → Throughout (IsBackloggedClass major i quantum) settings before during
+    → StaysLeft major i bytes 0 (device_after settings before) during → class_in major i (device_after settings (before ++ during)) ≡ Some last
+    → (device_after settings (before ++ during)).clock ≤ t → t ≤ 2 ^ 62
+    → all_sent major classes (device_after settings before) during + shown_by t last
+    ≤ most_of_turn settings.mtu bytes (share_among (record { name = i; quantum = quantum }) classes)
