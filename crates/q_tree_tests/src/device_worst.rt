@@ -39,10 +39,14 @@ fn tells_all(
     Ok(())
 }
 
+fn opened(alloc: Global, mtu: u16, limit: u32) -> Result<Device, Fail> {
+    let settings = Settings::new(mtu, limit, 0).ok_or("settings")?;
+    Ok(Device::open(alloc, settings)?)
+}
+
 // Checks what a device with an mtu of 1514 reports after these lines.
 fn answers(alloc: Global, lines: &[Ask], rows: &[(Spot, Option<Told>)]) -> Result<(), Fail> {
-    let settings = Settings::new(1514, 1000, 0).ok_or("settings")?;
-    tells_all(&mut Device::open(alloc, settings)?, lines, rows)
+    tells_all(&mut opened(alloc, 1514, 1000)?, lines, rows)
 }
 
 #[test]
@@ -158,29 +162,31 @@ fn a_time_past_the_end_is_answered_nothing(rt: HostRuntime) -> Result<(), Fail> 
 
 // ---- packets that wait just so long, where the mtu is 1500
 
-// What a tbf of 1 mbit with a burst of 1640 bytes has at first is spent on two packets.
+// A tbf of 1 mbit with a burst of 1640 bytes.
+const SHORT: Ask = Ask::Graft(Spot::Root, 1, New::Tbf(1_640));
+
+// What it has at first is spent on two packets.
 const SPENT: [Call; 5] = [
-    Call::Do(Ask::Graft(Spot::Root, 1, New::Tbf(1_640)), 0, None),
+    Call::Do(SHORT, 0, None),
     Call::Arrive(1, 1_500, 0, 0, Fate::Kept),
     Call::Arrive(2, 140, 0, 0, Fate::Kept),
     Call::Poll(0, 1),
     Call::Poll(0, 2),
 ];
 
-// The numbers of such a device, where this stands in the class of the tbf or nothing does.
-fn answers_short(alloc: Global, new: Option<New>, expected: Told) -> Result<(), Fail> {
-    let settings = Settings::new(1500, 100, 0).ok_or("settings")?;
-    let mut device = Device::open(alloc, settings)?;
-    set_up(&mut device, &[Ask::Graft(Spot::Root, 1, New::Tbf(1_640))])?;
-    if let Some(new) = new {
-        set_up(&mut device, &[Ask::Graft(Spot::Class(1, 1), 2, new)])?;
-    }
-    tells(&device, Spot::Class(1, 1), Some(expected))
+// Checks the numbers of the class of such a tbf after these lines.
+fn answers_short(alloc: Global, lines: &[Ask], expected: Told) -> Result<(), Fail> {
+    let rows = [(Spot::Class(1, 1), Some(expected))];
+    tells_all(&mut opened(alloc, 1500, 100)?, lines, &rows)
 }
 
 #[test]
 fn a_tbf_lets_its_last_packet_wait_so_long(rt: HostRuntime) -> Result<(), Fail> {
-    answers_short(rt.alloc(), None, (10_000, Some((80_000_000, 1_119_999))))?;
+    answers_short(
+        rt.alloc(),
+        &[SHORT],
+        (10_000, Some((80_000_000, 1_119_999))),
+    )?;
     let calls = [
         SPENT[0],
         SPENT[1],
@@ -208,16 +214,19 @@ fn a_tbf_lets_its_last_packet_wait_so_long(rt: HostRuntime) -> Result<(), Fail> 
     called(rt.alloc(), &calls)
 }
 
+// A pfifo of two packets in its class.
+const PAIR: Ask = Ask::Graft(Spot::Class(1, 1), 2, New::Packets(2));
+
 #[test]
 fn a_pfifo_lets_its_last_packet_wait_so_long(rt: HostRuntime) -> Result<(), Fail> {
     answers_short(
         rt.alloc(),
-        Some(New::Packets(2)),
+        &[SHORT, PAIR],
         (3_000, Some((24_000_000, 1_119_999))),
     )?;
     let calls = [
         SPENT[0],
-        Call::Do(Ask::Graft(Spot::Class(1, 1), 2, New::Packets(2)), 0, None),
+        Call::Do(PAIR, 0, None),
         SPENT[1],
         SPENT[2],
         SPENT[3],

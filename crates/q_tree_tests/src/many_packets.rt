@@ -12,18 +12,17 @@ const QUEUED: u64 = 65_537;
 const EVENTS: usize = 131_076;
 
 // A pfifo that is filled, overflows by one packet, and is emptied.
-fn events(alloc: Global) -> Result<Vec<Event>, Fail> {
-    let mut events = room(alloc, EVENTS)?;
+fn add_events(events: &mut Vec<Event>) -> Result<(), Fail> {
     let limit = u32::try_from(QUEUED).map_err(|_| "limit")?;
     let pfifo = Ask::Graft(Spot::Root, 1, New::Packets(limit));
-    add_event(&mut events, command_at(pfifo, 0))?;
+    add_event(events, command_at(pfifo, 0))?;
     for number in 0..QUEUED + 1 {
-        add_event(&mut events, arrival_at(number, 1, 0, 0))?;
+        add_event(events, arrival_at(number, 1, 0, 0))?;
     }
     for _ in 0..QUEUED {
-        add_event(&mut events, poll_at(0))?;
+        add_event(events, poll_at(0))?;
     }
-    Ok(events)
+    Ok(())
 }
 
 // Whether the event of this place is answered as it has to be: the command first, then the arrivals, then the polls.
@@ -40,17 +39,27 @@ fn is_answered(place: u64, reply: Reply) -> bool {
     gives(reply, place.saturating_sub(QUEUED + 2))
 }
 
-#[test]
-fn more_packets_than_16_bits_count(rt: HostRuntime) -> Result<(), Fail> {
-    let settings = Settings::new(1514, 1000, 0).ok_or("settings")?;
-    let events = events(rt.alloc())?;
-    let replies = replies(rt.alloc(), settings, events.as_slice())?;
-    assert_eq!(rt; replies.len(), events.len());
-    for (place, reply) in replies.iter().enumerate() {
-        assert!(rt;
-            is_answered(place as u64, *reply),
-            "event {place}: {reply:?}"
-        );
+fn expect_answers(replies: &[Reply]) -> Result<(), Fail> {
+    let mut place = 0u64;
+    for reply in replies {
+        if !is_answered(place, *reply) {
+            return Err(Fail::new(format_args!("event {place}: {reply:?}")));
+        }
+        place = place.saturating_add(1);
     }
     Ok(())
+}
+
+fn played(alloc: Global, events: &mut Vec<Event>) -> Result<Vec<Reply>, Fail> {
+    let settings = Settings::new(1514, 1000, 0).ok_or("settings")?;
+    add_events(events)?;
+    replies(alloc, settings, events.as_slice())
+}
+
+#[test]
+fn more_packets_than_16_bits_count(rt: HostRuntime) -> Result<(), Fail> {
+    let mut events = room(rt.alloc(), EVENTS)?;
+    let replies = played(rt.alloc(), &mut events)?;
+    assert!(rt; replies.len() == events.len());
+    expect_answers(replies.as_slice())
 }

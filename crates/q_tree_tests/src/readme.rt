@@ -8,8 +8,7 @@ use std::alloc::Global;
 use std::test::Fail;
 
 // What a play of them answers.
-fn replies(alloc: Global) -> Result<Vec<Reply>, Fail> {
-    let mut script = Script::new(alloc)?;
+fn replies(alloc: Global, script: &mut Script) -> Result<Vec<Reply>, Fail> {
     script.tc(&[Ask::Graft(Spot::Root, 1, New::Packets(2))])?;
     for number in 1u16..4 {
         let arrival = arrival_at(u64::from(number), number.saturating_mul(100), 0, 0);
@@ -19,21 +18,32 @@ fn replies(alloc: Global) -> Result<Vec<Reply>, Fail> {
     script.replies(alloc)
 }
 
+// What the line and the packets are answered.
+const ARRIVED: [Reply; 4] = [
+    Reply::Done(Ok(())),
+    Reply::Fate(Fate::Kept),
+    Reply::Fate(Fate::Kept),
+    Reply::Fate(Fate::Lost(Cause::OverLimit)),
+];
+
+// Whether a poll gave the packet of this number, with so many bytes; none where they are 0.
+fn has_given(reply: Option<&Reply>, number: u64, bytes: u64) -> bool {
+    match reply {
+        Some(reply) => gives(*reply, number) && given(reply) == bytes,
+        None => false,
+    }
+}
+
+fn are_polled(replies: &[Reply]) -> bool {
+    has_given(replies.get(4), 1, 100)
+        && has_given(replies.get(5), 2, 200)
+        && has_given(replies.get(6), 0, 0)
+}
+
 #[test]
 fn the_script_of_the_readme_is_played(rt: HostRuntime) -> Result<(), Fail> {
-    let replies = replies(rt.alloc())?;
-    let arrived = [
-        Reply::Done(Ok(())),
-        Reply::Fate(Fate::Kept),
-        Reply::Fate(Fate::Kept),
-        Reply::Fate(Fate::Lost(Cause::OverLimit)),
-    ];
-    assert!(rt; replies.len() == 7);
-    for i in 0..4 {
-        assert!(rt; replies[i] == arrived[i]);
-    }
-    assert!(rt; gives(replies[4], 1) && given(&replies[4]) == 100);
-    assert!(rt; gives(replies[5], 2) && given(&replies[5]) == 200);
-    assert!(rt; gives(replies[6], 0));
+    let replies = replies(rt.alloc(), &mut Script::new(rt.alloc())?)?;
+    assert!(rt; replies.len() == 7 && replies.get(..4) == Some(&ARRIVED[..]));
+    assert!(rt; are_polled(replies.as_slice()));
     Ok(())
 }

@@ -1,4 +1,4 @@
-//! Lists of events that a test plays.
+//! Lists of events that a test plays, and steps that make them.
 use crate::device_bench::{Ask, add_event, arrival_at, command_at, poll_at, replies, room};
 use q_device::{Event, Polled, Reply, Settings};
 use std::alloc::Global;
@@ -59,6 +59,41 @@ impl Script {
         let given = replies.get(before..).ok_or("replies")?;
         Ok([bytes(given, 1), bytes(given, 2)])
     }
+}
+
+/// What happens in a play.
+#[derive(Clone, Copy)]
+pub enum Step {
+    // A line is done.
+    Tc(Ask),
+    // So many packets of this length and priority come.
+    Packets(u64, u16, u8),
+    // So many polls give these bytes of priority 1 and of priority 2.
+    Polls(usize, [u64; 2]),
+}
+
+fn expect(given: [u64; 2], expected: [u64; 2]) -> Result<(), Fail> {
+    if given == expected {
+        Ok(())
+    } else {
+        Err(Fail::new(format_args!("{given:?}")))
+    }
+}
+
+fn happens(alloc: Global, script: &mut Script, step: Step) -> Result<(), Fail> {
+    match step {
+        Step::Tc(ask) => script.tc(&[ask]),
+        Step::Packets(count, len, prio) => script.packets(count, len, prio),
+        Step::Polls(count, expected) => expect(script.polls(alloc, count)?, expected),
+    }
+}
+
+/// These steps happen.
+pub fn go_on(alloc: Global, script: &mut Script, steps: &[Step]) -> Result<(), Fail> {
+    for step in steps {
+        happens(alloc, script, *step)?;
+    }
+    Ok(())
 }
 
 // The bytes of the packets of a priority that polls gave.

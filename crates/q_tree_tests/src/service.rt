@@ -1,45 +1,11 @@
 //! Plays in which a law of service is met exactly, or in which what is promised to a customer is counted.
 use crate::device_bench::{Ask, add_event};
 use crate::lines::{New, Spot, at};
-use crate::script::{Script, given};
+use crate::script::{Script, Step, given, go_on};
 use q_device::{Event, Reply};
 use q_packet::{Ecn, FlowKey, Packet};
 use std::alloc::Global;
 use std::test::Fail;
-
-// What happens in a play.
-#[derive(Clone, Copy)]
-enum Step {
-    // A line is done.
-    Tc(Ask),
-    // So many packets of this length and priority come.
-    Packets(u64, u16, u8),
-    // So many polls give these bytes of priority 1 and of priority 2.
-    Polls(usize, [u64; 2]),
-}
-
-fn expect(given: [u64; 2], expected: [u64; 2]) -> Result<(), Fail> {
-    if given == expected {
-        Ok(())
-    } else {
-        Err(Fail::new(format_args!("{given:?}")))
-    }
-}
-
-fn happens(alloc: Global, script: &mut Script, step: Step) -> Result<(), Fail> {
-    match step {
-        Step::Tc(ask) => script.tc(&[ask]),
-        Step::Packets(count, len, prio) => script.packets(count, len, prio),
-        Step::Polls(count, expected) => expect(script.polls(alloc, count)?, expected),
-    }
-}
-
-fn go_on(alloc: Global, script: &mut Script, steps: &[Step]) -> Result<(), Fail> {
-    for step in steps {
-        happens(alloc, script, *step)?;
-    }
-    Ok(())
-}
 
 // These steps, then so many rounds of others, and the last ones.
 fn run(

@@ -133,16 +133,23 @@ impl Link {
         self.delivers(from, to) && self.shares(from, to) && self.shares_beneath(from, to)
     }
 
+    // The laws hold from this time to each of these.
+    fn holds_from(&self, from: &Wait, waits: &[Wait]) -> Result<(), Fail> {
+        for to in waits {
+            if !self.keeps(from, to) {
+                return Err(Fail::new(format_args!("{} to {}", from.ns, to.ns)));
+            }
+        }
+        Ok(())
+    }
+
     /// How many intervals there are between these times, over each of which the laws hold.
     pub fn holds(&self, waits: &[Wait]) -> Result<u64, Fail> {
         let mut intervals = 0u64;
-        for (nth, from) in waits.iter().enumerate() {
-            for to in waits.iter().skip(nth) {
-                if !self.keeps(from, to) {
-                    return Err(Fail::new(format_args!("{} to {}", from.ns, to.ns)));
-                }
-                intervals = intervals.saturating_add(1);
-            }
+        for nth in 0..waits.len() {
+            let later = &waits[nth..];
+            self.holds_from(&waits[nth], later)?;
+            intervals = intervals.saturating_add(later.len() as u64);
         }
         Ok(intervals)
     }

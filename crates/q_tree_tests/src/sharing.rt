@@ -2,62 +2,67 @@
 //! what quanta, deficits and credits make of them. A priority is a class or a flow. And what a tbf sends over each interval of a play.
 use crate::device_bench::{Ask, add, add_event, poll_at, room};
 use crate::lines::{New, Spot};
-use crate::script::{MOST, Script, given};
+use crate::script::{MOST, Script, Step, given, go_on};
 use q_device::Reply;
 use std::alloc::Global;
 use std::test::Fail;
 
-// A drr with classes of quanta 1000 and 500, and ten packets of 500 bytes for each.
-fn two_classes(alloc: Global) -> Result<Script, Fail> {
-    let mut script = Script::new(alloc)?;
-    script.tc(&[
-        Ask::Graft(Spot::Root, 1, New::Drr),
-        Ask::AddClass(1, 1, 1000),
-        Ask::AddClass(1, 2, 500),
-        Ask::Match(1, 1, 1),
-        Ask::Match(1, 2, 2),
-    ])?;
-    script.packets(10, 500, 1)?;
-    script.packets(10, 500, 2)?;
-    Ok(script)
-}
-
-fn expect(given: [u64; 2], expected: [u64; 2]) -> Result<(), Fail> {
-    if given == expected {
-        Ok(())
-    } else {
-        Err(Fail::new(format_args!("{given:?}")))
-    }
+// These steps happen on a new device.
+fn play(alloc: Global, steps: &[Step]) -> Result<(), Fail> {
+    go_on(alloc, &mut Script::new(alloc)?, steps)
 }
 
 // The first class has two grants, and a deficit of 1000 at both ends; the second has one, and uses the quantum that it began with.
 #[test]
 fn classes_send_as_their_quanta(rt: HostRuntime) -> Result<(), Fail> {
-    let mut script = two_classes(rt.alloc())?;
-    expect(script.polls(rt.alloc(), 6)?, [2 * 1000, 500 + 500])
+    play(
+        rt.alloc(),
+        &[
+            Step::Tc(Ask::Graft(Spot::Root, 1, New::Drr)),
+            Step::Tc(Ask::AddClass(1, 1, 1000)),
+            Step::Tc(Ask::AddClass(1, 2, 500)),
+            Step::Tc(Ask::Match(1, 1, 1)),
+            Step::Tc(Ask::Match(1, 2, 2)),
+            Step::Packets(10, 500, 1),
+            Step::Packets(10, 500, 2),
+            Step::Polls(6, [2 * 1000, 500 + 500]),
+        ],
+    )
 }
 
 // Another quantum begins another interval. At 100 the first class has five grants and a deficit of 1000, of which 500 are left; the
 // second has five of its own.
 #[test]
 fn a_class_sends_as_its_new_quantum(rt: HostRuntime) -> Result<(), Fail> {
-    let mut script = two_classes(rt.alloc())?;
-    script.polls(rt.alloc(), 6)?;
-    script.tc(&[Ask::ChangeClass(1, 1, 100)])?;
-    expect(
-        script.polls(rt.alloc(), 7)?,
-        [5 * 100 + 1000 - 500, 5 * 500],
+    play(
+        rt.alloc(),
+        &[
+            Step::Tc(Ask::Graft(Spot::Root, 1, New::Drr)),
+            Step::Tc(Ask::AddClass(1, 1, 1000)),
+            Step::Tc(Ask::AddClass(1, 2, 500)),
+            Step::Tc(Ask::Match(1, 1, 1)),
+            Step::Tc(Ask::Match(1, 2, 2)),
+            Step::Packets(10, 500, 1),
+            Step::Packets(10, 500, 2),
+            Step::Polls(6, [2 * 1000, 500 + 500]),
+            Step::Tc(Ask::ChangeClass(1, 1, 100)),
+            Step::Polls(7, [5 * 100 + 1000 - 500, 5 * 500]),
+        ],
     )
 }
 
 // A flow with credits of 1514 is granted once, and has 1028 left; the other gives its packet of 100 bytes.
 #[test]
 fn a_flow_gives_its_grants_and_credits(rt: HostRuntime) -> Result<(), Fail> {
-    let mut script = Script::new(rt.alloc())?;
-    script.tc(&[Ask::Graft(Spot::Root, 1, New::Flows(4))])?;
-    script.packets(3, 1000, 1)?;
-    script.packets(1, 100, 2)?;
-    expect(script.polls(rt.alloc(), 3)?, [1514 + 1514 - 1028, 100])
+    play(
+        rt.alloc(),
+        &[
+            Step::Tc(Ask::Graft(Spot::Root, 1, New::Flows(4))),
+            Step::Packets(3, 1000, 1),
+            Step::Packets(1, 100, 2),
+            Step::Polls(3, [1514 + 1514 - 1028, 100]),
+        ],
+    )
 }
 
 // A bucket of 2000 bytes that gets 8000 bits, which are 1000 bytes, a second.
@@ -81,6 +86,13 @@ fn add_arrivals(script: &mut Script, lens: &[u16]) -> Result<(), Fail> {
     Ok(())
 }
 
+fn add_polls(script: &mut Script, times: &[u64]) -> Result<(), Fail> {
+    for ns in times {
+        add_event(&mut script.events, poll_at(*ns))?;
+    }
+    Ok(())
+}
+
 fn add_timed_polls(script: &mut Script) -> Result<(), Fail> {
     for nth in 0..POLLS {
         add_event(&mut script.events, poll_at(poll_ns(nth)))?;
@@ -88,32 +100,35 @@ fn add_timed_polls(script: &mut Script) -> Result<(), Fail> {
     Ok(())
 }
 
-// The bytes of each packet that polls gave.
-fn lengths(alloc: Global, replies: &[Reply]) -> Result<Vec<u64>, Fail> {
+// The bytes of each packet that polls gave, from this reply on.
+fn lengths(alloc: Global, replies: &[Reply], from: usize) -> Result<Vec<u64>, Fail> {
     let mut bytes = room(alloc, MOST)?;
-    for reply in replies {
+    for reply in replies.iter().skip(from) {
         add(&mut bytes, given(reply))?;
     }
     Ok(bytes)
 }
 
-// A tbf in which packets of these lengths wait from the start, each four times.
-fn shaper(alloc: Global, lens: &[u16]) -> Result<Script, Fail> {
-    let mut script = Script::new(alloc)?;
+// What each poll gives behind the lines and packets, which are so many events.
+fn given_by_polls(alloc: Global, script: &Script, before: usize) -> Result<Vec<u64>, Fail> {
+    let replies = script.replies(alloc)?;
+    lengths(alloc, replies.as_slice(), before)
+}
+
+// A tbf in which packets of these lengths wait from the start, each four times; how many events that is.
+fn add_shaper(script: &mut Script, lens: &[u16]) -> Result<usize, Fail> {
     script.tc(&[Ask::Graft(Spot::Root, 1, New::Shaper(RATE, 2_000))])?;
     for _ in 0..4 {
-        add_arrivals(&mut script, lens)?;
+        add_arrivals(script, lens)?;
     }
-    Ok(script)
+    Ok(script.events.len())
 }
 
 // What each poll of such a tbf gives.
-fn shaped(alloc: Global, lens: &[u16]) -> Result<Vec<u64>, Fail> {
-    let mut script = shaper(alloc, lens)?;
-    let before = script.events.len();
-    add_timed_polls(&mut script)?;
-    let replies = script.replies(alloc)?;
-    lengths(alloc, replies.get(before..).ok_or("replies")?)
+fn shaped(alloc: Global, script: &mut Script, lens: &[u16]) -> Result<Vec<u64>, Fail> {
+    let before = add_shaper(script, lens)?;
+    add_timed_polls(script)?;
+    given_by_polls(alloc, script, before)
 }
 
 // All that was given.
@@ -154,13 +169,17 @@ fn is_within(bytes: &[u64]) -> bool {
     true
 }
 
+// Whether all of them give so much, and those of each interval no more than they may.
+fn are_spent(bytes: &[u64], all: u64) -> bool {
+    sum(bytes) == all && is_within(bytes)
+}
+
 fn expect_spent(alloc: Global, lens: &[u16], all: u64) -> Result<(), Fail> {
-    let bytes = shaped(alloc, lens)?;
-    let sum = sum(bytes.as_slice());
-    if sum == all && is_within(bytes.as_slice()) {
+    let bytes = shaped(alloc, &mut Script::new(alloc)?, lens)?;
+    if are_spent(bytes.as_slice(), all) {
         Ok(())
     } else {
-        Err(Fail::new(format_args!("{lens:?}: {sum}")))
+        Err(Fail::new(format_args!("{lens:?}")))
     }
 }
 
@@ -180,20 +199,20 @@ fn a_tbf_spends_its_burst_and_what_the_rate_brings(rt: HostRuntime) -> Result<()
 // the second one goes at no poll before, also not at one of an earlier time than the last.
 #[test]
 fn a_tbf_spends_to_the_nanosecond(rt: HostRuntime) -> Result<(), Fail> {
-    let alloc = rt.alloc();
-    let mut script = Script::new(alloc)?;
+    let bytes = spent_at(
+        rt.alloc(),
+        &mut Script::new(rt.alloc())?,
+        &[0, 999, 5, 1000],
+    )?;
+    assert!(rt; bytes.as_slice() == &[1000u64, 0, 0, 1000][..]);
+    Ok(())
+}
+
+// What polls at these times give of two packets in such a bucket.
+fn spent_at(alloc: Global, script: &mut Script, times: &[u64]) -> Result<Vec<u64>, Fail> {
     script.tc(&[Ask::Graft(Spot::Root, 1, New::Shaper(8_000_000_000, 1_000))])?;
     script.packets(2, 1000, 1)?;
     let before = script.events.len();
-    for ns in &[0u64, 999, 5, 1000] {
-        add_event(&mut script.events, poll_at(*ns))?;
-    }
-    let replies = script.replies(alloc)?;
-    let bytes = lengths(alloc, replies.get(before..).ok_or("replies")?)?;
-    let (early, all) = (bytes.as_slice().get(..3), sum(bytes.as_slice()));
-    if early == Some(&[1000u64, 0, 0][..]) && all == 1000 + 1000 {
-        Ok(())
-    } else {
-        Err(Fail::new(format_args!("{all}")))
-    }
+    add_polls(script, times)?;
+    given_by_polls(alloc, script, before)
 }

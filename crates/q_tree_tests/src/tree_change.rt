@@ -118,9 +118,8 @@ fn the_first_refusal_of_a_change_is_told(rt: HostRuntime) -> Result<(), Fail> {
     )
 }
 
-#[test]
-fn bands_are_added_up_to_256_nodes(rt: HostRuntime) -> Result<(), Fail> {
-    let mut calls = Vec::new(rt.alloc());
+// A prio of 16 bands with a prio in each.
+fn add_bands(calls: &mut Vec<Call>) -> Result<(), Fail> {
     calls.push(Call::Graft(Spot::Root, 1, New::Prio(16), None))?;
     for minor in 1..16 {
         calls.push(Call::Graft(Spot::Class(1, minor), 0, New::Prio(15), None))?;
@@ -134,5 +133,12 @@ fn bands_are_added_up_to_256_nodes(rt: HostRuntime) -> Result<(), Fail> {
         Call::Change(2, New::Prio(15), None),
         Call::Nodes(256),
     ])?;
+    Ok(())
+}
+
+#[test]
+fn bands_are_added_up_to_256_nodes(rt: HostRuntime) -> Result<(), Fail> {
+    let mut calls = Vec::new(rt.alloc());
+    add_bands(&mut calls)?;
     play(rt.alloc(), calls.as_slice())
 }

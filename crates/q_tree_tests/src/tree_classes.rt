@@ -208,9 +208,7 @@ fn a_class_stands_on_the_eighth_level_at_most(rt: HostRuntime) -> Result<(), Fai
     )
 }
 
-#[test]
-fn a_drr_has_at_most_255_classes_at_the_root(rt: HostRuntime) -> Result<(), Fail> {
-    let mut calls = Vec::new(rt.alloc());
+fn add_classes(calls: &mut Vec<Call>) -> Result<(), Fail> {
     calls.push(Call::Graft(Spot::Root, 1, New::Drr, None))?;
     for minor in 1..256 {
         calls.push(Call::AddClass(1, minor, 0, None))?;
@@ -221,12 +219,17 @@ fn a_drr_has_at_most_255_classes_at_the_root(rt: HostRuntime) -> Result<(), Fail
         Call::DelClass(1, 1, None),
         Call::AddClass(1, 256, 0, None),
     ])?;
-    play(rt.alloc(), calls.as_slice())
+    Ok(())
 }
 
 #[test]
-fn a_node_has_at_most_256_filters(rt: HostRuntime) -> Result<(), Fail> {
+fn a_drr_has_at_most_255_classes_at_the_root(rt: HostRuntime) -> Result<(), Fail> {
     let mut calls = Vec::new(rt.alloc());
+    add_classes(&mut calls)?;
+    play(rt.alloc(), calls.as_slice())
+}
+
+fn add_filters(calls: &mut Vec<Call>) -> Result<(), Fail> {
     calls.push(Call::Graft(Spot::Root, 1, New::Prio(2), None))?;
     for _ in 0..256 {
         calls.push(Call::Match(1, 1, 1, None))?;
@@ -238,5 +241,12 @@ fn a_node_has_at_most_256_filters(rt: HostRuntime) -> Result<(), Fail> {
         Call::Unfilter(1, None),
         Call::Match(1, 1, 1, None),
     ])?;
+    Ok(())
+}
+
+#[test]
+fn a_node_has_at_most_256_filters(rt: HostRuntime) -> Result<(), Fail> {
+    let mut calls = Vec::new(rt.alloc());
+    add_filters(&mut calls)?;
     play(rt.alloc(), calls.as_slice())
 }

@@ -253,25 +253,31 @@ fn band_among_many(alloc: Global, flow: Flow) -> Result<u16, Fail> {
     put_among_many(&mut Bench::new(alloc, 100), alloc, flow)
 }
 
-#[test]
-fn the_first_of_many_filters_decides(rt: HostRuntime) -> Result<(), Fail> {
-    let rows: [(Flow, u16); 7] = [
-        ((4, 17, 1, 2, 5, 1000), 1),
-        ((4, 17, 1, 2, 5, 1001), 2),
-        ((4, 17, 1, 2, 5, 1038), 1),
-        ((4, 17, 1, 41, 5, 6), 2),
-        ((4, 17, 1, 58, 5, 6), 1),
-        // The filter of the port is before that of the address.
-        ((4, 17, 1, 41, 5, 1000), 1),
-        ((6, 17, 1, 41, 5, 6), 1),
-    ];
-    for (flow, band) in rows {
-        let answer = band_among_many(rt.alloc(), flow)?;
-        if answer != band {
+fn go_among_many(alloc: Global, rows: &[(Flow, u16)]) -> Result<(), Fail> {
+    for (flow, minor) in rows {
+        let answer = band_among_many(alloc, *flow)?;
+        if answer != *minor {
             return Err(Fail::new(format_args!("{flow:?}: {answer}")));
         }
     }
     Ok(())
+}
+
+#[test]
+fn the_first_of_many_filters_decides(rt: HostRuntime) -> Result<(), Fail> {
+    go_among_many(
+        rt.alloc(),
+        &[
+            ((4, 17, 1, 2, 5, 1000), 1),
+            ((4, 17, 1, 2, 5, 1001), 2),
+            ((4, 17, 1, 2, 5, 1038), 1),
+            ((4, 17, 1, 41, 5, 6), 2),
+            ((4, 17, 1, 58, 5, 6), 1),
+            // The filter of the port is before that of the address.
+            ((4, 17, 1, 41, 5, 1000), 1),
+            ((6, 17, 1, 41, 5, 6), 1),
+        ],
+    )
 }
 
 // The filters of the first priority go.

@@ -46,17 +46,27 @@ fn find_class(calls: &mut Vec<Call>, m: u8) -> Result<(), Fail> {
 }
 
 // A drr of 15 prios, each of 16 pfifos.
+fn add_classes(calls: &mut Vec<Call>) -> Result<(), Fail> {
+    calls.push(Call::Graft(Spot::Root, 1, New::Drr, None))?;
+    for m in 1..16 {
+        add_class(calls, m)?;
+    }
+    calls.push(Call::Nodes(256))?;
+    Ok(())
+}
+
+fn find_classes(calls: &mut Vec<Call>) -> Result<(), Fail> {
+    for m in 1..16 {
+        find_class(calls, m)?;
+    }
+    Ok(())
+}
+
 #[test]
 fn each_of_256_handles_is_found(rt: HostRuntime) -> Result<(), Fail> {
     let mut calls = Vec::new(rt.alloc());
-    calls.push(Call::Graft(Spot::Root, 1, New::Drr, None))?;
-    for m in 1..16 {
-        add_class(&mut calls, m)?;
-    }
-    calls.push(Call::Nodes(256))?;
-    for m in 1..16 {
-        find_class(&mut calls, m)?;
-    }
+    add_classes(&mut calls)?;
+    find_classes(&mut calls)?;
     play(rt.alloc(), calls.as_slice())
 }
 
