@@ -1,8 +1,8 @@
 //! By when the packet that was queued last in a fifo has left, or one that comes there next: what a device answers, and packets that leave
 //! just then.
-use crate::device_bench::{Ask, arrival_at, poll_at, reply, set_up};
-use crate::lines::{New, Spot};
-use q_device::{Device, Event, Latest, Settings};
+use crate::device_bench::{Ask, set_up};
+use crate::lines::{New, Spot, at, packet};
+use q_device::{Device, Latest, Polled, Settings};
 use std::alloc::Global;
 use std::test::Fail;
 
@@ -26,10 +26,24 @@ fn tells(device: &Device, spot: Spot, len: u16, expected: Option<Told>) -> Resul
     }
 }
 
-fn happens(device: &mut Device, event: Result<Event, Fail>) -> Result<(), Fail> {
-    match reply(device, event?) {
-        Some(_) => Ok(()),
-        None => Err("no memory".into()),
+// The packet with this number and length arrives.
+fn comes(device: &mut Device, number: u64, len: u16, prio: u8, ns: u64) -> Result<(), Fail> {
+    match device.arrive(packet(number, len, prio)?, at(ns)?) {
+        Ok(_) => Ok(()),
+        Err(_) => Err("no memory".into()),
+    }
+}
+
+// A packet is asked for; whether one leaves.
+fn leaves(device: &mut Device, ns: u64, expected: bool) -> Result<(), Fail> {
+    let left = match device.poll(at(ns)?) {
+        Polled::Packet(_) => true,
+        _ => false,
+    };
+    if left == expected {
+        Ok(())
+    } else {
+        Err("another poll".into())
     }
 }
 
@@ -48,10 +62,10 @@ fn shaped(alloc: Global) -> Result<Device, Fail> {
 // The same, whose bucket is empty at time 0.
 fn spent(alloc: Global) -> Result<Device, Fail> {
     let mut device = shaped(alloc)?;
-    happens(&mut device, arrival_at(1, 1_500, 0, 0))?;
-    happens(&mut device, arrival_at(2, 140, 0, 0))?;
-    happens(&mut device, poll_at(0))?;
-    happens(&mut device, poll_at(0))?;
+    comes(&mut device, 1, 1_500, 0, 0)?;
+    comes(&mut device, 2, 140, 0, 0)?;
+    leaves(&mut device, 0, true)?;
+    leaves(&mut device, 0, true)?;
     Ok(device)
 }
 
@@ -67,8 +81,8 @@ fn an_empty_fifo_has_left_at_once(rt: HostRuntime) -> Result<(), Fail> {
 #[test]
 fn a_full_bucket_counts_for_what_late_polls_leave(rt: HostRuntime) -> Result<(), Fail> {
     let mut device = shaped(rt.alloc())?;
-    happens(&mut device, arrival_at(1, 1_500, 0, 0))?;
-    happens(&mut device, arrival_at(2, 1_000, 0, 0))?;
+    comes(&mut device, 1, 1_500, 0, 0)?;
+    comes(&mut device, 2, 1_000, 0, 0)?;
     tells(
         &device,
         FIRST,
@@ -80,50 +94,50 @@ fn a_full_bucket_counts_for_what_late_polls_leave(rt: HostRuntime) -> Result<(),
 #[test]
 fn a_packet_leaves_at_the_time_that_is_answered(rt: HostRuntime) -> Result<(), Fail> {
     let mut device = spent(rt.alloc())?;
-    happens(&mut device, arrival_at(3, 1_000, 0, 0))?;
+    comes(&mut device, 3, 1_000, 0, 0)?;
     tells(
         &device,
         FIRST,
         0,
         Some((1_000, Some((8_000_000, 1_119_999)))),
     )?;
-    happens(&mut device, poll_at(7_999_999))?;
+    leaves(&mut device, 7_999_999, false)?;
     tells(
         &device,
         FIRST,
         0,
         Some((1_000, Some((8_000_000, 1_119_999)))),
     )?;
-    happens(&mut device, poll_at(8_000_000))?;
+    leaves(&mut device, 8_000_000, true)?;
     tells(&device, FIRST, 0, Some((0, Some((8_000_000, 1_119_999)))))
 }
 
 #[test]
 fn a_packet_leaves_when_was_answered_before_it_came(rt: HostRuntime) -> Result<(), Fail> {
     let mut device = spent(rt.alloc())?;
-    happens(&mut device, arrival_at(3, 500, 0, 0))?;
+    comes(&mut device, 3, 500, 0, 0)?;
     tells(
         &device,
         FIRST,
         1_001,
         Some((1_501, Some((12_008_000, 1_119_999)))),
     )?;
-    happens(&mut device, arrival_at(4, 1_001, 0, 0))?;
+    comes(&mut device, 4, 1_001, 0, 0)?;
     tells(
         &device,
         FIRST,
         0,
         Some((1_501, Some((12_008_000, 1_119_999)))),
     )?;
-    happens(&mut device, poll_at(4_000_000))?;
-    happens(&mut device, poll_at(12_007_999))?;
+    leaves(&mut device, 4_000_000, true)?;
+    leaves(&mut device, 12_007_999, false)?;
     tells(
         &device,
         FIRST,
         0,
         Some((1_001, Some((12_008_000, 1_119_999)))),
     )?;
-    happens(&mut device, poll_at(12_008_000))?;
+    leaves(&mut device, 12_008_000, true)?;
     tells(&device, FIRST, 0, Some((0, Some((12_008_000, 1_119_999)))))
 }
 
@@ -136,7 +150,7 @@ fn an_arrival_that_comes_later_leaves_no_later_for_it(rt: HostRuntime) -> Result
         1_000,
         Some((1_000, Some((8_000_000, 1_119_999)))),
     )?;
-    happens(&mut device, arrival_at(3, 1_000, 0, 3_000_000))?;
+    comes(&mut device, 3, 1_000, 0, 3_000_000)?;
     tells(
         &device,
         FIRST,
@@ -154,14 +168,14 @@ fn an_arrival_after_the_answered_time_leaves_as_it_comes(rt: HostRuntime) -> Res
         1_500,
         Some((1_500, Some((12_000_000, 1_119_999)))),
     )?;
-    happens(&mut device, arrival_at(3, 1_500, 0, 20_000_000))?;
+    comes(&mut device, 3, 1_500, 0, 20_000_000)?;
     tells(
         &device,
         FIRST,
         0,
         Some((1_500, Some((20_000_000, 1_119_999)))),
     )?;
-    happens(&mut device, poll_at(20_000_000))?;
+    leaves(&mut device, 20_000_000, true)?;
     tells(&device, FIRST, 0, Some((0, Some((20_000_000, 1_119_999)))))
 }
 
@@ -170,14 +184,14 @@ fn an_arrival_at_a_full_bucket_leaves_as_much_later_as_it_comes(
     rt: HostRuntime,
 ) -> Result<(), Fail> {
     let mut device = shaped(rt.alloc())?;
-    happens(&mut device, arrival_at(1, 1_500, 0, 0))?;
+    comes(&mut device, 1, 1_500, 0, 0)?;
     tells(
         &device,
         FIRST,
         1_000,
         Some((2_500, Some((7_999_999, 1_119_999)))),
     )?;
-    happens(&mut device, arrival_at(2, 1_000, 0, 5_000_000))?;
+    comes(&mut device, 2, 1_000, 0, 5_000_000)?;
     tells(
         &device,
         FIRST,
@@ -190,8 +204,8 @@ fn an_arrival_at_a_full_bucket_leaves_as_much_later_as_it_comes(
 fn without_a_tbf_there_are_bytes_alone(rt: HostRuntime) -> Result<(), Fail> {
     let mut device = opened(rt.alloc())?;
     set_up(&mut device, &[Ask::Graft(Spot::Root, 1, New::Prio(2))])?;
-    happens(&mut device, arrival_at(1, 700, 0, 0))?;
-    happens(&mut device, arrival_at(2, 900, 1, 0))?;
+    comes(&mut device, 1, 700, 0, 0)?;
+    comes(&mut device, 2, 900, 1, 0)?;
     tells(&device, FIRST, 0, Some((700, None)))?;
     tells(&device, FIRST, 65_535, Some((66_235, None)))?;
     tells(&device, Spot::Class(1, 2), 0, None)
