@@ -540,6 +540,11 @@ qtree_code qtree_poll_bufs(qtree_device *device, uint64_t now, qtree_sent *sent,
  * A poll at that time may still return QTREE_LATER, since which packet an fq_codel gives, or which class a drr
  * serves, is not known before it is asked. The next qtree_ready_at then gives a later time.
  *
+ * Promises in time, as those of qtree_service, qtree_worst and qtree_latest, allow a program to be late by so many
+ * nanoseconds. A program asks again after each arrival and each command, and while the time is ahead, the newest one
+ * counts. Once it has come, it stays, whatever comes: the program is late by what it lets pass from that time to the
+ * time of the poll that returns no packet.
+ *
  * Returns
  *   QTREE_DONE       *moment is that time
  *   QTREE_NOTHING    no poll will ever return a packet: none is queued, or no token bucket will ever hold enough
@@ -638,8 +643,8 @@ qtree_code qtree_totals(const qtree_device *device, qtree_row *row);
  *
  *     rate * t / (8 * 10^9) - slack
  *
- * bytes, if each time the program polls until no packet comes, and polls again no later after the time of
- * qtree_ready_at than qtree_lateness says.
+ * bytes, if each time the program polls until no packet comes, and is never later than qtree_lateness says
+ * (qtree_ready_at says how late a program is).
  *
  * With a drr at the root: link and rate are 0, and the class sends at least the share part / 10^9 of what the root's
  * classes send, less slack.
@@ -677,8 +682,8 @@ qtree_code qtree_service(const qtree_device *device, uint32_t place, uint16_t ma
 /* Computes how late polls may be while the promise of qtree_service holds.
  *
  * place, major, minor  as for qtree_stats
- * late                 how many nanoseconds after the time of qtree_ready_at a poll may come: the longest time for
- *                      which the burst of the tbf at the root has room for a packet of the mtu and what the rate
+ * late                 by how many nanoseconds the program may be late, as qtree_ready_at counts it: the longest time
+ *                      for which the burst of the tbf at the root has room for a packet of the mtu and what the rate
  *                      brings in that time and a nanosecond. UINT64_MAX if a drr is at the root: then polls may come
  *                      at any time.
  *
@@ -694,9 +699,9 @@ qtree_code qtree_lateness(const qtree_device *device, uint32_t place, uint16_t m
  * says, including those of the packet itself.
  *
  * With a tbf at the root, the packet has left as soon as the program has polled until no packet came at a time that
- * is ns nanoseconds after the packet's arrival, or later. So if the program never polls later after the time of
- * qtree_ready_at than late nanoseconds, the packet has left by ns + late. Without a tbf at the root, ns and late are
- * UINT64_MAX.
+ * is ns nanoseconds after the packet's arrival, or later. So if the program is never late by more than x nanoseconds,
+ * as qtree_ready_at counts it, and x is at most late, the packet has left by ns + x. Without a tbf at the root, ns and
+ * late are UINT64_MAX.
  *
  * This holds as long as commands take no packet from the qdisc and put none before it, leave a tbf at the root as it
  * is, and add no other tbf. */
@@ -726,9 +731,9 @@ qtree_code qtree_worst(const qtree_device *device, uint32_t place, uint16_t majo
  * itself. A qtree_delay comes from the settings alone; this comes from what is queued, and from what is left of the
  * burst of a tbf at the root.
  *
- * With a tbf at the root, let the program never poll later after the time of qtree_ready_at than late nanoseconds.
- * Then the packet has left as soon as the program has polled until no packet came at the time at, or later, and so by
- * at + late. Without a tbf at the root, at and late are UINT64_MAX.
+ * With a tbf at the root, let the program never be late by more than x nanoseconds, as qtree_ready_at counts it, where
+ * x is at most late. Then the packet has left as soon as the program has polled until no packet came at the time at, or
+ * later, and so by at + x. Without a tbf at the root, at and late are UINT64_MAX.
  *
  * This holds as long as commands take no packet from the qdisc and put none before it, leave a tbf at the root as it
  * is, and add no other tbf. */
@@ -745,8 +750,10 @@ typedef struct qtree_departure {
  * len                  the length of the packet that is to arrive, in bytes, as the len of its qtree_packet; 0 for the
  *                      packet that was queued last
  * departure            by when it has left, if QTREE_DONE is returned. The answer counts from the time of the device's
- *                      last event, which is an arrival, a poll or a command. If the packet arrives t nanoseconds after
- *                      that, the time by which it has left is later by at most t.
+ *                      last event: an arrival, a poll or a command that was carried out. If the packet arrives t
+ *                      nanoseconds after that, the time by which it has left is later by at most t.
+ *
+ * To refuse a packet the program has to see it before it arrives: qtree_take_in gives no chance for that.
  *
  * Returns
  *   QTREE_DONE          *departure is by when the packet has left if it is queued, since the call does not look at the
