@@ -3,6 +3,7 @@
 use crate::device_bench::{Ask, set_up};
 use crate::lines::{New, Spot, at, packet};
 use q_device::{Device, Latest, Polled, Settings};
+use q_packet::{Moment, Packet};
 use std::alloc::Global;
 use std::test::Fail;
 
@@ -17,26 +18,43 @@ fn told(latest: Option<Latest>) -> Option<Told> {
     Some((latest.bytes, Some((at.ns(), late))))
 }
 
-// What is answered of a packet of this length that comes next, or with 0 of the one that was queued last.
-fn tells(device: &Device, spot: Spot, len: u16, expected: Option<Told>) -> Result<(), Fail> {
-    if told(device.latest(spot.place()?, len)) == expected {
+// What happens in a play on a device, all in the fifo 1:1, or is asked of it.
+#[derive(Clone, Copy)]
+enum Step {
+    // The packet of this number and length comes at this nanosecond.
+    Comes(u64, u16, u64),
+    // A poll at this nanosecond gives a packet.
+    Leaves(u64),
+    // It gives none.
+    Stays(u64),
+    // What is answered of a packet of this length that comes next, or with 0 of the one that was queued last: bytes, and the nanosecond.
+    Tells(u16, u64, u64),
+}
+
+// How late polls may be below a tbf of 1 mbit with a burst of 1640 bytes, where the mtu is 1500.
+const LATE: u64 = 1_119_999;
+
+fn told_is(latest: Option<Latest>, expected: Option<Told>) -> Result<(), Fail> {
+    if told(latest) == expected {
         Ok(())
     } else {
         Err("another time".into())
     }
 }
 
-// The packet with this number and length arrives.
-fn comes(device: &mut Device, number: u64, len: u16, prio: u8, ns: u64) -> Result<(), Fail> {
-    match device.arrive(packet(number, len, prio)?, at(ns)?) {
+fn tells(device: &Device, spot: Spot, len: u16, expected: Option<Told>) -> Result<(), Fail> {
+    told_is(device.latest(spot.place()?, len), expected)
+}
+
+fn comes(device: &mut Device, packet: Packet, now: Moment) -> Result<(), Fail> {
+    match device.arrive(packet, now) {
         Ok(_) => Ok(()),
         Err(_) => Err("no memory".into()),
     }
 }
 
-// A packet is asked for; whether one leaves.
-fn leaves(device: &mut Device, ns: u64, expected: bool) -> Result<(), Fail> {
-    let left = match device.poll(at(ns)?) {
+fn leaves(device: &mut Device, now: Moment, expected: bool) -> Result<(), Fail> {
+    let left = match device.poll(now) {
         Polled::Packet(_) => true,
         _ => false,
     };
@@ -45,6 +63,29 @@ fn leaves(device: &mut Device, ns: u64, expected: bool) -> Result<(), Fail> {
     } else {
         Err("another poll".into())
     }
+}
+
+fn goes_on(device: &mut Device, step: Step) -> Result<(), Fail> {
+    match step {
+        Step::Comes(number, len, ns) => comes(device, packet(number, len, 0)?, at(ns)?),
+        Step::Leaves(ns) => leaves(device, at(ns)?, true),
+        Step::Stays(ns) => leaves(device, at(ns)?, false),
+        Step::Tells(len, bytes, ns) => {
+            tells(
+                device,
+                Spot::Class(1, 1),
+                len,
+                Some((bytes, Some((ns, LATE)))),
+            )
+        }
+    }
+}
+
+fn plays(device: &mut Device, steps: &[Step]) -> Result<(), Fail> {
+    for step in steps {
+        goes_on(device, *step)?;
+    }
+    Ok(())
 }
 
 fn opened(alloc: Global) -> Result<Device, Fail> {
@@ -59,154 +100,135 @@ fn shaped(alloc: Global) -> Result<Device, Fail> {
     Ok(device)
 }
 
-// The same, whose bucket is empty at time 0.
-fn spent(alloc: Global) -> Result<Device, Fail> {
-    let mut device = shaped(alloc)?;
-    comes(&mut device, 1, 1_500, 0, 0)?;
-    comes(&mut device, 2, 140, 0, 0)?;
-    leaves(&mut device, 0, true)?;
-    leaves(&mut device, 0, true)?;
-    Ok(device)
+// What empties its bucket at time 0.
+const SPENT: [Step; 4] = [
+    Step::Comes(1, 1_500, 0),
+    Step::Comes(2, 140, 0),
+    Step::Leaves(0),
+    Step::Leaves(0),
+];
+
+// These steps happen on such a device, whose bucket is full at first.
+fn full(alloc: Global, steps: &[Step]) -> Result<(), Fail> {
+    plays(&mut shaped(alloc)?, steps)
 }
 
-const FIRST: Spot = Spot::Class(1, 1);
+fn both(device: &mut Device, first: &[Step], then: &[Step]) -> Result<(), Fail> {
+    plays(device, first)?;
+    plays(device, then)
+}
+
+// The same where it is empty.
+fn spent(alloc: Global, steps: &[Step]) -> Result<(), Fail> {
+    both(&mut shaped(alloc)?, &SPENT, steps)
+}
 
 #[test]
 fn an_empty_fifo_has_left_at_once(rt: HostRuntime) -> Result<(), Fail> {
-    let device = shaped(rt.alloc())?;
-    tells(&device, FIRST, 0, Some((0, Some((0, 1_119_999)))))?;
-    tells(&device, Spot::Root, 0, None)
+    full(rt.alloc(), &[Step::Tells(0, 0, 0)])
+}
+
+#[test]
+fn no_fifo_is_at_the_root(rt: HostRuntime) -> Result<(), Fail> {
+    tells(&shaped(rt.alloc())?, Spot::Root, 0, None)
 }
 
 #[test]
 fn a_full_bucket_counts_for_what_late_polls_leave(rt: HostRuntime) -> Result<(), Fail> {
-    let mut device = shaped(rt.alloc())?;
-    comes(&mut device, 1, 1_500, 0, 0)?;
-    comes(&mut device, 2, 1_000, 0, 0)?;
-    tells(
-        &device,
-        FIRST,
-        0,
-        Some((2_500, Some((7_999_999, 1_119_999)))),
+    full(
+        rt.alloc(),
+        &[
+            Step::Comes(1, 1_500, 0),
+            Step::Comes(2, 1_000, 0),
+            Step::Tells(0, 2_500, 7_999_999),
+        ],
     )
 }
 
 #[test]
 fn a_packet_leaves_at_the_time_that_is_answered(rt: HostRuntime) -> Result<(), Fail> {
-    let mut device = spent(rt.alloc())?;
-    comes(&mut device, 3, 1_000, 0, 0)?;
-    tells(
-        &device,
-        FIRST,
-        0,
-        Some((1_000, Some((8_000_000, 1_119_999)))),
-    )?;
-    leaves(&mut device, 7_999_999, false)?;
-    tells(
-        &device,
-        FIRST,
-        0,
-        Some((1_000, Some((8_000_000, 1_119_999)))),
-    )?;
-    leaves(&mut device, 8_000_000, true)?;
-    tells(&device, FIRST, 0, Some((0, Some((8_000_000, 1_119_999)))))
+    spent(
+        rt.alloc(),
+        &[
+            Step::Comes(3, 1_000, 0),
+            Step::Tells(0, 1_000, 8_000_000),
+            Step::Stays(7_999_999),
+            Step::Tells(0, 1_000, 8_000_000),
+            Step::Leaves(8_000_000),
+            Step::Tells(0, 0, 8_000_000),
+        ],
+    )
 }
 
 #[test]
 fn a_packet_leaves_when_was_answered_before_it_came(rt: HostRuntime) -> Result<(), Fail> {
-    let mut device = spent(rt.alloc())?;
-    comes(&mut device, 3, 500, 0, 0)?;
-    tells(
-        &device,
-        FIRST,
-        1_001,
-        Some((1_501, Some((12_008_000, 1_119_999)))),
-    )?;
-    comes(&mut device, 4, 1_001, 0, 0)?;
-    tells(
-        &device,
-        FIRST,
-        0,
-        Some((1_501, Some((12_008_000, 1_119_999)))),
-    )?;
-    leaves(&mut device, 4_000_000, true)?;
-    leaves(&mut device, 12_007_999, false)?;
-    tells(
-        &device,
-        FIRST,
-        0,
-        Some((1_001, Some((12_008_000, 1_119_999)))),
-    )?;
-    leaves(&mut device, 12_008_000, true)?;
-    tells(&device, FIRST, 0, Some((0, Some((12_008_000, 1_119_999)))))
+    spent(
+        rt.alloc(),
+        &[
+            Step::Comes(3, 500, 0),
+            Step::Tells(1_001, 1_501, 12_008_000),
+            Step::Comes(4, 1_001, 0),
+            Step::Tells(0, 1_501, 12_008_000),
+            Step::Leaves(4_000_000),
+            Step::Stays(12_007_999),
+            Step::Tells(0, 1_001, 12_008_000),
+            Step::Leaves(12_008_000),
+            Step::Tells(0, 0, 12_008_000),
+        ],
+    )
 }
 
 #[test]
 fn an_arrival_that_comes_later_leaves_no_later_for_it(rt: HostRuntime) -> Result<(), Fail> {
-    let mut device = spent(rt.alloc())?;
-    tells(
-        &device,
-        FIRST,
-        1_000,
-        Some((1_000, Some((8_000_000, 1_119_999)))),
-    )?;
-    comes(&mut device, 3, 1_000, 0, 3_000_000)?;
-    tells(
-        &device,
-        FIRST,
-        0,
-        Some((1_000, Some((8_000_000, 1_119_999)))),
+    spent(
+        rt.alloc(),
+        &[
+            Step::Tells(1_000, 1_000, 8_000_000),
+            Step::Comes(3, 1_000, 3_000_000),
+            Step::Tells(0, 1_000, 8_000_000),
+        ],
     )
 }
 
 #[test]
 fn an_arrival_after_the_answered_time_leaves_as_it_comes(rt: HostRuntime) -> Result<(), Fail> {
-    let mut device = spent(rt.alloc())?;
-    tells(
-        &device,
-        FIRST,
-        1_500,
-        Some((1_500, Some((12_000_000, 1_119_999)))),
-    )?;
-    comes(&mut device, 3, 1_500, 0, 20_000_000)?;
-    tells(
-        &device,
-        FIRST,
-        0,
-        Some((1_500, Some((20_000_000, 1_119_999)))),
-    )?;
-    leaves(&mut device, 20_000_000, true)?;
-    tells(&device, FIRST, 0, Some((0, Some((20_000_000, 1_119_999)))))
+    spent(
+        rt.alloc(),
+        &[
+            Step::Tells(1_500, 1_500, 12_000_000),
+            Step::Comes(3, 1_500, 20_000_000),
+            Step::Tells(0, 1_500, 20_000_000),
+            Step::Leaves(20_000_000),
+            Step::Tells(0, 0, 20_000_000),
+        ],
+    )
 }
 
 #[test]
 fn an_arrival_at_a_full_bucket_leaves_as_much_later_as_it_comes(
     rt: HostRuntime,
 ) -> Result<(), Fail> {
-    let mut device = shaped(rt.alloc())?;
-    comes(&mut device, 1, 1_500, 0, 0)?;
-    tells(
-        &device,
-        FIRST,
-        1_000,
-        Some((2_500, Some((7_999_999, 1_119_999)))),
-    )?;
-    comes(&mut device, 2, 1_000, 0, 5_000_000)?;
-    tells(
-        &device,
-        FIRST,
-        0,
-        Some((2_500, Some((12_999_999, 1_119_999)))),
+    full(
+        rt.alloc(),
+        &[
+            Step::Comes(1, 1_500, 0),
+            Step::Tells(1_000, 2_500, 7_999_999),
+            Step::Comes(2, 1_000, 5_000_000),
+            Step::Tells(0, 2_500, 12_999_999),
+        ],
     )
+}
+
+fn tells_bytes(device: &mut Device) -> Result<(), Fail> {
+    set_up(device, &[Ask::Graft(Spot::Root, 1, New::Prio(2))])?;
+    comes(device, packet(1, 700, 0)?, at(0)?)?;
+    comes(device, packet(2, 900, 1)?, at(0)?)?;
+    tells(device, Spot::Class(1, 1), 0, Some((700, None)))?;
+    tells(device, Spot::Class(1, 1), 65_535, Some((66_235, None)))?;
+    tells(device, Spot::Class(1, 2), 0, None)
 }
 
 #[test]
 fn without_a_tbf_there_are_bytes_alone(rt: HostRuntime) -> Result<(), Fail> {
-    let mut device = opened(rt.alloc())?;
-    set_up(&mut device, &[Ask::Graft(Spot::Root, 1, New::Prio(2))])?;
-    comes(&mut device, 1, 700, 0, 0)?;
-    comes(&mut device, 2, 900, 1, 0)?;
-    tells(&device, FIRST, 0, Some((700, None)))?;
-    tells(&device, FIRST, 65_535, Some((66_235, None)))?;
-    tells(&device, Spot::Class(1, 2), 0, None)
+    tells_bytes(&mut opened(rt.alloc())?)
 }
