@@ -1,4 +1,4 @@
--- A node that is asked and gives its packet in one walk: what is left of its discipline, and what the node is then.
+-- A node that is asked and gives its packet: what is left of its discipline, and what the node is then.
 use Rattle.std.proofs.Common.{◌≡◌, ℕ, ◌∙◌, List, [], ◌∷◌, ◌++◌, map, drop, refl, sym, ap, subst, Option, Some, None, option_to_list}
 use Rattle.std.specs.Prelude.{Bool, true, false, is_some, slice_get, if◌then◌else◌}
 use Rattle.std.specs.List.{All}

@@ -1,4 +1,4 @@
--- A tree of which a packet is sent: asked, and the packet taken out, in one walk.
+-- A tree of which a packet is sent: asked, and the packet taken out.
 use Rattle.std.proofs.Common.{◌≡◌, ℕ, ◌≤◌, ◌^◌, ◌∙◌, refl, sym, ap, subst, Option, Some, None}
 use Rattle.std.specs.Prelude.{true, false, is_some, unwrap_or, if◌then◌else◌}
 use Rattle.std.proofs.lemmas.Bool.{false≢true}

@@ -1,4 +1,4 @@
--- What asking a node and taking the packet that it shows come to, in one walk: what its discipline and its children are then.
+-- What asking a node and taking the packet that it shows come to: what its discipline and its children are then.
 -- tc-prio(8), tc-tbf(8), tc-drr(8), tc-fq_codel(8).
 use Rattle.std.specs.Prelude.{◌≡◌, ℕ, List, All, length, is_some, unwrap_or, if◌then◌else◌}
 use Rattle.q_packet.specs.Descriptor.{Descriptor}
