@@ -30,6 +30,8 @@ impl Discipline {
         ensures there { (i : ℕ) → result ≡ Child i → i < length (children_seen self.now) }
     {
         match self {
+            Discipline::Fifo(fifo) => return fifo::choose(fifo, packet),
+            Discipline::FqCodel(_) => return Choice::Here,
             Discipline::Prio { priomap, bands } => {
                 return prio::choose(filters, priomap, bands.len(), packet);
             }
@@ -37,8 +39,6 @@ impl Discipline {
             Discipline::Drr { active, classes } => {
                 return drr::choose(active, filters, classes.len(), packet);
             }
-            Discipline::FqCodel(_) => return Choice::Here,
-            Discipline::Fifo(fifo) => return fifo::choose(fifo, packet),
         }
     }
 }

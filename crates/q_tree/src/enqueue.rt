@@ -322,6 +322,7 @@ impl Discipline {
             Discipline::Fifo(fifo) => return enqueue_in_fifo(fifo, packet, now, lost, sink),
             Discipline::FqCodel(queue) => return enqueue_in_flows(queue, packet, now, lost, sink),
             Discipline::Prio { .. } => {
+                // To be written, an array and the bands are not lent by one pattern: they are read first.
                 let Discipline::Prio { priomap, bands } = &*self else {
                     unreachable!()
                 };
