@@ -60,7 +60,7 @@ from-stands (i ∷ path) n (Fifo limit queue) = refl
 from-stands (i ∷ path) n (Prio priomap) = refl
 from-stands (i ∷ path) n (FqCodel s) = refl
 
-way-stands : (class : ClassId) (n : Node Kept) → way_to class (counted n) ≡ way_to class n
+pub way-stands : (class : ClassId) (n : Node Kept) → way_to class (counted n) ≡ way_to class n
 way-stands class n =
     ap (option_and_then (λ path. way_from path (counted n) n.own.discipline)) (class-stands kept totals (λ (k : Kept). k.counts) (λ k. refl) class n) ∙ by (class_path class n)
   where

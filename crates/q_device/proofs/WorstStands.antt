@@ -1,19 +1,21 @@
--- The worst delay of a fifo in a tree whose nodes remember something else.
+-- The worst delay of a fifo, in line or in a class of a drr, in a tree whose nodes remember something else.
 use Rattle.std.proofs.Common.{◌≡◌, ℕ, ◌∙◌, List, [], ◌∷◌, refl, ap, ap₂, Option, Some, None, option_map, option_and_then}
 use Rattle.std.specs.Prelude.{Bool, ◌&&◌, ◌==◌, slice_get, if◌then◌else◌}
 use Rattle.q_codel.specs.declared.limit.Limit.{Limit}
+use Rattle.q_model.specs.declared.class_id.ClassId.{ClassId}
 use Rattle.q_model.specs.declared.place.Place.{Place}
 use Rattle.q_model.specs.declared.place.Place.TheVariants as place
-use Rattle.q_model.specs.Find.{place_path}
+use Rattle.q_model.specs.Find.{class_path, node_at, place_path}
 use Rattle.q_model.specs.Node.{Discipline, Fifo, Prio, Tbf, Drr, FqCodel, Node, children, with_memory}
-use Rattle.q_model.specs.Tally.{totals}
+use Rattle.q_model.specs.Tally.{Counts, totals}
 use Rattle.q_model.proofs.ShrinkLemmas.{child-with_memory}
 use Rattle.q_tree.specs.Kept.{Kept, kept}
 use Rattle.q_tree.specs.declared.ways.Link.{Link}
-use Rattle.q_tree.specs.Lanes.{is_prio, lane_below, lane_from, lane_to, limit_along}
-use Rattle.q_device.specs.Worst.{worst_of, worst_on}
-use Rattle.q_device.proofs.PromiseStands.{counted, tbf-stands}
-use Rattle.q_device.proofs.StatsStands.{class-stands}
+use Rattle.q_tree.specs.Lanes.{is_prio, lane_below, lane_from, lane_to, limit_along, limit_of}
+use Rattle.q_tree.specs.Turns.{limit_in, turn_on, turn_to}
+use Rattle.q_tree.specs.Ways.{Way, shares_of}
+use Rattle.q_device.proofs.PromiseStands.{counted, tbf-stands, way-stands}
+use Rattle.q_device.proofs.StatsStands.{class-stands, node_at-stands}
 
 pub limit-stands : {M N : Type 0} (f : M → N) (path : List ℕ) (n : Node M) → limit_along path (with_memory f n) ≡ limit_along path n
 limit-stands f [] n = refl
@@ -59,5 +61,25 @@ lane-stands p n = ap (option_and_then (λ path. lane_from path (counted n) n.own
     by None = refl
     by (Some path) = from-stands path n n.own.discipline
 
-pub worst-stands : (p : Place) (mtu : ℕ) (n : Node Kept) → worst_of p mtu (counted n) ≡ worst_of p mtu n
-worst-stands p mtu n = ap (option_and_then (worst_on mtu)) (lane-stands p n)
+-- ---- a class of a drr
+
+limit_in-stands : (class : ClassId) (n : Node Kept) → limit_in class (counted n) ≡ limit_in class n
+limit_in-stands class n =
+    ap (option_and_then (λ path. option_and_then (λ (child : Node Counts). limit_of child.own.discipline) (node_at path (counted n)))) (class-stands kept totals (λ (k : Kept). k.counts) (λ k. refl) class n)
+    ∙ by (class_path class n)
+  where
+    child : (o : Option (Node Kept)) → option_and_then (λ (c : Node Counts). limit_of c.own.discipline) (option_map counted o) ≡ option_and_then (λ (c : Node Kept). limit_of c.own.discipline) o
+    child None = refl
+    child (Some c) = refl
+
+    by : (o : Option (List ℕ))
+        → option_and_then (λ path. option_and_then (λ (c : Node Counts). limit_of c.own.discipline) (node_at path (counted n))) o ≡ option_and_then (λ path. option_and_then (λ (c : Node Kept). limit_of c.own.discipline) (node_at path n)) o
+    by None = refl
+    by (Some path) =
+        ap (option_and_then (λ (c : Node Counts). limit_of c.own.discipline)) (node_at-stands kept totals (λ (k : Kept). k.counts) (λ k. refl) path n) ∙ child (node_at path n)
+
+pub turn-stands : (p : Place) (n : Node Kept) → turn_to p (counted n) ≡ turn_to p n
+turn-stands place.Top n = refl
+turn-stands place.Root n = refl
+turn-stands (place.Class class) n =
+    ap₂ (λ (o : Option Limit) (way : Option Way). option_and_then (λ (w : Way). option_and_then (turn_on w.link (shares_of w)) o) way) (limit_in-stands class n) (way-stands class n)

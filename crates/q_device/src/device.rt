@@ -22,7 +22,6 @@ ghost use Rattle.q_device.specs.DeviceSeen.{IsRefusal, as_counted, longest, most
 ghost use Rattle.q_device.specs.Giving.{given_of, polled_in};
 ghost use Rattle.q_device.specs.Laws.{given_in};
 ghost use Rattle.q_device.specs.Promise.{promise_of, promise_seen};
-ghost use Rattle.q_device.specs.Worst.{worst_of};
 
 mod bursts;
 mod latest;
@@ -30,7 +29,6 @@ mod latest;
 use crate::given::Given;
 use crate::recording::{has_room, record_arrival, record_command, record_poll};
 use crate::service::{Service, promised};
-use crate::worst::{Worst, worst_in};
 use q_codel::{Loss as Lost, Losses};
 use q_model::{Command, Event, Fate, Place, Polled, Refusal, Row, Settings, stored_ranges};
 use q_packet::{KeptPacket, Moment, StoredPacket};
@@ -253,18 +251,6 @@ impl Device {
             return None;
         };
         promised(self.tree.way_to(class)?, self.settings)
-    }
-
-    /// Computes how long a packet waits at most in the pfifo or bfifo in this place. Returns `None` if nothing is promised: the place has another
-    /// qdisc or none; something other than the first bands of prios leads there from the root, apart from a tbf at the root; another tbf is in the
-    /// tree; the burst of the tbf at the root is too small, as for [`Device::service`]; or a number would be too large. Allocates nothing.
-    pub fn worst(&self, place: Place) -> Option<Worst>
-        ensures { result ≡ worst_of place self.now.settings.mtu self.now.device.tree.root }
-    {
-        let Some(lane) = self.tree.lane_to(place) else {
-            return None;
-        };
-        worst_in(lane, self.settings)
     }
 
     /// Carries out what a line of tc asks for, or refuses it. Packets of what it removes are lost, and wait for [`Device::reap`].

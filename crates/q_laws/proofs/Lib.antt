@@ -52,3 +52,4 @@ mod WorkAsks
 mod WorkTrees
 mod WorstKept
 mod WorstRows
+mod WorstTurnRows

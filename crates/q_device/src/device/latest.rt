@@ -1,18 +1,49 @@
-//! By when the packet that is last in a fifo has left.
-ghost use Rattle.std.specs.Prelude.{◌≡◌};
+//! How long a packet of a fifo waits at most, and by when the packet that is last there has left.
+ghost use Rattle.std.specs.Prelude.{◌≡◌, IfSome};
 ghost use Rattle.q_model.specs.Tally.{totals};
 ghost use Rattle.q_tree.specs.Lanes.{lane_to};
+ghost use Rattle.q_tree.specs.Turns.{turn_to};
+ghost use Rattle.q_tree.specs.Ways.{IsShare};
 ghost use Rattle.q_device.specs.Latest.{latest_below, latest_of};
+ghost use Rattle.q_device.specs.Worst.{worst_of};
 
 use crate::device::Device;
 use crate::latest::{Latest, latest_in};
+use crate::worst::{Worst, worst_in, worst_in_turn};
 use q_model::Place;
-use q_tree::{Lane, Link};
+use q_tree::{Lane, Link, Turn};
 
 impl Device {
+    /// Computes how long a packet waits at most in the pfifo or bfifo in this place. The place is the root, a class that is reached by the first
+    /// bands of prios alone, or a class of a drr at the root; or a tbf is at the root, and the place is such a one below it. [`Worst`] says what the
+    /// numbers are, and what they promise.
+    ///
+    /// Returns `None` if nothing is promised: the place has another qdisc or none; it is reached in another way, as by two drrs, or by a prio and a
+    /// drr; a tbf is below the root, and the root is no drr; the burst of a tbf at the root is too small, as for [`Device::service`]; or a number
+    /// would be too large, which is so from 2^64 bytes on, and above 2^62 nanoseconds. Allocates nothing.
+    pub fn worst(&self, place: Place) -> Option<Worst>
+        ensures { result ≡ worst_of place self.now.settings.mtu self.now.device.tree.root }
+    {
+        if let Some(lane) = self.lane_at(&place) {
+            return worst_in(lane, self.settings);
+        }
+        let Some(turn) = self.turn_at(&place) else {
+            return None;
+        };
+        worst_in_turn(&turn, self.settings)
+    }
+
+    // The class of a drr in a place that is used again.
+    fn turn_at(&self, place: &Place) -> Option<Turn>
+        ensures value { result ≡ turn_to place.now self.now.device.tree.root }
+        ensures ranges { IfSome result (λ t. IsShare t.share) }
+    {
+        self.tree.turn_to(*place)
+    }
+
     /// Computes by when a packet of `len` bytes has left, if it comes next to the pfifo or bfifo in this place and is kept. With a `len` of 0, computes
-    /// by when the packet has left that was queued there last. Returns `None` if [`Device::worst`] would do so with any limit of the fifo, or if a
-    /// number would be too large. Allocates nothing.
+    /// by when the packet has left that was queued there last. Returns `None` if [`Device::worst`] would do so with any limit of the fifo, if the
+    /// place is a class of a drr, or if a number would be too large. Allocates nothing.
     pub fn latest(&self, place: Place, len: u16) -> Option<Latest>
         ensures { result ≡ latest_of totals place len self.now.settings.mtu self.now.device }
     {
