@@ -6,8 +6,8 @@ use q_packet::Cause;
 use std::alloc::Global;
 use std::test::Fail;
 
-// The bytes, and the nanoseconds with the lateness that is allowed.
-type Told = (u64, Option<(u64, u64)>);
+/// The bytes, and the nanoseconds with the lateness that is allowed.
+pub type Told = (u64, Option<(u64, u64)>);
 
 const LINK: New = New::Shaper(20_000_000, 1_640);
 
@@ -27,7 +27,8 @@ fn tells(device: &Device, spot: Spot, expected: Option<Told>) -> Result<(), Fail
     }
 }
 
-fn tells_all(
+/// Checks what a device reports after these lines.
+pub fn tells_all(
     device: &mut Device,
     lines: &[Ask],
     rows: &[(Spot, Option<Told>)],
@@ -39,13 +40,14 @@ fn tells_all(
     Ok(())
 }
 
-fn opened(alloc: Global, mtu: u16, limit: u32) -> Result<Device, Fail> {
+/// A device with this mtu, whose pfifo has so many packets.
+pub fn opened(alloc: Global, mtu: u16, limit: u32) -> Result<Device, Fail> {
     let settings = Settings::new(mtu, limit, 0).ok_or("settings")?;
     Ok(Device::open(alloc, settings)?)
 }
 
-// Checks what a device with an mtu of 1514 reports after these lines.
-fn answers(alloc: Global, lines: &[Ask], rows: &[(Spot, Option<Told>)]) -> Result<(), Fail> {
+/// Checks what a device with an mtu of 1514 reports after these lines.
+pub fn answers(alloc: Global, lines: &[Ask], rows: &[(Spot, Option<Told>)]) -> Result<(), Fail> {
     tells_all(&mut opened(alloc, 1514, 1000)?, lines, rows)
 }
 

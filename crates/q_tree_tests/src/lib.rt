@@ -15,6 +15,8 @@ mod device_bench;
 #[cfg(test)]
 mod device_calls;
 #[cfg(test)]
+mod device_class_worst;
+#[cfg(test)]
 mod device_commands;
 #[cfg(test)]
 mod device_latest;

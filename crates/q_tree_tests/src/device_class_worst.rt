@@ -1,0 +1,160 @@
+//! How long a packet of a class of a drr waits at most: what a device answers, and a packet that waits just so long.
+use crate::device_bench::{Ask, Call, called};
+use crate::device_worst::{Told, answers, opened, tells_all};
+use crate::lines::{New, Spot};
+use q_device::Fate;
+use std::test::Fail;
+
+const LINK: Ask = Ask::Graft(Spot::Root, 1, New::Shaper(20_000_000, 1_640));
+
+// The drr 2: in this place, with classes that get 3000 and 1500 of every 4500 bytes; the first has a bfifo.
+fn classes(spot: Spot) -> [Ask; 4] {
+    [
+        Ask::Graft(spot, 2, New::Drr),
+        Ask::AddClass(2, 1, 3_000),
+        Ask::AddClass(2, 2, 1_500),
+        Ask::Graft(Spot::Class(2, 1), 3, New::Bfifo(1_500)),
+    ]
+}
+
+// What is told of both classes; the second has a pfifo of 1000 packets.
+const ON_A_LINK: [(Spot, Option<Told>); 4] = [
+    (Spot::Class(2, 1), Some((7_527, Some((3_010_800, 50_399))))),
+    (
+        Spot::Class(2, 2),
+        Some((4_550_027, Some((1_820_010_800, 50_399)))),
+    ),
+    (Spot::Class(2, 3), None),
+    (Spot::Class(1, 1), None),
+];
+
+#[test]
+fn a_class_waits_for_the_others_on_a_link(rt: HostRuntime) -> Result<(), Fail> {
+    let [drr, first, second, fifo] = classes(Spot::Class(1, 1));
+    answers(rt.alloc(), &[LINK, drr, first, second, fifo], &ON_A_LINK)
+}
+
+#[test]
+fn a_drr_at_the_root_holds_no_packet(rt: HostRuntime) -> Result<(), Fail> {
+    let rows = [(Spot::Class(2, 1), Some((6_013, None))), (Spot::Root, None)];
+    answers(rt.alloc(), &classes(Spot::Root), &rows)
+}
+
+#[test]
+fn a_class_with_another_qdisc_is_answered_nothing(rt: HostRuntime) -> Result<(), Fail> {
+    let [drr, first, second, fifo] = classes(Spot::Class(1, 1));
+    let flows = Ask::Graft(Spot::Class(2, 2), 4, New::FqCodel(10));
+    answers(
+        rt.alloc(),
+        &[LINK, drr, first, second, fifo, flows],
+        &[ON_A_LINK[0], (Spot::Class(2, 2), None)],
+    )
+}
+
+#[test]
+fn two_drrs_are_answered_nothing(rt: HostRuntime) -> Result<(), Fail> {
+    let [drr, first, second, fifo] = classes(Spot::Class(5, 1));
+    let lines = [
+        Ask::Graft(Spot::Root, 5, New::Drr),
+        Ask::AddClass(5, 1, 1_500),
+        drr,
+        first,
+        second,
+        fifo,
+    ];
+    let rows = [
+        (Spot::Class(2, 1), None),
+        (Spot::Class(2, 2), None),
+        (Spot::Class(5, 1), None),
+    ];
+    answers(rt.alloc(), &lines, &rows)
+}
+
+#[test]
+fn a_tbf_beside_the_class_takes_the_answer_away(rt: HostRuntime) -> Result<(), Fail> {
+    let [drr, first, second, fifo] = classes(Spot::Class(1, 1));
+    let tbf = Ask::Graft(Spot::Class(2, 2), 4, New::Tbf(1_640));
+    answers(
+        rt.alloc(),
+        &[LINK, drr, first, second, fifo, tbf],
+        &[(Spot::Class(2, 1), None), (Spot::Class(4, 1), None)],
+    )
+}
+
+#[test]
+fn a_class_on_a_burst_without_room_is_answered_nothing(rt: HostRuntime) -> Result<(), Fail> {
+    let link = Ask::Graft(Spot::Root, 1, New::Shaper(20_000_000, 1_514));
+    let [drr, first, second, fifo] = classes(Spot::Class(1, 1));
+    answers(
+        rt.alloc(),
+        &[link, drr, first, second, fifo],
+        &[(Spot::Class(2, 1), None)],
+    )
+}
+
+// ---- a packet that waits just so long, where the mtu is 1500
+
+// A tbf of 1 mbit with a burst of 1640 bytes, and two classes below it; the second has a bfifo.
+const SHORT: [Ask; 7] = [
+    Ask::Graft(Spot::Root, 1, New::Tbf(1_640)),
+    Ask::Graft(Spot::Class(1, 1), 2, New::Drr),
+    Ask::AddClass(2, 1, 10_000),
+    Ask::AddClass(2, 2, 1),
+    Ask::Graft(Spot::Class(2, 2), 3, New::Bfifo(1_000)),
+    Ask::Match(2, 1, 1),
+    Ask::Match(2, 2, 2),
+];
+
+// The quanta as they are then.
+const LATER: [Ask; 2] = [Ask::ChangeClass(2, 1, 1), Ask::ChangeClass(2, 2, 1_000)];
+
+#[test]
+fn a_class_in_the_worst_state_is_told_its_delay(rt: HostRuntime) -> Result<(), Fail> {
+    let [link, drr, first, second, fifo, _, _] = SHORT;
+    let rows = [(
+        Spot::Class(2, 2),
+        Some((4_001, Some((32_008_000, 1_119_999)))),
+    )];
+    tells_all(
+        &mut opened(rt.alloc(), 1500, 100)?,
+        &[link, drr, first, second, fifo, LATER[0], LATER[1]],
+        &rows,
+    )
+}
+
+// The first class spends the burst, and the drr holds a packet of it. When its quantum is lowered, the class keeps a deficit of 1500, and the
+// second class, which comes behind it, has one of a byte. So packet 11 waits for one that is held, for one of the deficit, and for a grant.
+#[test]
+fn a_class_lets_its_last_packet_wait_so_long(rt: HostRuntime) -> Result<(), Fail> {
+    let calls = [
+        Call::Do(SHORT[0], 0, None),
+        Call::Do(SHORT[1], 0, None),
+        Call::Do(SHORT[2], 0, None),
+        Call::Do(SHORT[3], 0, None),
+        Call::Do(SHORT[4], 0, None),
+        Call::Do(SHORT[5], 0, None),
+        Call::Do(SHORT[6], 0, None),
+        Call::Arrive(1, 1_500, 1, 0, Fate::Kept),
+        Call::Arrive(2, 140, 1, 0, Fate::Kept),
+        Call::Arrive(3, 1_500, 1, 0, Fate::Kept),
+        Call::Arrive(4, 1_500, 1, 0, Fate::Kept),
+        Call::Arrive(5, 1, 1, 0, Fate::Kept),
+        Call::Arrive(6, 1, 1, 0, Fate::Kept),
+        Call::Arrive(10, 1, 2, 0, Fate::Kept),
+        Call::Poll(0, 1),
+        Call::Poll(0, 2),
+        Call::Later(0),
+        Call::Do(LATER[0], 0, None),
+        Call::Do(LATER[1], 0, None),
+        Call::Arrive(11, 999, 2, 0, Fate::Kept),
+        Call::Poll(12_000_000, 3),
+        Call::Poll(24_000_000, 4),
+        Call::Poll(24_008_000, 10),
+        Call::Poll(24_016_000, 5),
+        Call::Later(24_016_000),
+        Call::Ready(32_008_000),
+        Call::Later(32_007_999),
+        Call::Poll(32_008_000, 11),
+    ];
+    called(rt.alloc(), &calls)
+}
