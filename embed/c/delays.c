@@ -226,7 +226,7 @@ static qtree_departure latest(const struct play *play, uint16_t len, const qtree
     return it;
 }
 
-/* Where else than in the first band nothing is promised; nor below a drr, or where a tbf is below the root. */
+/* Where else than in the first band nothing is promised; nor to an fq_codel below a drr, or where a tbf is below the root. */
 static void ask_elsewhere(struct play *play) {
     uint64_t late = 0;
     for (unsigned level = 0; level < play->prios; level++) {
@@ -242,6 +242,7 @@ static void ask_elsewhere(struct play *play) {
         tc(play, "tc qdisc del dev wan %s", play->rate == 0 ? "root" : "parent 1:1");
         tc(play, "tc qdisc add dev wan %s handle e: drr", play->rate == 0 ? "root" : "parent 1:1");
         tc(play, "tc class add dev wan parent e: classid e:1 drr quantum 1000");
+        tc(play, "tc qdisc add dev wan parent e:1 handle d: fq_codel");
         bool is_done = qtree_lateness(&play->device, QTREE_CLASS, 14, 1, &late) == QTREE_DONE;
         must(play, is_done == (play->rate == 0 || has_room(play, 0)), "qtree_lateness and the burst differ");
         must(play, !is_done || (play->rate == 0 ? late == UINT64_MAX : has_room(play, late) && !has_room(play, late + 1)),

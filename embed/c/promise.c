@@ -122,12 +122,12 @@ static void say_why_none(const struct tree *tree, const qtree_node_view *fifo) {
             printf("nothing: more may arrive in the bands of the prio %x: before it\n", parent->handle);
             return;
         }
-        if (parent->kind != QTREE_PRIO && parent != root) {
-            printf("nothing: the %s %x: stands between it and the root\n", kind_of(parent->kind), parent->handle);
+        if (parent->kind == QTREE_DRR && at != fifo) {
+            printf("nothing: other classes of the drr %x: send before the %s %x:\n", parent->handle, kind_of(at->kind), at->handle);
             return;
         }
-        if (parent->kind == QTREE_DRR) {
-            printf("nothing: the drr %x: sends packets of other classes before it\n", parent->handle);
+        if ((parent->kind == QTREE_TBF && parent != root) || (parent->kind == QTREE_PRIO && at->kind == QTREE_DRR)) {
+            printf("nothing: the %s %x: stands between it and the root\n", kind_of(parent->kind), parent->handle);
             return;
         }
         at = parent;

@@ -694,9 +694,9 @@ qtree_code qtree_service(const qtree_device *device, uint32_t place, uint16_t ma
  *   QTREE_IS_CLOSED     the device is closed */
 qtree_code qtree_lateness(const qtree_device *device, uint32_t place, uint16_t major, uint16_t minor, uint64_t *late);
 
-/* How long a packet waits at most in a pfifo or bfifo whose packets no other packet overtakes, from when it was queued
- * until it has left, whatever comes meanwhile. Until it has left, the device sends no more bytes than the field bytes
- * says, including those of the packet itself.
+/* How long a packet waits at most in a pfifo or bfifo whose packets no other packet overtakes, or in one in a class of a
+ * drr, from when it was queued until it has left, whatever comes meanwhile. Until it has left, the device sends no more
+ * bytes than the field bytes says, including those of the packet itself.
  *
  * With a tbf at the root, the packet has left as soon as the program has polled until no packet came at a time that
  * is ns nanoseconds after the packet's arrival, or later. So if the program is never late by more than x nanoseconds,
@@ -704,7 +704,7 @@ qtree_code qtree_lateness(const qtree_device *device, uint32_t place, uint16_t m
  * late are UINT64_MAX.
  *
  * This holds as long as commands take no packet from the qdisc and put none before it, leave a tbf at the root as it
- * is, and add no other tbf. */
+ * is, add no other tbf, and leave the classes of such a drr and their quanta as they are. */
 typedef struct qtree_delay {
     uint64_t bytes; /* including those of the packet */
     uint64_t ns;    /* nanoseconds, rounded up */
@@ -716,12 +716,14 @@ typedef struct qtree_delay {
  * place, major, minor  as for qtree_stats
  * delay                the longest wait, if QTREE_DONE is returned
  *
+ * The place is the root, a class that is reached by the first bands of prios alone, or a class of a drr at the root; or
+ * a tbf is at the root, and the place is such a one below it.
+ *
  * Returns
  *   QTREE_DONE          *delay is the longest wait
- *   QTREE_NOTHING       nothing is promised, since the place has another qdisc or none; something other than the
- *                       first bands of prios leads there from the root, apart from a tbf at the root; another tbf is
- *                       in the tree; the burst of the tbf at the root is too small, as for qtree_service; or a number
- *                       would be too large
+ *   QTREE_NOTHING       nothing is promised, since the place has another qdisc or none; it is reached in another way,
+ *                       as by two drrs; a tbf is below the root, and the root is no drr; the burst of a tbf at the root
+ *                       is too small, as for qtree_service; or a number would be too large
  *   QTREE_OUT_OF_RANGE  place, major or minor is out of its range
  *   QTREE_IS_CLOSED     the device is closed */
 qtree_code qtree_worst(const qtree_device *device, uint32_t place, uint16_t major, uint16_t minor, qtree_delay *delay);
@@ -758,7 +760,8 @@ typedef struct qtree_departure {
  * Returns
  *   QTREE_DONE          *departure is by when the packet has left if it is queued, since the call does not look at the
  *                       limit; if len is 0 and nothing is queued there, bytes is 0, and at the time of the last event
- *   QTREE_NOTHING       nothing is promised, for one of the reasons for which qtree_worst returns this
+ *   QTREE_NOTHING       nothing is promised, for one of the reasons for which qtree_worst returns this, or since the
+ *                       place is a class of a drr
  *   QTREE_OUT_OF_RANGE  place, major or minor is out of its range
  *   QTREE_IS_CLOSED     the device is closed
  *

@@ -426,7 +426,9 @@ impl Device {
         (code == sys::QTREE_DONE).then(|| Service::of(promise, late))
     }
 
-    /// Returns how long a packet waits at most in the pfifo or bfifo in a place.
+    /// Returns how long a packet waits at most in the pfifo or bfifo in a place. The place is the
+    /// root, a class that is reached by the first bands of prios alone, or a class of a drr at the
+    /// root; or a tbf is at the root, and the place is such a one below it.
     ///
     /// ```
     /// # use qtree::{Device, Error, Place, Settings};
@@ -443,10 +445,10 @@ impl Device {
     /// # Ok::<(), Error>(())
     /// ```
     ///
-    /// Returns `None` if nothing is promised, since the place has another qdisc or none; something
-    /// other than the first bands of prios leads there from the root, apart from a tbf at the root;
-    /// another tbf is in the tree; the burst of the tbf at the root is too small, as for
-    /// [`Device::service`]; or a number would be too large.
+    /// Returns `None` if nothing is promised, since the place has another qdisc or none; it is
+    /// reached in another way, as by two drrs; a tbf is below the root, and the root is no drr; the
+    /// burst of a tbf at the root is too small, as for [`Device::service`]; or a number would be too
+    /// large.
     #[must_use]
     pub fn worst(&self, place: Place) -> Option<Worst> {
         let (code, delay) = self.0.worst(place.to_c());
@@ -477,7 +479,8 @@ impl Device {
     /// looked at. If the length is 0 and nothing is queued there, `bytes` is 0, and `at` is the time
     /// of the last event.
     ///
-    /// Returns `None` if nothing is promised, for one of the reasons of [`Device::worst`].
+    /// Returns `None` if nothing is promised, for one of the reasons of [`Device::worst`], or since
+    /// the place is a class of a drr.
     #[must_use]
     pub fn latest(&self, place: Place, len: u16) -> Option<Latest> {
         let (code, departure) = self.0.latest(place.to_c(), len);

@@ -1,10 +1,11 @@
 use crate::raw::sys;
 
-/// How long a packet waits at most in a pfifo or bfifo whose packets no other packet overtakes,
-/// from when it was queued until it has left, whatever comes meanwhile.
+/// How long a packet waits at most in a pfifo or bfifo whose packets no other packet overtakes, or in
+/// one in a class of a drr, from when it was queued until it has left, whatever comes meanwhile.
 ///
 /// This holds as long as commands take no packet from the qdisc and put none before it, leave a tbf
-/// at the root as it is, and add no other tbf.
+/// at the root as it is, add no other tbf, and leave the classes of such a drr and their quanta as
+/// they are.
 #[derive(Clone, Copy, Debug, PartialEq, Eq)]
 #[non_exhaustive]
 pub struct Worst {

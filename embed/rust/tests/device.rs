@@ -123,6 +123,27 @@ fn a_fifo_in_line_is_promised_a_delay() -> Result<(), Error> {
 }
 
 #[test]
+fn a_class_of_a_drr_is_promised_a_delay() -> Result<(), Error> {
+    let mut device = Device::open(Settings::default())?;
+    for line in [
+        "tc qdisc add dev wan root handle 1: tbf rate 20mbit burst 1640 limit 10000",
+        "tc qdisc add dev wan parent 1:1 handle 2: drr",
+        "tc class add dev wan parent 2: classid 2:1 drr quantum 3000",
+        "tc class add dev wan parent 2: classid 2:2 drr quantum 1500",
+        "tc qdisc add dev wan parent 2:1 handle 3: bfifo limit 1500",
+        "tc qdisc add dev wan parent 2:2 handle 4: fq_codel",
+    ] {
+        device.command(line, 0)?;
+    }
+    let worst = device.worst(Place::Class(2, 1)).expect("the first class");
+    assert_eq!((worst.bytes, worst.ns), (7527, Some(3_010_800)));
+    assert_eq!(worst.late, Some(50_399));
+    assert_eq!(device.worst(Place::Class(2, 2)), None);
+    assert_eq!(device.latest(Place::Class(2, 1), 0), None);
+    Ok(())
+}
+
+#[test]
 fn a_packet_that_comes_next_is_told_when_it_has_left() -> Result<(), Error> {
     let mut device = Device::open(Settings::default())?;
     device.arrive(&udp(300, 0), 0)?;

@@ -1,0 +1,447 @@
+/* The promise about delay to a class of a drr, asked of random plays. Each round sets up a drr of three classes, at the root or below a tbf whose
+ * burst has just enough room or more, with a pfifo or bfifo in one of them. The other two never run out of packets, most often of single
+ * bytes, so that they leave nothing of what they may send. In most rounds the fifo is filled for the first time in the worst state that a drr can
+ * be in: commands that change quanta have left the other classes the greatest deficits and this one a byte, the others are before it, the drr holds
+ * a longest packet, and nothing is left of the burst. Packets come in bursts and pauses then, and polls are as late as they may be. Before each
+ * packet for the fifo the program asks qtree_worst, and compares with that what the device sends until the packet has left, and when it leaves. It
+ * counts how often each bound is met exactly, and fails if one never is, since a smaller one would do then.
+ *
+ *   build/turns [ROUNDS [SEED]]            the test; on failure it prints the seed and the round
+ *   build/turns --sooner [ROUNDS [SEED]]   with each bound a byte or a nanosecond less, which has to fail
+ *   build/turns --later [ROUNDS [SEED]]    with polls later than is allowed, which has to fail */
+#include "qtree.h"
+
+#include <errno.h>
+#include <inttypes.h>
+#include <stdarg.h>
+#include <stdbool.h>
+#include <stddef.h>
+#include <stdio.h>
+#include <stdlib.h>
+#include <string.h>
+
+/* The most packets of the fifo in a round, and those that come at once. A packet has the number of its class for its port. */
+enum { ROUNDS = 2000, STEPS = 30, AT_ONCE = 24, MOST = 8192, CLASSES = 3, WAITING = 3, ENOUGH_ROUNDS = 50 };
+
+/* The tokens of a byte: the rate in bits a second is also how many come in a nanosecond. */
+static const uint64_t BYTE = UINT64_C(8000000000);
+__extension__ typedef unsigned __int128 wide;
+
+enum bound { BYTES, TIME, BOUNDS };
+static const char *const names[BOUNDS] = { "bytes", "time" };
+
+struct kept {
+    uint64_t bounds[BOUNDS]; /* of the bytes that the device has sent, and of the time less the lateness of the poll */
+};
+
+struct play {
+    qtree_device device;
+    uint64_t rate, burst; /* of the tbf at the root; 0 if there is none */
+    uint64_t limit;       /* of the fifo, in bytes, or in packets of a pfifo */
+    uint64_t tick;        /* in which the rate brings a longest packet */
+    uint64_t greatest;    /* lateness of a poll */
+    uint64_t clock;       /* the time of the last event */
+    uint64_t due, poll_at; /* since when a poll is due, and when it comes; UINT64_MAX if none is due */
+    uint64_t sent;        /* bytes */
+    uint32_t quanta[CLASSES + 1];
+    uint16_t own, mtu; /* the class of the fifo, 1 to 3 */
+    bool is_pfifo, is_single;
+    struct kept line[MOST];
+    size_t head, tail;
+};
+
+static uint64_t state, seed = 7, compared, met[BOUNDS];
+static unsigned round_now;
+static bool is_sooner, is_later;
+
+/* A random number below this one. */
+static uint64_t below(uint64_t end) {
+    state += UINT64_C(0x9e3779b97f4a7c15);
+    uint64_t it = (state ^ (state >> 30)) * UINT64_C(0xbf58476d1ce4e5b9);
+    it = (it ^ (it >> 27)) * UINT64_C(0x94d049bb133111eb);
+    return (uint64_t)((wide)(it ^ (it >> 31)) * end >> 64);
+}
+
+static uint64_t less(uint64_t a, uint64_t b) { return a < b ? a : b; }
+static uint64_t greater(uint64_t a, uint64_t b) { return a > b ? a : b; }
+
+/* Ends the program with what is wrong, and with the tree. */
+static void fail(const struct play *play, const char *what) {
+    static uint8_t text[8192];
+    size_t len = 0;
+    fprintf(stderr, "turns: %s, in round %u of seed %" PRIu64 ", at %" PRIu64 " ns, mtu %u\n", what, round_now, seed, play->clock, play->mtu);
+    for (uint32_t which = QTREE_SHOW_COUNTERS; which <= QTREE_SHOW_CLASSES; which++) {
+        if (qtree_show(&play->device, which, text, sizeof text, &len) == QTREE_DONE) {
+            fwrite(text, 1, len, stderr);
+        }
+    }
+    exit(1);
+}
+
+static void must(const struct play *play, bool holds, const char *what) {
+    if (!holds) {
+        fail(play, what);
+    }
+}
+
+/* A number is no more than a bound. */
+static void is_within(const struct play *play, enum bound which, uint64_t number, uint64_t bound) {
+    char text[160];
+    met[which] += number == bound;
+    if (number > bound - is_sooner) {
+        snprintf(text, sizeof text, "%" PRIu64 " is past the bound by the %s, %" PRIu64, number, names[which], bound - is_sooner);
+        fail(play, text);
+    }
+}
+
+__attribute__((format(printf, 2, 3))) static void tc(struct play *play, const char *format, ...) {
+    char line[256];
+    va_list words;
+    va_start(words, format);
+    vsnprintf(line, sizeof line, format, words);
+    va_end(words);
+    must(play, qtree_run(&play->device, line, play->clock, NULL) == QTREE_DONE, line);
+}
+
+/* How late the next poll is. */
+static uint64_t lateness(const struct play *play) {
+    switch (below(3)) {
+    case 0: return 0;
+    case 1: return play->greatest;
+    default: return below(play->greatest + 1);
+    }
+}
+
+/* After an event: since when a poll is due. If ready_at is ahead it is then, and otherwise since now, or since it was due before. */
+static void plan(struct play *play, uint64_t now) {
+    uint64_t ready, due = UINT64_MAX;
+    play->clock = now;
+    if (qtree_ready_at(&play->device, &ready) == QTREE_DONE) {
+        due = ready > now ? ready : less(play->due, now);
+    }
+    if (due != play->due) {
+        play->due = due;
+        play->poll_at = due == UINT64_MAX ? due : due + lateness(play);
+    }
+}
+
+/* Asks the longest delay of the fifo. */
+static qtree_delay worst(const struct play *play) {
+    qtree_delay it = { 0 };
+    must(play, qtree_worst(&play->device, QTREE_CLASS, 2, play->own, &it) == QTREE_DONE, "qtree_worst has no promise");
+    must(play, (it.ns == UINT64_MAX) == (play->rate == 0) && (it.late == UINT64_MAX) == (play->rate == 0), "qtree_worst has a time without a tbf");
+    return it;
+}
+
+static qtree_code arrive(struct play *play, uint16_t class, uint64_t len) {
+    qtree_packet packet = { .len = (uint16_t)len, .buf = (uint32_t)play->tail, .port = class, .sport = class };
+    return qtree_arrive(&play->device, &packet, play->clock);
+}
+
+/* A packet for another class. */
+static void arrive_other(struct play *play, uint16_t class) {
+    must(play, arrive(play, class, play->is_single ? 1 : 1 + below(play->mtu)) == QTREE_DONE, "a packet of another class is lost");
+}
+
+/* A packet for the fifo; whether it is kept. Nothing was promised of it if quanta are to change. */
+static bool arrive_own(struct play *play, uint64_t len, bool is_promised) {
+    qtree_delay delay = worst(play);
+    qtree_code code = arrive(play, play->own, len);
+    must(play, code == QTREE_DONE || code == QTREE_LOST_OVER_LIMIT, "a packet for the fifo is lost");
+    if (code == QTREE_DONE) {
+        must(play, play->tail < MOST, "too many packets");
+        play->line[play->tail++] = is_promised ? (struct kept){ { play->sent + delay.bytes, play->clock + delay.ns } }
+                                               : (struct kept){ { UINT64_MAX, UINT64_MAX } };
+    }
+    qtree_loss loss;
+    while (qtree_reap(&play->device, &loss) == QTREE_DONE) {
+        must(play, loss.cause == QTREE_LOST_OVER_LIMIT && loss.packet.port == play->own, "another packet is lost");
+    }
+    return code == QTREE_DONE;
+}
+
+/* A packet of the fifo leaves: those before it have left, and it keeps to the bounds. */
+static void leave(struct play *play, uint32_t buf, uint64_t now, uint64_t late) {
+    const struct kept *kept = &play->line[play->head];
+    must(play, play->head < play->tail && buf == play->head, "a packet of the fifo leaves out of turn");
+    play->head++;
+    compared++;
+    is_within(play, BYTES, play->sent, kept->bounds[BYTES]);
+    if (play->rate != 0) {
+        is_within(play, TIME, now - late, kept->bounds[TIME]);
+    }
+}
+
+/* One poll. After a packet of another class the next one comes there. */
+static bool polled(struct play *play, uint64_t now) {
+    qtree_sent sent;
+    if (qtree_poll_buf(&play->device, now, &sent) != QTREE_DONE) {
+        return false;
+    }
+    must(play, play->due <= now, "a poll before ready_at returns a packet");
+    play->sent += sent.len;
+    play->clock = now;
+    if (sent.port == play->own) {
+        leave(play, sent.buf, now, now - play->due);
+    } else {
+        arrive_other(play, (uint16_t)sent.port);
+    }
+    return true;
+}
+
+/* Polls until no packet comes, or without a tbf some times. */
+static void drain(struct play *play, uint64_t now) {
+    uint64_t most = play->rate == 0 ? 1 + below(4) : UINT64_MAX;
+    while (most != 0 && polled(play, now)) {
+        most--;
+    }
+    play->due = play->poll_at = UINT64_MAX;
+    plan(play, now);
+}
+
+/* ---- the set-up */
+
+static void add_tbf(struct play *play) {
+    play->rate = 1 + below(UINT64_C(1) << below(36));
+    play->burst = play->mtu + (play->rate + BYTE - 1) / BYTE + (below(3) == 0 ? 0 : below(4 * (uint64_t)play->mtu));
+    play->tick = (play->mtu * BYTE + play->rate - 1) / play->rate;
+    tc(play, "tc qdisc add dev wan root handle 1: tbf rate %" PRIu64 "bit burst %" PRIu64 "b limit 9000", play->rate, play->burst);
+}
+
+/* The quantum of a class, which mostly is not worth more than some longest packets, and here needs few grants for the fifo. */
+static uint32_t random_quantum(const struct play *play, uint16_t class) {
+    uint64_t whole = play->is_pfifo ? play->limit * play->mtu : play->limit;
+    return (uint32_t)(1 + below(2 * (uint64_t)play->mtu) + (class == play->own ? whole / 8 : 0));
+}
+
+static void add_class(struct play *play, uint16_t class, uint64_t quantum) {
+    tc(play, "tc class add dev wan parent 2: classid 2:%u drr quantum %" PRIu64, class, quantum);
+    tc(play, "tc filter add dev wan parent 2: prio %u flower src_port %u classid 2:%u", class, class, class);
+    if (class == play->own) {
+        tc(play, "tc qdisc add dev wan parent 2:%u handle f: %s limit %" PRIu64, class, play->is_pfifo ? "pfifo" : "bfifo", play->limit);
+    }
+}
+
+static void change_quantum(struct play *play, uint16_t class, uint64_t quantum) {
+    tc(play, "tc class change dev wan parent 2: classid 2:%u drr quantum %" PRIu64, class, quantum);
+}
+
+static void open_play(struct play *play) {
+    memset(play, 0, offsetof(struct play, line));
+    play->head = play->tail = 0;
+    play->mtu = (uint16_t)(below(32) == 0 ? 1514 : 1 + below(below(4) == 0 ? 300 : 40));
+    play->is_single = below(4) != 0;
+    play->due = play->poll_at = UINT64_MAX;
+    play->tick = 1000;
+    play->own = (uint16_t)(1 + below(CLASSES));
+    play->is_pfifo = below(3) == 0;
+    play->limit = 1 + below(play->is_pfifo ? 8 : 8 * (uint64_t)play->mtu);
+    must(play, qtree_open(&play->device, &(qtree_settings){ 1000, 0, play->mtu }) == QTREE_DONE, "no device");
+    if (below(4) != 0) {
+        add_tbf(play);
+    }
+    tc(play, "tc qdisc add dev wan %s handle 2: drr", play->rate == 0 ? "root" : "parent 1:1");
+    for (uint16_t class = 1; class <= CLASSES; class++) {
+        play->quanta[class] = random_quantum(play, class);
+    }
+}
+
+/* The classes with their quanta, and some packets in the others. */
+static void begin_calmly(struct play *play) {
+    for (uint16_t class = 1; class <= CLASSES; class++) {
+        add_class(play, class, play->quanta[class]);
+        for (unsigned i = 0; i < WAITING && class != play->own; i++) {
+            arrive_other(play, class);
+        }
+    }
+}
+
+/* The packets of another class with which the burst is spent, but for a last one, which the drr holds. */
+static void spend_burst(struct play *play, uint16_t class) {
+    for (uint64_t left = play->burst, len; left > 0; left -= len) {
+        len = less(left, play->mtu);
+        must(play, arrive(play, class, len) == QTREE_DONE, "a packet of another class is lost");
+    }
+    must(play, arrive(play, class, play->mtu) == QTREE_DONE, "a packet of another class is lost");
+}
+
+/* The drr in its worst state: the first of the others has the quantum for what is sent at first, and each of them more than it may keep. */
+static void begin_in_spite(struct play *play) {
+    bool is_first = true;
+    for (uint16_t class = 1; class <= CLASSES; class++) {
+        add_class(play, class, class == play->own ? 1 : play->quanta[class] + play->burst + 2 * (uint64_t)play->mtu);
+    }
+    for (uint16_t class = 1; class <= CLASSES; class++) {
+        if (class != play->own && is_first && play->rate != 0) {
+            spend_burst(play, class);
+        }
+        for (unsigned i = 0; i < WAITING && class != play->own; i++) {
+            arrive_other(play, class);
+        }
+        is_first = is_first && class == play->own;
+    }
+    arrive_own(play, play->is_pfifo ? play->mtu : 1, false);
+    plan(play, 0);
+    if (play->rate != 0) {
+        drain(play, 0);
+    }
+    for (uint16_t class = 1; class <= CLASSES; class++) {
+        change_quantum(play, class, play->quanta[class]);
+    }
+    plan(play, 0);
+}
+
+/* ---- what happens */
+
+/* Packets for the fifo that come at once, some of them as long as there is room. */
+static void burst(struct play *play, uint64_t now) {
+    uint64_t kind = below(4), count = 1 + below(AT_ONCE);
+    play->clock = now;
+    for (; count > 0; count--) {
+        qtree_row row;
+        must(play, qtree_stats(&play->device, QTREE_CLASS, 2, play->own, &row) == QTREE_DONE, "no fifo");
+        uint64_t room = play->is_pfifo || play->limit <= row.queued.bytes ? play->mtu : play->limit - row.queued.bytes;
+        uint64_t len = kind == 0 ? 1 + below(play->mtu) : kind == 1 ? 1 + below(less(play->mtu, 64)) : less(play->mtu, room);
+        arrive_own(play, len, true);
+        plan(play, now);
+    }
+}
+
+/* Sets another limit, which takes no packet out of the fifo, or another quantum, where nothing waits there that was promised something. */
+static void command(struct play *play, uint64_t now) {
+    uint16_t class = (uint16_t)(1 + below(CLASSES));
+    play->clock = now;
+    if (below(2) == 0) {
+        play->limit = 1 + below(less(2 * play->limit, 9 * (uint64_t)play->mtu) + 1);
+        tc(play, "tc qdisc change dev wan parent 2:%u handle f: %s limit %" PRIu64, play->own, play->is_pfifo ? "pfifo" : "bfifo", play->limit);
+    } else if (play->head == play->tail) {
+        play->quanta[class] = random_quantum(play, class);
+        change_quantum(play, class, play->quanta[class]);
+    }
+    plan(play, now);
+}
+
+static void step(struct play *play) {
+    uint64_t now = play->clock + (below(3) == 0 ? 0 : below(play->tick * (below(8) == 0 ? 100 : 10)));
+    while (play->poll_at <= now) {
+        drain(play, play->poll_at);
+    }
+    if (below(6) == 0) {
+        command(play, greater(now, play->clock));
+    } else {
+        burst(play, greater(now, play->clock));
+    }
+}
+
+static void play_round(struct play *play) {
+    open_play(play);
+    if (below(4) == 0) {
+        begin_calmly(play);
+    } else {
+        begin_in_spite(play);
+        burst(play, 0);
+    }
+    uint64_t late = worst(play).late, most = play->rate == 0 ? 5 * play->tick : is_later ? 3 * late + play->tick : late;
+    play->greatest = below(4) == 0 ? below(most + 1) : most;
+    plan(play, play->clock);
+    for (unsigned i = 0; i < STEPS; i++) {
+        step(play);
+    }
+    while (play->head != play->tail) {
+        drain(play, play->poll_at);
+    }
+    qtree_close(&play->device);
+}
+
+/* ---- figures, and where nothing is promised */
+
+/* The answer for the class 2:1. */
+static void must_tell(struct play *play, uint64_t bytes, uint64_t ns, uint64_t late, const char *what) {
+    qtree_delay delay = { 0 };
+    must(play, qtree_worst(&play->device, QTREE_CLASS, 2, 1, &delay) == QTREE_DONE, what);
+    must(play, delay.bytes == bytes && delay.ns == ns && delay.late == late, what);
+}
+
+/* A class of 3000 of 4500 on a link of 20 Mbit/s, and on none. */
+static void ask_figures(struct play *play) {
+    play->mtu = 1514;
+    must(play, qtree_open(&play->device, &(qtree_settings){ 1000, 0, 1514 }) == QTREE_DONE, "no device");
+    tc(play, "tc qdisc add dev wan root handle 1: tbf rate 20mbit burst 1640 limit 9000");
+    tc(play, "tc qdisc add dev wan parent 1:1 handle 2: drr");
+    tc(play, "tc class add dev wan parent 2: classid 2:1 drr quantum 3000");
+    must_tell(play, 1515514, 606205600, 50399, "another delay of a class alone with a pfifo");
+    tc(play, "tc class add dev wan parent 2: classid 2:2 drr quantum 1500");
+    tc(play, "tc qdisc add dev wan parent 2:1 handle 3: bfifo limit 1500");
+    must_tell(play, 7527, 3010800, 50399, "another delay of a class with a bfifo");
+    tc(play, "tc qdisc del dev wan root");
+    tc(play, "tc qdisc add dev wan root handle 2: drr");
+    tc(play, "tc class add dev wan parent 2: classid 2:1 drr quantum 3000");
+    tc(play, "tc class add dev wan parent 2: classid 2:2 drr quantum 1500");
+    tc(play, "tc qdisc add dev wan parent 2:1 handle 3: pfifo limit 2");
+    must_tell(play, 3028 + 2 * 1500 + 1500 + 1513, UINT64_MAX, UINT64_MAX, "another delay of a class of a drr at the root");
+    qtree_close(&play->device);
+}
+
+/* Whether this line is done, and qtree_worst then answers the class major:minor something. */
+static bool is_answered(struct play *play, const char *line, uint16_t major, uint16_t minor) {
+    qtree_delay delay;
+    qtree_departure departure;
+    tc(play, "%s", line);
+    must(play, qtree_latest(&play->device, QTREE_CLASS, major, minor, 0, &departure) == QTREE_NOTHING, "qtree_latest has a promise");
+    return qtree_worst(&play->device, QTREE_CLASS, major, minor, &delay) == QTREE_DONE;
+}
+
+static void ask_elsewhere(struct play *play) {
+    must(play, qtree_open(&play->device, &(qtree_settings){ 1000, 0, 1514 }) == QTREE_DONE, "no device");
+    tc(play, "tc qdisc add dev wan root handle 1: tbf rate 1mbit burst 1640 limit 9000");
+    tc(play, "tc qdisc add dev wan parent 1:1 handle 2: drr");
+    must(play, is_answered(play, "tc class add dev wan parent 2: classid 2:1 drr", 2, 1), "an implicit pfifo has no promise");
+    must(play, !is_answered(play, "tc qdisc add dev wan parent 2:1 handle 3: fq_codel", 2, 1), "an fq_codel has a promise");
+    tc(play, "tc qdisc del dev wan parent 2:1");
+    tc(play, "tc qdisc add dev wan parent 2:1 handle 3: drr");
+    must(play, !is_answered(play, "tc class add dev wan parent 3: classid 3:1 drr", 3, 1), "a class below two drrs has a promise");
+    must(play, !is_answered(play, "tc class add dev wan parent 3: classid 3:2 drr", 2, 1), "a drr in a class has a promise");
+    tc(play, "tc qdisc del dev wan parent 2:1");
+    must(play, !is_answered(play, "tc qdisc change dev wan root tbf rate 1mbit burst 1514 limit 9000", 2, 1), "a burst without room has a promise");
+    must(play, is_answered(play, "tc qdisc change dev wan root tbf rate 1mbit burst 1515 limit 9000", 2, 1), "a burst with room has no promise");
+    tc(play, "tc class add dev wan parent 2: classid 2:2 drr");
+    bool is_told = is_answered(play, "tc qdisc add dev wan parent 2:2 handle 4: tbf rate 1mbit burst 1514 limit 9000", 2, 1);
+    must(play, !is_told, "a class beside a second tbf has a promise");
+    qtree_close(&play->device);
+}
+
+static bool read_number(const char *word, uint64_t *number) {
+    char *end;
+    errno = 0;
+    *number = strtoull(word, &end, 10);
+    return *word >= '0' && *word <= '9' && *end == 0 && errno == 0;
+}
+
+int main(int argc, char **argv) {
+    static struct play play = { .device = QTREE_CLOSED };
+    uint64_t rounds = ROUNDS;
+    int at = 1;
+    is_sooner = argc > 1 && strcmp(argv[1], "--sooner") == 0;
+    is_later = argc > 1 && strcmp(argv[1], "--later") == 0;
+    at += is_sooner || is_later;
+    if (argc - at > 2 || (argc > at && !read_number(argv[at], &rounds)) || (argc > at + 1 && !read_number(argv[at + 1], &seed))) {
+        fprintf(stderr, "usage: turns [--sooner | --later] [ROUNDS [SEED]]\n");
+        return 2;
+    }
+    state = seed;
+    ask_figures(&play);
+    ask_elsewhere(&play);
+    for (; round_now < rounds; round_now++) {
+        play_round(&play);
+    }
+    bool is_met = true;
+    for (enum bound which = 0; which < BOUNDS; which++) {
+        printf("turns: the bound by the %-5s is met exactly %7" PRIu64 " times\n", names[which], met[which]);
+        is_met = is_met && (met[which] != 0 || rounds < ENOUGH_ROUNDS);
+    }
+    printf("turns: %" PRIu64 " packets left in %" PRIu64 " rounds, each as soon as was promised\n", compared, rounds);
+    if (!is_met) {
+        fprintf(stderr, "turns: a bound is never met, so that a smaller one would do, with seed %" PRIu64 "\n", seed);
+    }
+    return is_met && fflush(stdout) == 0 ? 0 : 1;
+}
