@@ -24,8 +24,9 @@ use Rattle.q_invariants.proofs.ClassMoves.{ClassNode, class-node, drr-lawful, sa
 use Rattle.q_invariants.proofs.Replays.{IsKept, replay-kept}
 use Rattle.q_tree.specs.Ways.{share_among}
 use Rattle.q_device.specs.Sharing.{device_after}
+use Rattle.q_device.specs.Worst.{most_of_turn}
 use Rattle.q_device.proofs.ClassStretches.{at-start, deficits-bounded}
-use Rattle.q_laws.specs.MostOfTurn.{ClassesWaitAtMost, TurnsAreBounded, most_of_turn, share_in}
+use Rattle.q_laws.specs.MostOfTurn.{ClassesWaitAtMost, TurnsAreBounded, share_in}
 use Rattle.q_laws.specs.Service.{classes_of, HasClasses, quanta_of}
 use Rattle.q_laws.specs.Turn.{bytes_of_turn, deficit_ahead, deficits_ahead}
 use Rattle.q_laws.proofs.LeastShare.{is-class, classes-differ, IsOwn, own-quanta}

@@ -1,8 +1,7 @@
--- The most that the classes of a drr send before a packet of one of them, whatever state the drr is in: numbers of the class and its drr alone,
--- so that they can be promised beforehand. A deficit is below a quantum and the mtu together (M. Shreedhar and G. Varghese, "Efficient Fair
--- Queuing Using Deficit Round-Robin" (1995)), and this is what `bytes_of_turn` comes to where each of the others has the greatest.
-use Rattle.std.specs.Prelude.{◌≡◌, ℕ, ◌+◌, ◌-◌, ◌*◌, ◌^◌, ◌≤◌, List, ◌++◌, All, Some}
-use Rattle.std.specs.Int.{div_ceil}
+-- What q_device's specs/Worst.antt has as the most that the classes of a drr send before a packet of one of them is enough, whatever state the
+-- drr is in: a deficit is below a quantum and the mtu together (M. Shreedhar and G. Varghese, "Efficient Fair Queuing Using Deficit
+-- Round-Robin" (1995)), and it is what `bytes_of_turn` comes to where each of the others has the greatest.
+use Rattle.std.specs.Prelude.{◌≡◌, ℕ, ◌^◌, ◌≤◌, List, ◌++◌, All, Some}
 use Rattle.q_drr.specs.Schedule.{Class, Schedule, quantum_of}
 use Rattle.q_model.specs.declared.event.Event.{Event}
 use Rattle.q_model.specs.Events.{IsEvent}
@@ -11,14 +10,9 @@ use Rattle.q_model.specs.Stretches.{ClassAt, class_in, IsBackloggedClass, Throug
 use Rattle.q_tree.specs.declared.ways.Share.{Share}
 use Rattle.q_tree.specs.Ways.{share_among}
 use Rattle.q_device.specs.Sharing.{device_after}
+use Rattle.q_device.specs.Worst.{most_of_turn}
 use Rattle.q_laws.specs.Service.{HasClasses, all_sent}
 use Rattle.q_laws.specs.Turn.{StaysLeft, bytes_of_turn, shown_by}
-
--- For each grant that the class may need from no deficit on, the quanta of the others, and the greatest deficit of each of them.
-abbrev pub most_of_turn : ℕ → ℕ → Share → ℕ
-most_of_turn mtu bytes share =
-    let others = share.quanta - share.quantum in
-    bytes + div_ceil bytes share.quantum * others + (others + (share.classes - 1) * (mtu - 1))
 
 -- the share of class i
 abbrev pub share_in : ℕ → Schedule → Share

@@ -46,4 +46,5 @@ pub mod SendSteps
 pub mod Showing
 pub mod Shown
 pub mod TreeSeen
+pub mod Turns
 pub mod Ways

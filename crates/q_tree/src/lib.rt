@@ -4,7 +4,8 @@
 //!   call, and [`Tree::send`] takes one into a place of the caller. [`Tree::ready_at`] returns when the next take may give a packet,
 //!   [`Tree::most_packets`] how many packets the tree can hold, and [`Tree::oldest`] since when the oldest packet of a place waits.
 //! - [`Route`] is the way of a packet down from the root, and [`Way`] is the way to a class of a drr. On a [`Way`], [`Link`] is the tbf at the
-//!   root, and each [`Share`] is a class of a drr in numbers. A [`Lane`] is a fifo whose packets no other packet overtakes.
+//!   root, and each [`Share`] is a class of a drr in numbers. A [`Lane`] is a fifo whose packets no other packet overtakes. A [`Turn`] is a
+//!   class of a drr whose packets are in a fifo.
 //! - [`Command`] is a change of the tree, [`Kind`] is a qdisc with its options, and [`Place`] is where the qdisc goes.
 //! - [`Refusal`] says why a command was not carried out. [`Row`] has the counters of a node. [`NodeView`], [`ClassView`] and [`FilterView`] are
 //!   what `show` prints, and [`ListedFlows`] says how many flows of an fq_codel are new and old. [`Nodes`] walks over all nodes of a tree, each of
@@ -50,6 +51,7 @@ mod route;
 mod shown;
 mod signals;
 mod tree;
+mod turns;
 mod views;
 mod ways;
 
@@ -59,6 +61,7 @@ pub use crate::node_ref::NodeRef;
 pub use crate::nodes::Nodes;
 pub use crate::route::Route;
 pub use crate::tree::Tree;
+pub use crate::turns::Turn;
 pub use crate::ways::{Link, Share, Way};
 pub use q_model::{
     Burst, ClassId, ClassKind, ClassView, Command, Filter, FilterKeys, FilterPrio, FilterView,
