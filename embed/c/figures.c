@@ -453,8 +453,8 @@ int main(int count, char **words) {
     fills("tc qdisc add dev wan root fq_codel limit 1000000", 300000, false);
     fills("tc qdisc add dev wan root bfifo limit 100000000", 300000, true);
     loses("tc qdisc add dev wan root pfifo limit 1000000", "tc qdisc del dev wan root", 100000);
-    begins_small("tc qdisc add dev wan root pfifo", 2048);
-    begins_small("tc qdisc add dev wan root fq_codel", 2048);
+    begins_small("tc qdisc add dev wan root pfifo", 800);
+    begins_small("tc qdisc add dev wan root fq_codel", 800);
     keeps_events();
     keeps_a_million_events();
     opens_a_ring(1000);
