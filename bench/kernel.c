@@ -78,6 +78,8 @@ static struct Qdisc *fq_codel(const struct load *load, u32 parent, u32 handle)
 {
 	at_start(&at);
 	at_u32(&at, TCA_FQ_CODEL_LIMIT, load->limit);
+	/* 32 MB by default, which 100,000 packets are above. */
+	at_u32(&at, TCA_FQ_CODEL_MEMORY_LIMIT, 1u << 31);
 	at_u32(&at, TCA_FQ_CODEL_FLOWS, load->flows);
 	at_u32(&at, TCA_FQ_CODEL_ECN, load->ecn);
 	at_u32(&at, TCA_FQ_CODEL_DROP_BATCH_SIZE, load->drop_batch);

@@ -8,15 +8,23 @@ static pthread_spinlock_t lock;
 static struct Qdisc *q;
 static struct sk_buff *pools[MOST_SENDERS];
 static struct count drained[MOST_SENDERS];
+/* The places of a sender's packets in the order in which they were drained, which is not that in which they were sent if flows take turns. */
+static u32 freed[MOST_SENDERS][ROOM];
 
-static void write_packet(struct sk_buff *skb, uint32_t flow, u32 sender, uint64_t id)
+/* A place for packet `sent` of a sender, of which fewer than ROOM are on their way. */
+static u32 place_for(u32 sender, uint64_t sent)
+{
+	return sent < ROOM ? (u32)sent : freed[sender][sent % ROOM];
+}
+
+static void write_packet(struct sk_buff *skb, uint32_t flow, u32 sender, u32 place)
 {
 	skb->next = NULL;
 	/* The kernel takes the high bits of a hash for the flow. */
 	skb->hash = (((u64)flow << 32) + FLOWS - 1) / FLOWS;
 	skb->mark = sender;
 	skb->priority = 0;
-	skb->id = (u32)id;
+	skb->id = place;
 	skb->ect = 0;
 	skb->truesize = 2304;
 	qdisc_skb_cb(skb)->pkt_len = 1000;
@@ -26,19 +34,24 @@ static void *send_all(void *index)
 {
 	u32 sender = (u32)(intptr_t)index;
 	uint32_t state = sender * 2654435761u + 1;
+	struct sk_buff *batch[MOST_BATCH];
 
 	while (!begun)
 		sched_yield();
 	for (uint64_t sent = 0; sent < run.packets; sent += run.batch) {
 		while (sent + run.batch - drained[sender].value > ROOM)
 			sched_yield();
-		for (int i = 0; i < run.batch; i++)
-			write_packet(&pools[sender][(sent + i) % ROOM], next_flow(&state), sender, sent + i);
+		for (int i = 0; i < run.batch; i++) {
+			u32 place = place_for(sender, sent + i);
+
+			batch[i] = &pools[sender][place];
+			write_packet(batch[i], next_flow(&state), sender, place);
+		}
 		pthread_spin_lock(&lock);
 		for (int i = 0; i < run.batch; i++) {
 			struct sk_buff *lost = NULL;
 
-			q->enqueue(&pools[sender][(sent + i) % ROOM], q, &lost);
+			q->enqueue(batch[i], q, &lost);
 		}
 		pthread_spin_unlock(&lock);
 	}
@@ -57,8 +70,12 @@ static void drain(const struct run *of, uint64_t packets)
 		while (more < of->batch && (polled[more] = q->dequeue(q)))
 			more++;
 		pthread_spin_unlock(&lock);
-		for (int i = 0; i < more; i++)
-			drained[polled[i]->mark].value++;
+		for (int i = 0; i < more; i++) {
+			u32 sender = polled[i]->mark;
+
+			freed[sender][drained[sender].value % ROOM] = polled[i]->id;
+			drained[sender].value++;
+		}
 		got += more;
 		if (!more)
 			sched_yield();

@@ -142,6 +142,34 @@ static void keeps_events(void) {
     qtree_close(&device);
 }
 
+/* As many of the last events may be kept as of the first, and no memory is touched before they come. */
+static void keeps_a_million_events(void) {
+    enum { EVENTS = 1000000 };
+    qtree_sent sent;
+    uint64_t noted;
+    size_t kept;
+    open_with(0);
+    CHECK(qtree_keep_last(&device, EVENTS) == QTREE_DONE);
+    for (uint64_t now = 0; now < 3; now++) {
+        CHECK(qtree_poll_buf(&device, now, &sent) == QTREE_IDLE);
+    }
+    CHECK(qtree_last_noted(&device, &noted, &kept) == QTREE_DONE && noted == 3 && kept == 3);
+    qtree_close(&device);
+    printf("figures: the last %d events may be kept\n", EVENTS);
+}
+
+/* A ring takes the memory of its places, once. */
+static void opens_a_ring(size_t places) {
+    qtree_port port = QTREE_CLOSED;
+    qtree_outlet outlet = QTREE_CLOSED;
+    begin();
+    CHECK(qtree_ring_open(&port, &outlet, 0, places) == QTREE_DONE);
+    printf("figures: a ring of %zu places takes %zu bytes\n", places, bytes);
+    CHECK(bytes <= places * sizeof(qtree_packet) + 4096);
+    qtree_port_close(&port);
+    qtree_outlet_close(&outlet);
+}
+
 /* An address with so many leading ones and a zero behind them: of the prefixes that end with that zero it has one. */
 static uint32_t ones(uint32_t many) { return many == 0 ? 0 : UINT32_MAX << (32 - many); }
 
@@ -308,6 +336,26 @@ static void through_a_long_pfifo_by_bursts(unsigned long times) { by_bursts(time
 
 static void through_an_empty_pfifo_by_bursts(unsigned long times) { by_bursts(times, 0); }
 
+/* Through a ring by bursts of 32: as many are offered, are taken in and are polled by one call each. */
+static void through_a_ring_by_bursts(unsigned long times) {
+    qtree_packet packets[32];
+    qtree_sent sent[32];
+    qtree_port port = QTREE_CLOSED;
+    qtree_outlet outlet = QTREE_CLOSED;
+    size_t done;
+    for (size_t i = 0; i < 32; i++) {
+        packets[i] = (qtree_packet){ .len = 1000 };
+    }
+    CHECK(qtree_ring_open(&port, &outlet, 0, 256) == QTREE_DONE);
+    for (unsigned long i = 0; i < times; i += 32) {
+        CHECK(qtree_offer_many(&port, packets, 32, &done) == QTREE_DONE && done == 32);
+        CHECK(qtree_take_in(&device, &outlet, 0, 32, &done) == QTREE_DONE && done == 32);
+        CHECK(qtree_poll_bufs(&device, 0, sent, 32, &done) == QTREE_DONE && done == 32);
+    }
+    qtree_port_close(&port);
+    qtree_outlet_close(&outlet);
+}
+
 static void through_a_pfifo(unsigned long times) {
     run("tc qdisc add dev wan root pfifo");
     pass((qtree_packet){ .len = 100 }, times);
@@ -377,6 +425,7 @@ static int steps(const char *name, const char *times) {
         { "pfifo", through_a_pfifo },
         { "bursts", through_a_long_pfifo_by_bursts },
         { "first-bursts", through_an_empty_pfifo_by_bursts },
+        { "ring-bursts", through_a_ring_by_bursts },
         { "few-filters", through_few_filters },
         { "many-filters", through_many_filters },
         { "filters-left", through_filters_left },
@@ -404,9 +453,12 @@ int main(int count, char **words) {
     fills("tc qdisc add dev wan root fq_codel limit 1000000", 300000, false);
     fills("tc qdisc add dev wan root bfifo limit 100000000", 300000, true);
     loses("tc qdisc add dev wan root pfifo limit 1000000", "tc qdisc del dev wan root", 100000);
-    begins_small("tc qdisc add dev wan root pfifo", 2048);
-    begins_small("tc qdisc add dev wan root fq_codel", 2048);
+    begins_small("tc qdisc add dev wan root pfifo", 800);
+    begins_small("tc qdisc add dev wan root fq_codel", 800);
     keeps_events();
+    keeps_a_million_events();
+    opens_a_ring(1000);
+    opens_a_ring(65536);
     filters_of_256_shapes();
     many_filters_have_an_index();
     calls_for_a_thousand();

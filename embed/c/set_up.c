@@ -190,7 +190,7 @@ static void noted(void) {
 
 enum { CLASSES = 255, FILTERS = 256, LINES = 1 + CLASSES + FILTERS };
 
-static char largest[LINES * 100];
+static char largest[2 * LINES * 100];
 
 /* A file of a tree as large as one may be. Its last class has this quantum, and its last filter leads to this class. */
 static void write_largest(uint32_t quantum, uint32_t class) {
@@ -235,6 +235,81 @@ static void deepest_tree(void) {
     qtree_close(&device);
 }
 
+/* A tree of 256 nodes, as many as there may be: classes of a drr, and a prio with so many bands below the first of them. */
+static void write_full(uint32_t bands) {
+    char *at = largest + sprintf(largest, "tc qdisc add dev wan root handle 1: drr\n");
+    for (uint32_t i = 1; i <= CLASSES - bands; i++) {
+        at += sprintf(at, "tc class add dev wan parent 1: classid 1:%x drr quantum 1500\n", i);
+    }
+    if (bands > 0) {
+        at += sprintf(at, "tc qdisc add dev wan parent 1:1 handle 2: prio bands %u priomap 0 0 0 0 0 0 0 0 0 0 0 0 0 0 0 0\n", bands);
+    }
+    sprintf(at, "tc filter add dev wan parent 1: prio 1 flower classid 1:2\n");
+}
+
+/* Where the tree is full before and after, what goes is deleted before anything is added, and what grows grows last. */
+static void full_tree(void) {
+    static const struct {
+        uint32_t bands, added, changed, deleted;
+    } steps[] = { { 0, 257, 0, 0 }, { 16, 1, 0, 16 }, { 2, 14, 1, 0 }, { 16, 0, 1, 14 }, { 2, 14, 1, 0 }, { 0, 2, 0, 1 } };
+    open_it(0);
+    for (size_t i = 0; i < sizeof steps / sizeof steps[0]; i++) {
+        write_full(steps[i].bands);
+        CHECK(sets_up(largest, 0) == QTREE_DONE && queued() == (i == 0 ? 0 : 10));
+        CHECK(report.added == steps[i].added && report.changed == steps[i].changed && report.deleted == steps[i].deleted);
+        if (i == 0) {
+            fill();
+        }
+    }
+    qtree_close(&device);
+}
+
+/* Two nodes with 256 filters each, of which the last one's has this number. */
+static void write_filters(uint32_t port) {
+    char *at = largest + sprintf(largest, "tc qdisc add dev wan root handle 1: prio\ntc qdisc add dev wan parent 1:1 handle 2: prio\n");
+    for (uint32_t i = 1; i <= 2 * FILTERS; i++) {
+        const uint32_t node = i <= FILTERS ? 1 : 2;
+        at += sprintf(at, "tc filter add dev wan parent %u: prio %u flower src_port %u classid %u:1\n", node, i, i < 2 * FILTERS ? i : port, node);
+    }
+}
+
+/* Each node may have 256 filters: those of the second are compared like those of the first. */
+static void filters_of_two_nodes(void) {
+    open_it(0);
+    write_filters(1000);
+    CHECK(sets_up(largest, 0) == QTREE_DONE && reports(2 + 2 * FILTERS, 2 + 2 * FILTERS, 0, 0, 0));
+    fill();
+    CHECK(sets_up(largest, 0) == QTREE_DONE && reports(2 + 2 * FILTERS, 0, 0, 0, 0));
+    write_filters(1001);
+    CHECK(sets_up(largest, 0) == QTREE_DONE && reports(2 + 2 * FILTERS, 1, 0, 1, 0) && queued() == 10);
+    qtree_close(&device);
+}
+
+/* A file may have any number of lines: comments of a megabyte, a line that is done, and a thousand that are not. */
+static void longest_file(void) {
+    enum { COMMENTS = 20000, LENGTH = 50, MANY = 1000 };
+    static char text[COMMENTS * LENGTH + MANY * 20];
+    static qtree_undone undone[MANY];
+    char *at = text;
+    for (size_t i = 0; i < COMMENTS; i++) {
+        memset(at, '#', LENGTH - 1);
+        at[LENGTH - 1] = '\n';
+        at += LENGTH;
+    }
+    open_it(0);
+    sprintf(at, "tc qdisc add dev wan root handle 1: drr\n");
+    CHECK(sets_up(text, 0) == QTREE_DONE && reports(COMMENTS + 1, 1, 0, 0, 0));
+    for (size_t i = 0; i < MANY; i++) {
+        at += sprintf(at, "poll\n");
+    }
+    CHECK(qtree_set_up(&device, (const uint8_t *)text, strlen(text), 0, &report, undone, MANY) == QTREE_UNDONE);
+    CHECK(reports(COMMENTS + MANY, 0, 0, 0, MANY));
+    for (size_t i = 0; i < MANY; i++) {
+        CHECK(undone[i].line == COMMENTS + 1 + i && undone[i].code == QTREE_NO_COMMAND);
+    }
+    qtree_close(&device);
+}
+
 static void answers(void) {
     CHECK(sets_up(home, 0) == QTREE_IS_CLOSED && reports(0, 0, 0, 0, 0));
     open_it(0);
@@ -270,6 +345,9 @@ int main(void) {
     noted();
     largest_tree();
     deepest_tree();
+    full_tree();
+    filters_of_two_nodes();
+    longest_file();
     answers();
     without_memory("", home);
     without_memory(home, faster);

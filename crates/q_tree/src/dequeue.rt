@@ -35,10 +35,10 @@ use q_codel::Sink;
 use q_packet::{KeptPacket, Moment, SOME_KEPT, StoredPacket};
 
 impl Tree {
-    /// Takes the packet whose turn it is into `out`, as [`Tree::take`] does, and says whether there was one: `false`, and `out`
-    /// stays as it is, where none may go now. `now` is at or after the latest time that the tree was given.
+    /// Takes the packet whose turn it is into `out`, as [`Tree::take`] does. Returns whether there was one: where no packet may go now, it
+    /// returns `false`, and `out` stays as it is. `now` is at or after the latest time that the tree was given.
     ///
-    /// The packet is written once, to the caller's place. It takes no memory. What CoDel drops for it goes to `sink`, which
+    /// The packet is written once, to the caller's place. The call allocates nothing. What CoDel drops for it goes to `sink`, which
     /// needs room for what is queued.
     pub fn send<S: Sink>(&mut self, now: Moment, out: &mut KeptPacket, sink: &mut S) -> bool
         requires order { self.old.clock ≤ now }
@@ -63,7 +63,8 @@ impl Tree {
         self.send_asked(now, out, sink)
     }
 
-    /// The same into a place in which anything may be: the packet is written there as it is stored.
+    /// Takes the packet whose turn it is, as [`Tree::send`] does, into a place in which anything may be: the packet is written there in
+    /// its stored form. Returns whether there was one; where there was none, the place stays as it is.
     #[inline(always)]
     pub fn send_stored<S: Sink>(
         &mut self,
@@ -97,7 +98,7 @@ impl Tree {
         true
     }
 
-    // Sends what the root shows once it is asked, whatever it is.
+    // Asks the root, whatever it is, and takes the packet that it shows then into `out`. Returns whether it showed one.
     #[inline(always)]
     fn send_asked<S: Sink>(&mut self, now: Moment, out: &mut KeptPacket, sink: &mut S) -> bool
         requires order { self.old.clock ≤ now }
@@ -124,7 +125,7 @@ impl Tree {
 }
 
 impl Node {
-    /// Whether the node is a fifo with a packet, so that nobody has to be asked.
+    /// Returns whether the node is a fifo that has a packet and holds none, so that nobody has to be asked.
     #[inline(always)]
     fn has_head(&self) -> bool
         ensures means { result ≡ true → HasHead self.now }
@@ -139,7 +140,7 @@ impl Node {
         fifo.count() > 0
     }
 
-    /// Dequeues the head of a fifo that has a packet, and holds none, into `out`, as [`Node::dequeue_at_hand`] does.
+    /// Dequeues the head of a fifo, which has a packet and holds none, into `out`, as [`Node::dequeue_at_hand`] does.
     #[inline(always)]
     fn send_head(&mut self, out: &mut KeptPacket)
         requires head { HasHead self.old }
@@ -155,7 +156,7 @@ impl Node {
         book_sent(&mut self.row, out);
     }
 
-    /// The same into a place in which anything may be. Returns the packet.
+    /// Dequeues the head of a fifo, as [`Node::send_head`] does, into a place in which anything may be, and returns that packet.
     #[inline(always)]
     fn send_head_stored(&mut self, out: &mut StoredPacket) -> KeptPacket
         requires head { HasHead self.old }
@@ -176,9 +177,9 @@ impl Node {
         packet
     }
 
-    // Asks the root for its packet, and dequeues that into `out`, which stays as it is where the root shows none.
+    // Asks the root for its packet, and dequeues that into `out`, which stays as it is where the root shows none. Returns what it shows.
     //
-    // It takes no memory. `sink` needs room for what is queued.
+    // The call allocates nothing. `sink` needs room for what is queued.
     #[inline(always)]
     fn dequeue<S: Sink>(
         &mut self,
@@ -210,8 +211,8 @@ impl Node {
         shown
     }
 
-    /// Dequeues the packet that the node has at hand into `out`, counts it as sent here, and in the bands that it comes from, and says
-    /// whether there was one. No node is asked: after a peek it is the packet that was shown. Where there was none, nothing changes.
+    /// Dequeues the packet that the node has at hand into `out`, and counts it as sent here, and in the bands that it comes from. Returns
+    /// whether there was one; where there was none, nothing changes. No node is asked: after a peek it is the packet that was shown.
     #[cycle(dequeue_at_hand)]
     #[inline(always)]
     pub(crate) fn dequeue_at_hand(&mut self, out: &mut KeptPacket) -> bool
@@ -236,7 +237,7 @@ impl Node {
 }
 
 impl Discipline {
-    // What a node with this discipline shows that holds no packet, and its packet in `out`.
+    // Returns what a node shows that has this discipline and holds no packet, and dequeues the packet that it shows into `out`.
     #[inline(always)]
     fn dequeue<S: Sink>(
         &mut self,
@@ -267,7 +268,7 @@ impl Discipline {
         }
     }
 
-    // Dequeues a fifo's head, or the packet of a prio's first band that has one.
+    // Dequeues a fifo's head, or the packet of a prio's first band that has one, into `out`. Returns whether there was one.
     #[cycle(dequeue_at_hand)]
     #[inline(always)]
     fn dequeue_at_hand(&mut self, out: &mut KeptPacket) -> bool
@@ -282,7 +283,7 @@ impl Discipline {
         }
     }
 
-    // The same, by a call.
+    // Does the same by a call.
     #[cycle(dequeue_at_hand)]
     #[inline(never)]
     fn dequeue_at_hand_further(&mut self, out: &mut KeptPacket) -> bool

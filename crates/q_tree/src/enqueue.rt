@@ -42,17 +42,18 @@ use q_packet::{Cause, KeptPacket, Moment, StoredPacket};
 use std::alloc::AllocError;
 
 impl Tree {
-    /// A packet arrives: in one walk down its route a place is made where it is queued, and it is put there, or lost. `now` is at
-    /// or after the latest time that the tree was given. It is [`Tree::route`], [`Tree::prepare`] and [`Tree::put`] in one.
+    /// Lets a packet arrive: in one walk down its route a place is made where it is queued, and it is put there, or lost. Returns whether
+    /// it was kept, or why it was not. `now` is at or after the latest time that the tree was given. The call does what [`Tree::route`],
+    /// [`Tree::prepare`] and [`Tree::put`] do, in one.
     ///
-    /// What is lost for it goes to `sink`, which needs room for what is queued and one packet more. It takes memory for the place
+    /// What is lost for it goes to `sink`, which needs room for what is queued and one packet more. Memory is allocated for the place
     /// alone, and none for a packet that is refused.
     ///
     /// # Errors
     ///
-    /// `AllocError` if an allocation fails, or if the packet would take what the device counts of arrivals past 2^64 - 1, in packets
-    /// or in bytes; never where [`Tree::prepare`] has made the place. The tree is as it was, but for places, of which no queue has
-    /// fewer, and nothing is lost.
+    /// Returns `AllocError` if an allocation fails, or if the packet would take what the device counts of arrivals past 2^64 - 1, in
+    /// packets or in bytes; never where [`Tree::prepare`] has made the place and the counts have room. The tree is then as it was, but for
+    /// places, of which no queue has fewer, and nothing is lost.
     pub fn arrive<S: Sink>(
         &mut self,
         packet: &KeptPacket,
@@ -82,11 +83,11 @@ impl Tree {
         self.arrive_counted(packet, now, sink)
     }
 
-    /// A packet arrives, as at [`Tree::arrive`], and its caller knows that what the device counts of arrivals has room for it.
+    /// Lets a packet arrive, as [`Tree::arrive`] does, where the caller knows that what the device counts of arrivals has room for it.
     ///
     /// # Errors
     ///
-    /// `AllocError` if an allocation fails; never where [`Tree::prepare`] has made the place. The tree is as it was, but for
+    /// Returns `AllocError` if an allocation fails; never where [`Tree::prepare`] has made the place. The tree is then as it was, but for
     /// places, of which no queue has fewer, and nothing is lost.
     // A device calls it at two places, and at one of them seldom: the other is to be without a call.
     #[inline(always)]
@@ -124,7 +125,11 @@ impl Tree {
         self.arrive_down(packet, now, sink)
     }
 
-    /// The same of a stored packet, each field of which is within its range.
+    /// Lets a stored packet arrive, each field of which is within its range, as [`Tree::arrive_counted`] does with a packet.
+    ///
+    /// # Errors
+    ///
+    /// Returns `AllocError` where [`Tree::arrive_counted`] does.
     #[inline(always)]
     pub fn arrive_stored<S: Sink>(
         &mut self,
@@ -160,7 +165,7 @@ impl Tree {
         self.arrive_down(&KeptPacket { stored: *packet }, now, sink)
     }
 
-    // The same by the path down from the root, where an outcome comes back from below.
+    // Lets a packet arrive by the path down from the root, from where an outcome comes back.
     #[inline(always)]
     fn arrive_down<S: Sink>(
         &mut self,
@@ -194,7 +199,7 @@ impl Tree {
 }
 
 impl Node {
-    /// Whether the node is a fifo that takes a packet of this length, and has a place for it.
+    /// Returns whether the node is a fifo that takes a packet of `len` bytes, and has a place for it.
     #[inline(always)]
     fn can_keep(&self, len: u16) -> bool
         ensures means { result ≡ true → CanKeep len self.now }
@@ -221,7 +226,7 @@ impl Node {
         book_kept(&mut self.row, packet);
     }
 
-    /// The same of a stored packet, each field of which is within its range.
+    /// Keeps a stored packet, each field of which is within its range, as [`Node::keep`] keeps a packet.
     #[inline(always)]
     fn keep_stored(&mut self, packet: &StoredPacket, now: Moment)
         requires in_range { IsStored packet.now }
@@ -237,8 +242,12 @@ impl Node {
         book_kept(&mut self.row, &KeptPacket { stored: *packet });
     }
 
-    /// A packet arrives at the node, and goes down its route: a place is made where it is queued, and it is put there, or lost. It
-    /// is booked at each node on the way back, and at none if an allocation fails.
+    /// Lets a packet arrive at the node, and go down its route: a place is made where it is queued, and it is put there, or lost. It
+    /// is booked at each node on the way back. Returns whether it was kept; what was lost is in `lost` then.
+    ///
+    /// # Errors
+    ///
+    /// Returns `AllocError` if an allocation fails. Nothing is booked then, and nothing is lost.
     #[cycle(enqueue)]
     #[inline(always)]
     pub(crate) fn enqueue<S: Sink>(
@@ -267,7 +276,7 @@ impl Node {
         self.enqueue_further(packet, now, lost, sink)
     }
 
-    // The same by a call, and also where a fifo has to make a place or refuses the packet.
+    // Does the same by a call, also where a fifo has to make a place or refuses the packet.
     #[cycle(enqueue)]
     #[inline(never)]
     fn enqueue_further<S: Sink>(
@@ -297,7 +306,7 @@ impl Node {
 }
 
 impl Discipline {
-    // A packet arrives at a node with this discipline and these filters.
+    // Lets a packet arrive at a node with this discipline and these filters.
     #[cycle(enqueue)]
     #[inline(always)]
     fn enqueue<S: Sink>(
@@ -355,7 +364,7 @@ impl Discipline {
     }
 }
 
-// The packet arrives at the root, or is refused above it where it is longer than the mtu.
+// Lets the packet arrive at the root, or refuses it above the root where it is longer than the mtu.
 #[inline(always)]
 fn enqueue_below<S: Sink>(
     root: &mut Node,

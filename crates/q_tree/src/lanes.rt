@@ -89,8 +89,8 @@ impl Node {
         child_at(self.children(), place)?.limit_along(rest)
     }
 
-    // The limit, if this is a fifo.
-    fn limit(&self) -> Option<Limit>
+    /// The limit, if this is a fifo.
+    pub(crate) fn limit(&self) -> Option<Limit>
         ensures { result ≡ limit_of self.now.own.discipline }
     {
         match &self.discipline {

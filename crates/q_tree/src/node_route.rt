@@ -23,7 +23,7 @@ impl Model for NodeRoute {
 }
 
 impl NodeRoute {
-    /// A path that ends where it begins.
+    /// Returns a path that ends where it begins, and in no refusal.
     pub(crate) fn new() -> NodeRoute
         ensures { result ≡ record { path = []; refusal = None } }
     {
@@ -33,7 +33,7 @@ impl NodeRoute {
         }
     }
 
-    /// Goes on to the child in this place.
+    /// Makes the path go on to the child in this place, counted from 0 in class order.
     pub(crate) fn push(&mut self, place: usize)
         requires { length self.old.path < 8 }
         ensures { self.new ≡ record self.old { path = self.old.path ++ place ∷ [] } }
@@ -41,21 +41,21 @@ impl NodeRoute {
         self.places.push(place);
     }
 
-    /// Ends in a refusal.
+    /// Makes the path end in a refusal with this cause.
     pub(crate) fn refuse(&mut self, cause: Cause)
         ensures { self.new ≡ record self.old { refusal = Some cause } }
     {
         self.refusal = Some(cause);
     }
 
-    /// The place of the child at each node.
+    /// Returns, for each node of the path, the place of the child to which it goes, counted from 0 in class order.
     pub(crate) fn places(&self) -> &[usize]
         ensures { result.now ≡ self.now.path }
     {
         &self.places
     }
 
-    /// The cause where it ends in a refusal.
+    /// Returns the cause where the path ends in a refusal, and `None` where it does not.
     pub(crate) fn refusal(&self) -> Option<Cause>
         ensures { result ≡ self.now.refusal }
     {

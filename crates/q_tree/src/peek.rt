@@ -29,10 +29,11 @@ use q_codel::Sink;
 use q_packet::{KeptPacket, Moment};
 
 impl Node {
-    /// Asks the node for its packet, which is at hand then, and books what CoDel dropped and marked for it, here and below.
+    /// Asks the node for its packet, which is at hand then, and books what CoDel dropped and marked for it, here and below. Returns what
+    /// the node shows.
     ///
-    /// A tbf, a drr and an fq_codel dequeue the packet that they show, and hold it until it is popped; one that holds a packet
-    /// shows that one, and no node below it is asked. It takes no memory. `sink` needs room for what is queued.
+    /// A tbf, a drr and an fq_codel dequeue the packet that they show, and hold it until it is popped. One that holds a packet
+    /// shows that one, and no node below it is asked. The call allocates nothing. `sink` needs room for what is queued.
     #[cycle(peek)]
     #[inline(always)]
     pub(crate) fn peek<S: Sink>(
@@ -59,7 +60,7 @@ impl Node {
         self.peek_further(now, signals, sink)
     }
 
-    // The same of a node that holds no packet, for each discipline.
+    // Asks a node of any discipline, which holds no packet, and books the answer.
     #[cycle(peek)]
     #[inline(always)]
     fn peek_further<S: Sink>(&mut self, now: Moment, signals: &mut Signals, sink: &mut S) -> Shown
@@ -77,7 +78,8 @@ impl Node {
         shown
     }
 
-    /// The same of a node that is asked after others: what was counted for those is counted on.
+    /// Asks the node for its packet, as [`Node::peek`] does, after others were asked. Returns what the node shows, with what was dropped
+    /// and marked for it and for those others, `so_far`, together.
     #[cycle(peek)]
     #[inline(always)]
     pub(crate) fn peek_after<S: Sink>(
@@ -101,7 +103,7 @@ impl Node {
         self.peek_after_counts(so_far, now, signals, sink)
     }
 
-    // The same where something was dropped or marked already.
+    // Asks the node where something was dropped or marked already for those before it.
     #[cycle(peek)]
     #[cold]
     #[inline(never)]
@@ -124,8 +126,8 @@ impl Node {
         so_far.then(next, signals, &asked)
     }
 
-    /// The packet that the node has at hand, without being asked: the one that it holds, a fifo's head, and for a prio that of
-    /// its first band which has one. Once it was asked, it is the packet that it showed.
+    /// Returns the packet that the node has at hand, without asking it: the one that it holds, a fifo's head, or that of a prio's first
+    /// band which has one. Once the node was asked, this is the packet that it showed. `None` says that it has none at hand.
     #[cycle(at_hand)]
     pub(crate) fn at_hand(&self) -> Option<KeptPacket>
         ensures { result ≡ (pop self.now).shown }
@@ -142,7 +144,8 @@ impl Node {
         }
     }
 
-    /// When the packet arrived that the node has at hand. It is asked for only where another node is to hold that packet.
+    /// Returns when the packet arrived that the node has at hand; `None` where it has none. It is needed only where another node is to hold
+    /// that packet.
     #[cycle(at_hand_since)]
     #[inline(always)]
     pub(crate) fn at_hand_since(&self) -> Option<Moment>
@@ -162,7 +165,7 @@ impl Node {
 }
 
 impl Discipline {
-    // What a node with this discipline shows that holds no packet: a tbf, a drr and an fq_codel dequeue it, and hold it then.
+    // Returns what a node shows that has this discipline and holds no packet. A tbf, a drr and an fq_codel dequeue it, and hold it then.
     #[cycle(peek)]
     #[inline(always)]
     fn ask<S: Sink>(

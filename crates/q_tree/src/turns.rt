@@ -1,9 +1,7 @@
 ghost use Rattle.std.specs.Prelude.{◌≡◌, All, IfSome};
-ghost use Rattle.q_tree.specs.Lanes.{limit_of};
 ghost use Rattle.q_tree.specs.Turns.{limit_in, turn_on, turn_to};
 ghost use Rattle.q_tree.specs.Ways.{IsShare};
 
-use crate::node::{Discipline, Node};
 use crate::tree::Tree;
 use crate::ways::{Link, Share, Way};
 use q_codel::Limit;
@@ -39,22 +37,7 @@ impl Tree {
         ensures { result ≡ limit_in class self.now.tree.root }
     {
         let path = self.qdiscs().class_path(class)?;
-        self.root.at(&path)?.limit_of()
-    }
-}
-
-impl Node {
-    // The limit, if this is a fifo.
-    fn limit_of(&self) -> Option<Limit>
-        ensures { result ≡ limit_of self.now.own.discipline }
-    {
-        match &self.discipline {
-            Discipline::Fifo(fifo) => return Some(fifo.limit()),
-            Discipline::Prio { .. }
-            | Discipline::Tbf { .. }
-            | Discipline::Drr { .. }
-            | Discipline::FqCodel(_) => return None,
-        }
+        self.root.at(&path)?.limit()
     }
 }
 

@@ -178,3 +178,32 @@ fn the_program_names_the_class() -> Result<(), Error> {
     }
     Ok(())
 }
+
+/// A tree of 256 nodes and 255 classes, as many as there may be, is listed whole, and so is a script of more than 65,536 bytes.
+#[test]
+fn long_lists_are_whole() -> Result<(), Error> {
+    const ARRIVALS: usize = 5000;
+    let mut device = Device::open(Settings {
+        recorder: 10_000,
+        ..Settings::default()
+    })?;
+    device.command("tc qdisc add dev wan root handle 1: drr", 0)?;
+    for class in 1..256 {
+        let line = format!("tc class add dev wan parent 1: classid 1:{class:x} drr quantum 1500");
+        device.command(&line, 0)?;
+    }
+    let nodes = device.nodes();
+    assert_eq!((nodes.len(), nodes[0].classes.len()), (256, 255));
+    assert_eq!(nodes[255].to_string(), "pfifo 0: parent 1:ff");
+    for packet in burst(ARRIVALS as u32)? {
+        device.arrive(&packet, 0)?;
+    }
+    let script = device.recorded_script()?;
+    assert!(script.len() > 65536);
+    assert_eq!(script.lines().count(), 256 + ARRIVALS);
+    assert_eq!(device.losses().count(), ARRIVALS);
+    device.keep_last(1_000_000)?;
+    device.poll(0)?;
+    assert_eq!(device.last_noted(), (1, 1));
+    Ok(())
+}

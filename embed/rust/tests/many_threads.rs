@@ -1,6 +1,6 @@
 //! Senders on threads of their own, a drain and gauges. QTREE_TEST_PACKETS is how many packets each of 64 senders places, 500 where it
 //! is not set.
-use qtree::{Count, Drain, Error, Gauge, OfferError, Packet, Place, Port, Row, Settings};
+use qtree::{Count, Drain, Error, Gauge, OfferError, Packet, Place, Port, Row, Sent, Settings};
 use std::sync::atomic::{AtomicBool, Ordering};
 use std::thread;
 use std::time::Duration;
@@ -248,4 +248,78 @@ fn what_is_out_of_range_opens_nothing() {
     };
     assert_eq!(Drain::open(settings, 1, 1).err(), Some(Error::OutOfRange));
     assert!(Drain::open(Settings::default(), 1, 65536).is_ok());
+}
+
+#[test]
+fn a_drain_has_a_thousand_ports() -> Result<(), Error> {
+    let (mut drain, mut ports) = Drain::open(Settings::default(), 1000, 4)?;
+    for port in &mut ports {
+        assert_eq!(port.offer(&packet(100, port.index())), Ok(()));
+    }
+    let mut sent = Vec::new();
+    let turn = drain.turn(0, 2000, &mut sent)?;
+    assert_eq!((turn.taken, turn.sent, turn.memory), (1000, 1000, false));
+    assert!(sent.iter().map(Packet::port).eq(0..1000));
+    assert_eq!(drain.share(999).map(|it| it.packets), Some(1));
+    Ok(())
+}
+
+#[test]
+fn one_call_passes_a_thousand_packets() -> Result<(), Error> {
+    const MANY: usize = 1000;
+    let burst: Vec<_> = (0..MANY as u32).map(|buf| packet(100, buf)).collect();
+    let (mut drain, mut ports) = Drain::open(Settings::default(), 1, MANY)?;
+    assert_eq!(ports[0].offer_many(&burst), (MANY, Ok(())));
+    let mut sent = Vec::new();
+    let turn = drain.turn(0, MANY, &mut sent)?;
+    assert_eq!((turn.taken, turn.sent), (MANY, MANY));
+    assert!(sent.iter().map(Packet::buf).eq(0..MANY as u32));
+    drain.device_mut().arrive_many(&burst, 0, &mut Vec::new())?;
+    let mut sent = [Sent::default(); MANY];
+    assert_eq!(drain.device_mut().poll_bufs(0, &mut sent), Ok(MANY));
+    assert!(sent.iter().map(Sent::buf).eq(0..MANY as u32));
+    Ok(())
+}
+
+/// Two of the longest rings, which are full, settle by one call.
+#[test]
+fn the_longest_rings_settle() -> Result<(), Error> {
+    const PLACES: usize = 65536;
+    let burst = vec![packet(100, 0); PLACES];
+    let (mut drain, ports) = Drain::open(Settings::default(), 2, PLACES)?;
+    let line = "tc qdisc add dev wan root pfifo limit 200000";
+    drain.device_mut().command(line, 0)?;
+    for mut port in ports {
+        assert_eq!(port.offer_many(&burst), (PLACES, Ok(())));
+    }
+    let settled = drain.settle(0)?;
+    assert!(settled.adds_up);
+    assert_eq!(settled.taken.packets, 2 * PLACES as u64);
+    assert_eq!(drain.device().totals().queued, settled.placed);
+    Ok(())
+}
+
+/// What a command does is shown by the next turn, though that turn takes and sends nothing.
+#[test]
+fn a_turn_shows_what_a_command_lost() -> Result<(), Error> {
+    let (mut drain, mut ports) = Drain::open(Settings::default(), 1, 4)?;
+    let gauge = drain.gauge();
+    let line = "tc qdisc add dev wan root handle 1: tbf rate 8bit burst 2000 limit 20000";
+    drain.device_mut().command(line, 0)?;
+    for buf in 0..2 {
+        assert_eq!(ports[0].offer(&packet(1500, buf)), Ok(()));
+    }
+    drain.turn(0, 4, &mut Vec::new())?;
+    assert_eq!(
+        (gauge.read().queued.packets, gauge.read().dropped.packets),
+        (1, 0)
+    );
+    drain.device_mut().command("tc qdisc del dev wan root", 0)?;
+    let turn = drain.turn(0, 4, &mut Vec::new())?;
+    assert_eq!((turn.taken, turn.sent), (0, 0));
+    assert_eq!(
+        (gauge.read().queued.packets, gauge.read().dropped.packets),
+        (0, 1)
+    );
+    Ok(())
 }

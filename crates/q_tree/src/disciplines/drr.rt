@@ -37,7 +37,7 @@ use q_model::{Minor, Quantum, Refusal, Totals};
 use q_packet::{Cause, KeptPacket, Moment};
 use std::alloc::AllocError;
 
-/// A packet goes to the class that a filter names, and is refused where there is none (tc-drr(8)).
+/// Returns where a packet goes: to the class that a filter names. It is refused where there is no such class (tc-drr(8)).
 #[inline(always)]
 pub(crate) fn choose(
     active: &Active,
@@ -53,7 +53,7 @@ pub(crate) fn choose(
     child_of(classes, place)
 }
 
-// The place of the class that a filter names, if there is one (tc-drr(8)).
+// Returns the place of the class that a filter names for a packet, if there is one (tc-drr(8)).
 fn class_place(active: &Active, filters: &Filters, packet: &KeptPacket) -> Option<usize>
     ensures { result ≡ option_and_then (λ minor. place_of minor active.now.classes) (named_class filters.now packet.now) }
 {
@@ -61,7 +61,7 @@ fn class_place(active: &Active, filters: &Filters, packet: &KeptPacket) -> Optio
     place_of(active, minor.number())
 }
 
-// The place of a class, if there is one. Where classes were added in the order of their numbers, with none left out, no name is
+// Returns the place of a class, if there is one. Where classes were added in the order of their numbers, with none left out, no name is
 // hashed.
 #[inline(always)]
 fn place_of(active: &Active, class: u16) -> Option<usize>
@@ -79,7 +79,7 @@ fn place_of(active: &Active, class: u16) -> Option<usize>
     active.place_of(class)
 }
 
-/// A class with something queued is active, and another is not (tc-drr(8)).
+/// Makes the class in this place active where something is queued there, and inactive where it is empty (tc-drr(8)).
 pub(crate) fn settle(active: &mut Active, place: usize, is_empty: bool)
     ensures { active.new ≡ settled_class place is_empty active.old }
 {
@@ -93,8 +93,8 @@ pub(crate) fn settle(active: &mut Active, place: usize, is_empty: bool)
     }
 }
 
-/// Asks the classes of the active list in turn, and grants to each whose packet is longer than its deficit, until one is met
-/// that can send its packet, which it writes to `out`, or that shows none (tc-drr(8)).
+/// Asks the classes of the active list in turn, and grants its quantum to each whose packet is longer than its deficit, until one is met
+/// that can send its packet, which is dequeued into `out`, or that shows none (tc-drr(8)). Returns what the drr shows.
 pub(crate) fn dequeue_class<S: Sink>(
     active: &mut Active,
     classes: &mut [Node],
@@ -122,7 +122,8 @@ pub(crate) fn dequeue_class<S: Sink>(
     shown
 }
 
-// The same up to where the packet is handed out: the class that can send it, whose place is written to `met`, still has it at hand.
+// Asks the classes as `dequeue_class` does, up to where the packet is handed out: the class that can send it, whose place is written to
+// `met`, still has it at hand.
 #[cycle(peek)]
 #[inline(always)]
 fn meet_class<S: Sink>(
@@ -164,7 +165,7 @@ fn meet_class<S: Sink>(
     Shown::at_hand(&None)
 }
 
-// The class in this place hands out its packet, and becomes inactive where that was its last.
+// Dequeues the packet that the class in this place has at hand into `out`; the class becomes inactive where that was its last.
 fn dequeue_class_at_hand(
     active: &mut Active,
     classes: &mut [Node],
@@ -179,7 +180,7 @@ fn dequeue_class_at_hand(
     settle(active, place, classes[place].is_empty());
 }
 
-/// Dequeues the packet that a drr sends, as [`dequeue_class`] does, to hold it (tc-drr(8)).
+/// Dequeues the packet that a drr sends, as [`dequeue_class`] does, and holds it in `held` (tc-drr(8)). Returns what the drr shows.
 #[cycle(peek)]
 #[inline(never)]
 pub(crate) fn peek_classes<S: Sink>(
@@ -210,7 +211,7 @@ pub(crate) fn peek_classes<S: Sink>(
     shown
 }
 
-// What a class shows: it is asked, or has its packet at hand. What was counted so far is counted on.
+// Returns what a class shows: it is asked, or has its packet at hand. What was counted so far is counted on.
 #[cycle(peek)]
 #[inline(always)]
 fn peek_class<S: Sink>(
@@ -236,7 +237,7 @@ fn peek_class<S: Sink>(
     peek_again(class, so_far)
 }
 
-// What a class shows that was asked already. A call by itself, since it copies the packet.
+// Returns what a class shows that was asked already. It is a call by itself, since it copies the packet.
 #[inline(never)]
 fn peek_again(class: &Node, so_far: Shown) -> Shown
     ensures { result ≡ record so_far { packet = (pop class.now).shown } }
@@ -244,7 +245,7 @@ fn peek_again(class: &Node, so_far: Shown) -> Shown
     so_far.showing(&class.at_hand())
 }
 
-/// The class in front of a drr: no other is asked before it has shown a packet.
+/// Returns what is known of the next packet of a drr, by the class in front: no other is asked before that one has shown a packet.
 #[cycle(outlook)]
 pub(crate) fn of_front(active: &Active, classes: &[Node], now: Moment) -> Outlook
     ensures { result ≡ of_class active.now (map (outlook now) classes.now) (slice_get active.now.active 0) }
@@ -263,7 +264,7 @@ pub(crate) fn of_front(active: &Active, classes: &[Node], now: Moment) -> Outloo
 }
 
 impl Outlook {
-    // What a drr shows whose front class has this deficit, and a child of which this is known (tc-drr(8)).
+    // Returns what is known of a drr whose front class has this deficit in bytes, and a child of which this is known (tc-drr(8)).
     fn paid(&self, deficit: u64) -> Outlook
         ensures { result ≡ paid deficit self.now }
     {
@@ -283,7 +284,11 @@ impl Outlook {
 }
 
 impl Node {
-    /// A drr has no settings of its own.
+    /// Returns the change of a drr, which changes nothing, since a drr has no settings of its own.
+    ///
+    /// # Errors
+    ///
+    /// Returns `Refusal::CannotChange` if the node is no drr.
     pub(crate) fn same_drr(&self) -> Result<DisciplineChange, Refusal>
         ensures { result ≡ drr_same self.now.own.discipline }
     {
@@ -299,7 +304,7 @@ impl Discipline {
     ///
     /// # Errors
     ///
-    /// `AllocError` if an allocation fails; nothing has changed then.
+    /// Returns `AllocError` if an allocation fails; nothing has changed then.
     pub(crate) fn add_class(
         &mut self,
         class: Minor,
@@ -330,7 +335,7 @@ impl Discipline {
         }
     }
 
-    /// Removes a class of a drr, with all that is below it, and says what was lost (tc-drr(8)).
+    /// Removes a class of a drr, with all that is below it, and returns how many packets and bytes were lost (tc-drr(8)).
     pub(crate) fn remove_class<S: Sink>(&mut self, class: Minor, sink: &mut S) -> Totals
         requires sink { length (lost_with (RemoveClass class) (discipline_seen self.old) (children_seen self.old)) ≤ S.room sink.old }
         ensures after { IsChangedBy (RemoveClass class) self.old self.new }
@@ -355,7 +360,7 @@ impl Discipline {
     }
 }
 
-// The same in the schedule.
+// Gives a class another quantum in the schedule, where one is given and the class is there.
 fn set_class_quantum(active: &mut Active, class: u16, quantum: Option<Quantum>)
     ensures { active.new ≡ requantum class quantum active.old }
 {

@@ -40,7 +40,7 @@ impl Node {
     ghost use Rattle.q_model.specs.Node as spec;
     ghost use Rattle.q_model.specs.Make.{node_of};
 
-    /// A fifo without packets, which has counted nothing. It takes no memory yet.
+    /// Makes a fifo without packets, which has counted nothing. It allocates nothing yet.
     pub(crate) fn fifo(alloc: Global, handle: Option<Handle>, limit: Limit) -> Node
         ensures own { result.own ≡ (node_of handle (spec.Fifo limit []) []).own }
         ensures counts { result.memory.counts ≡ no_counts }
@@ -58,7 +58,7 @@ impl Node {
 }
 
 impl Planner<'_> {
-    /// The leaf of a place where nothing else is, but below a tbf.
+    /// Makes the leaf of a place where nothing else is, but below a tbf: a pfifo of the device's queue length.
     pub(crate) fn implicit_pfifo(&self) -> Node
         ensures { IsNewNode result (implicit_pfifo (device_of self.now)) }
     {
@@ -66,7 +66,7 @@ impl Planner<'_> {
         Node::fifo(self.alloc, None, Limit::Packets(packets))
     }
 
-    /// The bytes that a bfifo takes: as many as are given, or those of the device's queue of packets as long as the mtu.
+    /// Returns how many bytes a bfifo takes: as many as are given, or those of the device's queue of packets as long as the mtu.
     pub(crate) fn bfifo_bytes(&self, limit: Option<u32>) -> u64
         ensures { result ≡ unwrap_or limit (self.now.txqueuelen * self.now.mtu) }
     {
@@ -77,7 +77,7 @@ impl Planner<'_> {
     }
 }
 
-/// A packet is refused at the limit (tc-pfifo(8)).
+/// Returns where a packet goes: into the fifo itself. It is refused at the limit (tc-pfifo(8)).
 #[inline(always)]
 pub(crate) fn choose(fifo: &Fifo, packet: &KeptPacket) -> Choice
     ensures { result ≡ (if takes fifo.now.limit fifo.now.packets packet.now.len then Here else Refused OverLimit) }
@@ -88,7 +88,11 @@ pub(crate) fn choose(fifo: &Fifo, packet: &KeptPacket) -> Choice
     Choice::Here
 }
 
-/// The packet is queued behind the others, or refused (tc-pfifo(8)).
+/// Queues a packet behind the others, or refuses it (tc-pfifo(8)). Returns whether it was kept; what was lost is in `lost`.
+///
+/// # Errors
+///
+/// Returns `AllocError` if an allocation fails; nothing is queued or lost then.
 #[inline(always)]
 pub(crate) fn enqueue_in_fifo<S: Sink>(
     fifo: &mut Fifo,
@@ -116,7 +120,7 @@ pub(crate) fn enqueue_in_fifo<S: Sink>(
     Ok(Arrived::kept())
 }
 
-/// Writes the head of a fifo to `out`.
+/// Dequeues the head of a fifo into `out`, which stays as it is where the fifo is empty. Returns what the fifo shows.
 #[inline(always)]
 pub(crate) fn dequeue_head(fifo: &mut Fifo, out: &mut KeptPacket) -> Shown
     ensures shown { result.packet ≡ option_map (λ (s : Stamped). s.packet) (slice_get fifo.old.packets 0) }
@@ -132,21 +136,21 @@ pub(crate) fn dequeue_head(fifo: &mut Fifo, out: &mut KeptPacket) -> Shown
     Shown::quiet(out, len)
 }
 
-/// The packet at the head of a fifo.
+/// Returns the packet at the head of a fifo; `None` where the fifo is empty.
 pub(crate) fn first_packet(fifo: &Fifo) -> Option<KeptPacket>
     ensures { result ≡ slice_get (packets_of fifo.now.packets) 0 }
 {
     fifo.first()
 }
 
-/// When the packet at the head of a fifo arrived.
+/// Returns when the packet at the head of a fifo arrived; `None` where the fifo is empty.
 pub(crate) fn first_arrival(fifo: &Fifo) -> Option<Moment>
     ensures { result ≡ first_arrival fifo.now.packets }
 {
     Some(fifo.front()?.at)
 }
 
-/// A fifo shows its head.
+/// Returns what is known of the next packet of a fifo with this head: the fifo shows it now.
 pub(crate) fn of_fifo(head: Option<KeptPacket>, now: Moment) -> Outlook
     ensures { result ≡ of_fifo now head }
 {
@@ -157,7 +161,11 @@ pub(crate) fn of_fifo(head: Option<KeptPacket>, now: Moment) -> Outlook
 }
 
 impl Node {
-    /// A pfifo keeps its limit in packets where none is given.
+    /// Returns the change of a pfifo to this limit in packets; where none is given, it keeps the one that it has.
+    ///
+    /// # Errors
+    ///
+    /// Returns `Refusal::CannotChange` if the node is no pfifo.
     pub(crate) fn packet_limit(&self, limit: Option<u32>) -> Result<DisciplineChange, Refusal>
         ensures { result ≡ pfifo_answer limit self.now.own.discipline }
     {
@@ -171,7 +179,11 @@ impl Node {
         Ok(DisciplineChange::SetLimit(Limit::Packets(packets)))
     }
 
-    /// A bfifo keeps its limit in bytes where none is given.
+    /// Returns the change of a bfifo to this limit in bytes; where none is given, it keeps the one that it has.
+    ///
+    /// # Errors
+    ///
+    /// Returns `Refusal::CannotChange` if the node is no bfifo.
     pub(crate) fn byte_limit(&self, limit: Option<u32>) -> Result<DisciplineChange, Refusal>
         ensures { result ≡ bfifo_answer limit self.now.own.discipline }
     {

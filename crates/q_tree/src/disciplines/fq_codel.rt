@@ -37,7 +37,11 @@ use q_model::{FqCodelOptions, Refusal, Totals};
 use q_packet::{Cause, KeptPacket, Moment};
 use std::alloc::{AllocError, Global};
 
-/// The queue of an fq_codel with these settings.
+/// Makes the queue of an fq_codel with these settings.
+///
+/// # Errors
+///
+/// Returns `AllocError` if an allocation fails.
 pub(crate) fn new_queue(alloc: Global, settings: Settings) -> Result<Box<FqCodel>, AllocError>
     ensures state { IfOk result (λ q. q.value.state ≡ first_state settings) }
     ensures places { IfOk result (λ q. q.value.places ≡ 0) }
@@ -46,7 +50,7 @@ pub(crate) fn new_queue(alloc: Global, settings: Settings) -> Result<Box<FqCodel
     Ok(Box::new(alloc, queue)?)
 }
 
-// The settings with those that are given in place of theirs.
+// Returns the old settings, with those that are given in place of theirs.
 pub(crate) fn with_options(options: &FqCodelOptions, old: Settings) -> Settings
     ensures { result ≡ with_options options.now old }
 {
@@ -64,7 +68,11 @@ pub(crate) fn with_options(options: &FqCodelOptions, old: Settings) -> Settings
     }
 }
 
-/// The packet is queued in its flow, and what the fattest flow loses is counted.
+/// Queues a packet in its flow, and counts what the fattest flow loses. Returns whether the packet was kept; what was lost is in `lost`.
+///
+/// # Errors
+///
+/// Returns `AllocError` if an allocation fails; nothing is queued or lost then.
 pub(crate) fn enqueue_in_flows<S: Sink>(
     queue: &mut FqCodel,
     packet: &KeptPacket,
@@ -93,7 +101,7 @@ pub(crate) fn enqueue_in_flows<S: Sink>(
     Ok(enqueue_over(queue, packet, now, lost, sink))
 }
 
-// The same over the limit. A call by itself, so that the usual path makes no place for an outcome.
+// Does the same over the limit. It is a call by itself, so that the usual path makes no place for an outcome.
 #[cold]
 #[inline(never)]
 fn enqueue_over<S: Sink>(
@@ -115,7 +123,7 @@ fn enqueue_over<S: Sink>(
     Arrived::with(lost)
 }
 
-// Puts a packet into its flow, and counts what the fattest flow loses.
+// Puts a packet into its flow, and returns what the fattest flow loses for it.
 #[inline(always)]
 fn put_in_flow<S: Sink>(
     queue: &mut FqCodel,
@@ -141,7 +149,8 @@ fn put_in_flow<S: Sink>(
     }
 }
 
-/// Writes the packet that the flow in front sends (RFC 8290, section 4.2) to `out`, and counts what CoDel drops and marks.
+/// Dequeues the packet that the flow in front sends (RFC 8290, section 4.2) into `out`, and counts what CoDel drops and marks. Returns what
+/// the fq_codel shows.
 pub(crate) fn dequeue_flow<S: Sink>(
     queue: &mut FqCodel,
     out: &mut KeptPacket,
@@ -175,8 +184,8 @@ pub(crate) fn dequeue_flow<S: Sink>(
     }
 }
 
-// The same where CoDel found the packet in front late; when the packet arrived goes to `since`. A call by itself, so that the usual path
-// counts nothing and saves no registers.
+// Does the same where CoDel found the packet in front late, and writes to `since` when the packet arrived. It is a call by itself, so that
+// the usual path counts nothing and saves no registers.
 #[cold]
 #[inline(never)]
 fn dequeue_late<S: Sink>(
@@ -221,7 +230,7 @@ fn dequeue_late<S: Sink>(
     Shown::sending(out, signals)
 }
 
-// Shows the packet, where nothing was dropped for it. Mostly it was not marked either, and nothing is written then.
+// Returns what an fq_codel shows that dropped nothing for this packet. Mostly it was not marked either, and nothing is written then.
 #[inline(always)]
 fn show_marked(is_marked: bool, out: &KeptPacket, signals: &mut Signals) -> Shown
     requires { signals.old ≡ no_signals }
@@ -238,7 +247,7 @@ fn show_marked(is_marked: bool, out: &KeptPacket, signals: &mut Signals) -> Show
     Shown::sending(out, signals)
 }
 
-// The packet, where it was marked.
+// Returns the totals of the packet where it was marked, and of nothing where it was not.
 fn marking(is_marked: bool, packet: &KeptPacket) -> Totals
     ensures { result ≡ (if is_marked then with_packet no_totals packet.now else no_totals) }
 {
@@ -248,7 +257,8 @@ fn marking(is_marked: bool, packet: &KeptPacket) -> Totals
     NOTHING
 }
 
-/// Takes the packet that the flow in front sends (RFC 8290, section 4.2), to hold it, and counts what CoDel drops and marks.
+/// Dequeues the packet that the flow in front sends (RFC 8290, section 4.2), holds it in `held`, and counts what CoDel drops and marks.
+/// Returns what the fq_codel shows.
 #[inline(never)]
 pub(crate) fn peek_flow<S: Sink>(
     queue: &mut FqCodel,
@@ -284,7 +294,7 @@ pub(crate) fn peek_flow<S: Sink>(
     }
 }
 
-/// An fq_codel with packets shows one, but CoDel decides which when it is asked.
+/// Returns what is known of the next packet of an fq_codel with so many packets: it shows one now, but CoDel decides which when it is asked.
 pub(crate) fn of_flows(packets: u64, now: Moment) -> Outlook
     ensures { result ≡ of_flows now packets }
 {
@@ -295,7 +305,11 @@ pub(crate) fn of_flows(packets: u64, now: Moment) -> Outlook
 }
 
 impl Node {
-    /// An fq_codel keeps its number of flows.
+    /// Returns the change of an fq_codel to these options, of which the number of flows has to stay.
+    ///
+    /// # Errors
+    ///
+    /// Returns `Refusal::CannotChange` if the node is no fq_codel, or if another number of flows is given.
     pub(crate) fn options(&self, options: &FqCodelOptions) -> Result<DisciplineChange, Refusal>
         ensures { result ≡ fq_codel_answer options.now self.now.own.discipline }
     {

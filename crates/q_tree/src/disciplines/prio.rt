@@ -47,7 +47,11 @@ use q_packet::{KeptPacket, Moment};
 use std::alloc::AllocError;
 
 impl Planner<'_> {
-    /// So many implicit pfifos, each of the device's queue length.
+    /// Makes so many implicit pfifos, each of the device's queue length.
+    ///
+    /// # Errors
+    ///
+    /// Returns `AllocError` if an allocation fails, which for no leaves is never.
     pub(crate) fn leaves(&self, count: usize) -> Result<Vec<Node>, AllocError>
         ensures new { IfOk result (λ v. AreNew v.items (replicate count (implicit_pfifo (device_of self.now)))) }
         ensures memory { OnErr result (0 < count) }
@@ -60,7 +64,7 @@ impl Planner<'_> {
     }
 }
 
-/// A packet goes to its band (tc-prio(8)).
+/// Returns where a packet goes: to its band. It is refused where there is no such band (tc-prio(8)).
 #[inline(always)]
 pub(crate) fn choose(
     filters: &Filters,
@@ -73,7 +77,7 @@ pub(crate) fn choose(
     child_of(bands, band(filters, priomap, packet))
 }
 
-// The band of a packet: the class that a filter names, else that of its priority (tc-prio(8)).
+// Returns the band of a packet, from 0: that of the class which a filter names, else that of its priority (tc-prio(8)).
 fn band(filters: &Filters, priomap: &[u8; 16], packet: &KeptPacket) -> usize
     ensures { result ≡ option_map_or (λ minor. minor - 1) (named_class filters.now packet.now) (slice_index priomap.now packet.now.prio) }
 {
@@ -83,7 +87,7 @@ fn band(filters: &Filters, priomap: &[u8; 16], packet: &KeptPacket) -> usize
     }
 }
 
-/// Sends the packet of the first band that shows one; the bands before it are asked (tc-prio(8)).
+/// Asks the bands in order, and dequeues the packet of the first band that shows one into `out` (tc-prio(8)). Returns what the prio shows.
 pub(crate) fn dequeue_bands<S: Sink>(
     bands: &mut [Node],
     now: Moment,
@@ -109,6 +113,7 @@ pub(crate) fn dequeue_bands<S: Sink>(
 }
 
 // Asks the bands in order, up to the first that shows a packet: its place is written to `met`, and it still has the packet at hand.
+// Returns what the prio shows.
 #[cycle(peek)]
 #[inline(always)]
 fn meet_band<S: Sink>(
@@ -138,7 +143,7 @@ fn meet_band<S: Sink>(
     shown
 }
 
-/// Asks the bands in order, up to the first that shows a packet, and shows that one (tc-prio(8)).
+/// Asks the bands in order, up to the first that shows a packet, and returns what that one shows (tc-prio(8)).
 #[cycle(peek)]
 #[inline(never)]
 pub(crate) fn peek_bands<S: Sink>(
@@ -159,7 +164,7 @@ pub(crate) fn peek_bands<S: Sink>(
     meet_band(bands, &mut met, now, signals, sink)
 }
 
-/// Dequeues the packet of the first band that has one at hand.
+/// Dequeues the packet of the first band that has one at hand into `out`. Returns whether there was one.
 #[cycle(dequeue_at_hand)]
 #[inline(always)]
 pub(crate) fn dequeue_first(bands: &mut [Node], out: &mut KeptPacket) -> bool
@@ -176,7 +181,7 @@ pub(crate) fn dequeue_first(bands: &mut [Node], out: &mut KeptPacket) -> bool
     false
 }
 
-/// That of the first band which has one.
+/// Returns the packet of the first band that has one at hand.
 #[cycle(at_hand)]
 pub(crate) fn first_at_hand(bands: &[Node]) -> Option<KeptPacket>
     ensures { result ≡ first_shown (map pop bands.now) }
@@ -189,7 +194,7 @@ pub(crate) fn first_at_hand(bands: &[Node]) -> Option<KeptPacket>
     None
 }
 
-/// When that packet arrived.
+/// Returns when the packet arrived that the first band which has one has at hand.
 #[cycle(at_hand_since)]
 pub(crate) fn first_since(bands: &[Node]) -> Option<Moment>
     ensures { result ≡ first_since (map at_hand_since bands.now) }
@@ -202,7 +207,7 @@ pub(crate) fn first_since(bands: &[Node]) -> Option<Moment>
     None
 }
 
-/// The bands in order.
+/// Returns what is known of the next packet of a prio, by its bands in order.
 #[cycle(outlook)]
 pub(crate) fn of_bands(bands: &[Node], now: Moment) -> Outlook
     ensures { result ≡ with_bands no_packet (map (outlook now) bands.now) }
@@ -215,7 +220,7 @@ pub(crate) fn of_bands(bands: &[Node], now: Moment) -> Outlook
 }
 
 impl Outlook {
-    // What a prio shows, of whose first bands this is known, and that of the next one (tc-prio(8)).
+    // Returns what is known of a prio, of whose first bands this is known, and `next` of the band behind them (tc-prio(8)).
     fn with_band(&self, next: &Outlook) -> Outlook
         ensures { result ≡ with_band self.now next.now }
     {
@@ -244,7 +249,12 @@ impl Outlook {
 }
 
 impl Planner<'_> {
-    /// A prio gets the leaves that it needs for its bands.
+    /// Returns the change of a prio to these options, with the leaves that it needs for its bands.
+    ///
+    /// # Errors
+    ///
+    /// Returns why the prio stays as it is: the node is no prio, a filter names a band that would go, the tree would have too many nodes, or an
+    /// allocation fails.
     pub(crate) fn bands(
         &self,
         node: &Node,
@@ -263,7 +273,7 @@ impl Planner<'_> {
 }
 
 impl Node {
-    // How many leaves a prio needs for so many bands, in a tree of so many nodes.
+    // Returns how many leaves a prio needs for so many bands, in a tree of so many nodes.
     fn leaves_needed(&self, bands: u8, nodes: usize) -> Result<usize, Refusal>
         requires within { count_nodes self.now ≤ nodes }
         requires few { nodes ≤ most_nodes }
@@ -283,7 +293,7 @@ impl Node {
         Ok(more)
     }
 
-    // How many nodes are at the children from this place on, and below them.
+    // Returns how many nodes there are among the children from this place on, and below them.
     fn nodes_from(&self, place: usize) -> usize
         requires { count_nodes self.now ≤ most_nodes }
         ensures value { result ≡ nodes_from place self.now }
@@ -299,11 +309,12 @@ impl Node {
 }
 
 impl Discipline {
-    /// Gives a prio other options and these leaves behind its bands, of which the last go that are too many (tc-prio(8)).
+    /// Gives a prio other options and these leaves behind its bands, of which the last go that are too many (tc-prio(8)). Returns how many
+    /// packets and bytes are lost with those.
     ///
     /// # Errors
     ///
-    /// `AllocError` if an allocation fails; nothing has changed then.
+    /// Returns `AllocError` if an allocation fails; nothing has changed then.
     pub(crate) fn set_bands<S: Sink>(
         &mut self,
         options: PrioOptions,
@@ -342,14 +353,14 @@ impl Discipline {
     }
 }
 
-// Whether one of these filters names a band beyond so many.
+// Returns whether one of these filters names a band beyond so many.
 fn names_beyond(filters: &[MaskedFilter], bands: usize) -> bool
     ensures { result ≡ list_any (λ (f : Filter). nat_lt bands f.minor) filters.now }
 {
     filters.iter().any(|filter| bands < usize::from(filter.filter().minor.number()))
 }
 
-// Keeps so many nodes in front, removes the others in their order, and says what was lost with them.
+// Keeps so many nodes in front, removes the others in their order, and returns how many packets and bytes were lost with them.
 fn keep_first<S: Sink>(nodes: &mut Vec<Node>, count: usize, sink: &mut S) -> Totals
     requires few { FitsCounters (packets_beneath (drop count nodes.old.items)) }
     requires sink { length (packets_beneath (drop count nodes.old.items)) ≤ S.room sink.old }

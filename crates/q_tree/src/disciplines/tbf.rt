@@ -31,7 +31,11 @@ use q_model::{Burst, Rate, Refusal, TbfLimit};
 use q_packet::{Cause, KeptPacket, Moment};
 use std::alloc::{AllocError, Global};
 
-/// A tbf with its bucket, over an implicit bfifo of so many bytes.
+/// Makes a tbf with this bucket, over an implicit bfifo whose limit is `limit` bytes.
+///
+/// # Errors
+///
+/// Returns `AllocError` if an allocation fails.
 pub(crate) fn new_tbf(alloc: Global, bucket: Bucket, limit: u64) -> Result<Discipline, AllocError>
     ensures { IfOk result (λ d. IsNewTbf d bucket limit) }
 {
@@ -44,7 +48,7 @@ pub(crate) fn new_tbf(alloc: Global, bucket: Bucket, limit: u64) -> Result<Disci
     })
 }
 
-// The bytes that the implicit bfifo of a tbf holds: as given, or what the rate brings in the latency, and the burst (tc-tbf(8)).
+// Returns how many bytes the implicit bfifo of a tbf holds: as given, or what the rate brings in the latency, and the burst (tc-tbf(8)).
 pub(crate) fn limit_bytes(rate: Rate, burst: Burst, limit: TbfLimit) -> u64
     ensures { result ≡ limit_bytes rate burst limit }
 {
@@ -58,10 +62,10 @@ pub(crate) fn limit_bytes(rate: Rate, burst: Burst, limit: TbfLimit) -> u64
     }
 }
 
-/// Units of a bucket's level in a byte: a nanosecond brings as many units as the rate has bits a second.
+/// The number of units of a bucket's level in a byte: a nanosecond brings as many units as the rate has bits a second.
 const UNITS_IN_BYTE: u128 = 8_000_000_000;
 
-/// A packet goes to the child, or is refused where it is longer than the burst: the bucket never allows it.
+/// Returns where a packet goes: to the child. It is refused where it is longer than the burst, since the bucket never allows it.
 #[inline(always)]
 pub(crate) fn choose(bucket: &Bucket, packet: &KeptPacket) -> Choice
     ensures { result ≡ (if nat_lt bucket.now.burst packet.now.len then Refused TooLong else Child 0) }
@@ -72,7 +76,8 @@ pub(crate) fn choose(bucket: &Bucket, packet: &KeptPacket) -> Choice
     Choice::Child(0)
 }
 
-/// Asks the child of a tbf, and writes the packet that it shows to `out` where the bucket allows it (tc-tbf(8)).
+/// Asks the child of a tbf, and dequeues the packet that it shows into `out` where the bucket allows it (tc-tbf(8)). Returns what the tbf
+/// shows.
 pub(crate) fn dequeue_child<S: Sink>(
     bucket: &mut Bucket,
     child: &mut Node,
@@ -100,7 +105,7 @@ pub(crate) fn dequeue_child<S: Sink>(
     shown
 }
 
-// The same up to where the packet is handed out: the child still has it at hand.
+// Asks the child as `dequeue_child` does, and spends the tokens, up to where the packet is handed out: the child still has it at hand.
 #[cycle(peek)]
 #[inline(always)]
 fn allow_child<S: Sink>(
@@ -131,7 +136,7 @@ fn allow_child<S: Sink>(
     shown
 }
 
-/// Dequeues the packet that a tbf sends, as [`dequeue_child`] does, to hold it (tc-tbf(8)).
+/// Dequeues the packet that a tbf sends, as [`dequeue_child`] does, and holds it in `held` (tc-tbf(8)). Returns what the tbf shows.
 #[cycle(peek)]
 #[inline(never)]
 pub(crate) fn peek_child<S: Sink>(
@@ -162,7 +167,7 @@ pub(crate) fn peek_child<S: Sink>(
 }
 
 impl Outlook {
-    /// What a tbf with this bucket shows, whose child this is known of (tc-tbf(8)).
+    /// Returns what is known of a tbf with this bucket, of whose child this is known (tc-tbf(8)).
     pub(crate) fn shaped(&self, bucket: &Bucket) -> Outlook
         ensures { result ≡ shaped bucket.now self.now }
     {
@@ -182,7 +187,7 @@ impl Outlook {
         self.shaped_after(bucket, self.until)
     }
 
-    // The same from this time on, where no more is known of the child than how short its packets are.
+    // Returns what is known of it from this time on, where no more is known of the child than how short its packets are.
     fn shaped_after(&self, bucket: &Bucket, from: Option<Moment>) -> Outlook
         ensures { result ≡ shaped_after bucket.now self.now from }
     {
@@ -191,7 +196,7 @@ impl Outlook {
     }
 }
 
-// The least time, from its last spend on, at which the bucket covers this length.
+// Returns the least time, from its last spend on, at which the bucket covers a packet of `len` bytes; `None` where it never does.
 fn covers_at(bucket: &Bucket, len: u16) -> Option<Moment>
     ensures { result ≡ covers_at bucket.now len }
 {
@@ -203,7 +208,11 @@ fn covers_at(bucket: &Bucket, len: u16) -> Option<Moment>
 }
 
 impl Planner<'_> {
-    /// A tbf's bucket fills up to now, before it is another.
+    /// Returns the change of a tbf to this rate, burst and limit. Its bucket fills up to now, before it is another.
+    ///
+    /// # Errors
+    ///
+    /// Returns `Refusal::CannotChange` if the node is no tbf, and `Refusal::SmallBurst` if the burst is below both the mtu and the old burst.
     pub(crate) fn bucket(
         &self,
         node: &Node,
@@ -227,7 +236,7 @@ impl Planner<'_> {
 }
 
 impl Node {
-    // Gives an implicit bfifo this limit in bytes. A qdisc with a handle has its own.
+    // Gives an implicit bfifo this limit in bytes. A qdisc with a handle keeps its own limit.
     fn limit_leaf(&mut self, bytes: u64)
         ensures { self.new ≡ leaf_limited bytes self.old }
     {

@@ -16,7 +16,7 @@ sent-told (Some p) x before s some e is = ap sent is
 sent-told None x before s some e is = absurd (none-some x (sym e))
 
 pub returns-in-Packet-clause-packet : goal.returns-in-Packet-clause-packet
-returns-in-Packet-clause-packet c = c.of.ensures ∙ sent-told _ _ c.args.place.now _ _ (ap given_in (c.in-Packet.ensures.reply (descriptor zero_packet))) c.in-Packet.ensures.packet
+returns-in-Packet-clause-packet c = sent-told _ _ c.args.place.now _ _ (ap given_in (c.in-Packet.ensures.reply (descriptor zero_packet))) c.in-Packet.ensures.packet
 
 pub returns-in-Idle-clause-packet : goal.returns-in-Idle-clause-packet
 returns-in-Idle-clause-packet c = ap (told_or sent_of c.args.place.now) (ap given_in (c.in-Idle.ensures.reply (descriptor zero_packet)))
