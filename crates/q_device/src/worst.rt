@@ -15,7 +15,7 @@ use q_tree::{Lane, Link, Share, Turn};
 /// Until the packet has left, the device sends at most `bytes` bytes, including those of the packet itself, whatever comes meanwhile. With a tbf at
 /// the root, the packet has left once the program has polled until no packet came, `ns` nanoseconds after the packet's arrival or later. So if
 /// polls are never later than `late` nanoseconds, as [`crate::Service`] describes it, the packet has left by `ns + late` (`worst_is_enough` of
-/// `q_laws`).
+/// `q_laws`, and for a class of a drr `turn_is_enough`).
 ///
 /// Let the fifo hold at most B bytes: the limit of a bfifo, or the limit of a pfifo times the mtu. In a fifo that no other packet overtakes `bytes`
 /// is B. In a class of a drr with a quantum of q bytes, where the quanta of all n classes are Q bytes together, it is
