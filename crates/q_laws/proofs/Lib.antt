@@ -1,4 +1,5 @@
 mod DelayRows
+mod FifoTurns
 mod FlowService
 mod GivenPaid
 mod HoldsNone

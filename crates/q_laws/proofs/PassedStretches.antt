@@ -119,7 +119,7 @@ command-quiet now n after (inr edit) = by edit.by
 
 -- ---- one event
 
-leaves-stage : (a : Asked) (w : Worked) (taken : ℕ) → Leaves a w taken → IsStageOf a w
+pub leaves-stage : (a : Asked) (w : Worked) (taken : ℕ) → Leaves a w taken → IsStageOf a w
 leaves-stage a w taken (inl h) = inl h.0
 leaves-stage a w taken (inr (inl h)) = inr (inl h.0)
 leaves-stage a w taken (inr (inr h)) = inr (inr h.0)

@@ -1,5 +1,6 @@
 pub mod Delay
 pub mod Delivered
+pub mod FifoTurn
 pub mod InTime
 pub mod Latest
 pub mod Line

@@ -1,6 +1,7 @@
 //! What is true of service, of work and of order over every replay of a device. Each law is the contract of a function that does nothing.
 ghost use Rattle.q_laws.specs.Delay.{BytesArePaidInTime};
 ghost use Rattle.q_laws.specs.Delivered.{LatenessIsTheGreatest, ServiceIsDelivered, ShareIsDelivered, SlackIsTheLaws};
+ghost use Rattle.q_laws.specs.FifoTurn.{FifosWaitAtMost};
 ghost use Rattle.q_laws.specs.InTime.{ClassesShareInTime, SharesMultiply};
 ghost use Rattle.q_laws.specs.Latest.{LatestIsEnough, LatestIsInTime, LatestIsToldBefore, LatestRisesNoFaster, LatestStandsAsItFills};
 ghost use Rattle.q_laws.specs.Line.{LimitsAreDelays, LinesLeaveFirst, LinesLeaveInTime};
@@ -288,6 +289,19 @@ pub fn classes_wait_their_turn(settings: Settings)
 pub fn turns_are_bounded(settings: Settings)
     ensures bytes_of_turn { TurnsAreBounded settings }
     ensures sent { ClassesWaitAtMost settings }
+{
+    settings.ranges();
+}
+
+/// What the classes of a drr send before the last packet that is queued in a fifo which is a class of it, whatever state the drr is in: where no
+/// more than `bytes` bytes are queued there, as in a bfifo of that limit right after it took a packet, at most the number of
+/// [`turns_are_bounded`], the packet among them, whatever comes to the other classes.
+///
+/// The drr keeps its classes and their quanta, and the fifo, which has a handle, its place; a command leaves what is queued in it as it was, or
+/// longer at its end. For all settings and every list of events whose fields are in their ranges. Bytes are those that a class's child hands to
+/// the drr, which may hold one packet more.
+pub fn fifos_wait_at_most(settings: Settings)
+    ensures { FifosWaitAtMost settings }
 {
     settings.ranges();
 }
