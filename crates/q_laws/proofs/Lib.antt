@@ -46,8 +46,15 @@ mod RestReplays
 mod RestSteps
 mod ServiceStretches
 mod ShareInTime
+mod TurnAsks
+mod TurnBounds
+mod TurnKept
+mod TurnLimits
+mod TurnPaid
+mod TurnPolls
 mod TurnStretches
 mod TurnSums
+mod TurnWaits
 mod WayStretches
 mod WorkAsks
 mod WorkTrees

@@ -11,5 +11,6 @@ pub mod Rate
 pub mod Rest
 pub mod Service
 pub mod Turn
+pub mod TurnWorst
 pub mod Work
 pub mod Worst
