@@ -46,6 +46,7 @@ mod RestReplays
 mod RestSteps
 mod ServiceStretches
 mod ShareInTime
+mod TurnAnswers
 mod TurnAsks
 mod TurnBounds
 mod TurnKept

@@ -142,42 +142,40 @@ one-more settings before seen e =
     ap (device_after settings) (sym (append_assoc before seen (e ∷ [])))
     ∙ ap (λ (r : Replay (List Note)). r.device) (replay_from-append history (nothing_yet history settings) (before ++ seen) e)
 
--- what holds in each state up to it
-pub one-more-holds : (P : DeviceState (List Note) → Type 0) (settings : DeviceSettings) (before seen : List Event) (e : Event) → Throughout P settings before seen
-    → P (device_after settings (before ++ (seen ++ e ∷ []))) → Throughout P settings before (seen ++ e ∷ [])
-one-more-holds P settings before seen e stays last xs ys split = by ys (parts xs ys seen split)
+same-first : (x y : Event) (xs ys : List Event) → x ∷ xs ≡ y ∷ ys → x ≡ y
+same-first x y xs ys is = cc
+
+same-others : (x y : Event) (xs ys : List Event) → x ∷ xs ≡ y ∷ ys → xs ≡ ys
+same-others x y xs ys is = cc
+
+none-front : (xs ys : List Event) → xs ++ ys ≡ [] → xs ≡ []
+none-front [] ys is = refl
+none-front (x ∷ xs) ys is = let wrong : x ∷ (xs ++ ys) ≡ [] = is in cc
+
+-- a front of some events and one more is a front of the others, or all
+abbrev IsFront : List Event → List Event → Event → Type 0
+IsFront xs seen e = ((zs : List Event) × (xs ++ zs ≡ seen)) ⊎ (xs ≡ seen ++ e ∷ [])
+
+front-of : (xs ys seen : List Event) (e : Event) → xs ++ ys ≡ seen ++ e ∷ [] → IsFront xs seen e
+front-of [] ys seen e is = inl (seen, refl)
+front-of (x ∷ xs) ys [] e is =
+    let none = none-front xs ys (same-others x e (xs ++ ys) [] is) in
+    inr (ap (λ (zs : List Event). x ∷ zs) none ∙ ap (λ (z : Event). z ∷ []) (same-first x e (xs ++ ys) [] is))
+front-of (x ∷ xs) ys (s ∷ seen) e is =
+    by (same-first x s (xs ++ ys) (seen ++ e ∷ []) is) (front-of xs ys seen e (same-others x s (xs ++ ys) (seen ++ e ∷ []) is))
   where
-    -- a front of them is one of the others, or all
-    parts : (xs ys seen : List Event) → xs ++ ys ≡ seen ++ e ∷ [] → ((zs : List Event) × (xs ++ zs ≡ seen)) ⊎ (xs ≡ seen ++ e ∷ [])
-    parts [] ys seen is = inl (seen, refl)
-    parts (x ∷ xs) ys [] is = inr (short xs ys (tail x e (xs ++ ys) [] is) ∙ ap (λ (z : Event). z ∷ []) (first x e (xs ++ ys) [] is))
-      where
-        tail : (a b : Event) (us vs : List Event) → a ∷ us ≡ b ∷ vs → us ≡ vs
-        tail a b us vs is = cc
+    by : x ≡ s → IsFront xs seen e → IsFront (x ∷ xs) (s ∷ seen) e
+    by first (inl o) = inl (o.0, ap (λ (z : Event). z ∷ (xs ++ o.0)) first ∙ ap (λ (zs : List Event). s ∷ zs) o.1)
+    by first (inr same) = inr (ap (λ (z : Event). z ∷ xs) first ∙ ap (λ (zs : List Event). s ∷ zs) same)
 
-        first : (a b : Event) (us vs : List Event) → a ∷ us ≡ b ∷ vs → a ≡ b
-        first a b us vs is = cc
-
-        short : (xs ys : List Event) → xs ++ ys ≡ [] → x ∷ xs ≡ x ∷ []
-        short [] ys is = refl
-        short (z ∷ xs) ys is = let wrong : z ∷ (xs ++ ys) ≡ [] = is in cc
-    parts (x ∷ xs) ys (s ∷ seen) is =
-        let head : x ≡ s = first x s (xs ++ ys) (seen ++ e ∷ []) is in
-        next head (parts xs ys seen (tail x s (xs ++ ys) (seen ++ e ∷ []) is))
-      where
-        tail : (a b : Event) (us vs : List Event) → a ∷ us ≡ b ∷ vs → us ≡ vs
-        tail a b us vs is = cc
-
-        first : (a b : Event) (us vs : List Event) → a ∷ us ≡ b ∷ vs → a ≡ b
-        first a b us vs is = cc
-
-        next : x ≡ s → ((zs : List Event) × (xs ++ zs ≡ seen)) ⊎ (xs ≡ seen ++ e ∷ []) → ((zs : List Event) × ((x ∷ xs) ++ zs ≡ s ∷ seen)) ⊎ (x ∷ xs ≡ (s ∷ seen) ++ e ∷ [])
-        next head (inl o) = inl (o.0, ap (λ (z : Event). z ∷ (xs ++ o.0)) head ∙ ap (λ (zs : List Event). s ∷ zs) o.1)
-        next head (inr same) = inr (ap (λ (z : Event). z ∷ xs) head ∙ ap (λ (zs : List Event). s ∷ zs) same)
-
-    by : (ys : List Event) → ((zs : List Event) × (xs ++ zs ≡ seen)) ⊎ (xs ≡ seen ++ e ∷ []) → P (device_after settings (before ++ xs))
-    by ys (inl o) = stays xs o.0 o.1
-    by ys (inr same) = subst (λ (zs : List Event). P (device_after settings (before ++ zs))) (sym same) last
+-- what holds in each state up to it
+pub one-more-holds : (P : DeviceState (List Note) → Type 0) (settings : DeviceSettings) (before seen : List Event) (e : Event)
+    → Throughout P settings before seen → P (device_after settings (before ++ (seen ++ e ∷ []))) → Throughout P settings before (seen ++ e ∷ [])
+one-more-holds P settings before seen e stays last xs ys split = by (front-of xs ys seen e split)
+  where
+    by : IsFront xs seen e → P (device_after settings (before ++ xs))
+    by (inl o) = stays xs o.0 o.1
+    by (inr same) = subst (λ (zs : List Event). P (device_after settings (before ++ zs))) (sym same) last
 
 -- a poll leaves a fifo
 pub keeps-poll : (major i : ℕ) (d : DeviceState (List Note)) (seen : List Event) (moment : ℕ) → KeepFifo major i d seen

@@ -24,7 +24,7 @@ use Rattle.q_tree.specs.Ways.{DrrClass, share_of, way_to}
 use Rattle.q_device.specs.declared.worst.Worst.{Worst}
 use Rattle.q_device.specs.Laws.{given_in}
 use Rattle.q_device.specs.Sharing.{device_after}
-use Rattle.q_device.specs.Worst.{most_bytes, worst_in_turn}
+use Rattle.q_device.specs.Worst.{most_bytes, worst_in_turn, worst_of}
 use Rattle.q_laws.specs.Delay.{PaysInTime}
 use Rattle.q_laws.specs.FifoTurn.{class_line, IsFifoClass, IsInFifo, KeepFifo}
 use Rattle.q_laws.specs.Line.{bytes_in}
@@ -52,6 +52,12 @@ IsTurn link d state = LeadsTo link d state × IsFifoClass d.major d.class.name d
 -- the packets of the class
 abbrev pub turn_line : DrrClass → DeviceState (List Note) → List Descriptor
 turn_line d state = class_line d.major d.class.name state
+
+-- what a device answers of such a class is what follows
+abbrev pub TurnIsAnswered : DeviceSettings → Type 0
+TurnIsAnswered settings =
+    (events : List Event) (class : ClassId) (turn : Turn) → turn_to (place.Class class) (device_after settings events).tree.root ≡ Some turn
+    → worst_of (place.Class class) settings.mtu (device_after settings events).tree.root ≡ worst_in_turn settings.mtu turn
 
 -- Where the fifo of a class has just kept a packet, the packet is last in it, and it has no more bytes than the fifo's limit.
 abbrev pub TurnsKeepLimits : DeviceSettings → Type 0
@@ -82,7 +88,8 @@ TurnIsEnough settings =
     → worst_in_turn settings.mtu (turn_of link d limit) ≡ Some w → IsKeptAt (place.Class (id_of d)) p moment (device_after settings before)
     → Throughout (IsTurn link d) settings (with_arrival before p moment) during
     → KeepFifo d.major d.class.name (device_after settings (with_arrival before p moment)) during
-    → Throughout (IsWaiting d.major d.class.name (device_after settings (with_arrival before p moment))) settings (with_arrival before p moment) during
+    → Throughout (IsWaiting d.major d.class.name (device_after settings (with_arrival before p moment))) settings
+    (with_arrival before p moment) during
     → (device_after settings (with_arrival before p moment ++ during)).clock ≤ t → t ≤ 2 ^ 62
     → bytes_in (filter_map given_in (answers (device_after settings (with_arrival before p moment)) during))
     + length_held (given t (device_after settings (with_arrival before p moment ++ during)).tree) ≤ w.bytes
@@ -99,7 +106,9 @@ TurnIsInTime settings =
     → IsKeptAt (place.Class (id_of d)) p moment (device_after settings before)
     → Throughout (IsTurn (Some link) d) settings (with_arrival before p moment) during
     → KeepFifo d.major d.class.name (device_after settings (with_arrival before p moment)) during
-    → Throughout (IsWaiting d.major d.class.name (device_after settings (with_arrival before p moment))) settings (with_arrival before p moment) during
+    → Throughout (IsWaiting d.major d.class.name (device_after settings (with_arrival before p moment))) settings
+    (with_arrival before p moment) during
     → IsDrained late (device_after settings (with_arrival before p moment)) (during ++ e ∷ [])
-    → PaysInTime ((device_after settings (with_arrival before p moment)).clock + ns) late (device_after settings (with_arrival before p moment ++ during))
+    → PaysInTime ((device_after settings (with_arrival before p moment)).clock + ns) late
+    (device_after settings (with_arrival before p moment ++ during))
     (step history (device_after settings (with_arrival before p moment ++ during)) e).device

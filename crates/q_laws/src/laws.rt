@@ -12,7 +12,7 @@ ghost use Rattle.q_laws.specs.Rate.{NeverLateIsDrained, RateIsDelivered, RateIsS
 ghost use Rattle.q_laws.specs.Rest.{JoiningFlowsAreSpared};
 ghost use Rattle.q_laws.specs.Service.{ClassAgainstAny, ClassesGetTheirParts, FlowAgainstAny, NoFlowStarves, NewFlowFirst};
 ghost use Rattle.q_laws.specs.Turn.{ClassesWaitTheirTurn};
-ghost use Rattle.q_laws.specs.TurnWorst.{TurnIsEnough, TurnIsInTime, TurnsKeepLimits};
+ghost use Rattle.q_laws.specs.TurnWorst.{TurnIsAnswered, TurnIsEnough, TurnIsInTime, TurnsKeepLimits};
 ghost use Rattle.q_laws.specs.Work.{BandsAreStrict, WorkIsConserved};
 ghost use Rattle.q_laws.specs.Worst.{LinesKeepLimits, WorstIsEnough, WorstIsInTime};
 
@@ -308,10 +308,10 @@ pub fn fifos_wait_at_most(settings: Settings)
     settings.ranges();
 }
 
-/// What `Device::worst` of `q_device` answers of a class of a drr is true of each packet that the class's fifo keeps. It is last in the fifo then,
-/// which has no more bytes than its limit, where a limit of so many packets counts as so many longest ones (`limit`). Until the packet has left
-/// the device, what polls gave since it came, and what a poll at any time gives next, have no more bytes than were answered, itself among
-/// them (`enough`).
+/// What `Device::worst` of `q_device` answers of a class of a drr (`answered`) is true of each packet that the class's fifo keeps. It is last in
+/// the fifo then, which has no more bytes than its limit, where a limit of so many packets counts as so many longest ones (`limit`). Until the
+/// packet has left the device, what polls gave since it came, and what a poll at any time gives next, have no more bytes than were answered,
+/// itself among them (`enough`).
 ///
 /// Where a tbf is at the root, the next event comes within the nanoseconds that were answered from the packet's arrival, or `late` after that, as
 /// long as the packet has not left; and a poll that gives nothing was before that. So it has left by then (`in_time`). The device is polled as
@@ -323,6 +323,7 @@ pub fn fifos_wait_at_most(settings: Settings)
 /// of the other classes, of the deficits, or of the level of the bucket. For all settings and every list of events whose fields are in their
 /// ranges.
 pub fn turn_is_enough(settings: Settings)
+    ensures answered { TurnIsAnswered settings }
     ensures limit { TurnsKeepLimits settings }
     ensures enough { TurnIsEnough settings }
     ensures in_time { TurnIsInTime settings }
