@@ -5,10 +5,12 @@ use Rattle.std.proofs.lemmas.Bool.{and_parts}
 use Rattle.std.proofs.lemmas.Option.{none-some, same_Some}
 use Rattle.q_codel.specs.declared.limit.Limit.{Limit}
 use Rattle.q_tree.specs.declared.lanes.Lane.{Lane}
+use Rattle.q_tree.specs.declared.turns.Turn.{Turn}
 use Rattle.q_tree.specs.declared.ways.Link.{Link}
+use Rattle.q_tree.specs.declared.ways.Share.{Share}
 use Rattle.q_device.specs.declared.worst.Worst.{Worst}
 use Rattle.q_device.specs.Promise.{has_room, late_on}
-use Rattle.q_device.specs.Worst.{most_bytes, time_of, worst_of_bytes, worst_on}
+use Rattle.q_device.specs.Worst.{bytes_in_turn, most_bytes, time_of, worst_in_turn, worst_of_bytes, worst_on}
 
 -- below a tbf at the root
 pub record WorstIs (mtu bytes : ℕ) (link : Link) (w : Worst) : Type 0 where
@@ -41,9 +43,24 @@ below-is mtu bytes link w e = by (has_room mtu (Some link) && nat_le (time_of by
 pub worst-is : (mtu : ℕ) (link : Link) (limit : Limit) (w : Worst) → worst_on mtu (record { link = Some link; limit = limit }) ≡ Some w → WorstIs mtu (most_bytes mtu limit) link w
 worst-is mtu link limit w e = below-is mtu (most_bytes mtu limit) link w (fits (nat_lt (most_bytes mtu limit) (2 ^ 64)) (worst_of_bytes mtu (most_bytes mtu limit) (Some link)) w e)
 
+of-bytes : (mtu bytes : ℕ) (link : Option Link) (w : Worst) → worst_of_bytes mtu bytes link ≡ Some w → w.bytes ≡ bytes
+of-bytes mtu bytes None w e = ap (λ (x : Worst). x.bytes) (sym (same_Some (record { bytes = bytes; ns = None; late = None }) w e))
+of-bytes mtu bytes (Some link) w e = (below-is mtu bytes link w e).bytes_are
+
 pub worst-bytes : (mtu : ℕ) (lane : Lane) (w : Worst) → worst_on mtu lane ≡ Some w → w.bytes ≡ most_bytes mtu lane.limit
-worst-bytes mtu lane w e = by lane.link (fits (nat_lt (most_bytes mtu lane.limit) (2 ^ 64)) (worst_of_bytes mtu (most_bytes mtu lane.limit) lane.link) w e)
-  where
-    by : (o : Option Link) → worst_of_bytes mtu (most_bytes mtu lane.limit) o ≡ Some w → w.bytes ≡ most_bytes mtu lane.limit
-    by None e = ap (λ (x : Worst). x.bytes) (sym (same_Some (record { bytes = most_bytes mtu lane.limit; ns = None; late = None }) w e))
-    by (Some link) e = (below-is mtu (most_bytes mtu lane.limit) link w e).bytes_are
+worst-bytes mtu lane w e =
+    let bytes : ℕ = most_bytes mtu lane.limit in
+    of-bytes mtu bytes lane.link w (fits (nat_lt bytes (2 ^ 64)) (worst_of_bytes mtu bytes lane.link) w e)
+
+-- the same of a class of a drr
+pub turn-is : (mtu : ℕ) (link : Link) (share : Share) (limit : Limit) (w : Worst)
+    → worst_in_turn mtu (record { link = Some link; share = share; limit = limit }) ≡ Some w
+    → WorstIs mtu (bytes_in_turn mtu (record { link = Some link; share = share; limit = limit })) link w
+turn-is mtu link share limit w e =
+    let bytes : ℕ = bytes_in_turn mtu (record { link = Some link; share = share; limit = limit }) in
+    below-is mtu bytes link w (fits (nat_lt bytes (2 ^ 64)) (worst_of_bytes mtu bytes (Some link)) w e)
+
+pub turn-bytes : (mtu : ℕ) (turn : Turn) (w : Worst) → worst_in_turn mtu turn ≡ Some w → w.bytes ≡ bytes_in_turn mtu turn
+turn-bytes mtu turn w e =
+    let bytes : ℕ = bytes_in_turn mtu turn in
+    of-bytes mtu bytes turn.link w (fits (nat_lt bytes (2 ^ 64)) (worst_of_bytes mtu bytes turn.link) w e)

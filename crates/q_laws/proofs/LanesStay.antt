@@ -7,6 +7,7 @@ use Rattle.q_packet.specs.Descriptor.{Descriptor}
 use Rattle.q_packet.specs.declared.cause.Cause.{Cause}
 use Rattle.q_codel.specs.declared.limit.Limit.{Limit}
 use Rattle.q_drr.specs.Schedule.{Class, no_classes}
+use Rattle.q_fqcodel.specs.FqState.{FqState}
 use Rattle.q_model.specs.declared.class_id.ClassId.{ClassId}
 use Rattle.q_model.specs.declared.place.Place.{Place}
 use Rattle.q_model.specs.declared.place.Place.TheVariants as place
@@ -22,7 +23,7 @@ use Rattle.q_invariants.proofs.PutStages.{IsPutOf, along-related, quiet-related}
 use Rattle.q_invariants.proofs.Related.{AllRelated, IsRelated, forget}
 use Rattle.q_tree.specs.declared.ways.Link.{Link}
 use Rattle.q_tree.specs.Lanes.{is_prio, lane_below, lane_from, lane_to, level_of, limit_along, limit_of}
-use Rattle.q_tree.specs.Ways.{has_tbf, is_tbf}
+use Rattle.q_tree.specs.Ways.{DrrClass, class_of_drr, drr_class, drrs_on, has_tbf, is_tbf, way_below, way_from}
 
 -- What a discipline is without the packets that it queues, as far as places and lanes are found by it: an fq_codel has neither.
 abbrev pub setting : Discipline → Discipline
@@ -158,7 +159,7 @@ to-alike handle n k h =
     (ap (addresses_own k.own) (each-alike addresses_own address-alike n.below k.below h.1)
     ∙ address-alike n.own k.own (each addresses_own n.below) h.0)
 
-class-alike : (class : ClassId) (n k : Node (List Note)) → AreAlike n k → class_path class k ≡ class_path class n
+pub class-alike : (class : ClassId) (n k : Node (List Note)) → AreAlike n k → class_path class k ≡ class_path class n
 class-alike class n k h =
     ap (option_and_then (λ path. option_and_then (λ parent. option_map (λ i. path ++ i ∷ []) (class_place class.minor parent)) (node_at path k)))
     (to-alike class.major n k h)
@@ -236,6 +237,79 @@ lane-alike p n k h = ap (option_and_then (λ path. lane_from path k k.own.discip
 
 pub level-alike : (now : ℕ) (n k : Node (List Note)) → AreAlike n k → level_of now k.own.discipline ≡ level_of now n.own.discipline
 level-alike now n k h = sym (level-setting now k.own.discipline) ∙ ap (level_of now) h.0.set ∙ level-setting now n.own.discipline
+
+-- ---- ways
+
+module _ (i : ℕ) where
+  class-setting : (major : ℕ) (d : Discipline) → class_of_drr i major (setting d) ≡ class_of_drr i major d
+  class-setting major (Fifo limit queue) = refl
+  class-setting major (Prio priomap) = refl
+  class-setting major (Tbf b limit) = refl
+  class-setting major (Drr s) = refl
+  class-setting major (FqCodel s) = refl
+
+  drr-alike : (a b : Own) → IsAlike a b → drr_class i b ≡ drr_class i a
+  drr-alike a b h = ap (option_and_then (λ major. class_of_drr i major b.discipline)) h.handle ∙ by a.handle
+    where
+      by : (o : Option ℕ) → option_and_then (λ major. class_of_drr i major b.discipline) o ≡ option_and_then (λ major. class_of_drr i major a.discipline) o
+      by None = refl
+      by (Some major) = sym (class-setting major b.discipline) ∙ ap (class_of_drr i major) h.set ∙ class-setting major a.discipline
+
+drrs-alike : (path : List ℕ) (n k : Node (List Note)) → AreAlike n k → drrs_on path k ≡ drrs_on path n
+drrs-alike [] n k h = refl
+drrs-alike (i ∷ path) n k h =
+    ap₂ (λ (o : Option DrrClass) (rest : Option (List DrrClass)). option_and_then (λ (d : DrrClass). option_map (λ (ds : List DrrClass). d ∷ ds) rest) o)
+    (drr-alike i n.own k.own h.0)
+    (both (drrs_on path) (slice_get (children n) i) (slice_get (children k) i) (child-alike i n.below k.below h.1) (λ c e alike. drrs-alike path c e alike))
+
+way-below-alike : (link : Link) (path : List ℕ) (n k : Node (List Note)) → AreAlike n k → way_below link path k ≡ way_below link path n
+way-below-alike link [] n k h = refl
+way-below-alike link (i ∷ path) n k h = ap₂ (λ (b : Bool) (o : Option (List DrrClass)). if b then None else option_map
+    (λ (ds : List DrrClass). record { link = Some link; drrs = ds }) o) (tbf-alike n k h) (drrs-alike (i ∷ path) n k h)
+
+way-from-alike : (path : List ℕ) (n k : Node (List Note)) (d : Discipline) → AreAlike n k → way_from path k d ≡ way_from path n d
+way-from-alike [] n k d h = refl
+way-from-alike (i ∷ path) n k (Tbf b limit) h =
+    ap (option_and_then (λ handle. option_and_then (way_below (record { handle = handle; rate = b.rate; burst = b.burst }) path)
+    (slice_get (children k) i))) h.0.handle
+    ∙ by n.own.handle
+  where
+    by : (o : Option ℕ)
+        → option_and_then (λ handle. option_and_then (way_below (record { handle = handle; rate = b.rate; burst = b.burst }) path)
+        (slice_get (children k) i)) o ≡ option_and_then (λ handle. option_and_then
+        (way_below (record { handle = handle; rate = b.rate; burst = b.burst }) path) (slice_get (children n) i)) o
+    by None = refl
+    by (Some handle) =
+        let link : Link = record { handle = handle; rate = b.rate; burst = b.burst } in
+        both (way_below link path) (slice_get (children n) i) (slice_get (children k) i) (child-alike i n.below k.below h.1)
+        (λ c e alike. way-below-alike link path c e alike)
+way-from-alike (i ∷ path) n k (Drr s) h = ap (option_map (λ (ds : List DrrClass). record { link = None; drrs = ds })) (drrs-alike (i ∷ path) n k h)
+way-from-alike (i ∷ path) n k (Fifo limit queue) h = refl
+way-from-alike (i ∷ path) n k (Prio priomap) h = refl
+way-from-alike (i ∷ path) n k (FqCodel s) h = refl
+
+-- an fq_codel has no classes on a way
+no-drrs : (i : ℕ) (path : List ℕ) (n : Node (List Note)) (s : FqState) → n.own.discipline ≡ FqCodel s → drrs_on (i ∷ path) n ≡ None
+no-drrs i path n s e =
+    ap (option_and_then (λ (d : DrrClass). option_map (λ (rest : List DrrClass). d ∷ rest) (option_and_then (drrs_on path) (slice_get (children n) i))))
+    (ap (λ (k : Discipline). option_and_then (λ major. class_of_drr i major k) n.own.handle) e ∙ by n.own.handle)
+  where
+    by : (o : Option ℕ) → option_and_then (λ major. class_of_drr i major (FqCodel s)) o ≡ None
+    by None = refl
+    by (Some major) = refl
+
+way-setting : (path : List ℕ) (n : Node (List Note)) (d : Discipline) → n.own.discipline ≡ d → way_from path n (setting d) ≡ way_from path n d
+way-setting [] n d is = refl
+way-setting (i ∷ path) n (Fifo limit queue) is = refl
+way-setting (i ∷ path) n (Prio priomap) is = refl
+way-setting (i ∷ path) n (Tbf b limit) is = refl
+way-setting (i ∷ path) n (Drr s) is = refl
+way-setting (i ∷ path) n (FqCodel s) is = ap (option_map (λ (ds : List DrrClass). record { link = None; drrs = ds })) (no-drrs i path n s is)
+
+pub way-at-alike : (path : List ℕ) (n k : Node (List Note)) → AreAlike n k → way_from path k k.own.discipline ≡ way_from path n n.own.discipline
+way-at-alike path n k h =
+    sym (way-setting path k k.own.discipline refl) ∙ ap (way_from path k) h.0.set ∙ way-from-alike path n k (setting n.own.discipline) h
+    ∙ way-setting path n n.own.discipline refl
 
 -- ---- an arrival
 

@@ -1,4 +1,5 @@
 mod DelayRows
+mod FifoTurns
 mod FlowService
 mod GivenPaid
 mod HoldsNone
@@ -45,8 +46,16 @@ mod RestReplays
 mod RestSteps
 mod ServiceStretches
 mod ShareInTime
+mod TurnAnswers
+mod TurnAsks
+mod TurnBounds
+mod TurnKept
+mod TurnLimits
+mod TurnPaid
+mod TurnPolls
 mod TurnStretches
 mod TurnSums
+mod TurnWaits
 mod WayStretches
 mod WorkAsks
 mod WorkTrees

@@ -26,7 +26,7 @@ use Rattle.q_invariants.proofs.Replays.{replay-kept}
 use Rattle.q_device.specs.Sharing.{device_after}
 use Rattle.q_device.proofs.ClassStretches.{at-start}
 use Rattle.q_laws.specs.Delay.{next_below, IsLeft, latest, level_counted, PaysInTime}
-use Rattle.q_laws.specs.Line.{line_in, line_own, line_below_root, bytes_in, KeepLine, IsLink, LinesLeaveInTime, LimitsAreDelays}
+use Rattle.q_laws.specs.Line.{line_in, line_own, line, line_below_root, bytes_in, KeepLine, IsLink, LinesLeaveInTime, LimitsAreDelays}
 use Rattle.q_laws.specs.Rate.{IsBackloggedLink}
 use Rattle.q_laws.proofs.LineAsks.{AreLined, forest-lined}
 use Rattle.q_laws.proofs.LineInTime.{Passes, line-passes}
@@ -82,9 +82,12 @@ first-within (more own m below others) =
     let own_packets : List Descriptor = beneath_own own (each beneath_own below) in
     omega (arith, here, length-append own_packets (flat_map (λ (ps : List Descriptor). ps) (each beneath_own others)))
 
+pub line-within : (n : Node (List Note)) → length (line n) ≤ length (beneath n)
+line-within n = own-within n.own (each line_own n.below) (each beneath_own n.below) (first-within n.below)
+
 -- ---- over a stretch
 
-keep-front : (line_of : DeviceState (List Note) → List Descriptor) (d : DeviceState (List Note)) (seen later : List Event) → KeepLine line_of d (seen ++ later) → KeepLine line_of d seen
+pub keep-front : (line_of : DeviceState (List Note) → List Descriptor) (d : DeviceState (List Note)) (seen later : List Event) → KeepLine line_of d (seen ++ later) → KeepLine line_of d seen
 keep-front line_of d [] later h = tt
 keep-front line_of d (e ∷ seen) later h = (h.0, keep-front line_of (step history d e).device seen later h.1)
 

@@ -95,14 +95,15 @@ module _ (now : ℕ) (own : Own) (below : List Asked) (s : Schedule) (is : own.d
   abbrev Takes : Worked → ℕ → Type 0
   Takes w taken = (taken + length_held w.own.held ≤ length_held own.held) ⊎ GaveAt s below w taken
 
-  held-takes : (p : Descriptor) → own.held ≡ Some p → (w : Worked) (taken : ℕ) → Leaves (holding own below p) w taken → Takes w taken
-  held-takes p e w taken (inl h) = inl (omega (arith, h.1, ap (λ (x : Worked). length_held x.own.held) h.0))
-  held-takes p e w taken (inr (inl h)) = inl (omega (arith, h.1, ap (λ (x : Worked). length_held x.own.held) h.0))
+  pub held-takes : (p : Descriptor) → own.held ≡ Some p → (w : Worked) (taken : ℕ) → Leaves (holding own below p) w taken
+      → taken + length_held w.own.held ≤ length_held own.held
+  held-takes p e w taken (inl h) = omega (arith, h.1, ap (λ (x : Worked). length_held x.own.held) h.0)
+  held-takes p e w taken (inr (inl h)) = omega (arith, h.1, ap (λ (x : Worked). length_held x.own.held) h.0)
   held-takes p e w taken (inr (inr h)) =
       let held : length_held own.held ≡ p.len = ap length_held e in
       let after : length_held w.own.held ≡ 0 = ap (λ (x : Worked). length_held x.own.held) h.0 in
       let given : taken ≡ p.len = h.1 in
-      inl (omega (arith, held, after, given))
+      omega (arith, held, after, given)
 
   abbrev nothing : Asked
   nothing = gives_nothing own below (service_of s below)
@@ -148,5 +149,5 @@ module _ (now : ℕ) (own : Own) (below : List Asked) (s : Schedule) (is : own.d
       met e (Some i) placed h = child e i (slice_get below i) placed refl h
 
       by : (o : Option Descriptor) → own.held ≡ o → Leaves (option_map_or (holding own below) o (ask_discipline now own below own.discipline)) w taken → Takes w taken
-      by (Some p) e h = held-takes p e w taken h
+      by (Some p) e h = inl (held-takes p e w taken h)
       by None e h = met e (place_met s below) refl (subst (λ (d : Discipline). Leaves (ask_discipline now own below d) w taken) is h)

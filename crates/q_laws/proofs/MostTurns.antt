@@ -101,7 +101,7 @@ module _ (i p : ℕ) (active : List Entry) where
 -- ---- the grants
 
 -- a class with a deficit needs no more grants than one with none
-grants-most : (bytes d q : ℕ) → 1 ≤ q → div_ceil (bytes - d) q ≤ div_ceil bytes q
+pub grants-most : (bytes d q : ℕ) → 1 ≤ q → div_ceil (bytes - d) q ≤ div_ceil bytes q
 grants-most bytes d q some =
     let short : div_ceil (bytes - d) q * q < bytes - d + q = (div_ceil_times (bytes - d) q (omega (arith, some))).1 in
     let same : bytes - 0 ≡ bytes = omega arith in
@@ -141,8 +141,8 @@ module _ (settings : DeviceSettings) (range : IsInRange settings) (events : List
     has : has_class i classes ≡ true
     has = child-has i classes (children at.node) class.child at.child
 
-    some : 1 ≤ quantum
-    some = has_quantum i classes (drr-lawful major d at.node class.schedule kept at.there at.discipline).schedule.quanta has
+    pub quantum-some : 1 ≤ quantum
+    quantum-some = has_quantum i classes (drr-lawful major d at.node class.schedule kept at.there at.discipline).schedule.quanta has
 
     abbrev IsLow : Class → Type 0
     IsLow c = IsBelow i (settings.mtu - 1) active c
@@ -178,7 +178,7 @@ module _ (settings : DeviceSettings) (range : IsInRange settings) (events : List
         let most = o.most in
         let rest : quanta_of classes - quantum ≡ o.others = omega (arith, whole) in
         let number : length classes - 1 ≡ o.number = omega (arith, size) in
-        let grants = mul-le-mul_right (quanta_of classes - quantum) (grants-most bytes (deficit_of i active) quantum some) in
+        let grants = mul-le-mul_right (quanta_of classes - quantum) (grants-most bytes (deficit_of i active) quantum quantum-some) in
         omega (arith, most, grants, rest, ap (λ m. m * (settings.mtu - 1)) number)
 
 pub turns-are-bounded : (settings : DeviceSettings) → IsInRange settings → TurnsAreBounded settings

@@ -119,7 +119,7 @@ command-quiet now n after (inr edit) = by edit.by
 
 -- ---- one event
 
-leaves-stage : (a : Asked) (w : Worked) (taken : ℕ) → Leaves a w taken → IsStageOf a w
+pub leaves-stage : (a : Asked) (w : Worked) (taken : ℕ) → Leaves a w taken → IsStageOf a w
 leaves-stage a w taken (inl h) = inl h.0
 leaves-stage a w taken (inr (inl h)) = inr (inl h.0)
 leaves-stage a w taken (inr (inr h)) = inr (inr h.0)
@@ -127,7 +127,7 @@ leaves-stage a w taken (inr (inr h)) = inr (inr h.0)
 pub only-child : (root n : Node (List Note)) → children root ≡ n ∷ [] → root.below ≡ more n.own n.memory n.below none
 only-child root n e = sym (side-nodes root.below) ∙ ap side_by_side e
 
-same-head : (n m : Node (List Note)) → n ∷ [] ≡ m ∷ [] → n ≡ m
+pub same-head : (n m : Node (List Note)) → n ∷ [] ≡ m ∷ [] → n ≡ m
 same-head n m e = same_Some n m (ap (λ xs. slice_get xs 0) e)
 
 module _ (major : ℕ) (classes : List Class) where

@@ -28,6 +28,7 @@ use Rattle.q_tree.specs.Ways.{DrrClass, Way, drrs_on, has_tbf, is_tbf, share_of,
 use Rattle.q_device.specs.Promise.{Promise, has_room, lack_of_link, late_of, late_on, part_of, promise_on, rate_of, slack_on}
 use Rattle.q_device.specs.Sharing.{device_after}
 use Rattle.q_laws.specs.InTime.{Level, IsLinkOver, IsWay, last_level, quanta_on, sums_on, lacks_on, sent_at}
+use Rattle.q_laws.specs.Line.{IsLink}
 use Rattle.q_laws.specs.Rate.{HasRoom, IsDrained}
 use Rattle.q_laws.specs.Delivered.{IsPart, IsServed, LatenessIsTheGreatest, ServiceIsDelivered, ShareIsDelivered, SlackIsTheLaws, level_of, levels_of}
 use Rattle.q_laws.specs.Service.{all_sent}
@@ -59,35 +60,35 @@ one-child (x ∷ []) zero c one e = ap (λ k. k ∷ []) (same_Some x c e)
 one-child (x ∷ []) (suc i) c one e = absurd (none-some c e)
 
 -- a tbf at the root, and the way beneath it
-record IsLinked (root : Node (List Note)) (link : Link) (ds : List DrrClass) : Type 0 where
-  bucket : TokenBucket
-  limit : ℕ
-  discipline : root.own.discipline ≡ Tbf bucket limit
-  handle : root.own.handle ≡ Some link.handle
-  rate : bucket.rate ≡ link.rate
-  burst : bucket.burst ≡ link.burst
-  place : ℕ
-  child : Node (List Note)
-  there : slice_get (children root) place ≡ Some child
-  path : List ℕ
-  way : drrs_on path child ≡ Some ds
-  alone : has_tbf child ≡ false
+pub record IsLinked (root : Node (List Note)) (link : Link) (ds : List DrrClass) : Type 0 where
+  pub bucket : TokenBucket
+  pub limit : ℕ
+  pub discipline : root.own.discipline ≡ Tbf bucket limit
+  pub handle : root.own.handle ≡ Some link.handle
+  pub rate : bucket.rate ≡ link.rate
+  pub burst : bucket.burst ≡ link.burst
+  pub place : ℕ
+  pub child : Node (List Note)
+  pub there : slice_get (children root) place ≡ Some child
+  pub path : List ℕ
+  pub way : drrs_on path child ≡ Some ds
+  pub alone : has_tbf child ≡ false
 
 module _ (root : Node (List Note)) where
   -- a way that was found
-  path-of-way : (class : ClassId) (w : Way) → way_to class root ≡ Some w → (path : List ℕ) × (way_from path root root.own.discipline ≡ Some w)
+  pub path-of-way : (class : ClassId) (w : Way) → way_to class root ≡ Some w → (path : List ℕ) × (way_from path root root.own.discipline ≡ Some w)
   path-of-way class w e = by (class_path class root) e
     where
       by : (o : Option (List ℕ)) → option_and_then (λ path. way_from path root root.own.discipline) o ≡ Some w → (path : List ℕ) × (way_from path root root.own.discipline ≡ Some w)
       by None e = absurd (none-some w e)
       by (Some path) e = (path, e)
 
-  link-is : (a b : Option Link) (x y : List DrrClass) → ◌≡◌ {A = Option Way} (Some (record { link = a; drrs = x })) (Some (record { link = b; drrs = y })) → (a ≡ b) × (x ≡ y)
+  pub link-is : (a b : Option Link) (x y : List DrrClass) → ◌≡◌ {A = Option Way} (Some (record { link = a; drrs = x })) (Some (record { link = b; drrs = y })) → (a ≡ b) × (x ≡ y)
   link-is a b x y e =
       let same : ◌≡◌ {A = Way} (record { link = a; drrs = x }) (record { link = b; drrs = y }) = same_Some (record { link = a; drrs = x }) (record { link = b; drrs = y }) e in
       (ap (λ (w : Way). w.link) same, ap (λ (w : Way). w.drrs) same)
 
-  linked : (link : Link) (ds : List DrrClass) (path : List ℕ) → way_from path root root.own.discipline ≡ Some (record { link = Some link; drrs = ds }) → IsLinked root link ds
+  pub linked : (link : Link) (ds : List DrrClass) (path : List ℕ) → way_from path root root.own.discipline ≡ Some (record { link = Some link; drrs = ds }) → IsLinked root link ds
   linked link ds path e = by path root.own.discipline refl e
     where
       w : Way
@@ -145,7 +146,7 @@ module _ (root : Node (List Note)) where
       by (i ∷ path) (FqCodel s) is e = absurd (none-some w e)
 
   -- and a way from a drr at the root
-  bare : (ds : List DrrClass) (path : List ℕ) → way_from path root root.own.discipline ≡ Some (record { link = None; drrs = ds }) → drrs_on path root ≡ Some ds
+  pub bare : (ds : List DrrClass) (path : List ℕ) → way_from path root root.own.discipline ≡ Some (record { link = None; drrs = ds }) → drrs_on path root ≡ Some ds
   bare ds path e = by path root.own.discipline e
     where
       w : Way
@@ -183,6 +184,29 @@ module _ (root : Node (List Note)) where
 
 -- ---- in a device that is kept
 
+-- the tbf that was found at the root, and its one child
+pub link-of : (dev : DeviceState (List Note)) → IsKept dev → (link : Link) (ds : List DrrClass) (l : IsLinked dev.tree.root link ds)
+    → IsLink link.handle link.rate link.burst dev × (children dev.tree.root ≡ l.child ∷ [])
+link-of dev kept link ds l =
+    let root : Node (List Note) = dev.tree.root in
+    let law = subst (IsLawfulDiscipline dev.tree.device.mtu dev.clock (each beneath_own root.below)) l.discipline kept.lawful.0.discipline in
+    let size : length (children root) ≡ 1 = sym (length-map (children root) (from_below beneath_own)) ∙ ap length (sym (each-nodes beneath_own root.below)) ∙ law.one in
+    let child : children root ≡ l.child ∷ [] = one-child (children root) l.place l.child size l.there in
+    let others : list_any (λ b. b) (each tbf_here root.below) ≡ false =
+    ap (list_any (λ b. b)) (each-nodes tbf_here root.below) ∙ ap (λ (ns : List (Node (List Note))). list_any (λ b. b) (map (λ (n : Node (List Note)). has_tbf n) ns)) child ∙ ap (λ b. b || false) l.alone in (
+      record {
+        tbf = record {
+          tbf = record { bucket = l.bucket; held = root.own.held; noted = root.memory };
+          there = ap (option_and_then (λ (n : Node (List Note)). tbf_of n n.own.discipline)) (qdisc-of link.handle dev root kept l.handle (inl refl)) ∙ ap (tbf_of root) l.discipline;
+          same_rate = l.rate;
+          same_burst = l.burst;
+        };
+        root = l.handle;
+        alone = none-beneath root.below others;
+      },
+      child,
+    )
+
 module _ (dev : DeviceState (List Note)) (kept : IsKept dev) (d : DrrClass) (ds : List DrrClass) where
   root-is : IsOf dev.tree.root dev.tree.root
   root-is = inl refl
@@ -199,27 +223,13 @@ module _ (dev : DeviceState (List Note)) (kept : IsKept dev) (d : DrrClass) (ds 
       let at = path-of-way root (record { major = last.major; minor = last.minor }) (record { link = Some link; drrs = d ∷ ds }) served.0 in
       let l = linked root link (d ∷ ds) at.0 at.1 in
       let whole = whole-way dev kept l.path l.child d ds l.way (of-child l.child root root l.place l.there root-is) served.1 in
-      let law = subst (IsLawfulDiscipline dev.tree.device.mtu dev.clock (each beneath_own root.below)) l.discipline kept.lawful.0.discipline in
-      let size : length (children root) ≡ 1 = sym (length-map (children root) (from_below beneath_own)) ∙ ap length (sym (each-nodes beneath_own root.below)) ∙ law.one in
-      let child : children root ≡ l.child ∷ [] = one-child (children root) l.place l.child size l.there in
-      let others : list_any (λ b. b) (each tbf_here root.below) ≡ false =
-      ap (list_any (λ b. b)) (each-nodes tbf_here root.below) ∙ ap (λ (ns : List (Node (List Note))). list_any (λ b. b) (map (λ (n : Node (List Note)). has_tbf n) ns)) child ∙ ap (λ b. b || false) l.alone in
+      let k = link-of dev kept link (d ∷ ds) l in
       record {
         over = record {
-          rated = record {
-            tbf = record {
-              tbf = record { bucket = l.bucket; held = root.own.held; noted = root.memory };
-              there = ap (option_and_then (λ (n : Node (List Note)). tbf_of n n.own.discipline)) (qdisc-of link.handle dev root kept l.handle root-is) ∙ ap (tbf_of root) l.discipline;
-              same_rate = l.rate;
-              same_burst = l.burst;
-            };
-            root = l.handle;
-            alone = none-beneath root.below others;
-            queued = queued-above root l.child l.place l.there whole.queued;
-          };
+          rated = record { tbf = k.0.tbf; root = k.0.root; alone = k.0.alone; queued = queued-above root l.child l.place l.there whole.queued };
           drr = l.child;
           there = whole.is;
-          child = child;
+          child = k.1;
         };
         way = whole.way;
         parts = whole.parts;

@@ -141,11 +141,11 @@ module _ (d : DeviceState (List Note)) (kept : IsKept d) where
 -- ---- a packet that is kept
 
 -- no loss was answered
-no-loss : (o : Option Cause) → reply.Fate (fate_of o) ≡ reply.Fate fate.Kept → o ≡ None
+pub no-loss : (o : Option Cause) → reply.Fate (fate_of o) ≡ reply.Fate fate.Kept → o ≡ None
 no-loss None e = refl
 no-loss (Some cause) e = let wrong : reply.Fate (fate.Lost cause) ≡ reply.Fate fate.Kept = e in cc
 
-not-refused : (now : ℕ) (p : Descriptor) (s : Shape) (path : List ℕ) (o : Option Cause) → loss_at_end now p s (record { path = path; refusal = o }) ≡ None → o ≡ None
+pub not-refused : (now : ℕ) (p : Descriptor) (s : Shape) (path : List ℕ) (o : Option Cause) → loss_at_end now p s (record { path = path; refusal = o }) ≡ None → o ≡ None
 not-refused now p s path None e = refl
 not-refused now p s path (Some cause) e = absurd (none-some cause (sym e))
 

@@ -1,5 +1,6 @@
 pub mod Delay
 pub mod Delivered
+pub mod FifoTurn
 pub mod InTime
 pub mod Latest
 pub mod Line
@@ -10,5 +11,6 @@ pub mod Rate
 pub mod Rest
 pub mod Service
 pub mod Turn
+pub mod TurnWorst
 pub mod Work
 pub mod Worst

@@ -1,7 +1,7 @@
 -- What q_device's specs/Worst.antt has as the most that the classes of a drr send before a packet of one of them is enough, whatever state the
 -- drr is in: a deficit is below a quantum and the mtu together (M. Shreedhar and G. Varghese, "Efficient Fair Queuing Using Deficit
 -- Round-Robin" (1995)), and it is what `bytes_of_turn` comes to where each of the others has the greatest.
-use Rattle.std.specs.Prelude.{◌≡◌, ℕ, ◌^◌, ◌≤◌, List, ◌++◌, All, Some}
+use Rattle.std.specs.Prelude.{◌≡◌, ℕ, ◌+◌, ◌^◌, ◌≤◌, List, ◌++◌, All, Some}
 use Rattle.q_drr.specs.Schedule.{Class, Schedule, quantum_of}
 use Rattle.q_model.specs.declared.event.Event.{Event}
 use Rattle.q_model.specs.Events.{IsEvent}

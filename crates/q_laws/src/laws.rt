@@ -1,6 +1,7 @@
 //! What is true of service, of work and of order over every replay of a device. Each law is the contract of a function that does nothing.
 ghost use Rattle.q_laws.specs.Delay.{BytesArePaidInTime};
 ghost use Rattle.q_laws.specs.Delivered.{LatenessIsTheGreatest, ServiceIsDelivered, ShareIsDelivered, SlackIsTheLaws};
+ghost use Rattle.q_laws.specs.FifoTurn.{FifosWaitAtMost};
 ghost use Rattle.q_laws.specs.InTime.{ClassesShareInTime, SharesMultiply};
 ghost use Rattle.q_laws.specs.Latest.{LatestIsEnough, LatestIsInTime, LatestIsToldBefore, LatestRisesNoFaster, LatestStandsAsItFills};
 ghost use Rattle.q_laws.specs.Line.{LimitsAreDelays, LinesLeaveFirst, LinesLeaveInTime};
@@ -11,6 +12,7 @@ ghost use Rattle.q_laws.specs.Rate.{NeverLateIsDrained, RateIsDelivered, RateIsS
 ghost use Rattle.q_laws.specs.Rest.{JoiningFlowsAreSpared};
 ghost use Rattle.q_laws.specs.Service.{ClassAgainstAny, ClassesGetTheirParts, FlowAgainstAny, NoFlowStarves, NewFlowFirst};
 ghost use Rattle.q_laws.specs.Turn.{ClassesWaitTheirTurn};
+ghost use Rattle.q_laws.specs.TurnWorst.{TurnIsAnswered, TurnIsEnough, TurnIsInTime, TurnsKeepLimits};
 ghost use Rattle.q_laws.specs.Work.{BandsAreStrict, WorkIsConserved};
 ghost use Rattle.q_laws.specs.Worst.{LinesKeepLimits, WorstIsEnough, WorstIsInTime};
 
@@ -288,6 +290,43 @@ pub fn classes_wait_their_turn(settings: Settings)
 pub fn turns_are_bounded(settings: Settings)
     ensures bytes_of_turn { TurnsAreBounded settings }
     ensures sent { ClassesWaitAtMost settings }
+{
+    settings.ranges();
+}
+
+/// What the classes of a drr send before the last packet that is queued in a fifo which is a class of it, whatever state the drr is in: where no
+/// more than `bytes` bytes are queued there, as in a bfifo of that limit right after it took a packet, at most the number of
+/// [`turns_are_bounded`], the packet among them, whatever comes to the other classes. It is said as long as the class has sent fewer bytes than
+/// were queued there, and of what its child shows next at any time.
+///
+/// The drr keeps its classes and their quanta, and a command leaves the fifo, with what is queued there as it was, or longer at its end. For all
+/// settings and every list of events whose fields are in their ranges. Bytes are those that a class's child hands to the drr, which may hold one
+/// packet more.
+pub fn fifos_wait_at_most(settings: Settings)
+    ensures { FifosWaitAtMost settings }
+{
+    settings.ranges();
+}
+
+/// What `Device::worst` of `q_device` answers of a class of a drr (`answered`) is true of each packet that the class's fifo keeps. It is last in
+/// the fifo then, which has no more bytes than its limit, where a limit of so many packets counts as so many longest ones (`limit`). Until the
+/// packet has left the device, what polls gave since it came, and what a poll at any time gives next, have no more bytes than were answered,
+/// itself among them (`enough`).
+///
+/// Where a tbf is at the root, the next event comes within the nanoseconds that were answered from the packet's arrival, or `late` after that, as
+/// long as the packet has not left; and a poll that gives nothing was before that. So it has left by then (`in_time`). The device is polled as
+/// [`rate_is_delivered`] says, and no later than was answered.
+///
+/// The packet has not left as long as the class has sent fewer bytes than were queued with it, or the drr holds a packet, in each state since:
+/// a drr gives what it holds before all else, and holds none right after. The way to the class stays as it is, which is the tbf at the root, the
+/// drr, its classes and their quanta; and a command leaves the fifo, with what is queued there as it was, or longer at its end. Nothing is asked
+/// of the other classes, of the deficits, or of the level of the bucket. For all settings and every list of events whose fields are in their
+/// ranges.
+pub fn turn_is_enough(settings: Settings)
+    ensures answered { TurnIsAnswered settings }
+    ensures limit { TurnsKeepLimits settings }
+    ensures enough { TurnIsEnough settings }
+    ensures in_time { TurnIsInTime settings }
 {
     settings.ranges();
 }
