@@ -21,6 +21,8 @@ mod LinkStretches
 mod MostTurns
 mod MostTurnRows
 mod NeverLate
+mod NewFlowQuiet
+mod NewFlowRows
 mod NewFlowService
 mod NewFlowSums
 mod OrderAsks

@@ -64,8 +64,8 @@ pub fn no_flow_starves(settings: Settings)
 }
 
 /// A flow that joins an fq_codel from neither list goes before all old flows: until it gives a packet, or has none left, only the flows
-/// that were in the new list give any, each at most its credits and a longest packet less a byte, whatever comes meanwhile, a command
-/// that changes the quantum too.
+/// that were in the new list with credits give any, each at most its credits and a longest packet less a byte, whatever comes meanwhile,
+/// a command that changes the quantum too.
 /// So a sparse flow, as a name lookup, passes the flows of a download (RFC 8290, section 4.2).
 pub fn new_flow_first(settings: Settings)
     ensures { NewFlowFirst settings }
@@ -292,9 +292,9 @@ pub fn turns_are_bounded(settings: Settings)
     settings.ranges();
 }
 
-/// All that leaves an fq_codel before the first packet of a flow that joins it from neither list: the flows that were in the new list give at
-/// most their credits and a longest packet less a byte, each, and nothing else leaves, until the flow gives a packet or has none left. So
-/// with the packet itself that is the bytes before which it leaves, or is lost to the fat flow.
+/// All that leaves an fq_codel before the first packet of a flow that joins it from neither list: the flows that were in the new list with
+/// credits give at most these and a longest packet less a byte, each, and nothing else leaves, until the flow gives a packet or has none
+/// left. So with the packet itself that is the bytes before which it leaves, or is lost to the fat flow.
 ///
 /// For all settings and every list of events whose fields are in their ranges, whatever comes meanwhile, a command that changes the quantum
 /// too. Packets that CoDel or the fat flow loses are not among the bytes, and the fq_codel may hold one packet more.
