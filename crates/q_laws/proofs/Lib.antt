@@ -1,6 +1,11 @@
+mod CalmRows
+mod CalmShare
+mod CalmSteps
+mod CalmTurns
 mod DelayRows
 mod FlowService
 mod GivenPaid
+mod HandedInTime
 mod HoldsNone
 mod LaneLines
 mod LaneNumbers
@@ -32,9 +37,11 @@ mod OrderPuts
 mod OrderRows
 mod OrderSteps
 mod OrderWays
+mod OwnParts
 mod PartLemmas
 mod PaidInTime
 mod PassedStretches
+mod PollHolds
 mod PromiseKept
 mod PromiseNumbers
 mod PromiseWays
@@ -47,6 +54,7 @@ mod RestReplays
 mod RestSteps
 mod ServiceStretches
 mod ShareInTime
+mod StillHeld
 mod TurnStretches
 mod TurnSums
 mod WayStretches

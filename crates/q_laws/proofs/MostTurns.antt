@@ -100,7 +100,7 @@ module _ (i p : ℕ) (active : List Entry) where
 -- ---- the grants
 
 -- a class with a deficit needs no more grants than one with none
-grants-most : (bytes d q : ℕ) → 1 ≤ q → div_ceil (bytes - d) q ≤ div_ceil bytes q
+pub grants-most : (bytes d q : ℕ) → 1 ≤ q → div_ceil (bytes - d) q ≤ div_ceil bytes q
 grants-most bytes d q some =
     let short : div_ceil (bytes - d) q * q < bytes - d + q = (div_ceil_times (bytes - d) q (omega (arith, some))).1 in
     let same : bytes - 0 ≡ bytes = omega arith in
@@ -108,7 +108,7 @@ grants-most bytes d q some =
 
 -- ---- in each state
 
-has-classes : (major i : ℕ) (d : DeviceState (List Note)) (x : ClassAt) → ClassNode major i d x → HasClasses major x.schedule.classes d
+pub has-classes : (major i : ℕ) (d : DeviceState (List Note)) (x : ClassAt) → ClassNode major i d x → HasClasses major x.schedule.classes d
 has-classes major i d x at = by at.node at.there at.discipline
   where
     by : (n : Node (List Note)) → qdisc major d ≡ Some n → n.own.discipline ≡ Drr x.schedule → HasClasses major x.schedule.classes d
@@ -134,13 +134,13 @@ module _ (settings : DeviceSettings) (range : IsInRange settings) (events : List
     at : ClassNode major i d class
     at = class-node major i d class is
 
-    there : HasClasses major classes d
+    pub there : HasClasses major classes d
     there = has-classes major i d class at
 
-    has : has_class i classes ≡ true
+    pub has : has_class i classes ≡ true
     has = child-has i classes (children at.node) class.child at.child
 
-    some : 1 ≤ quantum
+    pub some : 1 ≤ quantum
     some = has_quantum i classes (drr-lawful major d at.node class.schedule kept at.there at.discipline).schedule.quanta has
 
     abbrev IsLow : Class → Type 0
@@ -149,7 +149,7 @@ module _ (settings : DeviceSettings) (range : IsInRange settings) (events : List
     abbrev IsSame : Class → Type 0
     IsSame c = c.name ≡ i → c.quantum ≡ quantum
 
-    low : (c : Class) → IsOwn classes c → IsLow c
+    pub low : (c : Class) → IsOwn classes c → IsLow c
     low c own =
         let k = is-class major classes d kept there c.name c.quantum own.0 own.1 in
         let same : k.class.schedule ≡ class.schedule =

@@ -2,7 +2,6 @@
 -- that is sent, its credits would let it give a byte less.
 use Rattle.std.proofs.Common.{◌≡◌, ◌≢◌, ℕ, ◌+◌, ◌-◌, ◌≤◌, ◌⊎◌, inl, inr, ℤ, pos, negsuc, ◌<ℤ◌, ◌≤ℤ◌, ◌==◌, Bool, true, false, if◌then◌else◌, List, [], ◌∷◌, ◌++◌, refl, sym, ap, ◌∙◌, Option, Some, None, IfSome, arith}
 use Rattle.std.specs.Option.{option_map_or}
-use Rattle.std.proofs.lemmas.Bool.{cases_eq}
 use Rattle.std.proofs.lemmas.Int.{ints}
 use Rattle.std.proofs.lemmas.List.{append-nil, append_assoc}
 use Rattle.std.proofs.lemmas.List.Sums.{sum_by-append}
@@ -19,7 +18,7 @@ use Rattle.q_model.specs.Stretches.{given_by, bytes_given, reach, FqAt, fq_in}
 use Rattle.q_model.specs.Tally.{Note, history}
 use Rattle.q_invariants.proofs.FlowJoins.{before, step-waits}
 use Rattle.q_invariants.proofs.FlowMoves.{fq-node, fq-lawful, sent_has_length, fq-step}
-use Rattle.q_invariants.proofs.FlowSteps.{StaysQuiet, Takes, Changes}
+use Rattle.q_invariants.proofs.FlowSteps.{Changes}
 use Rattle.q_invariants.proofs.Replays.{IsKept}
 
 -- ---- credits that are none

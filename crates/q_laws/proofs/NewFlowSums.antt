@@ -1,6 +1,6 @@
 -- What the flows of the new list give before one that joins, summed over the list.
-use Rattle.std.proofs.Common.{◌≡◌, ◌≢◌, ℕ, suc, ◌+◌, ◌≤◌, ℤ, pos, Bool, true, false, cond, ◌||◌, List, [], ◌∷◌, ◌++◌, refl, sym, ap, subst, ◌∙◌, inl, inr, Option, Some, None, eq-eqb, arith}
-use Rattle.std.specs.Prelude.{All, ◌==◌, sum_by, option_map, if◌then◌else◌}
+use Rattle.std.proofs.Common.{◌≡◌, ◌≢◌, ℕ, suc, ◌+◌, ◌≤◌, ℤ, pos, Bool, true, false, cond, ◌||◌, List, [], ◌∷◌, ◌++◌, refl, sym, ap, ◌∙◌, inl, inr, Some, eq-eqb, arith}
+use Rattle.std.specs.Prelude.{◌==◌, sum_by, option_map, if◌then◌else◌}
 use Rattle.std.specs.List.{find}
 use Rattle.std.proofs.lemmas.Bool.{cases_Bool, eqb-true, eqb-false, false≢true, or_left, or_right}
 use Rattle.std.proofs.lemmas.List.Sums.{sum_by-cons, sum_by-append}
@@ -12,16 +12,14 @@ use Rattle.q_fqcodel.specs.Put.{is_listed}
 use Rattle.q_fqcodel.proofs.LawfulLemmas.{times-cons, times-append}
 use Rattle.q_fqcodel.proofs.PutLemmas.{listed_not, listed_yes}
 use Rattle.q_fqcodel.proofs.QuantaLemmas.{lt_test, le_test}
-use Rattle.q_model.specs.declared.event.Event.{Event}
 use Rattle.q_model.specs.Settings.{DeviceSettings, IsInRange}
-use Rattle.q_model.specs.Stretches.{given_by, bytes_given, reach, FqAt}
+use Rattle.q_model.specs.Stretches.{given_by, bytes_given, reach}
 use Rattle.q_model.specs.Tally.{Note, Arrived, Sent, Lost, Marked, Granted, Spent, FlowGranted, FlowGave}
 use Rattle.q_invariants.proofs.FlowMoves.{fq-node, fq-lawful}
 use Rattle.q_invariants.proofs.FlowVisits.{cases-credits}
 use Rattle.q_invariants.proofs.Replays.{replay-kept}
 use Rattle.q_device.specs.Sharing.{device_after}
 use Rattle.q_laws.specs.NewFlow.{given_by_any, all_given, reach_before, reaches, NewFlowsGoBefore}
-use Rattle.q_laws.specs.Service.{GoesFirst}
 use Rattle.q_laws.proofs.NewFlowService.{GoesOn, new-flow-goes}
 
 -- ---- what all gave is what those of a list gave, where others gave nothing

@@ -1,5 +1,7 @@
+pub mod Calm
 pub mod Delay
 pub mod Delivered
+pub mod Handed
 pub mod InTime
 pub mod Latest
 pub mod Line

@@ -1,6 +1,8 @@
 //! What is true of service, of work and of order over every replay of a device. Each law is the contract of a function that does nothing.
+ghost use Rattle.q_laws.specs.Calm.{CalmClassesGetTheirParts, CalmClassesWaitAtMost, CalmTurnsAreBounded, ClassesAreCalm};
 ghost use Rattle.q_laws.specs.Delay.{BytesArePaidInTime};
 ghost use Rattle.q_laws.specs.Delivered.{LatenessIsTheGreatest, ServiceIsDelivered, ShareIsDelivered, SlackIsTheLaws};
+ghost use Rattle.q_laws.specs.Handed.{ClassesHandInTime, ClassesLeaveInTime, PollsLeaveHolding};
 ghost use Rattle.q_laws.specs.InTime.{ClassesShareInTime, SharesMultiply};
 ghost use Rattle.q_laws.specs.Latest.{LatestIsEnough, LatestIsInTime, LatestIsToldBefore, LatestRisesNoFaster, LatestStandsAsItFills};
 ghost use Rattle.q_laws.specs.Line.{LimitsAreDelays, LinesLeaveFirst, LinesLeaveInTime};
@@ -33,9 +35,15 @@ pub fn class_against_any(settings: Settings)
 
 /// Of all bytes that the classes of a drr send over an interval in which the drr keeps its classes and their quanta, a class that stays backlogged
 /// sends at least its share, whatever comes to the others, less a number of bytes that does not grow with the interval. With the quantum q of n
-/// classes, whose quanta add up to Q, its share is q/Q, and the number is `(2*q*(Q - q) + (mtu - 1)*((n - 1)*q + (Q - q))) / Q`.
+/// classes, whose quanta add up to Q, its share is q/Q, and the number is `(2*q*(Q - q) + (mtu - 1)*((n - 1)*q + (Q - q))) / Q` (`part`).
+///
+/// One product q*(Q - q) is enough where the class is calm at first: where others are before it in the active list, it has a deficit of a
+/// quantum at least (`calm`). It is calm as long as no command has changed its quantum since it was last empty, as it is where a command
+/// adds it, whatever comes to it and to the others (`since_empty`).
 pub fn least_share(settings: Settings)
-    ensures { ClassesGetTheirParts settings }
+    ensures part { ClassesGetTheirParts settings }
+    ensures calm { CalmClassesGetTheirParts settings }
+    ensures since_empty { ClassesAreCalm settings }
 {
     settings.ranges();
 }
@@ -133,6 +141,9 @@ pub fn bytes_are_paid_in_time(settings: Settings)
 /// 1/(8*10^9), times the sums of the quanta, so that nothing is rounded; they are those that the class's child hands to its drr.
 pub fn share_in_time(settings: Settings)
     ensures below { ClassesShareInTime settings }
+    ensures handed { ClassesHandInTime settings }
+    ensures holds { PollsLeaveHolding settings }
+    ensures leaves { ClassesLeaveInTime settings }
     ensures nested { SharesMultiply settings }
 {
     settings.ranges();
@@ -288,6 +299,8 @@ pub fn classes_wait_their_turn(settings: Settings)
 pub fn turns_are_bounded(settings: Settings)
     ensures bytes_of_turn { TurnsAreBounded settings }
     ensures sent { ClassesWaitAtMost settings }
+    ensures calm_turn { CalmTurnsAreBounded settings }
+    ensures calm_sent { CalmClassesWaitAtMost settings }
 {
     settings.ranges();
 }
