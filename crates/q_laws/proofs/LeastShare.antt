@@ -17,7 +17,7 @@ use Rattle.q_model.specs.Node.{Discipline, Fifo, Prio, Tbf, Drr, FqCodel, Node, 
 use Rattle.q_model.specs.Beneath.{beneath}
 use Rattle.q_model.specs.Settings.{DeviceSettings, IsInRange}
 use Rattle.q_model.specs.Step.{DeviceState}
-use Rattle.q_model.specs.Stretches.{qdisc, ClassAt, class_of, class_in, IsBackloggedClass, Throughout}
+use Rattle.q_model.specs.Stretches.{qdisc, class_of, class_in, IsBackloggedClass, Throughout}
 use Rattle.q_invariants.proofs.Exact.{exact-length}
 use Rattle.q_invariants.proofs.Members.{All-front}
 use Rattle.q_invariants.proofs.Replays.{IsKept, replay-kept}
@@ -102,20 +102,21 @@ own-quanta (k ∷ classes) differ =
 
 -- ---- the sum
 
--- Class i has quantum a and sent `s`; p is a longest packet less a byte, and `sent` what each class sent.
-module _ (i a s p : ℕ) (sent : Class → ℕ) where
-  abbrev IsWithin : Class → Type 0
-  IsWithin c = sent c * a ≤ s * c.quantum + 2 * (a * c.quantum) + p * (a + c.quantum)
+-- Class i has quantum a and sent `s` of the bytes `sent`, as each class did; of those `own` count, and k products with each other quantum may
+-- lack. p is a longest packet less a byte.
+module _ (i a s own k p : ℕ) (sent : Class → ℕ) where
+  abbrev pub IsWithin : Class → Type 0
+  IsWithin c = sent c * a ≤ own * c.quantum + k * (a * c.quantum) + p * (a + c.quantum)
 
   -- others whose quanta are R together and whose number is m
   abbrev AreWithin : ℕ → ℕ → ℕ → Type 0
-  AreWithin total m R = total * a ≤ s * R + 2 * (a * R) + p * (m * a + R)
+  AreWithin total m R = total * a ≤ own * R + k * (a * R) + p * (m * a + R)
 
-  one-more : (x t q m R : ℕ) → x * a ≤ s * q + 2 * (a * q) + p * (a + q) → AreWithin t m R → AreWithin (x + t) (suc m) (q + R)
+  one-more : (x t q m R : ℕ) → x * a ≤ own * q + k * (a * q) + p * (a + q) → AreWithin t m R → AreWithin (x + t) (suc m) (q + R)
   one-more x t q m R first rest =
       let left : (x + t) * a ≡ x * a + t * a = add-mul x t a in
-      let sends : s * (q + R) ≡ s * q + s * R = mul-add s q R in
-      let quanta : a * (q + R) ≡ a * q + a * R = mul-add a q R in
+      let sends : own * (q + R) ≡ own * q + own * R = mul-add own q R in
+      let quanta : k * (a * (q + R)) ≡ k * (a * q) + k * (a * R) = ap (λ n. k * n) (mul-add a q R) ∙ mul-add k (a * q) (a * R) in
       let packets : p * (suc m * a + (q + R)) ≡ p * (a + q) + p * (m * a + R) = ap (λ n. p * n) (omega arith) ∙ mul-add p (a + q) (m * a + R) in
       omega (arith, first, rest, left, sends, quanta, packets)
 
@@ -137,21 +138,21 @@ module _ (i a s p : ℕ) (sent : Class → ℕ) where
     within : AreWithin total number quanta
 
   others-within : (cs : List Class) → All IsWithin cs → ((c : Class) → c.name ≡ i → sent c ≡ s) → All (λ (c : Class). c.name ≡ i → c.quantum ≡ a) cs → has_class i cs ≡ true → Others cs
-  others-within [] h own quantum has = absurd (false≢true has)
-  others-within (c ∷ cs) h own quantum has = elim (cases_Bool (eqb i c.name)) [
+  others-within [] h mine quantum has = absurd (false≢true has)
+  others-within (c ∷ cs) h mine quantum has = elim (cases_Bool (eqb i c.name)) [
     | inl here ↦
         let name : c.name ≡ i = sym (eqb-true i c.name here) in
         record {
           total = sum_by sent cs;
           number = length cs;
           quanta = quanta_of cs;
-          all = sum_by-cons sent c cs ∙ ap (λ n. n + sum_by sent cs) (own c name);
+          all = sum_by-cons sent c cs ∙ ap (λ n. n + sum_by sent cs) (mine c name);
           size = refl;
           whole = sum_by-cons (λ (k : Class). k.quantum) c cs ∙ ap (λ n. n + quanta_of cs) (All-head (λ (c : Class). c.name ≡ i → c.quantum ≡ a) c cs quantum name);
           within = all-within cs (All-tail IsWithin c cs h);
         }
     | inr there ↦
-        let rest = others-within cs (All-tail IsWithin c cs h) own (All-tail (λ (c : Class). c.name ≡ i → c.quantum ≡ a) c cs quantum) (sym (ap (λ t. t || has_class i cs) there) ∙ has) in
+        let rest = others-within cs (All-tail IsWithin c cs h) mine (All-tail (λ (c : Class). c.name ≡ i → c.quantum ≡ a) c cs quantum) (sym (ap (λ t. t || has_class i cs) there) ∙ has) in
         record {
           total = sent c + rest.total;
           number = suc rest.number;
@@ -163,15 +164,24 @@ module _ (i a s p : ℕ) (sent : Class → ℕ) where
         }
   ]
 
-  part : (total number quanta all size whole : ℕ) → all ≡ s + total → size ≡ suc number → whole ≡ a + quanta → AreWithin total number quanta
-      → all * a ≤ s * whole + 2 * (a * (whole - a)) + p * ((size - 1) * a + (whole - a))
-  part total number quanta all size whole sum count quanta_are within =
-      let left : all * a ≡ s * a + total * a = ap (λ n. n * a) sum ∙ add-mul s total a in
-      let right : s * whole ≡ s * a + s * quanta = ap (λ n. s * n) quanta_are ∙ mul-add s a quanta in
+  -- what all sent is what class i did and a total of which, with what counts of class i, that is its part
+  pub record Part (all size whole : ℕ) : Type 0 where
+    pub total : ℕ
+    pub sum : all ≡ s + total
+    pub part : (own + total) * a ≤ own * whole + k * (a * (whole - a)) + p * ((size - 1) * a + (whole - a))
+
+  part-is : (total number quanta all size whole : ℕ) → all ≡ s + total → size ≡ suc number → whole ≡ a + quanta → AreWithin total number quanta → Part all size whole
+  part-is total number quanta all size whole sum count quanta_are within =
+      let left : (own + total) * a ≡ own * a + total * a = add-mul own total a in
+      let right : own * whole ≡ own * a + own * quanta = ap (λ n. own * n) quanta_are ∙ mul-add own a quanta in
       let rest : whole - a ≡ quanta = omega (arith, quanta_are) in
       let fewer : size - 1 ≡ number = omega (arith, count) in
-      subst (λ r. all * a ≤ s * whole + 2 * (a * r) + p * ((size - 1) * a + r)) (sym rest)
-      (subst (λ m. all * a ≤ s * whole + 2 * (a * quanta) + p * (m * a + quanta)) (sym fewer) (omega (arith, left, right, within)))
+      record {
+        total = total;
+        sum = sum;
+        part = subst (λ r. (own + total) * a ≤ own * whole + k * (a * r) + p * ((size - 1) * a + r)) (sym rest)
+            (subst (λ m. (own + total) * a ≤ own * whole + k * (a * quanta) + p * (m * a + quanta)) (sym fewer) (omega (arith, left, right, within)));
+      }
 
 -- ---- over a stretch
 
@@ -180,36 +190,6 @@ pub kept-at : (settings : DeviceSettings) → IsInRange settings → (before dur
     → (seen later : List Event) → seen ++ later ≡ during → IsKept (device_after settings (before ++ seen))
 kept-at settings range before during all_before all_during seen later e =
     replay-kept settings (before ++ seen) range (All-append IsEvent before seen all_before (All-front IsEvent seen later (subst (All IsEvent) (sym e) all_during)))
-
-module _ (settings : DeviceSettings) (range : IsInRange settings) (before during : List Event) (all_before : All IsEvent before) (all_during : All IsEvent during) (major i quantum : ℕ) (classes : List Class) where
-  sent : ℕ → ℕ
-  sent c = class_sent major c (device_after settings before) during
-
-  abbrev Within : Class → Type 0
-  Within c = IsWithin i quantum (sent i) (settings.mtu - 1) (λ (c : Class). sent c.name) c
-
-  module _ (there : Throughout (HasClasses major classes) settings before during) (stays : Throughout (IsBackloggedClass major i quantum) settings before during) (own : quantum_of i classes ≡ quantum) where
-    one : (first last : ClassAt) → class_in major i (device_after settings before) ≡ Some first → class_in major i (device_after settings (before ++ during)) ≡ Some last → (c : Class) → IsOwn classes c → Within c
-    unfolding sent
-    one first last is at c owned = elim (cases_Bool (eqb i c.name)) [
-      | inl same ↦
-          let name : i ≡ c.name = eqb-true i c.name same in
-          let q : quantum ≡ c.quantum = sym own ∙ ap (λ m. quantum_of m classes) name ∙ owned.1 in
-          omega (arith, ap (λ m. sent i * m) q, ap (λ m. sent m * quantum) name)
-      | inr apart ↦
-          let law = class-against-any settings range before during major i c.name quantum c.quantum first last (eqb-false i c.name apart) all_before all_during stays
-          (λ seen later e. is-class major classes (device_after settings (before ++ seen)) (kept-at settings range before during all_before all_during seen later e) (there seen later e) c.name c.quantum owned.0 owned.1) is at in
-          law.in_quanta
-    ]
-
-    each : (first last : ClassAt) → class_in major i (device_after settings before) ≡ Some first → class_in major i (device_after settings (before ++ during)) ≡ Some last → (cs : List Class) → All (IsOwn classes) cs → All Within cs
-    each first last is at [] h = All-nil Within
-    each first last is at (c ∷ cs) h = All-cons Within c cs (one first last is at c (All-head (IsOwn classes) c cs h)) (each first last is at cs (All-tail (IsOwn classes) c cs h))
-
-    quanta-are : (cs : List Class) → All (IsOwn classes) cs → All (λ (c : Class). c.name ≡ i → c.quantum ≡ quantum) cs
-    quanta-are [] h = All-nil (λ (c : Class). c.name ≡ i → c.quantum ≡ quantum)
-    quanta-are (c ∷ cs) h =
-        All-cons (λ (c : Class). c.name ≡ i → c.quantum ≡ quantum) c cs (λ e. sym (All-head (IsOwn classes) c cs h).1 ∙ ap (λ m. quantum_of m classes) e ∙ own) (quanta-are cs (All-tail (IsOwn classes) c cs h))
 
 -- class i stands among the classes, with its quantum
 pub record Stands (i quantum : ℕ) (classes : List Class) : Type 0 where
@@ -230,17 +210,70 @@ stands-among major i quantum classes d e h =
     classes-are : (s t : Schedule) → ◌≡◌ {A = Discipline} (Drr s) (Drr t) → s.classes ≡ t.classes
     classes-are s t e = cc
 
+module _ (settings : DeviceSettings) (range : IsInRange settings) (before during : List Event) (all_before : All IsEvent before) (all_during : All IsEvent during) (major i quantum : ℕ) (classes : List Class)
+    (there : Throughout (HasClasses major classes) settings before during) (stays : Throughout (IsBackloggedClass major i quantum) settings before during) where
+  abbrev sent : ℕ → ℕ
+  sent c = class_sent major c (device_after settings before) during
+
+  at_first : HasClasses major classes (device_after settings before)
+  at_first = at-start (HasClasses major classes) settings before during there
+
+  pub stands : Stands i quantum classes
+  stands = stands-among major i quantum classes (device_after settings before) at_first (at-start (IsBackloggedClass major i quantum) settings before during stays)
+
+  owned : All (IsOwn classes) classes
+  owned = own-quanta classes (classes-differ major classes (device_after settings before) (replay-kept settings before range all_before) at_first)
+
+  -- each class is there throughout, with its quantum
+  pub all-there : (c : Class) → IsOwn classes c → Throughout (IsClass major c.name c.quantum) settings before during
+  all-there c own seen later e =
+      is-class major classes (device_after settings (before ++ seen)) (kept-at settings range before during all_before all_during seen later e) (there seen later e) c.name c.quantum own.0 own.1
+
+  quanta-are : (cs : List Class) → All (IsOwn classes) cs → All (λ (c : Class). c.name ≡ i → c.quantum ≡ quantum) cs
+  quanta-are [] h = All-nil (λ (c : Class). c.name ≡ i → c.quantum ≡ quantum)
+  quanta-are (c ∷ cs) h =
+      let own = stands.own in
+      All-cons (λ (c : Class). c.name ≡ i → c.quantum ≡ quantum) c cs (λ e. sym (All-head (IsOwn classes) c cs h).1 ∙ ap (λ m. quantum_of m classes) e ∙ own) (quanta-are cs (All-tail (IsOwn classes) c cs h))
+
+  -- Where so many bytes of class i count, beside which each other class has what is within them.
+  module _ (own k : ℕ) where
+    abbrev pub Within : Class → Type 0
+    Within c = IsWithin i quantum (sent i) own k (settings.mtu - 1) (λ (c : Class). sent c.name) c
+
+    each : ((c : Class) → IsOwn classes c → Within c) → (cs : List Class) → All (IsOwn classes) cs → All Within cs
+    each one [] h = All-nil Within
+    each one (c ∷ cs) h = All-cons Within c cs (one c (All-head (IsOwn classes) c cs h)) (each one cs (All-tail (IsOwn classes) c cs h))
+
+    pub its-part : ((c : Class) → IsOwn classes c → Within c)
+        → Part i quantum (sent i) own k (settings.mtu - 1) (λ (c : Class). sent c.name) (all_sent major classes (device_after settings before) during) (length classes) (quanta_of classes)
+    its-part one =
+        let p : ℕ = settings.mtu - 1 in
+        let o = others-within i quantum (sent i) own k p (λ (c : Class). sent c.name) classes (each one classes owned) (λ c e. ap sent e) (quanta-are classes owned) stands.has in
+        part-is i quantum (sent i) own k p (λ (c : Class). sent c.name) o.total o.number o.quanta (all_sent major classes (device_after settings before) during) (length classes) (quanta_of classes) o.all o.size
+        o.whole o.within
+
+    -- with class i itself, of which no more than two products lack
+    pub own-part : (sent i * quantum ≤ own * quantum + k * (quantum * quantum) + (settings.mtu - 1) * (quantum + quantum))
+        → ((c : Class) → IsOwn classes c → eqb i c.name ≡ false → Within c) → (c : Class) → IsOwn classes c → Within c
+    own-part itself others c owned = elim (cases_Bool (eqb i c.name)) [
+      | inl same ↦
+          let name : i ≡ c.name = eqb-true i c.name same in
+          let q : quantum ≡ c.quantum = sym stands.own ∙ ap (λ m. quantum_of m classes) name ∙ owned.1 in
+          subst (λ m. sent m * quantum ≤ own * c.quantum + k * (quantum * c.quantum) + (settings.mtu - 1) * (quantum + c.quantum)) name
+          (subst (λ m. sent i * quantum ≤ own * m + k * (quantum * m) + (settings.mtu - 1) * (quantum + m)) q itself)
+      | inr apart ↦ others c owned apart
+    ]
+
 pub classes-get-their-parts : (settings : DeviceSettings) → IsInRange settings → ClassesGetTheirParts settings
-unfolding sent
 classes-get-their-parts settings range before during major i quantum classes all_before all_during there stays =
     let start : DeviceState (List Note) = device_after settings before in
-    let at = at-start (HasClasses major classes) settings before during there in
     let h = at-start (IsBackloggedClass major i quantum) settings before during stays in
     let k = at-end (IsBackloggedClass major i quantum) settings before during stays in
-    let s = stands-among major i quantum classes start at h in
-    let owned = own-quanta classes (classes-differ major classes start (replay-kept settings before range all_before) at) in
-    let gives : ℕ → ℕ = sent settings range before during all_before all_during major i quantum classes in
-    let o = others-within i quantum (gives i) (settings.mtu - 1) (λ (c : Class). gives c.name) classes
-    (each settings range before during all_before all_during major i quantum classes there stays s.own h.class k.class h.there k.there classes owned) (λ c e. ap gives e)
-    (quanta-are settings range before during all_before all_during major i quantum classes there stays s.own classes owned) s.has in
-    part i quantum (gives i) (settings.mtu - 1) (λ (c : Class). gives c.name) o.total o.number o.quanta (all_sent major classes start during) (length classes) (quanta_of classes) o.all o.size o.whole o.within
+    let own : ℕ = class_sent major i start during in
+    let p = its-part settings range before during all_before all_during major i quantum classes there stays own 2
+    (own-part settings range before during all_before all_during major i quantum classes there stays own 2 (omega arith) (λ c owned apart.
+    (class-against-any settings range before during major i c.name quantum c.quantum h.class k.class (eqb-false i c.name apart) all_before all_during stays
+    (all-there settings range before during all_before all_during major i quantum classes there stays c owned) h.there k.there).in_quanta)) in
+    let part = p.part in
+    let same : (own + p.total) * quantum ≡ all_sent major classes start during * quantum = ap (λ n. n * quantum) (sym p.sum) in
+    omega (arith, part, same)

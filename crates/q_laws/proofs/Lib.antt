@@ -1,7 +1,12 @@
+mod CalmRows
+mod CalmShare
+mod CalmSteps
+mod CalmTurns
 mod DelayRows
 mod FifoTurns
 mod FlowService
 mod GivenPaid
+mod HandedInTime
 mod HoldsNone
 mod LaneLines
 mod LaneNumbers
@@ -22,6 +27,8 @@ mod LinkStretches
 mod MostTurns
 mod MostTurnRows
 mod NeverLate
+mod NewFlowQuiet
+mod NewFlowRows
 mod NewFlowService
 mod NewFlowSums
 mod OrderAsks
@@ -31,9 +38,11 @@ mod OrderPuts
 mod OrderRows
 mod OrderSteps
 mod OrderWays
+mod OwnParts
 mod PartLemmas
 mod PaidInTime
 mod PassedStretches
+mod PollHolds
 mod PromiseKept
 mod PromiseNumbers
 mod PromiseWays
@@ -46,6 +55,7 @@ mod RestReplays
 mod RestSteps
 mod ServiceStretches
 mod ShareInTime
+mod StillHeld
 mod TurnAnswers
 mod TurnAsks
 mod TurnBounds

@@ -40,7 +40,7 @@ use Rattle.q_device.specs.Sharing.{device_after}
 use Rattle.q_device.proofs.ClassStretches.{at-start, at-end, mtu-stays}
 use Rattle.q_device.proofs.RenewedTrees.{sees}
 use Rattle.q_laws.specs.Delay.{next_below}
-use Rattle.q_laws.specs.Rate.{IsNowhereCut, IsBackloggedLink, due_in, IsDrainedFrom, IsPolledOut, HasRoom, RateIsDelivered}
+use Rattle.q_laws.specs.Rate.{IsNowhereCut, IsBackloggedLink, due_in, IsDrained, IsDrainedFrom, IsPolledOut, HasRoom, SpendsWhatComes, RateIsDelivered}
 use Rattle.q_laws.proofs.RateStretches.{rate-is-spent}
 use Rattle.q_laws.proofs.WorkAsks.{AreRests, own-length, queued-more}
 use Rattle.q_laws.proofs.WorkTrees.{NoTbfs, no-tbfs, tbfs-memory, forest-rests}
@@ -273,33 +273,46 @@ module _ (major rate burst : ℕ) where
     begins d kept h silent t from low after until = lasts-on d kept h 0 (Some d.clock) (λ at. silent-uncut d kept h d.clock d.clock (omega arith) kept.moment silent (omega arith) (omega arith))
         (λ u order low at soon. silent-uncut d kept h d.clock u (omega arith) kept.moment silent order (omega (arith, soon))) t from low after (due-begins late d t until)
 
-pub rate-is-delivered : (settings : DeviceSettings) → IsInRange settings → RateIsDelivered settings
-rate-is-delivered settings range before during major rate burst late first last all_before all_during room stays drained polled_before polled_after is at =
+-- from a poll that gives nothing on, what the tbf pays and has left is what it had and what its rate brings
+pub link-spends : (settings : DeviceSettings) → IsInRange settings → (before during : List Event) (major rate burst late : ℕ) (first last : TbfAt) → All IsEvent before → All IsEvent during
+    → HasRoom settings.mtu late rate burst
+    → Throughout (IsBackloggedLink major rate burst) settings before during → IsDrained late (device_after settings before) during → IsPolledOut (device_after settings before)
+    → tbf_in major (device_after settings before) ≡ Some first → tbf_in major (device_after settings (before ++ during)) ≡ Some last
+    → SpendsWhatComes rate (device_after settings before).clock (device_after settings (before ++ during)).clock first last
+link-spends settings range before during major rate burst late first last all_before all_during room stays drained polled_before is at =
     let start : DeviceState (List Note) = device_after settings before in
-    let end : DeviceState (List Note) = device_after settings (before ++ during) in
     let mtu : ℕ = settings.mtu in
     let along : Throughout (Stays major rate burst mtu late room) settings before during = λ seen later e. (stays seen later e, mtu-stays settings (before ++ seen)) in
     let s = at-start (Stays major rate burst mtu late room) settings before during along in
-    let t = at-end (Stays major rate burst mtu late room) settings before during along in
-    let all : All IsEvent (before ++ during) = All-append IsEvent before during all_before all_during in
     let kept : IsKept start = replay-kept settings before range all_before in
-    let kept_last : IsKept end = replay-kept settings (before ++ during) range all in
     let first_is : s.0.tbf.tbf ≡ first = same_Some s.0.tbf.tbf first (sym s.0.tbf.there ∙ is) in
-    let last_is : t.0.tbf.tbf ≡ last = same_Some t.0.tbf.tbf last (sym t.0.tbf.there ∙ at) in
-    let short : level_at first.bucket start.clock < mtu * units_in_byte =
-    subst (λ (x : TbfAt). level_at x.bucket start.clock < mtu * units_in_byte) first_is
-    (subst (λ m. level_at s.0.tbf.tbf.bucket start.clock < m * units_in_byte) s.1 (polled-short major rate burst start s.0 start.clock kept (omega arith) kept.moment polled_before)) in
-    let short_last : level_at last.bucket end.clock < mtu * units_in_byte =
-    subst (λ (x : TbfAt). level_at x.bucket end.clock < mtu * units_in_byte) last_is
-    (subst (λ m. level_at t.0.tbf.tbf.bucket end.clock < m * units_in_byte) t.1 (polled-short major rate burst end t.0 end.clock kept_last (omega arith) kept_last.moment polled_after)) in
     let lasts = subst (λ (x : TbfAt). Lasts major rate burst mtu late room 0 (ready_at start.clock start.tree.root) start.clock x.bucket) first_is (begins major rate burst mtu late room start kept s polled_before) in
     let uncut : IsNowhereCut major start during =
     counted (Stays major rate burst mtu late room) (Moves major rate burst mtu late room) (still major rate burst mtu late room) (more major rate burst mtu late room) settings before during range all_before all_during along first
     (ready_at start.clock start.tree.root) is lasts drained in
-    let exact = rate-is-spent settings range before during major rate burst first last all_before all_during (λ seen later e. (stays seen later e).tbf) uncut is at in
+    rate-is-spent settings range before during major rate burst first last all_before all_during (λ seen later e. (stays seen later e).tbf) uncut is at
+
+-- where a poll gives nothing less is left than the packet takes that the child shows
+pub left-short : (settings : DeviceSettings) → IsInRange settings → (events : List Event) (major rate burst : ℕ) (tbf : TbfAt) → All IsEvent events → IsBackloggedLink major rate burst (device_after settings events)
+    → IsPolledOut (device_after settings events) → tbf_in major (device_after settings events) ≡ Some tbf
+    → (level_at tbf.bucket (device_after settings events).clock < next_below (device_after settings events).clock (device_after settings events) * units_in_byte)
+    × (next_below (device_after settings events).clock (device_after settings events) ≤ settings.mtu)
+left-short settings range events major rate burst tbf all h polled is =
+    let d : DeviceState (List Note) = device_after settings events in
+    let kept : IsKept d = replay-kept settings events range all in
+    let next = polled-next major rate burst d h d.clock kept (omega arith) kept.moment polled in
+    let same : h.tbf.tbf ≡ tbf = same_Some h.tbf.tbf tbf (sym h.tbf.there ∙ is) in
+    (subst (λ (x : TbfAt). level_at x.bucket d.clock < next_below d.clock d * units_in_byte) same next.0, subst (λ m. next_below d.clock d ≤ m) (mtu-stays settings events) next.1)
+
+pub rate-is-delivered : (settings : DeviceSettings) → IsInRange settings → RateIsDelivered settings
+rate-is-delivered settings range before during major rate burst late first last all_before all_during room stays drained polled_before polled_after is at =
+    let all : All IsEvent (before ++ during) = All-append IsEvent before during all_before all_during in
+    let exact = link-spends settings range before during major rate burst late first last all_before all_during room stays drained polled_before is at in
+    let short = left-short settings range before major rate burst first all_before (at-start (IsBackloggedLink major rate burst) settings before during stays) polled_before is in
+    let short_last = left-short settings range (before ++ during) major rate burst last all (at-end (IsBackloggedLink major rate burst) settings before during stays) polled_after at in
     record {
       notes = exact.notes;
       goes_on = exact.goes_on;
-      no_less = let spent = exact.spent in omega (arith, spent, short_last);
-      no_more = let spent = exact.spent in omega (arith, spent, short);
+      no_less = let spent = exact.spent in omega (arith, spent, short_last.0, short_last.1);
+      no_more = let spent = exact.spent in omega (arith, spent, short.0, short.1);
     }

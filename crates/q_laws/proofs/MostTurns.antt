@@ -109,7 +109,7 @@ grants-most bytes d q some =
 
 -- ---- in each state
 
-has-classes : (major i : ℕ) (d : DeviceState (List Note)) (x : ClassAt) → ClassNode major i d x → HasClasses major x.schedule.classes d
+pub has-classes : (major i : ℕ) (d : DeviceState (List Note)) (x : ClassAt) → ClassNode major i d x → HasClasses major x.schedule.classes d
 has-classes major i d x at = by at.node at.there at.discipline
   where
     by : (n : Node (List Note)) → qdisc major d ≡ Some n → n.own.discipline ≡ Drr x.schedule → HasClasses major x.schedule.classes d
@@ -135,10 +135,10 @@ module _ (settings : DeviceSettings) (range : IsInRange settings) (events : List
     at : ClassNode major i d class
     at = class-node major i d class is
 
-    there : HasClasses major classes d
+    pub there : HasClasses major classes d
     there = has-classes major i d class at
 
-    has : has_class i classes ≡ true
+    pub has : has_class i classes ≡ true
     has = child-has i classes (children at.node) class.child at.child
 
     pub quantum-some : 1 ≤ quantum
@@ -150,7 +150,7 @@ module _ (settings : DeviceSettings) (range : IsInRange settings) (events : List
     abbrev IsSame : Class → Type 0
     IsSame c = c.name ≡ i → c.quantum ≡ quantum
 
-    low : (c : Class) → IsOwn classes c → IsLow c
+    pub low : (c : Class) → IsOwn classes c → IsLow c
     low c own =
         let k = is-class major classes d kept there c.name c.quantum own.0 own.1 in
         let same : k.class.schedule ≡ class.schedule =

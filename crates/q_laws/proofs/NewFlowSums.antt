@@ -1,6 +1,6 @@
 -- What the flows of the new list give before one that joins, summed over the list.
-use Rattle.std.proofs.Common.{◌≡◌, ◌≢◌, ℕ, suc, ◌+◌, ◌≤◌, ℤ, Bool, true, false, cond, ◌||◌, List, [], ◌∷◌, ◌++◌, refl, sym, ap, subst, ◌∙◌, inl, inr, Option, Some, None, eq-eqb, arith}
-use Rattle.std.specs.Prelude.{All, ◌==◌, sum_by, option_map, if◌then◌else◌}
+use Rattle.std.proofs.Common.{◌≡◌, ◌≢◌, ℕ, suc, ◌+◌, ◌≤◌, ℤ, pos, Bool, true, false, cond, ◌||◌, List, [], ◌∷◌, ◌++◌, refl, sym, ap, ◌∙◌, inl, inr, Some, eq-eqb, arith}
+use Rattle.std.specs.Prelude.{◌==◌, sum_by, option_map, if◌then◌else◌}
 use Rattle.std.specs.List.{find}
 use Rattle.std.proofs.lemmas.Bool.{cases_Bool, eqb-true, eqb-false, false≢true, or_left, or_right}
 use Rattle.std.proofs.lemmas.List.Sums.{sum_by-cons, sum_by-append}
@@ -11,15 +11,15 @@ use Rattle.q_fqcodel.specs.Laws.{credits_of}
 use Rattle.q_fqcodel.specs.Put.{is_listed}
 use Rattle.q_fqcodel.proofs.LawfulLemmas.{times-cons, times-append}
 use Rattle.q_fqcodel.proofs.PutLemmas.{listed_not, listed_yes}
-use Rattle.q_model.specs.declared.event.Event.{Event}
+use Rattle.q_fqcodel.proofs.QuantaLemmas.{lt_test, le_test}
 use Rattle.q_model.specs.Settings.{DeviceSettings, IsInRange}
-use Rattle.q_model.specs.Stretches.{given_by, bytes_given, reach, FqAt}
+use Rattle.q_model.specs.Stretches.{given_by, bytes_given, reach}
 use Rattle.q_model.specs.Tally.{Note, Arrived, Sent, Lost, Marked, Granted, Spent, FlowGranted, FlowGave}
 use Rattle.q_invariants.proofs.FlowMoves.{fq-node, fq-lawful}
+use Rattle.q_invariants.proofs.FlowVisits.{cases-credits}
 use Rattle.q_invariants.proofs.Replays.{replay-kept}
 use Rattle.q_device.specs.Sharing.{device_after}
-use Rattle.q_laws.specs.NewFlow.{given_by_any, all_given, reaches, NewFlowsGoBefore}
-use Rattle.q_laws.specs.Service.{GoesFirst}
+use Rattle.q_laws.specs.NewFlow.{given_by_any, all_given, reach_before, reaches, NewFlowsGoBefore}
 use Rattle.q_laws.proofs.NewFlowService.{GoesOn, new-flow-goes}
 
 -- ---- what all gave is what those of a list gave, where others gave nothing
@@ -94,12 +94,12 @@ credits-listed n (k ∷ es) c e = elim (cases_Bool (k.flow == n)) [
       (credits-listed n es c (sym (ap (λ (t : Bool). option_map (λ (x : Entry). x.credits) (cond t (Some k) (find (λ (x : Entry). x.flow == n) es))) other) ∙ e))
 ]
 
-each-within : (mtu : ℕ) (es : List Entry) (notes : List Note) → ((n : ℕ) → times n es ≤ 1) → ((n : ℕ) (c : ℤ) → credits_of n es ≡ Some c → bytes_given n notes ≤ reach mtu c) → from_list es notes ≤ reaches mtu es
+each-within : (mtu : ℕ) (es : List Entry) (notes : List Note) → ((n : ℕ) → times n es ≤ 1) → ((n : ℕ) (c : ℤ) → credits_of n es ≡ Some c → bytes_given n notes ≤ reach_before mtu c) → from_list es notes ≤ reaches mtu es
 each-within mtu [] notes once most = omega arith
 each-within mtu (e ∷ es) notes once most =
     let here = most e.flow e.credits (ap (λ (t : Bool). option_map (λ (x : Entry). x.credits) (cond t (Some e) (find (λ (x : Entry). x.flow == e.flow) es))) (eq-eqb e.flow e.flow refl)) in
     let rest = each-within mtu es notes (λ n. omega (arith, once n, times-cons n e es)) (λ n c credits. most n c (behind n c credits)) in
-    omega (arith, here, rest, sum_by-cons (λ (k : Entry). bytes_given k.flow notes) e es, sum_by-cons (λ (k : Entry). reach mtu k.credits) e es)
+    omega (arith, here, rest, sum_by-cons (λ (k : Entry). bytes_given k.flow notes) e es, sum_by-cons (λ (k : Entry). reach_before mtu k.credits) e es)
   where
     behind : (n : ℕ) (c : ℤ) → credits_of n es ≡ Some c → credits_of n (e ∷ es) ≡ Some c
     behind n c credits = elim (cases_Bool (e.flow == n)) [
@@ -134,10 +134,20 @@ new-flows-go-before settings range before e during major j first next last all_b
       | inr apart ↦ omega (arith, gave, (goes n (eqb-false j n apart)).first_goes.others gone)
     ]
 
-    most : (n : ℕ) (c : ℤ) → credits_of n first.state.new_flows ≡ Some c → {g : ℕ} → bytes_given n last.noted ≡ bytes_given n first.noted + g → times j first.state.new_flows ≡ 0 → g ≤ reach settings.mtu c
+    most : (n : ℕ) (c : ℤ) → credits_of n first.state.new_flows ≡ Some c → {g : ℕ} → bytes_given n last.noted ≡ bytes_given n first.noted + g → times j first.state.new_flows ≡ 0 → g ≤ reach_before settings.mtu c
     most n c credits {g} gave unlisted = elim (cases_Bool (j == n)) [
       | inl same ↦
           let there = listed_yes n first.state.new_flows (credits-listed n first.state.new_flows c credits) in
           absurd (omega (arith, there, unlisted, ap (λ m. times m first.state.new_flows) (eqb-true j n same)))
-      | inr apart ↦ omega (arith, gave, (goes n (eqb-false j n apart)).first_goes.in_new c credits)
+      | inr apart ↦
+          let first = (goes n (eqb-false j n apart)).first_goes in
+          elim (cases-credits c) [
+            | inl low ↦
+                let none = first.spent c credits low in
+                let nothing : reach_before settings.mtu c ≡ 0 = ap (λ (t : Bool). if t then reach settings.mtu c else 0) (le_test (pos 0) c low) in
+                omega (arith, gave, none, nothing)
+            | inr high ↦
+                let all : reach_before settings.mtu c ≡ reach settings.mtu c = ap (λ (t : Bool). if t then reach settings.mtu c else 0) (lt_test (pos 0) c high) in
+                omega (arith, gave, all, first.in_new c credits)
+          ]
     ]

@@ -17,7 +17,7 @@ use Rattle.q_model.specs.Events.{IsEvent}
 use Rattle.q_model.specs.Node.{Tbf, Drr, none, more, Node, nodes_in, side_by_side, children, each, shape}
 use Rattle.q_model.specs.Route.{class_at}
 use Rattle.q_model.specs.Step.{DeviceState, step}
-use Rattle.q_model.specs.Stretches.{sent_by, spent_by, bytes_sent, bytes_spent, length_held, qdisc, ClassAt, class_in, TbfAt, tbf_in}
+use Rattle.q_model.specs.Stretches.{sent_by, spent_by, granted_by, bytes_sent, bytes_spent, grants_to, length_held, qdisc, ClassAt, class_in, TbfAt, tbf_in}
 use Rattle.q_model.specs.Tally.{Note, history}
 use Rattle.q_model.specs.Work.{Worked, booked, each_booked, losses_of}
 use Rattle.q_invariants.proofs.AskStages.{IsStageOf, IsAskOf, asked-related}
@@ -28,7 +28,7 @@ use Rattle.q_invariants.proofs.ClassMoves.{class-node}
 use Rattle.q_invariants.proofs.EditLater.{root-later}
 use Rattle.q_invariants.proofs.Forests.{lawful-with_memory, nodes-side, side-nodes}
 use Rattle.q_invariants.proofs.Kept.{IsLawfulRoot}
-use Rattle.q_invariants.proofs.NoteSums.{AreRisen, sum-risen, risen-losses, past-sent, past-spent}
+use Rattle.q_invariants.proofs.NoteSums.{AreRisen, sum-risen, risen-losses, past-sent, past-spent, past-granted}
 use Rattle.q_invariants.proofs.PutKinds.{put-stage}
 use Rattle.q_invariants.proofs.Related.{forget}
 use Rattle.q_invariants.proofs.Replays.{IsKept, step-kept}
@@ -65,6 +65,7 @@ pub record IsQuiet (n after : Node (List Note)) : Type 0 where
   pub memory : after.memory ≡ n.memory ++ notes
   pub spent : bytes_spent notes ≡ 0
   pub sent : bytes_sent notes ≡ 0
+  pub granted : (c : ℕ) → grants_to c notes ≡ 0
   pub held : length_held after.own.held ≡ length_held n.own.held
 
 pub put-quiet : (now : ℕ) (p : Descriptor) (n after : Node (List Note)) → IsPut now p n after → IsQuiet n after
@@ -75,6 +76,7 @@ put-quiet now p n after put =
       memory = ap (λ (k : Node (List Note)). k.memory) (sym put.is) ∙ noted-history n.memory put.worked.memory;
       spent = st.notes spent_by past-spent (λ q. refl);
       sent = st.notes sent_by past-sent (λ q. refl);
+      granted = λ c. st.notes (granted_by c) (past-granted c) (λ q. refl);
       held = ap (λ (k : Node (List Note)). length_held k.own.held) (sym put.is) ∙ ap length_held st.held;
     }
 
@@ -84,6 +86,7 @@ same-quiet n after e = record {
   memory = ap (λ (k : Node (List Note)). k.memory) e ∙ sym (append-nil n.memory);
   spent = refl;
   sent = refl;
+  granted = λ c. refl;
   held = ap (λ (k : Node (List Note)). length_held k.own.held) e;
 }
 
@@ -100,6 +103,9 @@ command-quiet now n after (inr edit) = by edit.by
     sent : bytes_sent (losses_of Purged edit.purged) ≡ 0
     sent = sum-risen sent_by past-sent (losses_of Purged edit.purged) (risen-losses Purged edit.purged)
 
+    granted : (c : ℕ) → grants_to c (losses_of Purged edit.purged) ≡ 0
+    granted c = sum-risen (granted_by c) (past-granted c) (losses_of Purged edit.purged) (risen-losses Purged edit.purged)
+
     by : (after ≡ n) ⊎ IsRemadeSo now (losses_of Purged edit.purged) n after ⊎ IsAbove (losses_of Purged edit.purged) edit.f n after → IsQuiet n after
     by (inl e) = same-quiet n after e
     by (inr (inl r)) = record {
@@ -107,6 +113,7 @@ command-quiet now n after (inr edit) = by edit.by
       memory = ap (λ (k : Node (List Note)). k.memory) r.is ∙ noted-history n.memory (losses_of Purged edit.purged);
       spent = spent;
       sent = sent;
+      granted = granted;
       held = ap (λ (k : Node (List Note)). length_held k.own.held) r.is ∙ ap length_held r.form.held;
     }
     by (inr (inr a)) = record {
@@ -114,6 +121,7 @@ command-quiet now n after (inr edit) = by edit.by
       memory = ap (λ (k : Node (List Note)). k.memory) a.is ∙ noted-history n.memory (losses_of Purged edit.purged);
       spent = spent;
       sent = sent;
+      granted = granted;
       held = ap (λ (k : Node (List Note)). length_held k.own.held) a.is;
     }
 

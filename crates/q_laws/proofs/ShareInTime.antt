@@ -5,9 +5,9 @@ use Rattle.std.specs.List.{flat_map}
 use Rattle.std.specs.Option.{option_to_list}
 use Rattle.std.proofs.Math.Nat.{mul-add, mul_comm, mul_assoc, mul-le-mul_left}
 use Rattle.std.proofs.lemmas.Bool.{cases_Bool, false≢true}
-use Rattle.std.proofs.lemmas.List.Elements.{All-head, All-tail}
+use Rattle.std.proofs.lemmas.List.Elements.{All-append, All-head, All-tail}
 use Rattle.q_packet.specs.Descriptor.{Descriptor}
-use Rattle.q_bucket.specs.Level.{units_in_byte}
+use Rattle.q_bucket.specs.Level.{units_in_byte, level_at}
 use Rattle.q_drr.specs.Schedule.{Class, has_class, quantum_of}
 use Rattle.q_drr.proofs.LookupLemmas.{quantum_here, quantum_behind}
 use Rattle.q_model.specs.declared.event.Event.{Event}
@@ -28,11 +28,12 @@ use Rattle.q_invariants.proofs.Within.{found, lawful-of}
 use Rattle.q_device.specs.Promise.{lacks_of_bytes}
 use Rattle.q_device.specs.Sharing.{device_after}
 use Rattle.q_device.proofs.ClassStretches.{at-start, at-end, mtu-stays, same-rest}
+use Rattle.q_laws.specs.Delay.{next_below}
 use Rattle.q_laws.specs.InTime.{IsLinkOver, ClassesShareInTime}
 use Rattle.q_laws.specs.Rate.{IsDrained, IsPolledOut, HasRoom}
 use Rattle.q_laws.specs.Service.{quanta_of, class_sent, all_sent, HasClasses}
 use Rattle.q_laws.proofs.LeastShare.{classes-get-their-parts}
-use Rattle.q_laws.proofs.LinkStretches.{rate-is-delivered}
+use Rattle.q_laws.proofs.LinkStretches.{link-spends, left-short}
 use Rattle.q_laws.proofs.PassedStretches.{Moves, Stays, still, more-passes}
 
 -- a packet that is held is no longer than the mtu
@@ -87,6 +88,59 @@ class-quantum settings range before all major minor quantum class =
     let law = drr-lawful major d node.node class.class.schedule (replay-kept settings before range all) node.there node.discipline in
     subst (λ q. 1 ≤ q) class.same_quantum (has-quantum class.class.schedule.classes minor law.schedule.quanta (child-has minor class.class.schedule.classes (children node.node) class.class.child node.child))
 
+-- What a link pays over an interval that ends where a poll gives nothing, and what passes from the classes of the drr beneath it, which is n at first
+-- and m at last.
+pub record LinkBetween (settings : DeviceSettings) (before during : List Event) (rate major : ℕ) (classes : List Class) : Type 0 where
+  pub n : Node (List Note)
+  pub m : Node (List Note)
+  pub is : qdisc major (device_after settings before) ≡ Some n
+  pub at : qdisc major (device_after settings (before ++ during)) ≡ Some m
+  pub child : children (device_after settings (before ++ during)).tree.root ≡ m ∷ []
+  pub spent : ℕ
+  pub left : ℕ
+  pub brings : rate * ((device_after settings (before ++ during)).clock - (device_after settings before).clock) ≤ spent * units_in_byte + left
+  pub short : left < next_below (device_after settings (before ++ during)).clock (device_after settings (before ++ during)) * units_in_byte
+  pub least : next_below (device_after settings (before ++ during)).clock (device_after settings (before ++ during)) ≤ settings.mtu
+  pub passed : spent + length_held m.own.held ≤ all_sent major classes (device_after settings before) during + length_held n.own.held
+  pub held : length_held n.own.held ≤ settings.mtu
+  pub held_last : length_held m.own.held ≤ settings.mtu
+
+pub link-between : (settings : DeviceSettings) → IsInRange settings → (before during : List Event) (link rate burst late major : ℕ) (classes : List Class) → All IsEvent before → All IsEvent during
+    → HasRoom settings.mtu late rate burst
+    → Throughout (IsLinkOver link rate burst major) settings before during → Throughout (HasClasses major classes) settings before during → IsDrained late (device_after settings before) during
+    → IsPolledOut (device_after settings before) → IsPolledOut (device_after settings (before ++ during)) → LinkBetween settings before during rate major classes
+link-between settings range before during link rate burst late major classes all_before all_during room over same drained polled_before polled_after =
+    let start : DeviceState (List Note) = device_after settings before in
+    let end : DeviceState (List Note) = device_after settings (before ++ during) in
+    let along : Throughout (Stays link rate burst major classes) settings before during = λ seen later e. (over seen later e, same seen later e) in
+    let s = at-start (Stays link rate burst major classes) settings before during along in
+    let t = at-end (Stays link rate burst major classes) settings before during along in
+    let x : TbfAt = s.0.rated.tbf.tbf in
+    let y : TbfAt = t.0.rated.tbf.tbf in
+    let n : Node (List Note) = s.0.drr in
+    let m : Node (List Note) = t.0.drr in
+    let all : All IsEvent (before ++ during) = All-append IsEvent before during all_before all_during in
+    let exact = link-spends settings range before during link rate burst late x y all_before all_during room (λ seen later e. (over seen later e).rated) drained polled_before s.0.rated.tbf.there t.0.rated.tbf.there in
+    let short = left-short settings range (before ++ during) link rate burst y all t.0.rated polled_after t.0.rated.tbf.there in
+    let passed = counted (Stays link rate burst major classes) (Moves link rate burst major classes) (still link rate burst major classes) (more-passes link rate burst major classes) settings before during range all_before all_during along
+    x y n m s.0.rated.tbf.there t.0.rated.tbf.there s.0.there t.0.there in
+    let notes : exact.notes ≡ passed.notes = same-rest x.noted exact.notes passed.notes (sym exact.goes_on ∙ passed.is) in
+    record {
+      n = n;
+      m = m;
+      is = s.0.there;
+      at = t.0.there;
+      child = t.0.child;
+      spent = bytes_spent passed.notes;
+      left = level_at y.bucket end.clock;
+      brings = let spent = exact.spent in omega (arith, spent, ap bytes_spent notes);
+      short = short.0;
+      least = short.1;
+      passed = passed.passed;
+      held = held-in settings range before all_before major n s.0.there;
+      held_last = held-in settings range (before ++ during) all major m t.0.there;
+    }
+
 -- What a link pays in time, and that the classes of the drr beneath it send that, but for a packet.
 pub link-passes : (settings : DeviceSettings) → IsInRange settings → (before during : List Event) (link rate burst late major : ℕ) (classes : List Class) → All IsEvent before → All IsEvent during
     → HasRoom settings.mtu late rate burst
@@ -95,18 +149,13 @@ pub link-passes : (settings : DeviceSettings) → IsInRange settings → (before
     → (spent : ℕ) × (rate * ((device_after settings (before ++ during)).clock - (device_after settings before).clock) < (spent + settings.mtu) * units_in_byte)
     × (spent ≤ all_sent major classes (device_after settings before) during + settings.mtu)
 link-passes settings range before during link rate burst late major classes all_before all_during room over same drained polled_before polled_after =
-    let along : Throughout (Stays link rate burst major classes) settings before during = λ seen later e. (over seen later e, same seen later e) in
-    let s = at-start (Stays link rate burst major classes) settings before during along in
-    let t = at-end (Stays link rate burst major classes) settings before during along in
-    let x : TbfAt = s.0.rated.tbf.tbf in
-    let y : TbfAt = t.0.rated.tbf.tbf in
-    let n : Node (List Note) = s.0.drr in
-    let m : Node (List Note) = t.0.drr in
-    let delivered = rate-is-delivered settings range before during link rate burst late x y all_before all_during room (λ seen later e. (over seen later e).rated) drained polled_before polled_after s.0.rated.tbf.there t.0.rated.tbf.there in
-    let passed = counted (Stays link rate burst major classes) (Moves link rate burst major classes) (still link rate burst major classes) (more-passes link rate burst major classes) settings before during range all_before all_during along
-    x y n m s.0.rated.tbf.there t.0.rated.tbf.there s.0.there t.0.there in
-    let notes : delivered.notes ≡ passed.notes = same-rest x.noted delivered.notes passed.notes (sym delivered.goes_on ∙ passed.is) in
-    (bytes_spent delivered.notes, delivered.no_less, let p = passed.passed in omega (arith, p, held-in settings range before all_before major n s.0.there, ap bytes_spent notes))
+    let b = link-between settings range before during link rate burst late major classes all_before all_during room over same drained polled_before polled_after in
+    let brings = b.brings in
+    let short = b.short in
+    let least = b.least in
+    let passed = b.passed in
+    let held = b.held in
+    (b.spent, omega (arith, brings, short, least), omega (arith, passed, held))
 
 pub share-in-time : (settings : DeviceSettings) → IsInRange settings → ClassesShareInTime settings
 share-in-time settings range before during link rate burst late major i quantum classes all_before all_during room over same stays drained polled_before polled_after =

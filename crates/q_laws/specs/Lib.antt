@@ -1,6 +1,8 @@
+pub mod Calm
 pub mod Delay
 pub mod Delivered
 pub mod FifoTurn
+pub mod Handed
 pub mod InTime
 pub mod Latest
 pub mod Line

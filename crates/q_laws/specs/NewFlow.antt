@@ -1,6 +1,6 @@
 -- What leaves an fq_codel before the first packet of a flow that joins it, over every interval of every replay: what the flows of the new
--- list let it give, whatever comes meanwhile. RFC 8290, section 4.2.
-use Rattle.std.specs.Prelude.{◌≡◌, ℕ, ◌+◌, ◌≤◌, true, false, List, [], ◌∷◌, ◌++◌, All, Some, sum_by}
+-- list that have credits let it give, whatever comes meanwhile. RFC 8290, section 4.2.
+use Rattle.std.specs.Prelude.{◌≡◌, ℕ, ◌+◌, ◌≤◌, ℤ, pos, int_lt, true, false, if◌then◌else◌, List, [], ◌∷◌, ◌++◌, All, Some, sum_by}
 use Rattle.q_fqcodel.specs.Entry.{Entry}
 use Rattle.q_fqcodel.specs.Put.{is_listed}
 use Rattle.q_model.specs.declared.event.Event.{Event}
@@ -19,9 +19,13 @@ given_by_any other = 0
 abbrev pub all_given : List Note → ℕ
 all_given notes = sum_by given_by_any notes
 
--- what these flows may give before each waits for a quantum
+-- What a flow of the new list may give before one that joins behind it: what it can before it waits for a quantum, and nothing where it has
+-- no credits left, since it is granted first then, and goes to the old list.
+abbrev pub reach_before : ℕ → ℤ → ℕ
+reach_before mtu credits = if int_lt (pos 0) credits then reach mtu credits else 0
+
 abbrev pub reaches : ℕ → List Entry → ℕ
-reaches mtu entries = sum_by (λ (e : Entry). reach mtu e.credits) entries
+reaches mtu entries = sum_by (λ (e : Entry). reach_before mtu e.credits) entries
 
 -- A packet joined flow j, which was in neither list. From then on, as long as the flow stays backlogged and has given nothing, all others
 -- together gave at most what those in the new list could give at first.

@@ -1,7 +1,7 @@
 -- What is true of service over every interval of every replay: what a class of a drr, or a flow of an fq_codel, gets whatever comes to
 -- the others. q_model's specs/Stretches.antt says what an interval is. Deficit round robin: M. Shreedhar and G. Varghese, "Efficient
 -- Fair Queuing Using Deficit Round-Robin" (1995), and tc-drr(8); flows: RFC 8290, section 4.2.
-use Rattle.std.specs.Prelude.{◌≡◌, ◌≢◌, ℕ, ◌+◌, ◌-◌, ◌*◌, ◌≤◌, max, ℤ, pos, true, false, List, [], ◌∷◌, ◌++◌, All, Option, Some, None, option_and_then, unwrap_or, length, sum_by}
+use Rattle.std.specs.Prelude.{◌≡◌, ◌≢◌, ℕ, ◌+◌, ◌-◌, ◌*◌, ◌≤◌, max, ℤ, pos, ◌≤ℤ◌, true, false, List, [], ◌∷◌, ◌++◌, All, Option, Some, None, option_and_then, unwrap_or, length, sum_by}
 use Rattle.std.specs.Option.{option_map_or}
 use Rattle.q_drr.specs.Schedule.{Class, quantum_of, deficit_of}
 use Rattle.q_drr.specs.Stretch.{stands_first}
@@ -136,9 +136,11 @@ pub record IsQueuedFlow (major flow : ℕ) (d : DeviceState (List Note)) : Type 
   pub queued : is_idle fq.state.flows flow ≡ false
 
 -- A packet joined flow j, which was in neither list. From then on, as long as it stays backlogged and has given nothing, another flow
--- gave at most what it could give before it waits for a quantum, where it was in the new list, and nothing where it was not.
+-- gave at most what it could give before it waits for a quantum, where it was in the new list, and nothing where it was not, or had no
+-- credits left there: it is granted first then, and goes to the old list.
 pub record GoesFirst (k mtu : ℕ) (first last : FqAt) : Type 0 where
   pub in_new : (credits : ℤ) → credits_of k first.state.new_flows ≡ Some credits → bytes_given k last.noted ≤ bytes_given k first.noted + reach mtu credits
+  pub spent : (credits : ℤ) → credits_of k first.state.new_flows ≡ Some credits → credits ≤ℤ pos 0 → bytes_given k last.noted ≡ bytes_given k first.noted
   pub others : is_listed k first.state.new_flows ≡ false → bytes_given k last.noted ≡ bytes_given k first.noted
 
 abbrev pub NewFlowFirst : DeviceSettings → Type 0

@@ -1,7 +1,9 @@
 //! What is true of service, of work and of order over every replay of a device. Each law is the contract of a function that does nothing.
+ghost use Rattle.q_laws.specs.Calm.{CalmClassesGetTheirParts, CalmClassesWaitAtMost, CalmTurnsAreBounded, ClassesAreCalm};
 ghost use Rattle.q_laws.specs.Delay.{BytesArePaidInTime};
 ghost use Rattle.q_laws.specs.Delivered.{LatenessIsTheGreatest, ServiceIsDelivered, ShareIsDelivered, SlackIsTheLaws};
 ghost use Rattle.q_laws.specs.FifoTurn.{FifosWaitAtMost};
+ghost use Rattle.q_laws.specs.Handed.{ClassesHandInTime, ClassesLeaveInTime, PollsLeaveHolding};
 ghost use Rattle.q_laws.specs.InTime.{ClassesShareInTime, SharesMultiply};
 ghost use Rattle.q_laws.specs.Latest.{LatestIsEnough, LatestIsInTime, LatestIsToldBefore, LatestRisesNoFaster, LatestStandsAsItFills};
 ghost use Rattle.q_laws.specs.Line.{LimitsAreDelays, LinesLeaveFirst, LinesLeaveInTime};
@@ -35,9 +37,15 @@ pub fn class_against_any(settings: Settings)
 
 /// Of all bytes that the classes of a drr send over an interval in which the drr keeps its classes and their quanta, a class that stays backlogged
 /// sends at least its share, whatever comes to the others, less a number of bytes that does not grow with the interval. With the quantum q of n
-/// classes, whose quanta add up to Q, its share is q/Q, and the number is `(2*q*(Q - q) + (mtu - 1)*((n - 1)*q + (Q - q))) / Q`.
+/// classes, whose quanta add up to Q, its share is q/Q, and the number is `(2*q*(Q - q) + (mtu - 1)*((n - 1)*q + (Q - q))) / Q` (`part`).
+///
+/// One product q*(Q - q) is enough where the class is calm at first: where others are before it in the active list, it has a deficit of a
+/// quantum at least (`calm`). It is calm as long as no command has changed its quantum since it was last empty, as it is where a command
+/// adds it, whatever comes to it and to the others (`since_empty`).
 pub fn least_share(settings: Settings)
-    ensures { ClassesGetTheirParts settings }
+    ensures part { ClassesGetTheirParts settings }
+    ensures calm { CalmClassesGetTheirParts settings }
+    ensures since_empty { ClassesAreCalm settings }
 {
     settings.ranges();
 }
@@ -66,8 +74,8 @@ pub fn no_flow_starves(settings: Settings)
 }
 
 /// A flow that joins an fq_codel from neither list goes before all old flows: until it gives a packet, or has none left, only the flows
-/// that were in the new list give any, each at most its credits and a longest packet less a byte, whatever comes meanwhile, a command
-/// that changes the quantum too.
+/// that were in the new list with credits give any, each at most its credits and a longest packet less a byte, whatever comes meanwhile,
+/// a command that changes the quantum too.
 /// So a sparse flow, as a name lookup, passes the flows of a download (RFC 8290, section 4.2).
 pub fn new_flow_first(settings: Settings)
     ensures { NewFlowFirst settings }
@@ -135,6 +143,9 @@ pub fn bytes_are_paid_in_time(settings: Settings)
 /// 1/(8*10^9), times the sums of the quanta, so that nothing is rounded; they are those that the class's child hands to its drr.
 pub fn share_in_time(settings: Settings)
     ensures below { ClassesShareInTime settings }
+    ensures handed { ClassesHandInTime settings }
+    ensures holds { PollsLeaveHolding settings }
+    ensures leaves { ClassesLeaveInTime settings }
     ensures nested { SharesMultiply settings }
 {
     settings.ranges();
@@ -290,6 +301,8 @@ pub fn classes_wait_their_turn(settings: Settings)
 pub fn turns_are_bounded(settings: Settings)
     ensures bytes_of_turn { TurnsAreBounded settings }
     ensures sent { ClassesWaitAtMost settings }
+    ensures calm_turn { CalmTurnsAreBounded settings }
+    ensures calm_sent { CalmClassesWaitAtMost settings }
 {
     settings.ranges();
 }
@@ -331,9 +344,9 @@ pub fn turn_is_enough(settings: Settings)
     settings.ranges();
 }
 
-/// All that leaves an fq_codel before the first packet of a flow that joins it from neither list: the flows that were in the new list give at
-/// most their credits and a longest packet less a byte, each, and nothing else leaves, until the flow gives a packet or has none left. So
-/// with the packet itself that is the bytes before which it leaves, or is lost to the fat flow.
+/// All that leaves an fq_codel before the first packet of a flow that joins it from neither list: the flows that were in the new list with
+/// credits give at most these and a longest packet less a byte, each, and nothing else leaves, until the flow gives a packet or has none
+/// left. So with the packet itself that is the bytes before which it leaves, or is lost to the fat flow.
 ///
 /// For all settings and every list of events whose fields are in their ranges, whatever comes meanwhile, a command that changes the quantum
 /// too. Packets that CoDel or the fat flow loses are not among the bytes, and the fq_codel may hold one packet more.
