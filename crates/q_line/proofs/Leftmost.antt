@@ -2,8 +2,9 @@
 use Rattle.std.proofs.Common.{◌≡◌, ◌∙◌, ℕ, zero, suc, ◌+◌, ◌<◌, ◌≤◌, ◌⊎◌, inl, inr, Bool, true, false, List, [], ◌∷◌, ◌++◌, length, take, Result, Ok, Err, Option, Some, None, refl, sym, ap, subst, arith, if◌then◌else◌}
 use Rattle.std.specs.Str.{is_utf8, chars}
 use Rattle.std.proofs.lemmas.List.{length-take-le}
+use Rattle.q_words.specs.FaultText.{fault_word}
 use Rattle.q_words.specs.Words.{is_blank_line}
-use Rattle.q_line.specs.Laws.{index_of, FitSoFar, IsAtWord, IsAtEnd, IsJudged, FaultsAreLeftmost, reached}
+use Rattle.q_line.specs.Laws.{FitSoFar, IsAtWord, IsAtEnd, IsJudged, FaultsAreLeftmost, reached}
 use Rattle.q_line.specs.Grammar.{after, ended, ends, fits, late_fault, line_of_words, numbered, rest_of, said}
 use Rattle.q_line.specs.Positions.{Position, first}
 use Rattle.q_line.specs.declared.line.Line.{Line}
@@ -34,7 +35,7 @@ not_utf8 = refl
 bad_word : (p : Position) (i : ℕ) → read p i bad ≡ Err (fault.BadUtf8 i)
 bad_word p i = word_faults p wrong.BadUtf8 i (255 ∷ []) [] (ap (λ (b : Bool). if b then fits i p (255 ∷ []) else Err wrong.BadUtf8) not_utf8)
 
-index_numbered : (x : Wrong) (i : ℕ) → index_of (numbered x i) ≡ i
+index_numbered : (x : Wrong) (i : ℕ) → fault_word (numbered x i) ≡ i
 index_numbered wrong.UnknownWord i = refl
 index_numbered wrong.BadNumber i = refl
 index_numbered wrong.OutOfRange i = refl
@@ -46,10 +47,10 @@ abbrev Fits : Position → ℕ → List (List ℕ) → ℕ → Type 0
 Fits p i ws next = read p i (ws ++ bad) ≡ Err (fault.BadUtf8 next)
 
 record AtWord (p : Position) (i : ℕ) (ws : List (List ℕ)) (f : LineFault) : Type 0 where
-  low : i ≤ index_of f
-  high : index_of f < i + length ws
-  before : (n next : ℕ) → next ≡ i + n → next ≤ index_of f → Fits p i (take n ws) next
-  behind : (n : ℕ) (others : List (List ℕ)) → index_of f < i + n → n ≤ length ws → read p i (take n ws ++ others) ≡ Err f
+  low : i ≤ fault_word f
+  high : fault_word f < i + length ws
+  before : (n next : ℕ) → next ≡ i + n → next ≤ fault_word f → Fits p i (take n ws) next
+  behind : (n : ℕ) (others : List (List ℕ)) → fault_word f < i + n → n ≤ length ws → read p i (take n ws ++ others) ≡ Err f
 
 record AtEnd (p : Position) (i : ℕ) (ws : List (List ℕ)) (f : LineFault) : Type 0 where
   fit : (n next : ℕ) → next ≡ i + n → n ≤ length ws → Fits p i (take n ws) next
@@ -113,11 +114,11 @@ past_word p q i w ws f e rest = let low = rest.low in let high = rest.high in re
   behind = λ n others h k. from n others h k;
 }
   where
-    at : (n next : ℕ) → next ≡ i + n → next ≤ index_of f → Fits p i (take n (w ∷ ws)) next
+    at : (n next : ℕ) → next ≡ i + n → next ≤ fault_word f → Fits p i (take n (w ∷ ws)) next
     at zero next k h = nothing_yet p i next (omega arith)
     at (suc n) next k h = word_fits p q i w (take n ws ++ bad) e ∙ rest.before n next (omega arith) h
 
-    from : (n : ℕ) (others : List (List ℕ)) → index_of f < i + n → n ≤ length (w ∷ ws) → read p i (take n (w ∷ ws) ++ others) ≡ Err f
+    from : (n : ℕ) (others : List (List ℕ)) → fault_word f < i + n → n ≤ length (w ∷ ws) → read p i (take n (w ∷ ws) ++ others) ≡ Err f
     from zero others h k = let low = rest.low in absurd (omega arith)
     from (suc n) others h k = word_fits p q i w (take n ws ++ others) e ∙ rest.behind n others (omega arith) (omega arith)
 
@@ -155,13 +156,13 @@ not_blank (b ∷ bytes) ws e others = ap (λ (t : Bool). if t then Ok Blank else
 nothing_fits : FitSoFar []
 nothing_fits = not_blank (255 ∷ []) [] refl [] ∙ bad_word first 1
 
-by_judged : (p : Position) {next : ℕ} {f : LineFault} → Stands p next → IsJudged p next f → 1 ≤ next → (1 ≤ index_of f) × (index_of f ≤ next)
+by_judged : (p : Position) {next : ℕ} {f : LineFault} → Stands p next → IsJudged p next f → 1 ≤ next → (1 ≤ fault_word f) × (fault_word f ≤ next)
 by_judged p {next} {f} s (inl h) some =
     let place = late_within p next h.0 s h.1 in
     let low = place.0 in
     let high = place.1 in
-    let is : index_of f ≡ h.0 = ap index_of h.2 in (omega arith, omega arith)
-by_judged p {next} {f} s (inr h) some = let is : index_of f ≡ next = ap index_of h.2 in (omega arith, omega arith)
+    let is : fault_word f ≡ h.0 = ap fault_word h.2 in (omega arith, omega arith)
+by_judged p {next} {f} s (inr h) some = let is : fault_word f ≡ next = ap fault_word h.2 in (omega arith, omega arith)
 
 pub leftmost : FaultsAreLeftmost
 leftmost [] f e = absurd (let k : Ok Blank ≡ Err f = e in cc)
@@ -176,11 +177,11 @@ leftmost (w ∷ ws) f e = by_blank (is_blank_line (w ∷ ws)) refl
             let count : length (take n ws) ≡ n = length-take-le n ws h in
             not_blank w ws q (take n ws ++ bad) ∙ known ∙ ap (λ m. Err (fault.BadUtf8 (suc (suc m)))) (sym count)
 
-        before : AtWord first 1 (w ∷ ws) f → (n : ℕ) → n < index_of f → FitSoFar (take n (w ∷ ws))
+        before : AtWord first 1 (w ∷ ws) f → (n : ℕ) → n < fault_word f → FitSoFar (take n (w ∷ ws))
         before here zero h = nothing_fits
         before here (suc n) h = let high = here.high in fitting n (omega arith) (here.before (suc n) (suc (suc n)) (omega arith) (omega arith))
 
-        behind : AtWord first 1 (w ∷ ws) f → (n : ℕ) (others : List (List ℕ)) → index_of f ≤ n → n ≤ length (w ∷ ws) → line_of_words (take n (w ∷ ws) ++ others) ≡ Err f
+        behind : AtWord first 1 (w ∷ ws) f → (n : ℕ) (others : List (List ℕ)) → fault_word f ≤ n → n ≤ length (w ∷ ws) → line_of_words (take n (w ∷ ws) ++ others) ≡ Err f
         behind here zero others h k = let low = here.low in absurd (omega arith)
         behind here (suc n) others h k = not_blank w ws q (take n ws ++ others) ∙ here.behind (suc n) others (omega arith) k
 
@@ -191,7 +192,7 @@ leftmost (w ∷ ws) f e = by_blank (is_blank_line (w ∷ ws)) refl
         judged : (here : AtEnd first 1 (w ∷ ws) f) → IsJudged here.judged.0 (suc (length (w ∷ ws))) f
         judged here = let next : 1 + length (w ∷ ws) ≡ suc (length (w ∷ ws)) = omega arith in subst (λ n. IsJudged here.judged.0 n f) next here.judged.2
 
-        within : AtEnd first 1 (w ∷ ws) f → (1 ≤ index_of f) × (index_of f ≤ suc (length (w ∷ ws)))
+        within : AtEnd first 1 (w ∷ ws) f → (1 ≤ fault_word f) × (fault_word f ≤ suc (length (w ∷ ws)))
         within here = by_judged here.judged.0 (reached_stands (w ∷ ws) first here.judged.0 1 (suc (length (w ∷ ws))) (omega arith) (omega arith) tt here.judged.1) (judged here) (omega arith)
 
         by_place : From first 1 (w ∷ ws) f → IsAtWord (w ∷ ws) f ⊎ IsAtEnd (w ∷ ws) f

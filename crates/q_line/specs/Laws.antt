@@ -4,8 +4,9 @@
 -- after tc(8); the laws are stated on functions of the module `laws`.
 use Rattle.std.specs.Prelude.{◌≡◌, ℕ, suc, ◌<◌, ◌≤◌, ◌⊎◌, List, [], ◌∷◌, ◌++◌, length, take, true, Some, None, Result, Ok, Err}
 use Rattle.std.specs.Str.{IsUtf8}
+use Rattle.q_words.specs.FaultText.{fault_word}
 use Rattle.q_words.specs.declared.line_fault.LineFault.{LineFault}
-use Rattle.q_words.specs.declared.line_fault.LineFault.TheVariants.{UnknownWord, Missing, BadNumber, OutOfRange, Twice, BadUtf8}
+use Rattle.q_words.specs.declared.line_fault.LineFault.TheVariants.{Missing, OutOfRange, BadUtf8}
 use Rattle.q_words.specs.declared.wrong.Wrong.{Wrong}
 use Rattle.q_line.specs.Grammar.{after, ends, late_fault, line_of, line_of_words}
 use Rattle.q_line.specs.Positions.{Position, first}
@@ -13,25 +14,16 @@ use Rattle.q_line.specs.Ranges.{IsLine}
 use Rattle.q_line.specs.Spelling.{is_word, spelling}
 use Rattle.q_line.specs.declared.line.Line.{Line}
 
--- the index of a fault's word
-abbrev pub index_of : LineFault → ℕ
-index_of (UnknownWord word) = word
-index_of (Missing word) = word
-index_of (BadNumber word) = word
-index_of (OutOfRange word) = word
-index_of (Twice word) = word
-index_of (BadUtf8 word) = word
-
 -- nothing is wrong with these words so far: a word behind them that is not UTF-8 is the fault of the line
 abbrev pub FitSoFar : List (List ℕ) → Type 0
 FitSoFar words = line_of_words (words ++ (255 ∷ []) ∷ []) ≡ Err (BadUtf8 (suc (length words)))
 
 -- the words before the fault's word fit, and its word is wrong whatever follows it
 pub record IsAtWord (words : List (List ℕ)) (fault : LineFault) : Type 0 where
-  pub from_one : 1 ≤ index_of fault
-  pub to_the_last : index_of fault ≤ length words
-  pub before : (n : ℕ) → n < index_of fault → FitSoFar (take n words)
-  pub behind : (n : ℕ) (others : List (List ℕ)) → index_of fault ≤ n → n ≤ length words → line_of_words (take n words ++ others) ≡ Err fault
+  pub from_one : 1 ≤ fault_word fault
+  pub to_the_last : fault_word fault ≤ length words
+  pub before : (n : ℕ) → n < fault_word fault → FitSoFar (take n words)
+  pub behind : (n : ℕ) (others : List (List ℕ)) → fault_word fault ≤ n → n ≤ length words → line_of_words (take n words ++ others) ≡ Err fault
 
 -- the position behind words that fit, the first of which has this index
 abbrev pub reached : Position → ℕ → List (List ℕ) → Result Position Wrong
@@ -47,8 +39,8 @@ IsJudged position index fault =
 -- all of the words fit, and what they say together is judged
 pub record IsAtEnd (words : List (List ℕ)) (fault : LineFault) : Type 0 where
   -- it is at one of the words, or one past the last
-  pub from_one : 1 ≤ index_of fault
-  pub to_one_past : index_of fault ≤ suc (length words)
+  pub from_one : 1 ≤ fault_word fault
+  pub to_one_past : fault_word fault ≤ suc (length words)
   pub fit : (n : ℕ) → n ≤ length words → FitSoFar (take n words)
   pub judged : (position : Position) × (reached first 1 words ≡ Ok position) × IsJudged position (suc (length words)) fault
 

@@ -1,6 +1,7 @@
 -- The first line of a text, by where its first newline is.
-use Rattle.std.proofs.Common.{◌≡◌, ◌≢◌, ℕ, zero, suc, ◌<◌, ◌+◌, ◌-◌, if◌then◌else◌, List, [], ◌∷◌, length, get_or, take, drop, refl, ap, ◌∙◌, arith, length-drop, eq-eqb, ne_eqb, add-one}
-use Rattle.std.proofs.lemmas.List.{take_all, drop_all}
+use Rattle.std.proofs.Common.{◌≡◌, ◌≢◌, ℕ, zero, suc, ◌<◌, ◌+◌, ◌-◌, if◌then◌else◌, List, [], ◌∷◌, length, get_or, take, drop, refl, ap, ◌∙◌, arith, eq-eqb, ne_eqb, add-one}
+use Rattle.std.proofs.lemmas.List.{drop_all}
+use Rattle.q_words.proofs.Splits.{rest_is}
 use Rattle.q_script.specs.Script.{lines_of, onto_first}
 
 at_newline : (b : ℕ) (bytes : List ℕ) → b ≡ 10 → lines_of (b ∷ bytes) ≡ [] ∷ lines_of bytes
@@ -25,20 +26,16 @@ lines-last (b ∷ c ∷ bytes) some none =
     before_newline b (c ∷ bytes) (none 0 (omega arith))
     ∙ ap (onto_first b) (lines-last (c ∷ bytes) (omega arith) (λ j h. none (suc j) (omega arith)))
 
--- what a slice from a place on is
-pub rest_from : (n : ℕ) (bytes : List ℕ) → take (length bytes - n) (drop n bytes) ≡ drop n bytes
-rest_from n bytes = take_all (length bytes - n) (drop n bytes) (omega (arith, length-drop n bytes))
-
 -- the first line and the rest, as slices
 pub lines-cut : (k : ℕ) (bytes : List ℕ) → k < length bytes → get_or bytes k 0 ≡ 10 → ((j : ℕ) → j < k → get_or bytes j 0 ≢ 10)
     → lines_of bytes ≡ take k bytes ∷ lines_of (take (length bytes - (k + 1)) (drop (k + 1) bytes))
-lines-cut k bytes within here before = rw (rest_from (k + 1) bytes, add-one) (lines-first k bytes within here before)
+lines-cut k bytes within here before = rw (rest_is bytes (k + 1), add-one) (lines-first k bytes within here before)
 
 pub lines-whole : (bytes : List ℕ) → 0 < length bytes → ((j : ℕ) → j < length bytes → get_or bytes j 0 ≢ 10)
     → lines_of bytes ≡ bytes ∷ lines_of (take (length bytes - length bytes) (drop (length bytes) bytes))
 lines-whole bytes some none =
     let nothing : drop (length bytes) bytes ≡ [] = drop_all (length bytes) bytes (omega arith) in
-    rw (rest_from (length bytes) bytes, nothing) (lines-last bytes some none)
+    rw (rest_is bytes (length bytes), nothing) (lines-last bytes some none)
 
 pub lines-none : (bytes : List ℕ) → length bytes ≡ 0 → lines_of bytes ≡ []
 lines-none [] h = refl

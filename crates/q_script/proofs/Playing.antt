@@ -58,7 +58,9 @@ through_line : {S : Type 0} (effect : LineEffect S) (all left : List (List ℕ))
     → AllBelow k starved
     → ((later : List ℕ) → AllFrom k later → replay effect (starved ++ later) 1 all first ≡ preceded produced (replay effect (starved ++ later) k (line ∷ left) now))
     → (b : Bool) (later : List ℕ) → AllFrom (suc k) later
-    → replay effect (now_starved b starved k ++ later) 1 all first ≡ preceded (produced ++ (effect b k line now).text) (replay effect (now_starved b starved k ++ later) (suc k) left (effect b k line now).session)
+    → replay effect (now_starved b starved k ++ later) 1 all first
+    ≡ preceded (produced ++ (effect b k line now).text)
+    (replay effect (now_starved b starved k ++ later) (suc k) left (effect b k line now).session)
 through_line effect all left line produced starved k first now below goes_on true later from =
     let e = effect true k line now in
     let joined : (starved ++ k ∷ []) ++ later ≡ starved ++ k ∷ later = append_assoc starved (k ∷ []) later in

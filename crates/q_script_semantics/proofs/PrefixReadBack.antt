@@ -1,18 +1,13 @@
 -- What show prints of a prefix is what a line writes of it, and so is read as itself.
-use Rattle.std.proofs.Common.{◌≡◌, ◌∙◌, ℕ, ◌++◌, ap, append_assoc, codes}
+use Rattle.std.proofs.Common.{◌≡◌, ◌∙◌, ◌++◌, ap, append_assoc, codes}
 use Rattle.std.specs.Fmt.{decimal}
-use Rattle.q_model.specs.declared.ip_version.IpVersion.{IpVersion}
-use Rattle.q_model.specs.declared.ip_version.IpVersion.TheVariants.{V4, V6}
 use Rattle.q_model.specs.Options.{Prefix}
 use Rattle.q_words.specs.Addresses.{prefix_of}
-use Rattle.q_line.specs.Spelling.{address_word, prefix_word}
+use Rattle.q_line.specs.Spelling.{prefix_word}
 use Rattle.q_line.proofs.SpelledFilters.{prefix_read}
 use Rattle.q_show.specs.ShowText.{address_text, prefix_text}
+use Rattle.q_spelling.proofs.Spelled.{address_spelled}
 use Rattle.q_script_semantics.specs.ReadBack.{PrefixesAreReadBack}
-
-address_spelled : (v : IpVersion) (a : ℕ) → address_text v a ≡ address_word v a
-address_spelled V4 a = simp append_assoc
-address_spelled V6 a = simp append_assoc
 
 pub prefix_spelled : (p : Prefix) → prefix_text p ≡ prefix_word p
 prefix_spelled p =

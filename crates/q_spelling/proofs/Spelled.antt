@@ -1,12 +1,12 @@
 -- Texts that are put together word by word, and the lines of events as q_line's law has them.
-use Rattle.std.proofs.Common.{◌≡◌, ◌∙◌, ◌++◌, ◌/◌, ◌%◌, ◌^◌, ℕ, List, [], ◌∷◌, ap, sym, refl, append_assoc}
+use Rattle.std.proofs.Common.{◌≡◌, ◌∙◌, ◌++◌, ℕ, List, [], ◌∷◌, ap, sym, refl, append_assoc}
 use Rattle.std.specs.Prelude.{codes, decimal, map}
 use Rattle.std.specs.List.{flat_map, join_with_byte}
 use Rattle.std.proofs.lemmas.List.{append-nil}
 use Rattle.std.proofs.lemmas.Grind.{flat_map-append}
 use Rattle.q_model.specs.declared.ip_version.IpVersion.{IpVersion}
 use Rattle.q_model.specs.declared.ip_version.IpVersion.TheVariants.{V4, V6}
-use Rattle.q_line.specs.Spelling.{address_word, hex}
+use Rattle.q_line.specs.Spelling.{address_word}
 use Rattle.q_show.specs.ShowText.{address_text}
 use Rattle.q_spelling.specs.Words.{spaced}
 
@@ -28,31 +28,7 @@ pub numbers : (ns : List ℕ) → flat_map (λ n. codes " " ++ decimal n) ns ≡
 numbers [] = refl
 numbers (n ∷ ns) = ap (λ l. (codes " " ++ decimal n) ++ l) (numbers ns)
 
--- an address as show prints it, and as a line has it: numbers with a byte between each two, put together from either end
-abbrev after_each : ℕ → List (List ℕ) → List ℕ
-after_each byte [] = []
-after_each byte (x ∷ xs) = byte ∷ (x ++ after_each byte xs)
-
-abbrev from_left : ℕ → List ℕ → List (List ℕ) → List ℕ
-from_left byte begun [] = begun
-from_left byte begun (x ∷ xs) = from_left byte (begun ++ (byte ∷ []) ++ x) xs
-
-left_is : (byte : ℕ) (begun : List ℕ) (xs : List (List ℕ)) → from_left byte begun xs ≡ begun ++ after_each byte xs
-left_is byte begun [] = sym (append-nil begun)
-left_is byte begun (x ∷ xs) =
-    left_is byte (begun ++ (byte ∷ []) ++ x) xs ∙ append_assoc (begun ++ (byte ∷ [])) x (after_each byte xs) ∙ append_assoc begun (byte ∷ []) (x ++ after_each byte xs)
-
-joined_is : (byte : ℕ) (x : List ℕ) (xs : List (List ℕ)) → join_with_byte byte (x ∷ xs) ≡ x ++ after_each byte xs
-joined_is byte x [] = sym (append-nil x)
-joined_is byte x (y ∷ xs) = ap (λ l. x ++ (byte ∷ l)) (joined_is byte y xs)
-
-put_together : (byte : ℕ) (x : List ℕ) (xs : List (List ℕ)) → from_left byte x xs ≡ join_with_byte byte (x ∷ xs)
-put_together byte x xs = left_is byte x xs ∙ sym (joined_is byte x xs)
-
+-- an address as show prints it is as a line has it
 pub address_spelled : (v : IpVersion) (a : ℕ) → address_text v a ≡ address_word v a
-address_spelled V4 a = put_together 46 (decimal (a / 2 ^ 24 % 256)) (decimal (a / 2 ^ 16 % 256) ∷ decimal (a / 2 ^ 8 % 256) ∷ decimal (a % 256) ∷ [])
-address_spelled V6 a =
-    put_together 58 (hex (a / 2 ^ 112 % 65536)) (
-    hex (a / 2 ^ 96 % 65536) ∷ hex (a / 2 ^ 80 % 65536) ∷ hex (a / 2 ^ 64 % 65536) ∷ hex (a / 2 ^ 48 % 65536)
-    ∷ hex (a / 2 ^ 32 % 65536) ∷ hex (a / 2 ^ 16 % 65536) ∷ hex (a % 65536) ∷ []
-    )
+address_spelled V4 a = simp append_assoc
+address_spelled V6 a = simp append_assoc

@@ -13,7 +13,8 @@ use Rattle.q_words.specs.Decimals.{IsFactor, capped, decimal_of, times}
 use Rattle.q_words.specs.Values.{is_numeral}
 use Rattle.q_words.specs.declared.decimals.Decimal.{Decimal}
 use Rattle.q_words.specs.declared.wrong.Wrong.TheVariants.{BadNumber, OutOfRange}
-use Rattle.q_words.proofs.GroupLemmas.{all_digits, left_of, right_of, and_false}
+use Rattle.q_words.proofs.Both.{left_of, right_of}
+use Rattle.q_words.proofs.GroupLemmas.{all_digits, and_false}
 use Rattle.q_words.proofs.Cuts.{first_or_length}
 
 -- without a point nothing stands behind it
@@ -103,7 +104,9 @@ places_of word e = by_test (list_any is_point word) refl
   where
     by_test : (b : Bool) → list_any is_point word ≡ b → Places word
     by_test true t =
-        let both : (is_numeral 10 (decimals word) && nat_le (length (decimals word)) 9) ≡ true = ap (λ b. not b || is_numeral 10 (decimals word) && nat_le (length (decimals word)) 9) (sym t) ∙ right_of (is_numeral 10 (whole_part word)) _ e in
+        let both : (is_numeral 10 (decimals word) && nat_le (length (decimals word)) 9) ≡ true =
+        ap (λ b. not b || is_numeral 10 (decimals word) && nat_le (length (decimals word)) 9) (sym t)
+        ∙ right_of (is_numeral 10 (whole_part word)) _ e in
         let n = left_of (is_numeral 10 (decimals word)) _ both in
         let few : length (decimals word) ≤ 9 = leb-true _ _ (right_of (is_numeral 10 (decimals word)) _ both) in
         record { same = places_fit word n few; few = few }

@@ -6,7 +6,7 @@ use Rattle.std.proofs.lemmas.List.{append-nil, get_or-take, take_all, take-appen
 use Rattle.std.proofs.lemmas.Bool.{and_from, eq-eqb, le-leb, lt-ltb, cases_lt}
 use Rattle.std.proofs.Math.Nat.{mod-lt}
 use Rattle.byteorder.specs.Numbers.{big_from-take}
-use Rattle.q_words.proofs.GroupLemmas.{right_of}
+use Rattle.q_words.proofs.Both.{right_of}
 use Rattle.q_words.specs.Addresses.{bytes_from}
 use Rattle.q_words.specs.declared.wrong.Wrong.{Wrong}
 use Rattle.q_words.specs.declared.wrong.Wrong.TheVariants.{BadNumber}

@@ -13,6 +13,7 @@ use Rattle.q_words.specs.Parts.{address_from, groups_behind, groups_of}
 use Rattle.q_words.specs.declared.ipv6.Groups.{Groups}
 use Rattle.q_words.specs.declared.wrong.Wrong.{Wrong}
 use Rattle.q_words.specs.declared.wrong.Wrong.TheVariants.{BadNumber}
+use Rattle.q_words.proofs.Both.{left_of, right_of}
 
 -- numbers of so many groups fit 128 bits
 
@@ -54,14 +55,6 @@ record Read (n v : ℕ) (gs : List (List ℕ)) (g : Groups) : Type 0 where
   count : g.count ≡ n + length gs
   value : g.value ≡ fold (λ n part. n * 65536 + part) v (map (digits_value 16) gs)
 
-pub left_of : (a b : Bool) → (a && b) ≡ true → a ≡ true
-left_of true b e = refl
-left_of false b e = cc
-
-pub right_of : (a b : Bool) → (a && b) ≡ true → b ≡ true
-right_of true b e = e
-right_of false b e = cc
-
 abbrev next : Bool → ℕ → ℕ → List ℕ → List (List ℕ) → Option Groups
 next b n v part parts = if b then groups_behind (record { count = suc n; value = v * 65536 + digits_value 16 part }) parts else None
 
@@ -96,7 +89,8 @@ refused (part ∷ parts) n v few e = by_test (refused parts) (nat_lt n 8) refl (
     by_test more b t false s = no_group (ap (λ a. a && list_all is_group parts) s)
     by_test more false t true s = too_many (omega (arith, ltb-false n 8 t))
     by_test more true t true s =
-        elim (more (suc n) (v * 65536 + digits_value 16 part) (omega (arith, ltb-true n 8 t)) (ap (λ b. next (b && true) n v part parts) (sym t) ∙ ap (λ a. next (nat_lt n 8 && a) n v part parts) (sym s) ∙ e)) [
+        elim (more (suc n) (v * 65536 + digits_value 16 part) (omega (arith, ltb-true n 8 t))
+        (ap (λ b. next (b && true) n v part parts) (sym t) ∙ ap (λ a. next (nat_lt n 8 && a) n v part parts) (sym s) ∙ e)) [
           | no_group h ↦ no_group (ap (λ a. a && list_all is_group parts) s ∙ h)
           | too_many h ↦ too_many (omega (arith, h))
         ]

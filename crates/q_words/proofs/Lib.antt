@@ -1,3 +1,4 @@
+pub mod Both
 pub mod Cuts
 mod TextCuts
 pub mod Numbers

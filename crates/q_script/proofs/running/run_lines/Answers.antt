@@ -39,11 +39,13 @@ loop-rest-preserved g c =
 pub returns-clause-ok : goal.returns-clause-ok
 returns-clause-ok g c =
     let none : lines_of c.loop-rest.rest.now ≡ [] = lines-none c.loop-rest.rest.now (eqb-true _ 0 (sym c.is_empty.ensures ∙ c.loop-rest-test.false)) in
-    let at_end = playing-empty g.S.Session.effect _ _ c.loop-rest.output (lines_of c.args.script.now) (lines_of c.loop-rest.rest.now) c.loop-rest.number c.args.session.now c.loop-rest.session c.loop-rest.invariant.playing none in
+    let at_end = playing-empty g.S.Session.effect _ _ c.loop-rest.output (lines_of c.args.script.now) (lines_of c.loop-rest.rest.now)
+    c.loop-rest.number c.args.session.now c.loop-rest.session c.loop-rest.invariant.playing none in
     on_ok_weaker c.flush.result (playing-end g.S.Session.effect _ _ _ _ c.args.script.now _ _ _ at_end) c.flush.ensures.written
 
 pub returns-clause-err : goal.returns-clause-err
 returns-clause-err g c =
     let none : lines_of c.loop-rest.rest.now ≡ [] = lines-none c.loop-rest.rest.now (eqb-true _ 0 (sym c.is_empty.ensures ∙ c.loop-rest-test.false)) in
-    let at_end = playing-empty g.S.Session.effect _ _ c.loop-rest.output (lines_of c.args.script.now) (lines_of c.loop-rest.rest.now) c.loop-rest.number c.args.session.now c.loop-rest.session c.loop-rest.invariant.playing none in
+    let at_end = playing-empty g.S.Session.effect _ _ c.loop-rest.output (lines_of c.args.script.now) (lines_of c.loop-rest.rest.now)
+    c.loop-rest.number c.args.session.now c.loop-rest.session c.loop-rest.invariant.playing none in
     on_err_weaker c.flush.result (playing-flush g.S.Session.effect _ _ _ _ c.args.script.now _ _ _ at_end) c.flush.ensures.err

@@ -4,7 +4,8 @@ use Rattle.q_words.proofs.frames.first_bytes.Goals as goal
 
 pub loop-rest-preserved : goal.loop-rest-preserved
 loop-rest-preserved c = record {
-  so_far = decode_more c.args.digits.now c.loop-rest.bytes c.loop-rest.rest.now c.loop-rest.count c.byte.result c.loop-rest.invariant.so_far (omega (arith, c.loop-rest.invariant.size)) (omega arith) c.byte.ensures;
+  so_far = decode_more c.args.digits.now c.loop-rest.bytes c.loop-rest.rest.now c.loop-rest.count c.byte.result c.loop-rest.invariant.so_far
+      (omega (arith, c.loop-rest.invariant.size)) (omega arith) c.byte.ensures;
   few = omega arith;
   size = length-set c.loop-rest.bytes c.loop-rest.count c.byte.result ∙ c.loop-rest.invariant.size;
   digits = digits_more c.loop-rest.rest.now c.loop-rest.invariant.digits (omega arith);

@@ -1,14 +1,12 @@
-use Rattle.std.proofs.Common.{◌≡◌, ◌^◌, ◌-◌, ◌∙◌, ◌<◌, ◌&&◌, Bool, ap, true, take, length, get_or, refl, arith}
+use Rattle.std.proofs.Common.{◌≡◌, ◌^◌, ◌-◌, ◌∙◌, ◌<◌, ap, true, take, length, get_or, refl, arith}
 use Rattle.std.specs.Char.{is_digit, digit_value}
 use Rattle.std.proofs.lemmas.Bool.{lt-ltb}
 use Rattle.std.specs.Str.Parse.{digits_value}
 use Rattle.std.proofs.lemmas.Int.Digits.{digits_value_more}
 use Rattle.std.proofs.lemmas.List.Folds.{list_all_more}
+use Rattle.q_words.proofs.Both.{both}
 use Rattle.q_words.proofs.Numbers.{capped_step}
 use Rattle.q_words.proofs.values.digits_value.Goals as goal
-
-both : {a b : Bool} → a ≡ true → b ≡ true → (a && b) ≡ true
-both p q = rw (p, q) refl
 
 pub loop-byte-preserved : goal.loop-byte-preserved
 loop-byte-preserved c =
