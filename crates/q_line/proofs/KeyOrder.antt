@@ -25,8 +25,9 @@ use Rattle.q_line.specs.declared.line.Line.{Line}
 use Rattle.q_line.specs.declared.line.Line.TheVariants.{Blank}
 use Rattle.q_line.specs.Reading.{key_has}
 use Rattle.q_line.proofs.OptionOrder.{left_false, read_from, right_false}
-use Rattle.q_line.proofs.OptionSteps.{utf8_after, word_fits, word_fitted}
-use Rattle.q_line.proofs.OptionEntries.{crossed, either, not_given, not_some}
+use Rattle.q_line.proofs.OptionSteps.{utf8_after, word_fitted}
+use Rattle.q_line.proofs.Steps.{word_fits}
+use Rattle.q_line.proofs.OptionEntries.{apart, crossed, either, entry_in, not_given, not_some}
 
 abbrev entries : List (List ℕ × KeyName)
 entries =
@@ -38,10 +39,6 @@ row h d e = (e.0, once (key_has e.1 d) (Positions.key_value e.1 h d))
 
 rows_are : (h : HeadDraft) (d : KeyDraft) → key_rows h d ≡ map (row h d) entries
 rows_are h d = refl
-
-abbrev entry_in : List (List ℕ × KeyName) → List ℕ → Option KeyName
-entry_in [] word = None
-entry_in (e ∷ es) word = if bytes_eq word e.0 then Some e.1 else entry_in es word
 
 abbrev entered : HeadDraft → KeyDraft → Option KeyName → Result Position Wrong
 entered h d None = Err wrong.UnknownWord
@@ -151,10 +148,6 @@ has_over key.DstIp e d = either e.keys.dst_ip d.keys.dst_ip
 has_over key.SrcPort e d = either e.keys.src_port d.keys.src_port
 has_over key.DstPort e d = either e.keys.dst_port d.keys.dst_port
 has_over key.Class e d = either e.class d.class
-
-abbrev apart : {A : Type 0} → Option A → Option A → Bool
-apart a None = true
-apart a (Some b) = not (is_some a)
 
 record Apart (e d : KeyDraft) : Type 0 where
   ip_proto : apart e.keys.ip_proto d.keys.ip_proto ≡ true
@@ -297,7 +290,8 @@ pair_leads h d i name word ws t =
     let read : after (suc i) (Positions.key_value t.key h d) word ≡ Ok (Positions.keys h (over (says t.key t.val) d)) =
     utf8_after (suc i) (Positions.key_value t.key h d) word t.word_text ∙ ap (λ r. value r (λ e. Positions.keys h e)) (key_with_as t.key h d word ∙ ap (judged t.key h d) t.parsed)
     ∙ ap (λ (b : Bool). value (if b then Ok (over (says t.key t.val) d) else Err wrong.OutOfRange) (λ e. Positions.keys h e)) t.agree in
-    word_fits (Positions.keys h d) (Positions.key_value t.key h d) i name (word ∷ ws) named ∙ word_fits (Positions.key_value t.key h d) (Positions.keys h (over (says t.key t.val) d)) (suc i) word ws read
+    word_fits (Positions.keys h d) (Positions.key_value t.key h d) i name (word ∷ ws) named
+    ∙ word_fits (Positions.key_value t.key h d) (Positions.keys h (over (says t.key t.val) d)) (suc i) word ws read
 
 entry_told : (h : HeadDraft) (d : KeyDraft) (i : ℕ) (name word : List ℕ) (ws : List (List ℕ)) (line : Line) → is_utf8 name ≡ true → (f : KeyName) → entry_in entries name ≡ Some f
     → key_has f d ≡ false → rest_of (Positions.key_value f h d) i (word ∷ ws) ≡ Ok line → Told h d name word

@@ -14,16 +14,13 @@ use Rattle.q_words.specs.declared.line_fault.LineFault.TheVariants as fault
 use Rattle.q_words.specs.declared.wrong.Wrong.{Wrong}
 use Rattle.q_words.specs.declared.wrong.Wrong.TheVariants as wrong
 use Rattle.q_line.proofs.LateBands.{Stands, late_within, reached_stands}
-use Rattle.q_line.proofs.Steps.{continued, rest_of-cons}
+use Rattle.q_line.proofs.Steps.{continued, reached_by, rest_of-cons, word_fits}
 
 abbrev read : Position → ℕ → List (List ℕ) → Result Line LineFault
 read p i ws = rest_of p i ws
 
 abbrev bad : List (List ℕ)
 bad = (255 ∷ []) ∷ []
-
-word_fits : (p q : Position) (i : ℕ) (w : List ℕ) (ws : List (List ℕ)) → after i p w ≡ Ok q → read p i (w ∷ ws) ≡ read q (suc i) ws
-word_fits p q i w ws e = rest_of-cons p i w ws ∙ ap (λ r. continued r i ws) e
 
 word_faults : (p : Position) (x : Wrong) (i : ℕ) (w : List ℕ) (ws : List (List ℕ)) → after i p w ≡ Err x → read p i (w ∷ ws) ≡ Err (numbered x i)
 word_faults p x i w ws e = rest_of-cons p i w ws ∙ ap (λ r. continued r i ws) e
@@ -122,12 +119,9 @@ past_word p q i w ws f e rest = let low = rest.low in let high = rest.high in re
     from zero others h k = let low = rest.low in absurd (omega arith)
     from (suc n) others h k = word_fits p q i w (take n ws ++ others) e ∙ rest.behind n others (omega arith) (omega arith)
 
-abbrev step : ℕ → List (List ℕ) → Result Position Wrong → Result Position Wrong
-step i ws r = elim r as (λ _. Result Position Wrong) [ Ok next ↦ reached next (suc i) ws | Err x ↦ Err x ]
-
 -- a word that fits, with the fault at the end
 past_end : (p q : Position) (i : ℕ) (w : List ℕ) (ws : List (List ℕ)) (f : LineFault) → after i p w ≡ Ok q → AtEnd q (suc i) ws f → AtEnd p i (w ∷ ws) f
-past_end p q i w ws f e rest = record { fit = λ n next k h. at n next k h; judged = (rest.judged.0, ap (step i ws) e ∙ rest.judged.1, judged) }
+past_end p q i w ws f e rest = record { fit = λ n next k h. at n next k h; judged = (rest.judged.0, ap (reached_by i ws) e ∙ rest.judged.1, judged) }
   where
     judged : IsJudged rest.judged.0 (i + length (w ∷ ws)) f
     judged = let index : suc i + length ws ≡ i + length (w ∷ ws) = omega arith in subst (λ n. IsJudged rest.judged.0 n f) index rest.judged.2

@@ -4,6 +4,7 @@ use Rattle.std.proofs.Common.{◌≡◌, ◌∙◌, ℕ, suc, ◌+◌, ◌<◌, 
 use Rattle.std.specs.List.{list_all, position}
 use Rattle.std.specs.Str.{is_utf8}
 use Rattle.std.proofs.lemmas.Bool.{eqb-true}
+use Rattle.q_line.proofs.SpelledWords.{both, left_of, right_of}
 use Rattle.q_words.specs.Values.{is_numeral}
 use Rattle.q_words.specs.declared.line_fault.LineFault.{LineFault}
 use Rattle.q_words.specs.declared.line_fault.LineFault.TheVariants as fault
@@ -19,8 +20,8 @@ use Rattle.q_line.specs.declared.kind_name.KindName.TheVariants as kind_name
 use Rattle.q_line.specs.declared.line.Line.{Line}
 use Rattle.q_line.specs.declared.qdisc_verb.QdiscVerb.{QdiscVerb}
 use Rattle.q_line.proofs.OptionEntries.{Entry, valued, flag, numbers, Value, number, entries, entry_in, entered, found, has, behind, says, over, reading, option_fits_as, not_some}
-use Rattle.q_line.proofs.OptionSteps.{named, utf8_after, word_fits, word_fitted}
-use Rattle.q_line.proofs.Steps.{continued, rest_of-cons}
+use Rattle.q_line.proofs.OptionSteps.{named, utf8_after, word_fitted}
+use Rattle.q_line.proofs.Steps.{continued, rest_of-cons, word_fits}
 
 -- words that are numbers
 abbrev pub goods : List (List ℕ) → Bool
@@ -56,16 +57,11 @@ append_false n h = by_test (n == 16) refl
     by_test true e = absurd (h (eqb-true n 16 e))
     by_test false e = e
 
-pub both_true : (a b : Bool) → (a && b) ≡ true → (a ≡ true) × (b ≡ true)
-both_true true b h = (refl, h)
-both_true false b h = absurd (let k : false ≡ true = h in cc)
-
 number_next : (v : QdiscVerb) (h : HeadDraft) (k : KindName) (o : OptionDraft) (b : Bands) (i : ℕ) (w : List ℕ) → (is_utf8 w && is_numeral 10 w) ≡ true
     → after i (Positions.priomap v h k (with_map o b)) w ≡ Ok (next_of v h k o (more b (band_number w)))
 number_next v h k o b i w good =
-    let two = both_true (is_utf8 w) (is_numeral 10 w) good in
-    utf8_after i (Positions.priomap v h k (with_map o b)) w two.0
-    ∙ ap (λ (t : Bool). if t then Ok (next_of v h k o (more b (band_number w))) else Err wrong.BadNumber) two.1
+    utf8_after i (Positions.priomap v h k (with_map o b)) w (left_of (is_utf8 w) (is_numeral 10 w) good)
+    ∙ ap (λ (t : Bool). if t then Ok (next_of v h k o (more b (band_number w))) else Err wrong.BadNumber) (right_of (is_utf8 w) (is_numeral 10 w) good)
 
 -- so many numbers that they are sixteen
 pub walk_numbers : (v : QdiscVerb) (h : HeadDraft) (k : KindName) (o : OptionDraft) (b : Bands) (i : ℕ) (ws rest : List (List ℕ)) → goods ws ≡ true → 0 < length ws
@@ -76,31 +72,29 @@ walk_numbers v h k o b i (w ∷ []) rest good some many =
     let n = band_number w in
     let long : length (b.numbers ++ n ∷ []) ≡ length b.numbers + 1 = length-append b.numbers (n ∷ []) in
     let whole : length (b.numbers ++ n ∷ []) ≡ 16 = omega arith in
-    let here = both_true (is_utf8 w && is_numeral 10 w) (goods []) good in
-    let leads : next_of v h k o (more b n) ≡ options v h k (with_map o (more b n)) = ap (λ m. if m == 16 then options v h k (with_map o (more b n)) else Positions.priomap v h k (with_map o (more b n))) whole in
+    let here = left_of (is_utf8 w && is_numeral 10 w) (goods []) good in
+    let leads : next_of v h k o (more b n) ≡ options v h k (with_map o (more b n)) =
+    ap (λ m. if m == 16 then options v h k (with_map o (more b n)) else Positions.priomap v h k (with_map o (more b n))) whole in
     let index : suc i ≡ i + 1 = omega arith in
-    word_fits (Positions.priomap v h k (with_map o b)) (options v h k (with_map o (more b n))) i w rest (number_next v h k o b i w here.0 ∙ ap Ok leads)
+    word_fits (Positions.priomap v h k (with_map o b)) (options v h k (with_map o (more b n))) i w rest (number_next v h k o b i w here ∙ ap Ok leads)
     ∙ ap (λ m. rest_of (options v h k (with_map o (more b n))) m rest) index
 walk_numbers v h k o b i (w ∷ u ∷ ws) rest good some many =
     let n = band_number w in
     let long : length (b.numbers ++ n ∷ []) ≡ length b.numbers + 1 = length-append b.numbers (n ∷ []) in
-    let here = both_true (is_utf8 w && is_numeral 10 w) (goods (u ∷ ws)) good in
+    let here = left_of (is_utf8 w && is_numeral 10 w) (goods (u ∷ ws)) good in
     let not_yet : (length (b.numbers ++ n ∷ []) == 16) ≡ false = append_false (length (b.numbers ++ n ∷ [])) (λ same. omega arith) in
-    let leads : next_of v h k o (more b n) ≡ Positions.priomap v h k (with_map o (more b n)) = ap (λ (t : Bool). if t then options v h k (with_map o (more b n)) else Positions.priomap v h k (with_map o (more b n))) not_yet in
+    let leads : next_of v h k o (more b n) ≡ Positions.priomap v h k (with_map o (more b n)) =
+    ap (λ (t : Bool). if t then options v h k (with_map o (more b n)) else Positions.priomap v h k (with_map o (more b n))) not_yet in
     let fewer : length (b.numbers ++ n ∷ []) + length (u ∷ ws) ≡ 16 = omega arith in
     let index : suc i + length (u ∷ ws) ≡ i + length (w ∷ u ∷ ws) = omega arith in
-    word_fits (Positions.priomap v h k (with_map o b)) (Positions.priomap v h k (with_map o (more b n))) i w ((u ∷ ws) ++ rest) (number_next v h k o b i w here.0 ∙ ap Ok leads)
-    ∙ walk_numbers v h k o (more b n) (suc i) (u ∷ ws) rest here.1 (omega arith) fewer
+    word_fits (Positions.priomap v h k (with_map o b)) (Positions.priomap v h k (with_map o (more b n))) i w ((u ∷ ws) ++ rest) (number_next v h k o b i w here ∙ ap Ok leads)
+    ∙ walk_numbers v h k o (more b n) (suc i) (u ∷ ws) rest (right_of (is_utf8 w && is_numeral 10 w) (goods (u ∷ ws)) good) (omega arith) fewer
     ∙ ap (λ m. rest_of (options v h k (with_map o (record b { numbers = (b.numbers ++ n ∷ []) ++ map band_number (u ∷ ws) }))) m rest) index
     ∙ ap (λ ns. rest_of (options v h k (with_map o (record b { numbers = ns }))) (i + length (w ∷ u ∷ ws)) rest) (append_assoc b.numbers (n ∷ []) (map band_number (u ∷ ws)))
 
 pub numeral_of : (t : Bool) (p q : Position) → (if t then Ok p else Err wrong.BadNumber) ≡ Ok q → (t ≡ true) × (p ≡ q)
 numeral_of true p q e = (refl, cc)
 numeral_of false p q e = absurd (let k : Err wrong.BadNumber ≡ Ok q = e in cc)
-
-true_both : (a b : Bool) → a ≡ true → b ≡ true → (a && b) ≡ true
-true_both true b g h = h
-true_both false b g h = absurd (let k : false ≡ true = g in cc)
 
 -- where the line is read, they are numbers
 pub good_numbers : (v : QdiscVerb) (h : HeadDraft) (k : KindName) (o : OptionDraft) (b : Bands) (i : ℕ) (ws rest : List (List ℕ)) (l : Line)
@@ -109,18 +103,18 @@ good_numbers v h k o b i [] rest l many e = refl
 good_numbers v h k o b i (w ∷ []) rest l many e =
     let fit = word_fitted (Positions.priomap v h k (with_map o b)) i w rest l e in
     let number = numeral_of (is_numeral 10 w) (next_of v h k o (more b (band_number w))) fit.next fit.fits_is in
-    true_both (is_utf8 w && is_numeral 10 w) (goods []) (true_both (is_utf8 w) (is_numeral 10 w) fit.text number.0) refl
+    both (both fit.text number.0) refl
 good_numbers v h k o b i (w ∷ u ∷ ws) rest l many e =
     let fit = word_fitted (Positions.priomap v h k (with_map o b)) i w ((u ∷ ws) ++ rest) l e in
     let number = numeral_of (is_numeral 10 w) (next_of v h k o (more b (band_number w))) fit.next fit.fits_is in
     let n = band_number w in
     let long : length (b.numbers ++ n ∷ []) ≡ length b.numbers + 1 = length-append b.numbers (n ∷ []) in
     let not_yet : (length (b.numbers ++ n ∷ []) == 16) ≡ false = append_false (length (b.numbers ++ n ∷ [])) (λ same. omega arith) in
-    let leads : next_of v h k o (more b n) ≡ Positions.priomap v h k (with_map o (more b n)) = ap (λ (t : Bool). if t then options v h k (with_map o (more b n)) else Positions.priomap v h k (with_map o (more b n))) not_yet in
+    let leads : next_of v h k o (more b n) ≡ Positions.priomap v h k (with_map o (more b n)) =
+    ap (λ (t : Bool). if t then options v h k (with_map o (more b n)) else Positions.priomap v h k (with_map o (more b n))) not_yet in
     let rest_is : rest_of (Positions.priomap v h k (with_map o (more b n))) (suc i) ((u ∷ ws) ++ rest) ≡ Ok l =
     ap (λ q. rest_of q (suc i) ((u ∷ ws) ++ rest)) (sym leads ∙ number.1) ∙ fit.rest in
-    true_both (is_utf8 w && is_numeral 10 w) (goods (u ∷ ws)) (true_both (is_utf8 w) (is_numeral 10 w) fit.text number.0)
-    (good_numbers v h k o (more b n) (suc i) (u ∷ ws) rest l (omega arith) rest_is)
+    both (both fit.text number.0) (good_numbers v h k o (more b n) (suc i) (u ∷ ws) rest l (omega arith) rest_is)
 
 -- a draft whose priomap stood elsewhere
 abbrev begun : ℕ → Bands → Bands

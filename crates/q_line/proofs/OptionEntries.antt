@@ -75,7 +75,7 @@ rows_are v h kind_name.Drr o = refl
 rows_are v h kind_name.FqCodel o = refl
 
 -- the entry of a word
-abbrev pub entry_in : List (List ℕ × Entry) → List ℕ → Option Entry
+abbrev pub entry_in : {A : Type 0} → List (List ℕ × A) → List ℕ → Option A
 entry_in [] word = None
 entry_in (e ∷ es) word = if bytes_eq word e.0 then Some e.1 else entry_in es word
 
@@ -178,7 +178,9 @@ option_fits_as Positions.limit v h kind_name.Bfifo o word = drafted (size_in 0 m
 option_fits_as Positions.limit v h kind_name.Prio o word = refl
 option_fits_as Positions.limit v h kind_name.Tbf o word = drafted (size_in 0 most word) (λ n. record o { tbf_limit = Some (tbf_limit.Bytes n) }) (λ d. Positions.options v h kind_name.Tbf d)
 option_fits_as Positions.limit v h kind_name.Drr o word = refl
-option_fits_as Positions.limit v h kind_name.FqCodel o word = drafted (number_in 1 most word) (λ n. record o { fq_codel = record o.fq_codel { limit = Some (n) } }) (λ d. Positions.options v h kind_name.FqCodel d)
+option_fits_as Positions.limit v h kind_name.FqCodel o word =
+    drafted (number_in 1 most word) (λ n. record o { fq_codel = record o.fq_codel { limit = Some (n) } })
+    (λ d. Positions.options v h kind_name.FqCodel d)
 option_fits_as Positions.latency v h k o word = refl
 option_fits_as Positions.bands v h k o word = refl
 option_fits_as Positions.rate v h k o word = refl
@@ -214,7 +216,7 @@ has_over (flag b) k d o = either d.fq_codel.ecn o.fq_codel.ecn
 has_over numbers k d o = either d.priomap o.priomap
 
 -- two drafts of which none has what the other has
-abbrev apart : {A : Type 0} → Option A → Option A → Bool
+abbrev pub apart : {A : Type 0} → Option A → Option A → Bool
 apart a None = true
 apart a (Some b) = not (is_some a)
 

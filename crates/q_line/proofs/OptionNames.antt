@@ -3,6 +3,7 @@
 use Rattle.std.proofs.Common.{◌≡◌, ◌∙◌, ℕ, suc, ◌+◌, ◌||◌, ◌&&◌, ◌==◌, Bool, true, false, List, [], ◌∷◌, ◌++◌, length, Some, None, is_some, unwrap_or, Result, Ok, Err, refl, sym, ap, subst, arith, codes, if◌then◌else◌}
 use Rattle.std.specs.List.{AllByRecursion, list_any}
 use Rattle.std.specs.Str.{bytes_eq, is_utf8}
+use Rattle.std.proofs.lemmas.Bool.{or_left, or_right}
 use Rattle.std.proofs.lemmas.Slice.Eq.{bytes_eq-Decides}
 use Rattle.q_words.specs.Values.{is_numeral}
 use Rattle.q_words.specs.declared.line_fault.LineFault.TheVariants as fault
@@ -19,12 +20,12 @@ use Rattle.q_line.specs.declared.kind_name.KindName.{KindName}
 use Rattle.q_line.specs.declared.kind_name.KindName.TheVariants as kind_name
 use Rattle.q_line.specs.declared.line.Line.TheVariants.{Blank}
 use Rattle.q_line.specs.declared.qdisc_verb.QdiscVerb.{QdiscVerb}
-use Rattle.q_line.proofs.MovedBands.{Spot, list, value_at, bands_at, at, next_of, more, numeral_of, stepped, with_map, both_true}
+use Rattle.q_line.proofs.MovedBands.{Spot, list, value_at, bands_at, at, next_of, more, numeral_of, stepped, with_map}
 use Rattle.q_line.proofs.OptionEntries.{Entry, valued, flag, numbers, Value, number, entries, entry_in, entered, found, has, behind, says, over, reading, option_fits_as, has_over}
 use Rattle.q_line.proofs.OptionOrder.{begins, commented, reached_reads, read_from}
 use Rattle.q_line.proofs.OptionSteps.{named, utf8_after}
-use Rattle.q_line.proofs.SpelledWords.{utf8_from_ascii}
-use Rattle.q_line.proofs.Steps.{continued, rest_of-cons}
+use Rattle.q_line.proofs.SpelledWords.{left_of, right_of, utf8_from_ascii}
+use Rattle.q_line.proofs.Steps.{continued, reached_by, rest_of-cons}
 
 -- other names
 
@@ -138,8 +139,9 @@ same_in k (names ∷ sets) a b all h = by_test (same_in k sets a b all.1) (in_bo
   where
     by_test : (list_any (in_both a b) sets ≡ true → Same k a b) → (t : Bool) → in_both a b names ≡ t → (t || list_any (in_both a b) sets) ≡ true → Same k a b
     by_test more true e h =
-        let two = both_true (list_any (λ name. bytes_eq a name) names) (list_any (λ name. bytes_eq b name) names) e in
-        record { told = all.0.0; one = member (Tells k all.0.0) names a all.0.1 two.0; other = member (Tells k all.0.0) names b all.0.1 two.1 }
+        let first = left_of (list_any (λ name. bytes_eq a name) names) (list_any (λ name. bytes_eq b name) names) e in
+        let second = right_of (list_any (λ name. bytes_eq a name) names) (list_any (λ name. bytes_eq b name) names) e in
+        record { told = all.0.0; one = member (Tells k all.0.0) names a all.0.1 first; other = member (Tells k all.0.0) names b all.0.1 second }
     by_test more false e h = more h
 
 -- an entry that a kind has is given once it is said
@@ -168,16 +170,8 @@ Given e k list d = has e k d ≡ true
 Given e k (value_at x) d = (val : Value) → has e k (over (says (valued x) k val) d) ≡ true
 Given e k bands_at d = (b : Bands) → has e k (with_map d b) ≡ true
 
-or_true : (a b : Bool) → b ≡ true → (a || b) ≡ true
-or_true true b h = refl
-or_true false b h = h
-
 stays : (e x : Entry) (k : KindName) (val : Value) (d : OptionDraft) → has e k d ≡ true → has e k (over (says x k val) d) ≡ true
-stays e x k val d h = has_over e k (says x k val) d ∙ or_true (has e k (says x k val)) (has e k d) h
-
-true_or : (a b : Bool) → a ≡ true → (a || b) ≡ true
-true_or true b h = refl
-true_or false b h = absurd (let k : false ≡ true = h in cc)
+stays e x k val d h = has_over e k (says x k val) d ∙ or_right (has e k (says x k val)) (has e k d) h
 
 record Still (v : QdiscVerb) (h : HeadDraft) (k : KindName) (e : Entry) (q : Position) : Type 0 where
   spot : Spot
@@ -220,9 +214,6 @@ record After (p : Position) (i : ℕ) (w : List ℕ) (ws : List (List ℕ)) (las
   fits_is : fits i p w ≡ Ok next
   rest : reached next (suc i) ws ≡ Ok last
 
-abbrev reached_by : ℕ → List (List ℕ) → Result Position Wrong → Result Position Wrong
-reached_by i ws r = elim r as (λ _. Result Position Wrong) [ Ok next ↦ reached next (suc i) ws | Err x ↦ Err x ]
-
 first_reached : (p last : Position) (i : ℕ) (w : List ℕ) (ws : List (List ℕ)) → reached p i (w ∷ ws) ≡ Ok last → After p i w ws last
 first_reached p last i w ws e = by_text (is_utf8 w) refl
   where
@@ -262,8 +253,8 @@ still_given v h k e (w ∷ ws) s d i u g o given r =
 -- behind its name
 given_behind : (v : QdiscVerb) (h : HeadDraft) (k : KindName) (e : Entry) (d : OptionDraft) → ((val : Value) → has e k (says e k val) ≡ true)
     → (s : Spot) × (draft : OptionDraft) × (behind e v h k d ≡ at s v h k draft) × Given e k s draft
-given_behind v h k (valued x) d said = (value_at x, d, refl, λ val. has_over (valued x) k (says (valued x) k val) d ∙ true_or _ (has (valued x) k d) (said val))
-given_behind v h k (flag b) d said = (list, over (says (flag b) k (number 0)) d, refl, has_over (flag b) k (says (flag b) k (number 0)) d ∙ true_or _ (has (flag b) k d) (said (number 0)))
+given_behind v h k (valued x) d said = (value_at x, d, refl, λ val. has_over (valued x) k (says (valued x) k val) d ∙ or_left _ (has (valued x) k d) (said val))
+given_behind v h k (flag b) d said = (list, over (says (flag b) k (number 0)) d, refl, has_over (flag b) k (says (flag b) k (number 0)) d ∙ or_left _ (has (flag b) k d) (said (number 0)))
 given_behind v h k numbers d said = (bands_at, d, refl, λ b. refl)
 
 -- a line that begins so is no comment

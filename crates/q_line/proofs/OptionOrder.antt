@@ -19,7 +19,8 @@ use Rattle.q_line.specs.declared.line.Line.{Line}
 use Rattle.q_line.specs.declared.line.Line.TheVariants.{Blank}
 use Rattle.q_line.specs.declared.qdisc_verb.QdiscVerb.{QdiscVerb}
 use Rattle.q_line.proofs.OptionEntries.{Entry, valued, flag, numbers, Value, number, entries, entry_in, has, behind, says, over, reading, option_fits_as, has_over, says_apart, said_apart, over_either}
-use Rattle.q_line.proofs.OptionSteps.{name_leads, named, utf8_after, word_fits, word_fitted}
+use Rattle.q_line.proofs.OptionSteps.{name_leads, named, utf8_after, word_fitted}
+use Rattle.q_line.proofs.Steps.{word_fits}
 use Rattle.q_line.proofs.MovedBands.{goods, moved_reads, walk_numbers, good_numbers, started}
 
 -- an option of a kind, and what it says where its first word has this index
@@ -93,7 +94,9 @@ value_found v h k o x i w value ws line t is g e =
         entry = valued x;
         val = λ i. number n.0;
         leads = λ v h o i ws g. word_fits (options v h k o) (behind (valued x) v h k o) i w (value ∷ ws) (name_leads v h k o i w (valued x) t is g)
-            ∙ word_fits (Positions.option_value x v h k o) (options v h k (over (says (valued x) k (number n.0)) o)) (suc i) value ws (utf8_after (suc i) (Positions.option_value x v h k o) value fit.text ∙ option_fits_as x v h k o value ∙ ap (λ r. value_next v h o r) n.1)
+            ∙ word_fits (Positions.option_value x v h k o) (options v h k (over (says (valued x) k (number n.0)) o)) (suc i) value ws
+            (utf8_after (suc i) (Positions.option_value x v h k o) value fit.text ∙ option_fits_as x v h k o value
+            ∙ ap (λ r. value_next v h o r) n.1)
             ∙ (let m : suc (suc i) ≡ i + 2 = omega arith in ap (λ m. rest_of (options v h k (over (says (valued x) k (number n.0)) o)) m ws) m);
         moves = λ i j v h o n ws line e. e;
       };
@@ -163,7 +166,8 @@ change_places v h k o i one other ws line a b e =
     let x = option_found v h k o i a.name a.values (other ++ ws) line a.whole read_one in
     by_one (subst (λ w. Found k w o) (sym a.is) x)
   where
-    by_both : (x : Found k one o) (y : Found k other (over (says x.phrase.entry k (x.phrase.val i)) o)) → rest_of (options v h k (over (says x.phrase.entry k (x.phrase.val i)) o)) (i + length one) (other ++ ws) ≡ Ok line
+    by_both : (x : Found k one o) (y : Found k other (over (says x.phrase.entry k (x.phrase.val i)) o))
+        → rest_of (options v h k (over (says x.phrase.entry k (x.phrase.val i)) o)) (i + length one) (other ++ ws) ≡ Ok line
         → rest_of (options v h k o) i (other ++ (one ++ ws)) ≡ Ok line
     by_both x y e =
         let j = i + length one in
@@ -173,12 +177,14 @@ change_places v h k o i one other ws line a b e =
         let fresh : has y.phrase.entry k o ≡ false = right_false (has y.phrase.entry k d) (has y.phrase.entry k o) neither in
         let away = says_apart y.phrase.entry k (y.phrase.val i) d (left_false (has y.phrase.entry k d) (has y.phrase.entry k o) neither) in
         let g = says y.phrase.entry k (y.phrase.val i) in
-        let fresh_one : has x.phrase.entry k (over g o) ≡ false = has_over x.phrase.entry k g o ∙ (let p = said_apart x.phrase.entry k (x.phrase.val i) g away in let q = x.fresh in ap (λ (b : Bool). b || has x.phrase.entry k o) p ∙ q) in
+        let fresh_one : has x.phrase.entry k (over g o) ≡ false = has_over x.phrase.entry k g o
+        ∙ (let p = said_apart x.phrase.entry k (x.phrase.val i) g away in let q = x.fresh in ap (λ (b : Bool). b || has x.phrase.entry k o) p ∙ q) in
         let m = i + length other in
         let ending : rest_of (options v h k (over f (over d o))) (j + length other) ws ≡ Ok line = sym (y.phrase.leads v h (over d o) j ws y.fresh) ∙ e in
         let moved : rest_of (options v h k (over g (over d o))) (j + length other) ws ≡ Ok line = y.phrase.moves j i v h (over d o) (j + length other) ws line ending in
         let crossed : rest_of (options v h k (over d (over g o))) (j + length other) ws ≡ Ok line = ap (λ u. rest_of (options v h k u) (j + length other) ws) (sym (over_either d g o away)) ∙ moved in
-        let last : rest_of (options v h k (over (says x.phrase.entry k (x.phrase.val m)) (over g o))) (j + length other) ws ≡ Ok line = x.phrase.moves i m v h (over g o) (j + length other) ws line crossed in
+        let last : rest_of (options v h k (over (says x.phrase.entry k (x.phrase.val m)) (over g o))) (j + length other) ws ≡ Ok line =
+        x.phrase.moves i m v h (over g o) (j + length other) ws line crossed in
         let index : m + length one ≡ j + length other = omega arith in
         y.phrase.leads v h o i (one ++ ws) fresh ∙ x.phrase.leads v h (over g o) m ws fresh_one
         ∙ ap (λ n. rest_of (options v h k (over (says x.phrase.entry k (x.phrase.val m)) (over g o))) n ws) index ∙ last
@@ -187,7 +193,8 @@ change_places v h k o i one other ws line a b e =
     by_one x =
         let d = says x.phrase.entry k (x.phrase.val i) in
         let e2 : rest_of (options v h k (over d o)) (i + length one) (other ++ ws) ≡ Ok line = sym (x.phrase.leads v h o i (other ++ ws) x.fresh) ∙ e in
-        let read_other : rest_of (options v h k (over d o)) (i + length one) ((b.name ∷ b.values) ++ ws) ≡ Ok line = ap (λ w. rest_of (options v h k (over d o)) (i + length one) (w ++ ws)) (sym b.is) ∙ e2 in
+        let read_other : rest_of (options v h k (over d o)) (i + length one) ((b.name ∷ b.values) ++ ws) ≡ Ok line =
+        ap (λ w. rest_of (options v h k (over d o)) (i + length one) (w ++ ws)) (sym b.is) ∙ e2 in
         let y = option_found v h k (over d o) (i + length one) b.name b.values ws line b.whole read_other in
         by_both x (subst (λ w. Found k w (over d o)) (sym b.is) y) e2
 

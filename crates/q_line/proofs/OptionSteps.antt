@@ -12,11 +12,7 @@ use Rattle.q_line.specs.declared.kind_name.KindName.{KindName}
 use Rattle.q_line.specs.declared.line.Line.{Line}
 use Rattle.q_line.specs.declared.qdisc_verb.QdiscVerb.{QdiscVerb}
 use Rattle.q_line.proofs.OptionEntries.{Entry, entries, entry_in, entered, found, has, behind}
-use Rattle.q_line.proofs.Steps.{continued, rest_of-cons}
-
--- one word
-pub word_fits : (p q : Position) (i : ℕ) (w : List ℕ) (ws : List (List ℕ)) → after i p w ≡ Ok q → rest_of p i (w ∷ ws) ≡ rest_of q (suc i) ws
-word_fits p q i w ws e = rest_of-cons p i w ws ∙ ap (λ r. continued r i ws) e
+use Rattle.q_line.proofs.Steps.{continued, rest_of-cons, word_fits}
 
 pub record Fitted (p : Position) (i : ℕ) (w : List ℕ) (ws : List (List ℕ)) (line : Line) : Type 0 where
   pub next : Position

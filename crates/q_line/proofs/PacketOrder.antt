@@ -23,8 +23,9 @@ use Rattle.q_line.specs.declared.line.Line.{Line}
 use Rattle.q_line.specs.declared.line.Line.TheVariants.{Blank}
 use Rattle.q_line.specs.Reading.{packet_has}
 use Rattle.q_line.proofs.OptionOrder.{left_false, read_from, right_false}
-use Rattle.q_line.proofs.OptionSteps.{utf8_after, word_fits, word_fitted}
-use Rattle.q_line.proofs.OptionEntries.{crossed, either, not_given, not_some}
+use Rattle.q_line.proofs.OptionSteps.{utf8_after, word_fitted}
+use Rattle.q_line.proofs.Steps.{word_fits}
+use Rattle.q_line.proofs.OptionEntries.{apart, crossed, either, entry_in, not_given, not_some}
 use Rattle.q_line.proofs.KeyOrder.{same_either}
 
 abbrev entries : List (List ℕ × PacketField)
@@ -36,10 +37,6 @@ row d e = (e.0, once (packet_has e.1 d) (Positions.packet_value e.1 d))
 
 rows_are : (d : PacketDraft) → packet_rows d ≡ map (row d) entries
 rows_are d = refl
-
-abbrev entry_in : List (List ℕ × PacketField) → List ℕ → Option PacketField
-entry_in [] word = None
-entry_in (e ∷ es) word = if bytes_eq word e.0 then Some e.1 else entry_in es word
 
 abbrev entered : PacketDraft → Option PacketField → Result Position Wrong
 entered d None = Err wrong.UnknownWord
@@ -171,10 +168,6 @@ has_over field.SrcPort e d = either e.src_port d.src_port
 has_over field.DstPort e d = either e.dst_port d.dst_port
 has_over field.Ecn e d = either e.ecn d.ecn
 
-abbrev apart : {A : Type 0} → Option A → Option A → Bool
-apart a None = true
-apart a (Some b) = not (is_some a)
-
 record Apart (e d : PacketDraft) : Type 0 where
   hash : apart e.hash d.hash ≡ true
   prio : apart e.prio d.prio ≡ true
@@ -302,7 +295,8 @@ pair_leads d i name word ws t =
     let read : after (suc i) (Positions.packet_value t.named d) word ≡ Ok (Positions.packet (over (says t.named t.val) d)) =
     utf8_after (suc i) (Positions.packet_value t.named d) word t.word_text ∙ ap (λ r. value r (λ e. Positions.packet e)) (packet_with_as t.named d word ∙ ap (judged t.named d) t.parsed)
     ∙ ap (λ (b : Bool). value (if b then Ok (over (says t.named t.val) d) else Err wrong.OutOfRange) (λ e. Positions.packet e)) t.agree in
-    word_fits (Positions.packet d) (Positions.packet_value t.named d) i name (word ∷ ws) name_leads ∙ word_fits (Positions.packet_value t.named d) (Positions.packet (over (says t.named t.val) d)) (suc i) word ws read
+    word_fits (Positions.packet d) (Positions.packet_value t.named d) i name (word ∷ ws) name_leads
+    ∙ word_fits (Positions.packet_value t.named d) (Positions.packet (over (says t.named t.val) d)) (suc i) word ws read
 
 entry_told : (d : PacketDraft) (i : ℕ) (name word : List ℕ) (ws : List (List ℕ)) (line : Line) → is_utf8 name ≡ true → (f : PacketField) → entry_in entries name ≡ Some f
     → packet_has f d ≡ false → rest_of (Positions.packet_value f d) i (word ∷ ws) ≡ Ok line → Told d name word

@@ -8,6 +8,7 @@ use Rattle.q_words.specs.declared.line_fault.LineFault.TheVariants as fault
 use Rattle.q_words.specs.declared.wrong.Wrong.{Wrong}
 use Rattle.q_words.specs.declared.wrong.Wrong.TheVariants as wrong
 use Rattle.q_line.specs.Grammar.{fits, after, rest_of, numbered, line_of}
+use Rattle.q_line.specs.Laws.{reached}
 use Rattle.q_line.specs.Positions.{Position, first}
 use Rattle.q_line.specs.declared.line.Line.{Line}
 use Rattle.q_line.specs.declared.line.Line.TheVariants.{Blank}
@@ -23,6 +24,14 @@ rest_of-cons p i w ws = by_answer (after i p w)
     by_answer : (r : Result Position Wrong) → (elim r as (λ _. Result Line LineFault) [ Ok next ↦ rest_of next (suc i) ws | Err e ↦ Err (numbered e i) ]) ≡ continued r i ws
     by_answer (Ok next) = refl
     by_answer (Err e) = refl
+
+-- a word that fits
+pub word_fits : (p q : Position) (i : ℕ) (w : List ℕ) (ws : List (List ℕ)) → after i p w ≡ Ok q → rest_of p i (w ∷ ws) ≡ rest_of q (suc i) ws
+word_fits p q i w ws e = rest_of-cons p i w ws ∙ ap (λ r. continued r i ws) e
+
+-- the position that the words from an answer of a position on reach
+abbrev pub reached_by : ℕ → List (List ℕ) → Result Position Wrong → Result Position Wrong
+reached_by index words r = elim r as (λ _. Result Position Wrong) [ Ok next ↦ reached next (suc index) words | Err e ↦ Err e ]
 
 pub not_utf8 : (w : List ℕ) → ¬ (IsUtf8 w) → is_utf8 w ≡ false
 not_utf8 w h = by_test (is_utf8 w) refl
