@@ -12,14 +12,14 @@ ghost use Rattle.qtree_c.specs.Noting.{noting, one_event, poll_events};
 use crate::codes::{DONE, IDLE, LATER};
 use crate::noting::{note_polls, note_polls_to_none};
 use crate::opened::Opened;
+use crate::polled_into::PolledInto;
 use crate::steps;
-use crate::told::Told;
-use q_device::{Given, Told as TellsOf};
+use q_device::{Given, Told};
 use q_packet::Moment;
 
 /// An open device is polled.
 #[inline(always)]
-pub fn poll<T: Told>(opened: &mut Opened, now: Moment, place: &mut T) -> u32
+pub fn poll<T: PolledInto>(opened: &mut Opened, now: Moment, place: &mut T) -> u32
     ensures poll { IsPoll T.told now result place.old place.new opened.old.device opened.new.device }
     ensures codes { result ≤ 31 }
     ensures noted { opened.new.last ≡ noting (one_event (event.Poll now) opened.old.device) opened.old.last }
@@ -33,7 +33,7 @@ pub fn poll<T: Told>(opened: &mut Opened, now: Moment, place: &mut T) -> u32
 
 /// An open device is polled until there are as many packets as places, or to the first poll that gives none.
 #[inline(always)]
-pub fn poll_many<T: TellsOf>(opened: &mut Opened, places: &mut [T], now: Moment) -> (usize, u32)
+pub fn poll_many<T: Told>(opened: &mut Opened, places: &mut [T], now: Moment) -> (usize, u32)
     ensures polls { IsPolls T.told now result.1 result.0 places.old places.new opened.old.device opened.new.device }
     ensures codes { result.1 ≤ 31 }
     ensures noted { opened.new.last ≡ noting (poll_events now result.1 result.0 opened.old.device) opened.old.last }
@@ -61,7 +61,7 @@ pub fn poll_many<T: TellsOf>(opened: &mut Opened, places: &mut [T], now: Moment)
 ///
 /// What the poll is answered where it gives none. The place stays as it is.
 #[inline(always)]
-fn next<T: Told>(opened: &mut Opened, now: Moment, place: &mut T) -> Result<(), u32>
+fn next<T: PolledInto>(opened: &mut Opened, now: Moment, place: &mut T) -> Result<(), u32>
     ensures polled { opened.new.device ≡ after_poll now opened.old.device }
     ensures given { OnOk result (option_map T.told (given_at now opened.old.device) ≡ Some place.new) }
     ensures kept { OnErr result (place.new ≡ place.old) }

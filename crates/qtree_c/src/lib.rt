@@ -2,6 +2,7 @@
 #![tactic(auto)]
 
 mod arrivals;
+mod buffer_polls;
 mod buffers;
 mod c_class_view;
 mod c_count;
@@ -48,6 +49,7 @@ mod offers;
 mod oldest;
 mod opened;
 mod opening;
+mod polled_into;
 mod polls;
 mod raw_box;
 mod readiness;
@@ -55,10 +57,8 @@ mod recorder;
 mod rings;
 mod scripts;
 mod sending;
-mod sends;
 mod service;
 mod set_up;
 mod showing;
 mod steps;
-mod told;
 mod worst;

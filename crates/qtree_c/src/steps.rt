@@ -18,7 +18,7 @@ ghost use Rattle.qtree_c.specs.Noting.{noting, one_event};
 
 use crate::noting::{note_arrival, note_command};
 use crate::opened::Opened;
-use crate::told::Told;
+use crate::polled_into::PolledInto;
 use q_device::laws::device_has_its_memory;
 use q_device::{Command, Device, Event, Fate, Given, LastEvents, Refusal};
 use q_packet::{Moment, StoredPacket};
@@ -54,7 +54,7 @@ pub fn arrive(opened: &mut Opened, packet: &StoredPacket, now: Moment) -> Result
 
 /// The device is polled, and what is said of the packet that it gives is written into this place.
 #[inline(always)]
-pub fn poll<T: Told>(opened: &mut Opened, now: Moment, place: &mut T) -> Given
+pub fn poll<T: PolledInto>(opened: &mut Opened, now: Moment, place: &mut T) -> Given
     ensures polled { opened.new.device ≡ after_poll now opened.old.device }
     ensures packet { place.new ≡ told_or T.told place.old (given_at now opened.old.device) }
     ensures reply { (other : Descriptor) → reply.Polled (polled_in (unwrap_or (given_at now opened.old.device) other) result) ≡ reply_to (event.Poll now) opened.old.device }
@@ -70,7 +70,7 @@ pub fn poll<T: Told>(opened: &mut Opened, now: Moment, place: &mut T) -> Given
 // Polls a device, and notes it. Out of the way, since most devices have no ring.
 #[cold]
 #[inline(never)]
-fn poll_noted<T: Told>(
+fn poll_noted<T: PolledInto>(
     device: &mut Device,
     last: &mut LastEvents,
     now: Moment,

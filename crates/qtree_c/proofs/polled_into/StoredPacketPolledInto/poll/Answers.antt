@@ -16,7 +16,7 @@ use Rattle.q_device.specs.DeviceSeen.{DeviceSeen, Memory, polled_memory, with_ev
 use Rattle.q_model.specs.declared.event.Event.TheVariants.{Poll}
 use Rattle.q_device.specs.Events.{after_event, reply_to, with_memory}
 use Rattle.q_device.specs.Polls.{after_poll}
-use Rattle.qtree_c.proofs.told.StoredPacketTold.poll.Goals as goal
+use Rattle.qtree_c.proofs.polled_into.StoredPacketPolledInto.poll.Goals as goal
 
 pub returns-clause-polled : goal.returns-clause-polled
 unfolding after_event after_poll

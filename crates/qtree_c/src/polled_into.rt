@@ -15,7 +15,7 @@ use q_device::{Device, Given};
 use q_packet::{KeptPacket, Moment, SOME_STORED, StoredPacket};
 
 /// A struct of C into which a packet is written that the device gives.
-pub trait Told: Copy {
+pub trait PolledInto: Copy {
     /// What it says of a packet.
     ghost told: { Descriptor → Self };
 
@@ -28,7 +28,7 @@ pub trait Told: Copy {
         ensures clock { device.new.device.clock ≡ counts_at now device.old.device };
 }
 
-impl Told for StoredPacket {
+impl PolledInto for StoredPacket {
     ghost told = { stored_of };
 
     #[inline(always)]
@@ -37,7 +37,7 @@ impl Told for StoredPacket {
     }
 }
 
-impl Told for CSent {
+impl PolledInto for CSent {
     ghost told = { sent_of };
 
     #[inline(always)]

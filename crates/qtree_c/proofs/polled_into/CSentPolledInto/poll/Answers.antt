@@ -6,7 +6,7 @@ use Rattle.q_packet.specs.declared.stored_packet.StoredPacket.{StoredPacket}
 use Rattle.q_device.specs.Laws.{given_in}
 use Rattle.qtree_c.specs.Structs.{sent_of, told_or, zero_packet}
 use Rattle.qtree_c.specs.declared.c_sent.CSent.{CSent}
-use Rattle.qtree_c.proofs.told.CSentTold.poll.Goals as goal
+use Rattle.qtree_c.proofs.polled_into.CSentPolledInto.poll.Goals as goal
 
 abbrev sent : StoredPacket → CSent
 sent s = record { number = s.number; port = s.port; buf = s.buf; len = s.len; ecn = s.ecn }
