@@ -1,5 +1,5 @@
 -- What an arrival that a fifo in a class of a drr keeps makes of the fifo: the packet is last in it, and it has no more bytes than its limit.
-use Rattle.std.proofs.Common.{◌≡◌, ℕ, zero, suc, ◌+◌, ◌≤◌, max, refl, sym, ap, subst, ◌∙◌, inl, List, [], ◌∷◌, ◌++◌, length, map, set, Option, Some, None, option_map, option_and_then, arith}
+use Rattle.std.proofs.Common.{◌≡◌, ℕ, zero, suc, ◌≤◌, max, refl, sym, ap, subst, ◌∙◌, inl, List, [], ◌∷◌, ◌++◌, length, map, set, Option, Some, None, option_map, option_and_then, arith}
 use Rattle.std.specs.Prelude.{Bool, true, false, nat_lt, slice_get, if◌then◌else◌}
 use Rattle.std.specs.Option.{option_map_or}
 use Rattle.std.proofs.lemmas.Bool.{ltb-false}
