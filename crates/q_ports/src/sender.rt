@@ -1,4 +1,4 @@
-ghost use Rattle.std.specs.Prelude.{◌≡◌, ℕ, ◌≤◌, true, false};
+ghost use Rattle.std.specs.Prelude.{◌≡◌, ℕ, ◌≤◌, true, false, OnOk, OnErr, IfErr};
 ghost use Rattle.q_ports.specs.Offered.{MayBeFull, Offered, OffersOne};
 
 use crate::full::Full;
@@ -42,7 +42,7 @@ pub(crate) fn send<G: Gate>(port: Port, load: Vec<Packet>, gate: &G, tries: u64)
     let mut nth = 0u64;
     for packet in &load {
         nth = nth.saturating_add(1);
-        given_up += offer_one(&mut port, *packet, gate, nth, tries);
+        given_up += count_given_up(&mut port, *packet, gate, nth, tries);
     }
     Sent {
         port,
@@ -65,21 +65,44 @@ pub(crate) fn keep(port: Port, load: Vec<Packet>) -> Sent
 }
 
 // Offers a packet, and answers how many were given up: none where it was placed, else one.
-fn offer_one<G: Gate>(port: &mut Port, packet: Packet, gate: &G, nth: u64, tries: u64) -> u64
+fn count_given_up<G: Gate>(port: &mut Port, packet: Packet, gate: &G, nth: u64, tries: u64) -> u64
     ensures offered { OffersOne port.old packet port.new result }
     ensures few { result ≤ 1 }
     ensures full { 1 ≤ result → 1 ≤ tries → MayBeFull port.old packet }
 {
+    if let Err(_refused) = offer_one(port, packet, gate, nth, tries) {
+        return 1;
+    }
+    0
+}
+
+// Offers a packet until the port takes it. Returns how many offers were refused if none was taken, which is then `tries`.
+fn offer_one<G: Gate>(
+    port: &mut Port,
+    packet: Packet,
+    gate: &G,
+    nth: u64,
+    tries: u64,
+) -> Result<(), u64>
+    ensures placed { OnOk result (OffersOne port.old packet port.new 0) }
+    ensures given_up { OnErr result (OffersOne port.old packet port.new 1) }
+    ensures refused { IfErr result (λ refused. refused ≡ tries) }
+    ensures full { OnErr result (1 ≤ tries → MayBeFull port.old packet) }
+{
     let index = port.index();
     gate.before_offer(index, nth);
-    for _try in 0..tries {
+    let mut refused = 0u64;
+    while refused < tries {
         match port.offer(packet) {
             Ok(()) => {
                 gate.after_offer(index, nth);
-                return 0;
+                return Ok(());
             }
-            Err(Full(_)) => thread::yield_now(),
+            Err(Full(_)) => {
+                refused += 1;
+                thread::yield_now();
+            }
         }
     }
-    1
+    Err(refused)
 }

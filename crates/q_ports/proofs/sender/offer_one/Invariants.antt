@@ -1,9 +1,13 @@
-use Rattle.std.proofs.Common.{◌≡◌, ◌≤◌}
+use Rattle.std.proofs.Common.{◌≡◌, ◌≤◌, ◌-◌}
 use Rattle.q_ports.specs.Offered.{MayBeFull}
 use Rattle.q_ports.proofs.sender.offer_one.Given as goal
 
-abbrev pub invariant-loop-try : goal.invariant-loop-try
-invariant-loop-try g l = record {
+abbrev pub invariant-loop-refused : goal.invariant-loop-refused
+invariant-loop-refused g l = record {
   port : l.port ≡ l.initial.port;
-  full : 1 ≤ l._try → MayBeFull l.initial.port l.packet;
+  few : l.refused ≤ l.tries;
+  full : 1 ≤ l.refused → MayBeFull l.initial.port l.packet;
 }
+
+abbrev pub decreases-loop-refused : goal.decreases-loop-refused
+decreases-loop-refused g l = l.tries - l.refused
