@@ -4,7 +4,7 @@ use Rattle.q_drr.specs.Schedule.{Class, Entry}
 use Rattle.q_tree.specs.declared.ways.Share.{Share}
 use Rattle.q_laws.specs.Calm.{most_of_calm_turn}
 use Rattle.q_laws.specs.Handed.{lacks_handed}
-use Rattle.q_laws.specs.MostOfTurn.{most_of_turn}
+use Rattle.q_device.specs.Worst.{most_of_turn}
 use Rattle.q_laws.specs.Turn.{bytes_of_turn}
 
 share : ℕ → ℕ → ℕ → Share
