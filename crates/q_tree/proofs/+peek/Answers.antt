@@ -16,6 +16,7 @@ use Rattle.q_tree.specs.declared.node.Discipline.TheVariants as code
 use Rattle.q_tree.specs.Shown.{Shown}
 use Rattle.q_tree.proofs.AskBands.{band-at, band-once, band-shown, bands-go-on, bands-told, bands-start, bands-end, bands-rises}
 use Rattle.q_tree.proofs.SendBands.{band-met}
+use Rattle.q_tree.proofs.IdleBands.{band-idle}
 use Rattle.q_tree.proofs.AskOnce.{fits-beside, told-nothing}
 use Rattle.q_tree.proofs.AtHandLemmas.{shown-len}
 use Rattle.q_tree.proofs.HereLemmas.{flow-packets}
@@ -436,30 +437,39 @@ disciplines::prio::meet_band-loop-place-init g t c = (
   c.requires.clean ∙ sym (ap signals_of c.at_hand-shown.ensures),
 )
 
-pub disciplines::prio::meet_band-peek_after-shown-requires : goal.disciplines::prio::meet_band-peek_after-shown-requires
-disciplines::prio::meet_band-peek_after-shown-requires g t c κs within =
+-- a fifo that has nothing is passed over
+pub disciplines::prio::meet_band-loop-place-preserved-then-is_an_empty_fifo : goal.disciplines::prio::meet_band-loop-place-preserved-then-is_an_empty_fifo
+disciplines::prio::meet_band-loop-place-preserved-then-is_an_empty_fifo g t c =
     let band = slice_index_or c.loop-place.bands c.loop-place.place c.index-bands-place.result in
     let at = band-at c.args.now c.args.bands.now c.loop-place.bands c.loop-place.place c.loop-place.shown c.loop-place.invariant.0 c.index-bands-place.result c.loop-place-test.true in
+    let passed = band-idle c.args.now c.args.bands.now c.loop-place.bands c.loop-place.place c.loop-place.shown c.requires.ready c.loop-place.invariant.0 band at (c.is_an_empty_fifo.ensures.means c.if-is_an_empty_fifo.true)
+    (g.S.Sink.losses c.args.sink.now) (g.S.Sink.losses c.loop-place.sink) (g.S.Sink.room c.args.sink.now) (g.S.Sink.room c.loop-place.sink) c.loop-place.invariant.1 in
+    (passed.0, passed.1, c.loop-place.invariant.2, c.loop-place.invariant.3)
+
+pub disciplines::prio::meet_band-peek_after-shown-requires : goal.disciplines::prio::meet_band-peek_after-shown-requires
+disciplines::prio::meet_band-peek_after-shown-requires g t c κs within =
+    let band = slice_index_or c.loop-place.bands c.loop-place.place c.index-bands-place-2.result in
+    let at = band-at c.args.now c.args.bands.now c.loop-place.bands c.loop-place.place c.loop-place.shown c.loop-place.invariant.0 c.index-bands-place-2.result c.loop-place-test.true in
     let once = band-once c.args.now c.args.bands.now c.loop-place.bands c.loop-place.place c.loop-place.shown c.requires.ready c.loop-place.invariant.0 band at (g.S.Sink.losses c.args.sink.now) (g.S.Sink.losses c.loop-place.sink) (g.S.Sink.room c.args.sink.now) (g.S.Sink.room c.loop-place.sink)
     c.loop-place.invariant.1 c.requires.sink in
     (omega (arith, child-size c.args.bands.now c.loop-place.place band at, c.decreases), (within, (once, c.loop-place.invariant.3)))
 
 pub disciplines::prio::meet_band-returns-then-has_packet-clause-after : goal.disciplines::prio::meet_band-returns-then-has_packet-clause-after
 disciplines::prio::meet_band-returns-then-has_packet-clause-after g t c = λ own.
-    let band = slice_index_or c.loop-place.bands c.loop-place.place c.index-bands-place.result in
-    let at = band-at c.args.now c.args.bands.now c.loop-place.bands c.loop-place.place c.loop-place.shown c.loop-place.invariant.0 c.index-bands-place.result c.loop-place-test.true in
+    let band = slice_index_or c.loop-place.bands c.loop-place.place c.index-bands-place-2.result in
+    let at = band-at c.args.now c.args.bands.now c.loop-place.bands c.loop-place.place c.loop-place.shown c.loop-place.invariant.0 c.index-bands-place-2.result c.loop-place-test.true in
     band-shown c.args.now c.args.bands.now c.loop-place.bands c.loop-place.place c.loop-place.shown c.requires.ready c.loop-place.invariant.0 band at c.peek_after-shown.new.self c.peek_after-shown.result c.peek_after-shown.ensures.asked (sym c.if-has_packet.ensures) own
 
 pub disciplines::prio::meet_band-returns-then-has_packet-clause-met : goal.disciplines::prio::meet_band-returns-then-has_packet-clause-met
 disciplines::prio::meet_band-returns-then-has_packet-clause-met g t c = λ p some.
-    let band = slice_index_or c.loop-place.bands c.loop-place.place c.index-bands-place.result in
-    let at = band-at c.args.now c.args.bands.now c.loop-place.bands c.loop-place.place c.loop-place.shown c.loop-place.invariant.0 c.index-bands-place.result c.loop-place-test.true in
+    let band = slice_index_or c.loop-place.bands c.loop-place.place c.index-bands-place-2.result in
+    let at = band-at c.args.now c.args.bands.now c.loop-place.bands c.loop-place.place c.loop-place.shown c.loop-place.invariant.0 c.index-bands-place-2.result c.loop-place-test.true in
     band-met c.args.now c.args.bands.now c.loop-place.bands c.loop-place.place c.loop-place.shown c.requires.ready c.loop-place.invariant.0 band at c.peek_after-shown.new.self c.peek_after-shown.result c.peek_after-shown.ensures.asked p some
 
 pub disciplines::prio::meet_band-returns-then-has_packet-clause-told : goal.disciplines::prio::meet_band-returns-then-has_packet-clause-told
 disciplines::prio::meet_band-returns-then-has_packet-clause-told g t c = λ own.
-    let band = slice_index_or c.loop-place.bands c.loop-place.place c.index-bands-place.result in
-    let at = band-at c.args.now c.args.bands.now c.loop-place.bands c.loop-place.place c.loop-place.shown c.loop-place.invariant.0 c.index-bands-place.result c.loop-place-test.true in
+    let band = slice_index_or c.loop-place.bands c.loop-place.place c.index-bands-place-2.result in
+    let at = band-at c.args.now c.args.bands.now c.loop-place.bands c.loop-place.place c.loop-place.shown c.loop-place.invariant.0 c.index-bands-place-2.result c.loop-place-test.true in
     bands-told c.args.now c.args.bands.now c.loop-place.bands c.loop-place.place c.loop-place.shown c.requires.ready c.loop-place.invariant.0 band at c.peek_after-shown.new.self c.peek_after-shown.result c.peek_after-shown.ensures.asked
     (g.S.Sink.losses c.args.sink.now) (g.S.Sink.losses c.loop-place.sink) (g.S.Sink.losses c.peek_after-shown.new.sink)
     (g.S.Sink.room c.args.sink.now) (g.S.Sink.room c.loop-place.sink) (g.S.Sink.room c.peek_after-shown.new.sink) c.loop-place.invariant.1 c.peek_after-shown.ensures.told (sym c.if-has_packet.ensures) own
@@ -470,8 +480,8 @@ disciplines::prio::meet_band-returns-then-has_packet-clause-kept g t c =
 
 pub disciplines::prio::meet_band-loop-place-preserved : goal.disciplines::prio::meet_band-loop-place-preserved
 disciplines::prio::meet_band-loop-place-preserved g t c =
-    let band = slice_index_or c.loop-place.bands c.loop-place.place c.index-bands-place.result in
-    let at = band-at c.args.now c.args.bands.now c.loop-place.bands c.loop-place.place c.loop-place.shown c.loop-place.invariant.0 c.index-bands-place.result c.loop-place-test.true in
+    let band = slice_index_or c.loop-place.bands c.loop-place.place c.index-bands-place-2.result in
+    let at = band-at c.args.now c.args.bands.now c.loop-place.bands c.loop-place.place c.loop-place.shown c.loop-place.invariant.0 c.index-bands-place-2.result c.loop-place-test.true in
     let goes = bands-go-on c.args.now c.args.bands.now c.loop-place.bands c.loop-place.place c.loop-place.shown c.requires.ready c.loop-place.invariant.0 band at c.peek_after-shown.new.self c.peek_after-shown.result c.peek_after-shown.ensures.asked
     (g.S.Sink.losses c.args.sink.now) (g.S.Sink.losses c.loop-place.sink) (g.S.Sink.losses c.peek_after-shown.new.sink)
     (g.S.Sink.room c.args.sink.now) (g.S.Sink.room c.loop-place.sink) (g.S.Sink.room c.peek_after-shown.new.sink) c.loop-place.invariant.1 c.peek_after-shown.ensures.told (sym c.if-has_packet.ensures) in

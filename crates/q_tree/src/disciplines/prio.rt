@@ -134,6 +134,10 @@ fn meet_band<S: Sink>(
 {
     let mut shown = Shown::at_hand(&None);
     for place in 0..bands.len() {
+        // Most bands are fifos that have nothing, which need not be asked.
+        if bands[place].is_an_empty_fifo() {
+            continue;
+        }
         shown = bands[place].peek_after(shown, now, signals, sink);
         if shown.has_packet() {
             *met = place;
