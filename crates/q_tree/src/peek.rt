@@ -142,6 +142,32 @@ impl Node {
         }
     }
 
+    /// variant
+    pub(crate) fn at_hand_len(&self) -> u16
+    {
+        if self.held.is_some() {
+            return self.held.place.stored.len;
+        }
+        match &self.discipline {
+            Discipline::Fifo(fifo) => match fifo.front() {
+                Some(front) => return front.len,
+                None => return 0,
+            },
+            Discipline::Prio { bands, .. } => {
+                for band in bands {
+                    let len = band.at_hand_len();
+                    if len != 0 {
+                        return len;
+                    }
+                }
+                return 0;
+            }
+            Discipline::Tbf { .. } | Discipline::Drr { .. } | Discipline::FqCodel(_) => {
+                return 0;
+            }
+        }
+    }
+
     /// When the packet arrived that the node has at hand. It is asked for only where another node is to hold that packet.
     #[cycle(at_hand_since)]
     #[inline(always)]

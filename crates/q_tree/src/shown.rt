@@ -116,6 +116,16 @@ impl Shown {
         }
     }
 
+    /// variant
+    #[inline(always)]
+    pub(crate) fn showing_len(self, len: u16) -> Shown
+    {
+        Shown {
+            len,
+            ..self
+        }
+    }
+
     /// The same with another packet, or none.
     #[inline(always)]
     pub(crate) fn showing(self, packet: &Option<KeptPacket>) -> Shown

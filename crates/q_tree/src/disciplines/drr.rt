@@ -241,7 +241,7 @@ fn peek_class<S: Sink>(
 fn peek_again(class: &Node, so_far: Shown) -> Shown
     ensures { result ≡ record so_far { packet = (pop class.now).shown } }
 {
-    so_far.showing(&class.at_hand())
+    so_far.showing_len(class.at_hand_len())
 }
 
 /// The class in front of a drr: no other is asked before it has shown a packet.
