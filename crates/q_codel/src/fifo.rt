@@ -158,6 +158,16 @@ impl Fifo {
         (taken, bytes)
     }
 
+    /// variant
+    #[inline(always)]
+    pub fn put_burst_kept(&mut self, packets: &[KeptPacket], longest: u16, now: Moment) -> (usize, u64)
+    {
+        let most = self.room().min(packets.len());
+        let (taken, bytes) = push_burst_kept(&mut self.packets, &packets[..most], longest, now);
+        self.bytes += bytes;
+        (taken, bytes)
+    }
+
     // How many packets more it takes with nothing asked.
     #[inline(always)]
     fn room(&self) -> usize
@@ -328,6 +338,21 @@ fn push_burst(ring: &mut Ring, packets: &[StoredPacket], longest: u16, now: Mome
         }
         ring.push_stored(packet, now);
         bytes += u64::from(packet.len);
+    }
+    (packets.len(), bytes)
+}
+
+#[inline(always)]
+fn push_burst_kept(ring: &mut Ring, packets: &[KeptPacket], longest: u16, now: Moment) -> (usize, u64)
+{
+    let mut bytes = 0;
+    for i in 0..packets.len() {
+        let packet = &packets[i];
+        if packet.stored.len > longest {
+            return (i, bytes);
+        }
+        ring.push(packet, now);
+        bytes += u64::from(packet.stored.len);
     }
     (packets.len(), bytes)
 }

@@ -13,7 +13,7 @@ use crate::ring_rule::PacketConsumer;
 use crate::taken_in::TakenIn;
 use q_device::laws::device_has_its_memory;
 use q_device::{Device, Totals as Share};
-use q_packet::{KeptPacket, Moment};
+use q_packet::{KeptPacket, Moment, SOME_KEPT};
 use std::alloc::AllocError;
 use std::marker::Model;
 
@@ -68,22 +68,31 @@ impl Outlet {
         ensures whole { result.memory ≡ false → result.taken < most → self.new.known ≡ [] }
         ensures stopped { result.memory ≡ true → StopsAtFirst now self.old self.new device.old device.new result.taken }
     {
-        for taken in 0..most {
-            if self.is_empty() {
+        let mut batch = [SOME_KEPT; 32];
+        let mut taken = 0;
+        while taken < most {
+            let wanted = 32.min(most - taken);
+            let count = self.ring.pop_partial_slice(&mut batch[..wanted]);
+            if count == 0 {
                 return TakenIn {
                     taken,
                     memory: false,
                 };
             }
-            match self.take_first(device, now) {
-                Ok(()) => {}
-                Err(_) => {
+            let kept = device.arrive_burst_kept(&batch[..count], now);
+            for i in kept..count {
+                let Ok(_) = device.arrive_kept(&batch[i], now) else {
                     return TakenIn {
-                        taken,
+                        taken: taken + i,
                         memory: true,
                     };
-                }
+                };
             }
+            self.share.packets += count as u64;
+            for i in 0..count {
+                self.share.bytes += u64::from(batch[i].len());
+            }
+            taken += count;
         }
         TakenIn {
             taken: most,

@@ -16,7 +16,7 @@ use crate::node::{Discipline, Node};
 use crate::tree::Tree;
 use q_codel::Told;
 use q_model::Totals;
-use q_packet::{Moment, StoredPacket};
+use q_packet::{KeptPacket, Moment, StoredPacket};
 
 impl Tree {
     /// Lets the first of these packets arrive in order, all at the time `now`, as long as the root is a fifo with a limit in packets that keeps
@@ -40,6 +40,19 @@ impl Tree {
         // A time is at most 2^62 nanoseconds.
         let _ = now.ns();
         let kept = self.root.keep_burst(packets, self.mtu, now);
+        if kept.packets == 0 {
+            return 0;
+        }
+        book_arrivals(&mut self.top, &kept);
+        self.clock = now;
+        kept.packets as usize
+    }
+
+    /// variant
+    #[inline(always)]
+    pub fn arrive_burst_kept(&mut self, packets: &[KeptPacket], now: Moment) -> usize
+    {
+        let kept = self.root.keep_burst_kept(packets, self.mtu, now);
         if kept.packets == 0 {
             return 0;
         }
@@ -92,6 +105,22 @@ impl Node {
             return NOTHING;
         };
         let (count, bytes) = fifo.put_burst(packets, mtu, now);
+        let kept = Totals {
+            packets: count as u64,
+            bytes,
+        };
+        book_arrivals(&mut self.row, &kept);
+        kept
+    }
+
+    /// variant
+    #[inline(always)]
+    fn keep_burst_kept(&mut self, packets: &[KeptPacket], mtu: u16, now: Moment) -> Totals
+    {
+        let Discipline::Fifo(fifo) = &mut self.discipline else {
+            return NOTHING;
+        };
+        let (count, bytes) = fifo.put_burst_kept(packets, mtu, now);
         let kept = Totals {
             packets: count as u64,
             bytes,

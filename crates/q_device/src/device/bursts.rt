@@ -16,7 +16,7 @@ use crate::device::Device;
 use crate::recording::has_room;
 use q_codel::{Losses, Told};
 use q_model::{Event, Settings};
-use q_packet::{Moment, StoredPacket};
+use q_packet::{KeptPacket, Moment, StoredPacket};
 use q_tree::Tree;
 
 impl Device {
@@ -46,6 +46,26 @@ impl Device {
         let most = packets.len().min(spare as usize);
         let at = later(&self.tree, now);
         let kept = self.tree.arrive_burst(&packets[..most], at);
+        self.spare = spare - kept as u64;
+        kept
+    }
+
+    /// variant
+    #[inline(always)]
+    pub fn arrive_burst_kept(&mut self, packets: &[KeptPacket], now: Moment) -> usize
+    {
+        let wanted = packets.len() as u64;
+        let spare = renewed(
+            self.spare,
+            wanted,
+            &self.tree,
+            &self.losses,
+            &self.recorded,
+            &self.settings,
+        );
+        let most = packets.len().min(spare as usize);
+        let at = later(&self.tree, now);
+        let kept = self.tree.arrive_burst_kept(&packets[..most], at);
         self.spare = spare - kept as u64;
         kept
     }
