@@ -338,16 +338,36 @@ fn refused_lines(alloc: Global, count: u32) -> Result<(String, String, String), 
         String::new(alloc),
         String::new(alloc),
     );
+    add_refused(alloc, count, &mut script, &mut report, &mut told)?;
+    Ok((script, report, told))
+}
+
+// Adds them, one behind the other.
+fn add_refused(
+    alloc: Global,
+    count: u32,
+    script: &mut String,
+    report: &mut String,
+    told: &mut String,
+) -> Result<(), Fail> {
     for number in 1..count.saturating_add(1) {
         script.push_str("tc qdisc del dev eth0 root\n")?;
         report.push_str(&format!(in alloc; "line {number}: refused 12 NoQdisc\n")?)?;
-        let place = format!(in alloc; "line {number}: tc qdisc del dev eth0 ")?;
-        told.push_str(&place)?;
-        told.push_str("root\n")?;
-        repeat(&mut told, ' ', place.len())?;
-        told.push_str(ABSENT)?;
+        explain_refused(
+            &format!(in alloc; "line {number}: tc qdisc del dev eth0 ")?,
+            told,
+        )?;
     }
-    Ok((script, report, told))
+    Ok(())
+}
+
+// Adds what is explained of such a line, whose first words these are.
+fn explain_refused(words: &str, told: &mut String) -> Result<(), Fail> {
+    told.push_str(words)?;
+    told.push_str("root\n")?;
+    repeat(told, ' ', words.len())?;
+    told.push_str(ABSENT)?;
+    Ok(())
 }
 
 /// However many lines are refused, each is explained.
@@ -402,14 +422,19 @@ fn long_line(alloc: Global) -> Result<String, Fail> {
 /// What is reported of it: its bytes around the word.
 fn long_line_explained(alloc: Global) -> Result<String, Fail> {
     let mut told = String::new(alloc);
-    told.push_str("line 1: ...")?;
-    repeat(&mut told, ' ', 98)?;
-    told.push_str("pol 3")?;
-    repeat(&mut told, '3', 97)?;
-    told.push_str("...\n")?;
-    repeat(&mut told, ' ', 109)?;
-    told.push_str("^^^\n  pol begins no line; words are not shortened: write poll.\n")?;
+    explain_long_line(&mut told)?;
     Ok(told)
+}
+
+fn explain_long_line(told: &mut String) -> Result<(), Fail> {
+    told.push_str("line 1: ...")?;
+    repeat(told, ' ', 98)?;
+    told.push_str("pol 3")?;
+    repeat(told, '3', 97)?;
+    told.push_str("...\n")?;
+    repeat(told, ' ', 109)?;
+    told.push_str("^^^\n  pol begins no line; words are not shortened: write poll.\n")?;
+    Ok(())
 }
 
 #[test]

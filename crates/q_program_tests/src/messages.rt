@@ -2,6 +2,7 @@
 use crate::answers::{assert_answers, status_of};
 use crate::runs::{TWO_OF_THREE, TWO_OF_THREE_REPORT};
 use q_options::{PromptedReader, Standard};
+use std::alloc::Global;
 use std::fs::{self, Files};
 use std::io::{Error, Read, Result as IoResult, Write};
 use std::process::Abort;
@@ -153,16 +154,19 @@ const PROMPTS: &[(bool, &str)] = &[
     (false, ""),
 ];
 
+/// Whether this is reported of an input that is read whole.
+fn is_told(alloc: Global, is_terminal: bool, told: &str) -> Result<bool, Fail> {
+    let mut errors = Vec::new(alloc);
+    let mut script = Vec::new(alloc);
+    let mut reader = PromptedReader::new(TWO_OF_THREE, &mut errors, is_terminal);
+    reader.read_to_end(&mut script)?;
+    Ok(script.as_slice() == TWO_OF_THREE && errors.as_slice() == told.as_bytes())
+}
+
 #[test]
 fn terminal_is_told_before_it_is_read(rt: HostRuntime) -> Result<(), Fail> {
-    let alloc = rt.alloc();
     for (is_terminal, told) in PROMPTS {
-        let mut errors = Vec::new(alloc);
-        let mut reader = PromptedReader::new(TWO_OF_THREE, &mut errors, *is_terminal);
-        let mut script = Vec::new(alloc);
-        reader.read_to_end(&mut script)?;
-        assert_eq!(rt; script.as_slice(), TWO_OF_THREE);
-        assert_eq!(rt; errors.as_slice(), told.as_bytes());
+        assert!(rt; is_told(rt.alloc(), *is_terminal, told)?, "{told}");
     }
     Ok(())
 }

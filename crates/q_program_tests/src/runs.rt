@@ -28,11 +28,25 @@ fn play(
     (written, told)
 }
 
+/// Whether a script goes so with these settings, and this report of it is written.
+fn reports(
+    alloc: Global,
+    script: &[u8],
+    settings: RunSettings,
+    report: &[u8],
+    outcome: Outcome,
+) -> bool {
+    let (written, told) = play(alloc, script, settings);
+    told == Ok(outcome) && written.as_slice() == report
+}
+
 fn assert_reports(rt: &impl Abort, alloc: Global, rows: &[(&str, &[u8], &str, Outcome)]) {
+    let settings = RunSettings::defaults();
     for (name, script, report, outcome) in rows {
-        let (written, told) = play(alloc, script, RunSettings::defaults());
-        assert_eq!(rt; written.as_slice(), report.as_bytes(), "{name}");
-        assert_eq!(rt; told, Ok(*outcome), "{name}");
+        assert!(rt;
+            reports(alloc, script, settings, report.as_bytes(), *outcome),
+            "{name}"
+        );
     }
 }
 
@@ -220,16 +234,11 @@ fn settings_of_the_device(rt: HostRuntime) -> Result<(), Fail> {
       pkt 50\n\
       poll 2\n\
       tc -s qdisc show\n";
-    let (written, told) = play(rt.alloc(), script, settings);
-    assert_eq!(rt; told, Ok(Outcome::Clean));
-    assert_eq!(rt;
-        written.as_slice(),
-        b"sent 1 100\n\
-          idle\n\
-          qdisc pfifo 0: root limit 1p\n \
-          arrived 2p 150b sent 1p 100b refused 1p 50b dropped 0p 0b queued 0p 0b\n"
-            .as_slice()
-    );
+    let report = b"sent 1 100\n\
+      idle\n\
+      qdisc pfifo 0: root limit 1p\n \
+      arrived 2p 150b sent 1p 100b refused 1p 50b dropped 0p 0b queued 0p 0b\n";
+    assert!(rt; reports(rt.alloc(), script, settings, report, Outcome::Clean));
     Ok(())
 }
 
@@ -237,11 +246,16 @@ fn settings_of_the_device(rt: HostRuntime) -> Result<(), Fail> {
 fn long_script(alloc: Global) -> Result<Vec<u8>, Fail> {
     let zeros = vec![in alloc; b'0'; 1_048_576]?;
     let mut script = Vec::new(alloc);
-    script.extend_from_slice(zeros.as_slice())?;
-    script.extend_from_slice(b"x\npkt ")?;
-    script.extend_from_slice(zeros.as_slice())?;
-    script.extend_from_slice(b"9\npoll 100000\n")?;
+    add_long_lines(&zeros, &mut script)?;
     Ok(script)
+}
+
+fn add_long_lines(zeros: &[u8], script: &mut Vec<u8>) -> Result<(), Fail> {
+    script.extend_from_slice(zeros)?;
+    script.extend_from_slice(b"x\npkt ")?;
+    script.extend_from_slice(zeros)?;
+    script.extend_from_slice(b"9\npoll 100000\n")?;
+    Ok(())
 }
 
 /// What that script reports.
@@ -260,11 +274,9 @@ fn long_report(alloc: Global) -> Result<Vec<u8>, Fail> {
 #[test]
 fn long_lines_and_long_reports(rt: HostRuntime) -> Result<(), Fail> {
     let alloc = rt.alloc();
-    let script = long_script(alloc)?;
-    let (written, told) = play(alloc, script.as_slice(), RunSettings::defaults());
-    assert_eq!(rt; told, Ok(Outcome::Refused));
-    let report = long_report(alloc)?;
-    assert!(rt; written.as_slice() == report.as_slice());
+    let (script, report) = (long_script(alloc)?, long_report(alloc)?);
+    let settings = RunSettings::defaults();
+    assert!(rt; reports(alloc, &script, settings, &report, Outcome::Refused));
     Ok(())
 }
 
@@ -283,13 +295,9 @@ fn packets_that_stay(alloc: Global) -> Result<Vec<u8>, Fail> {
 fn more_packets_than_16_bits_count_stay_queued(rt: HostRuntime) -> Result<(), Fail> {
     let alloc = rt.alloc();
     let script = packets_that_stay(alloc)?;
-    let (written, told) = play(alloc, script.as_slice(), RunSettings::defaults());
-    assert_eq!(rt; told, Ok(Outcome::Clean));
-    assert_eq!(rt;
-        written.as_slice(),
-        b"qdisc pfifo 1: root limit 100000p\n \
-          arrived 65537p 65537b sent 0p 0b refused 0p 0b dropped 0p 0b queued 65537p 65537b\n"
-            .as_slice()
-    );
+    let report = b"qdisc pfifo 1: root limit 100000p\n \
+      arrived 65537p 65537b sent 0p 0b refused 0p 0b dropped 0p 0b queued 65537p 65537b\n";
+    let settings = RunSettings::defaults();
+    assert!(rt; reports(alloc, &script, settings, report, Outcome::Clean));
     Ok(())
 }

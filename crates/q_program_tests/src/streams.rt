@@ -132,18 +132,27 @@ fn play_through<R: Read, W: Write, E: Write>(
     )
 }
 
+/// Whether a run of this reader goes so, and writes this report.
+fn comes_to(
+    alloc: Global,
+    reader: &mut Slow<'_>,
+    want: Result<Outcome, RunFault>,
+    report: &str,
+) -> bool {
+    let mut written = Vec::new(alloc);
+    let told = run_through(alloc, reader, &mut written, RunSettings::defaults());
+    told == want && written.as_slice() == report.as_bytes()
+}
+
 #[test]
 fn readers_that_are_slow(rt: HostRuntime) {
     let alloc = rt.alloc();
     for step in 1..TWO_OF_THREE.len() {
         let mut reader = Slow::new(TWO_OF_THREE, 0, step);
         reader.interrupts = step % 3;
-        let mut written = Vec::new(alloc);
-        let told = run_through(alloc, &mut reader, &mut written, RunSettings::defaults());
-        assert_eq!(rt; told, Ok(Outcome::Clean), "{step} bytes a time");
-        assert_eq!(rt;
-            written.as_slice(),
-            TWO_OF_THREE_REPORT.as_bytes(),
+        let want = Ok(Outcome::Clean);
+        assert!(rt;
+            comes_to(alloc, &mut reader, want, TWO_OF_THREE_REPORT),
             "{step} bytes a time"
         );
     }
@@ -158,15 +167,15 @@ fn each_read_fails(rt: HostRuntime) {
     for failing in 0..=last + 1 {
         let mut reader = Slow::new(TWO_OF_THREE, 0, 1);
         reader.failing = Some(failing);
-        let mut written = Vec::new(alloc);
-        let told = run_through(alloc, &mut reader, &mut written, RunSettings::defaults());
         let (want, report) = if failing <= last {
             (Err(RunFault::Read(ErrorKind::ConnectionReset)), "")
         } else {
             (Ok(Outcome::Clean), TWO_OF_THREE_REPORT)
         };
-        assert_eq!(rt; told, want, "failing at read {failing}");
-        assert_eq!(rt; written.as_slice(), report.as_bytes());
+        assert!(rt;
+            comes_to(alloc, &mut reader, want, report),
+            "failing at read {failing}"
+        );
     }
 }
 
@@ -193,10 +202,10 @@ fn scripts_at_the_greatest_length_and_over_it(rt: HostRuntime) {
     let alloc = rt.alloc();
     for (blanks, want, report) in LENGTHS {
         let mut reader = Slow::new(b"poll\n", *blanks, usize::MAX);
-        let mut written = Vec::new(alloc);
-        let told = run_through(alloc, &mut reader, &mut written, RunSettings::defaults());
-        assert_eq!(rt; told, *want);
-        assert_eq!(rt; written.as_slice(), report.as_bytes());
+        assert!(rt;
+            comes_to(alloc, &mut reader, *want, report),
+            "{blanks} blanks"
+        );
     }
 }
 
@@ -268,27 +277,34 @@ const TOLD_OF_WRITERS: &[(bool, &str)] = &[
     (false, "qtree: the report cannot be written: write zero\n"),
 ];
 
+/// Whether a play over these streams comes to nothing, and this is reported.
+fn is_told<R: Read, W: Write>(alloc: Global, reader: &mut R, writer: &mut W, told: &str) -> bool {
+    let mut errors = Vec::new(alloc);
+    play_through(alloc, reader, writer, &mut errors) == 2 && errors.as_slice() == told.as_bytes()
+}
+
+/// Whether this is reported where the third read fails, and nothing is written.
+fn is_told_of_a_reader(alloc: Global, told: &str) -> bool {
+    let mut reader = Slow::new(TWO_OF_THREE, 0, 10);
+    reader.failing = Some(2);
+    let mut written = Vec::new(alloc);
+    is_told(alloc, &mut reader, &mut written, told) && written.is_empty()
+}
+
+/// Whether this is reported where a writer has room for ten bytes, and then fails or takes none.
+fn is_told_of_a_writer(alloc: Global, fails: bool, told: &str) -> bool {
+    let mut reader = TWO_OF_THREE;
+    let mut writer = Narrow::new(alloc, 10, fails);
+    is_told(alloc, &mut reader, &mut writer, told)
+}
+
 #[test]
 fn failures_are_told(rt: HostRuntime) {
     let alloc = rt.alloc();
-    let mut reader = Slow::new(TWO_OF_THREE, 0, 10);
-    reader.failing = Some(2);
-    let (mut written, mut errors) = (Vec::new(alloc), Vec::new(alloc));
-    let status = play_through(alloc, &mut reader, &mut written, &mut errors);
-    assert_eq!(rt; status, 2);
-    assert!(rt; written.is_empty());
-    assert_eq!(rt;
-        errors.as_slice(),
-        "qtree: the script cannot be read: connection reset\n".as_bytes()
-    );
-
+    let told = "qtree: the script cannot be read: connection reset\n";
+    assert!(rt; is_told_of_a_reader(alloc, told));
     for (fails, told) in TOLD_OF_WRITERS {
-        let mut reader = TWO_OF_THREE;
-        let mut writer = Narrow::new(alloc, 10, *fails);
-        let mut errors = Vec::new(alloc);
-        let status = play_through(alloc, &mut reader, &mut writer, &mut errors);
-        assert_eq!(rt; status, 2);
-        assert_eq!(rt; errors.as_slice(), told.as_bytes());
+        assert!(rt; is_told_of_a_writer(alloc, *fails, told), "{told}");
     }
 }
 
