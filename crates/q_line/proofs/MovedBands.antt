@@ -4,7 +4,7 @@ use Rattle.std.proofs.Common.{◌≡◌, ◌∙◌, ℕ, suc, ◌+◌, ◌<◌, 
 use Rattle.std.specs.List.{list_all, position}
 use Rattle.std.specs.Str.{is_utf8}
 use Rattle.std.proofs.lemmas.Bool.{eqb-true}
-use Rattle.q_line.proofs.SpelledWords.{both, left_of, right_of}
+use Rattle.q_words.proofs.Both.{both, left_of, right_of}
 use Rattle.q_words.specs.Values.{is_numeral}
 use Rattle.q_words.specs.declared.line_fault.LineFault.{LineFault}
 use Rattle.q_words.specs.declared.line_fault.LineFault.TheVariants as fault

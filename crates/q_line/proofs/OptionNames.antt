@@ -5,6 +5,7 @@ use Rattle.std.specs.List.{AllByRecursion, list_any}
 use Rattle.std.specs.Str.{bytes_eq, is_utf8}
 use Rattle.std.proofs.lemmas.Bool.{or_left, or_right}
 use Rattle.std.proofs.lemmas.Slice.Eq.{bytes_eq-Decides}
+use Rattle.q_words.proofs.Both.{left_of, right_of}
 use Rattle.q_words.specs.Values.{is_numeral}
 use Rattle.q_words.specs.declared.line_fault.LineFault.TheVariants as fault
 use Rattle.q_words.specs.declared.wrong.Wrong.{Wrong}
@@ -24,7 +25,7 @@ use Rattle.q_line.proofs.MovedBands.{Spot, list, value_at, bands_at, at, next_of
 use Rattle.q_line.proofs.OptionEntries.{Entry, valued, flag, numbers, Value, number, entries, entry_in, entered, found, has, behind, says, over, reading, option_fits_as, has_over}
 use Rattle.q_line.proofs.OptionOrder.{begins, commented, reached_reads, read_from}
 use Rattle.q_line.proofs.OptionSteps.{named, utf8_after}
-use Rattle.q_line.proofs.SpelledWords.{left_of, right_of, utf8_from_ascii}
+use Rattle.q_line.proofs.SpelledWords.{utf8_from_ascii}
 use Rattle.q_line.proofs.Steps.{continued, reached_by, rest_of-cons}
 
 -- other names

@@ -40,12 +40,14 @@ abbrev pub named : HeadDraft
 named = record no_head { named = true }
 
 -- tc OBJECT VERB dev NAME
-pub starts : (object verb name : List ℕ) (p : Position) (v : Verb) → Word object → Word verb → ((i : ℕ) → fits i (tc false) object ≡ Ok p) → ((i : ℕ) → fits i p verb ≡ Ok (head v no_head)) → IsName name
+pub starts : (object verb name : List ℕ) (p : Position) (v : Verb) → Word object → Word verb → ((i : ℕ) → fits i (tc false) object ≡ Ok p)
+    → ((i : ℕ) → fits i p verb ≡ Ok (head v no_head)) → IsName name
     → Path first (head v named) (change_words object verb name)
 starts object verb name p v a b f g is_name =
     chain first (tc false) (head v named) (codes "tc" ∷ []) (object ∷ verb ∷ codes "dev" ∷ name ∷ []) (word first (tc false) (codes "tc") (refl, refl) (λ i. refl))
     (chain (tc false) (head v no_head) (head v named) (object ∷ verb ∷ []) (codes "dev" ∷ name ∷ []) (pair (tc false) p (head v no_head) object verb a b f g)
-    (chain (head v no_head) (head_value Positions.dev v no_head) (head v named) (codes "dev" ∷ []) (name ∷ []) (word (head v no_head) (head_value Positions.dev v no_head) (codes "dev") (refl, refl) (λ i. refl))
+    (chain (head v no_head) (head_value Positions.dev v no_head) (head v named) (codes "dev" ∷ []) (name ∷ [])
+    (word (head v no_head) (head_value Positions.dev v no_head) (codes "dev") (refl, refl) (λ i. refl))
     (device (head_value Positions.dev v no_head) (head v named) name is_name (λ i. ap (λ r. value r (λ _. head v named)) (name_read name is_name.short)))))
 
 handle_reads : (o : Option ℕ) → IfSome o IsHandle → IfSome o (λ n. Word (handle_word n) × (handle_of (handle_word n) ≡ Ok n))
@@ -68,7 +70,8 @@ place_path v None h below = nowhere (head (of_qdisc v) named)
 place_path v (Some place.Top) h below = absurd below
 place_path v (Some place.Root) h below = word (head (of_qdisc v) named) (head (of_qdisc v) (put (Some place.Root) None)) (codes "root") (refl, refl) (λ i. refl)
 place_path v (Some (place.Class c)) h below =
-    pair (head (of_qdisc v) named) (head_value Positions.in_class (of_qdisc v) named) (head (of_qdisc v) (put (Some (place.Class c)) None)) (codes "parent") (class_word c) (refl, refl) (class_good c h) (λ i. refl)
+    pair (head (of_qdisc v) named) (head_value Positions.in_class (of_qdisc v) named) (head (of_qdisc v) (put (Some (place.Class c)) None))
+    (codes "parent") (class_word c) (refl, refl) (class_good c h) (λ i. refl)
     (λ i. ap (λ r. value r (λ x. head (of_qdisc v) (put (Some (place.Class x)) None))) (class_gives c h))
 
 handle_path : (v : QdiscVerb) (p : Option Place) (n : Option ℕ) → IfSome n IsHandle → Path (head (of_qdisc v) (put p None)) (head (of_qdisc v) (put p n)) (given (codes "handle") handle_word n)
@@ -77,11 +80,13 @@ handle_path v p n h =
     (λ i a e. ap (λ r. value r (λ x. head (of_qdisc v) (put p (Some x)))) e) (handle_reads n h)
 
 -- a qdisc's place, its handle and its kind
-made_says : (v : QdiscVerb) (p : Option Place) (n : Option ℕ) (k : Kind) (c : Command) → Makes v → IfSome p IsPlace → IfSome p IsBelow → IfSome n IsHandle → IsKind k → qdisc_line v (put p n) k ≡ Some c
+made_says : (v : QdiscVerb) (p : Option Place) (n : Option ℕ) (k : Kind) (c : Command) → Makes v → IfSome p IsPlace → IfSome p IsBelow
+    → IfSome n IsHandle → IsKind k → qdisc_line v (put p n) k ≡ Some c
     → Says (head (of_qdisc v) named) (Tc c) (some_place_words p ++ (given (codes "handle") handle_word n ++ kind_words k))
 made_says v p n k c m in_place below handle is made =
     chain_says (head (of_qdisc v) named) (head (of_qdisc v) (put p None)) (Tc c) (some_place_words p) (given (codes "handle") handle_word n ++ kind_words k) (place_path v p in_place below)
-    (chain_says (head (of_qdisc v) (put p None)) (head (of_qdisc v) (put p n)) (Tc c) (given (codes "handle") handle_word n) (kind_words k) (handle_path v p n handle) (kind_says v (put p n) k c m is made))
+    (chain_says (head (of_qdisc v) (put p None)) (head (of_qdisc v) (put p n)) (Tc c) (given (codes "handle") handle_word n) (kind_words k)
+    (handle_path v p n handle) (kind_says v (put p n) k c m is made))
 
 changes : (p : Option Place) (n : Option ℕ) (k : Kind) → IsTrue (is_some p || is_some n) → qdisc_line qdisc_verb.Change (put p n) k ≡ Some (command.QdiscChange p n k)
 changes (Some p) n k h = refl
@@ -98,7 +103,8 @@ gone_says : (p : Option Place) (n : Option ℕ) → IfSome p IsPlace → IfSome 
 gone_says p n in_place below handle some =
     let v = qdisc_verb.Del in
     ended_says (head (of_qdisc v) named) (head (of_qdisc v) (put p n)) (Tc (command.QdiscDel p n)) (some_place_words p ++ given (codes "handle") handle_word n)
-    (chain (head (of_qdisc v) named) (head (of_qdisc v) (put p None)) (head (of_qdisc v) (put p n)) (some_place_words p) (given (codes "handle") handle_word n) (place_path v p in_place below) (handle_path v p n handle))
+    (chain (head (of_qdisc v) named) (head (of_qdisc v) (put p None)) (head (of_qdisc v) (put p n)) (some_place_words p)
+    (given (codes "handle") handle_word n) (place_path v p in_place below) (handle_path v p n handle))
     (λ i. ap (λ o. said (option_map Tc o) i) (removes p n some))
 
 -- classes
@@ -113,7 +119,8 @@ parent_path v n h =
 
 pub class_path : (v : ClassVerb) (n : Option ℕ) (c : ClassId) → IsClassId c → Path (head (of_class v) (owned n None)) (head (of_class v) (owned n (Some c))) (codes "classid" ∷ class_word c ∷ [])
 class_path v n c h =
-    pair (head (of_class v) (owned n None)) (head_value Positions.class_id (of_class v) (owned n None)) (head (of_class v) (owned n (Some c))) (codes "classid") (class_word c) (refl, refl) (class_good c h) (λ i. refl)
+    pair (head (of_class v) (owned n None)) (head_value Positions.class_id (of_class v) (owned n None)) (head (of_class v) (owned n (Some c)))
+    (codes "classid") (class_word c) (refl, refl) (class_good c h) (λ i. refl)
     (λ i. ap (λ r. value r (λ x. head (of_class v) (owned n (Some x)))) (class_gives c h))
 
 quantum_path : (v : ClassVerb) (h : HeadDraft) (q : Option ℕ) → IfSome q IsQuantum → Path (quantum_of v h None) (quantum_of v h q) (given (codes "quantum") bytes_word q)

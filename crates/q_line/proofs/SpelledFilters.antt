@@ -6,7 +6,8 @@ use Rattle.q_words.specs.Addresses.{is_slash, prefix_of, protocol_number}
 use Rattle.q_words.specs.Values.{number_in}
 use Rattle.q_words.specs.Words.{is_blank}
 use Rattle.q_words.specs.declared.wrong.Wrong.TheVariants.{OutOfRange}
-use Rattle.q_line.proofs.SpelledWords.{both, digit_not_blank, digit_small, every_digit, decimal_digits}
+use Rattle.q_words.proofs.Both.{both}
+use Rattle.q_line.proofs.SpelledWords.{digit_not_blank, digit_small, every_digit, decimal_digits}
 use Rattle.q_model.specs.Numbers.{IsWithin}
 use Rattle.q_model.specs.Options.{Prefix, IsPrefix, bits_of}
 use Rattle.q_model.specs.Ranges.{IsFilter}
@@ -68,7 +69,8 @@ or_none : {A : Type 0} (o : Option A) → option_or o None ≡ o
 or_none None = refl
 or_none (Some a) = refl
 
-with_version : (o : Option Prefix) (v w : Option IpVersion) → w ≡ v → IfSome o (λ p. option_map_or (same_version p.version) v true ≡ true) → IfSome o (λ p. option_map_or (same_version p.version) w true ≡ true)
+with_version : (o : Option Prefix) (v w : Option IpVersion) → w ≡ v → IfSome o (λ p. option_map_or (same_version p.version) v true ≡ true)
+    → IfSome o (λ p. option_map_or (same_version p.version) w true ≡ true)
 with_version None v w e h = tt
 with_version (Some p) v w e h = ap (λ x. option_map_or (same_version p.version) x true) e ∙ h
 
@@ -95,10 +97,12 @@ keys_path h f of_protocol is agreed =
     (option (codes "ip_proto") hex protocol_number k.ip_proto (λ x. keys h (drafted x None None None None)) (key_value key.IpProto h no_keys) (refl, refl) (λ i. refl)
     (λ i a e. ap (λ r. value (value r (λ m. drafted (Some m) None None None None)) (λ x. keys h x)) e) (proto_reads k.ip_proto is.ip_proto))
     (chain (keys h one) (keys h two) (keys h last) (given (codes "src_ip") prefix_word k.src_ip) w3
-    (option (codes "src_ip") prefix_word (λ w. of_version first_wanted (λ (q : Prefix). q.version) (prefix_of w)) k.src_ip (λ x. keys h (drafted k.ip_proto x None None None)) (key_value key.SrcIp h one) (refl, refl) (λ i. refl)
+    (option (codes "src_ip") prefix_word (λ w. of_version first_wanted (λ (q : Prefix). q.version) (prefix_of w)) k.src_ip
+    (λ x. keys h (drafted k.ip_proto x None None None)) (key_value key.SrcIp h one) (refl, refl) (λ i. refl)
     (λ i a e. ap (λ r. value (value r (λ m. drafted k.ip_proto (Some m) None None None)) (λ x. keys h x)) e) (prefix_reads first_wanted k.src_ip is.src_ip src_agreed))
     (chain (keys h two) (keys h three) (keys h last) (given (codes "dst_ip") prefix_word k.dst_ip) w4
-    (option (codes "dst_ip") prefix_word (λ w. of_version second_wanted (λ (q : Prefix). q.version) (prefix_of w)) k.dst_ip (λ x. keys h (drafted k.ip_proto k.src_ip x None None)) (key_value key.DstIp h two) (refl, refl) (λ i. refl)
+    (option (codes "dst_ip") prefix_word (λ w. of_version second_wanted (λ (q : Prefix). q.version) (prefix_of w)) k.dst_ip
+    (λ x. keys h (drafted k.ip_proto k.src_ip x None None)) (key_value key.DstIp h two) (refl, refl) (λ i. refl)
     (λ i a e. ap (λ r. value (value r (λ m. drafted k.ip_proto k.src_ip (Some m) None None)) (λ x. keys h x)) e) (prefix_reads second_wanted k.dst_ip is.dst_ip dst_agreed))
     (chain (keys h three) (keys h four) (keys h last) (given (codes "src_port") decimal k.src_port) w5
     (option (codes "src_port") decimal (number_in 0 65535) k.src_port (λ x. keys h (drafted k.ip_proto k.src_ip k.dst_ip x None)) (key_value key.SrcPort h three) (refl, refl) (λ i. refl)

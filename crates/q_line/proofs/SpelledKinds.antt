@@ -84,7 +84,8 @@ tbf_limit_path : (v : QdiscVerb) (h : HeadDraft) (r b : ℕ) (l : TbfLimit) → 
 tbf_limit_path v h r b (tbf_limit.Bytes n) few =
     pair (at_tbf v h (filled r b)) (option_value Positions.limit v h kind_name.Tbf (filled r b)) (at_tbf v h (bounded r b (tbf_limit.Bytes n))) (codes "limit") (bytes_word n) (refl, refl)
     (unit_is_word n (codes "b") (omega arith) refl refl) (λ i. refl)
-    (λ i. ap (λ a. value (elim a as (λ _. Result OptionDraft Wrong) [ Ok n ↦ Ok (bounded r b (tbf_limit.Bytes n)) | Err e ↦ Err e ]) (λ d. at_tbf v h d)) (bytes_read 0 most n (omega arith) few (lit< tt)))
+    (λ i. ap (λ a. value (elim a as (λ _. Result OptionDraft Wrong) [ Ok n ↦ Ok (bounded r b (tbf_limit.Bytes n)) | Err e ↦ Err e ])
+    (λ d. at_tbf v h d)) (bytes_read 0 most n (omega arith) few (lit< tt)))
 tbf_limit_path v h r b (tbf_limit.Latency ns) few =
     pair (at_tbf v h (filled r b)) (option_value Positions.latency v h kind_name.Tbf (filled r b)) (at_tbf v h (bounded r b (tbf_limit.Latency ns))) (codes "latency") (time_word ns) (refl, refl)
     (time_is_word ns (omega arith)) (λ i. refl)
@@ -147,23 +148,28 @@ fq_codel_path v h o is =
     (λ n a e. ap (λ r. value (elim r as (λ _. Result OptionDraft Wrong) [ Ok m ↦ Ok (fair_draft (Some m) None None None None None None) | Err e ↦ Err e ]) (λ d. options v h kind_name.FqCodel d)) e)
     (number_reads 1 most l (lit< tt) is.limit))
     (chain p1 p2 p7 (given (codes "flows") decimal f) w3
-    (option (codes "flows") decimal (number_in 1 ranges.most_flows) f (λ x. fair v h l x None None None None None) (option_value Positions.flows v h kind_name.FqCodel (fair_draft l None None None None None None)) (refl, refl) (λ n. refl)
+    (option (codes "flows") decimal (number_in 1 ranges.most_flows) f (λ x. fair v h l x None None None None None)
+    (option_value Positions.flows v h kind_name.FqCodel (fair_draft l None None None None None None)) (refl, refl) (λ n. refl)
     (λ n a e. ap (λ r. value r (λ m. fair v h l (Some m) None None None None None)) e)
     (number_reads 1 ranges.most_flows f (lit< tt) is.flows))
     (chain p2 p3 p7 (given (codes "quantum") bytes_word q) w4
-    (option (codes "quantum") bytes_word (size_in 1 most) q (λ x. fair v h l f x None None None None) (option_value Positions.quantum v h kind_name.FqCodel (fair_draft l f None None None None None)) (refl, refl) (λ n. refl)
+    (option (codes "quantum") bytes_word (size_in 1 most) q (λ x. fair v h l f x None None None None)
+    (option_value Positions.quantum v h kind_name.FqCodel (fair_draft l f None None None None None)) (refl, refl) (λ n. refl)
     (λ n a e. ap (λ r. value r (λ m. fair v h l f (Some m) None None None None)) e)
     (bytes_reads 1 q is.quantum))
     (chain p3 p4 p7 (given (codes "target") time_word t) w5
-    (option (codes "target") time_word (time_in 0 ranges.longest) t (λ x. fair v h l f q x None None None) (option_value Positions.target v h kind_name.FqCodel (fair_draft l f q None None None None)) (refl, refl) (λ n. refl)
+    (option (codes "target") time_word (time_in 0 ranges.longest) t (λ x. fair v h l f q x None None None)
+    (option_value Positions.target v h kind_name.FqCodel (fair_draft l f q None None None None)) (refl, refl) (λ n. refl)
     (λ n a e. ap (λ r. value r (λ m. fair v h l f q (Some m) None None None)) e)
     (time_reads 0 ranges.longest t (lit< tt) is.target))
     (chain p4 p5 p7 (given (codes "interval") time_word i) w6
-    (option (codes "interval") time_word (time_in ranges.shortest_interval ranges.longest) i (λ x. fair v h l f q t x None None) (option_value Positions.interval v h kind_name.FqCodel (fair_draft l f q t None None None)) (refl, refl) (λ n. refl)
+    (option (codes "interval") time_word (time_in ranges.shortest_interval ranges.longest) i (λ x. fair v h l f q t x None None)
+    (option_value Positions.interval v h kind_name.FqCodel (fair_draft l f q t None None None)) (refl, refl) (λ n. refl)
     (λ n a e. ap (λ r. value r (λ m. fair v h l f q t (Some m) None None)) e)
     (time_reads ranges.shortest_interval ranges.longest i (lit< tt) is.interval))
     (chain p5 p6 p7 (ecn_words o.ecn) w7 (ecn_path v h l f q t i o.ecn)
-    (option (codes "drop_batch") decimal (number_in 1 ranges.most_batch) o.drop_batch (λ x. fair v h l f q t i o.ecn x) (option_value Positions.drop_batch v h kind_name.FqCodel (fair_draft l f q t i o.ecn None)) (refl, refl) (λ n. refl)
+    (option (codes "drop_batch") decimal (number_in 1 ranges.most_batch) o.drop_batch (λ x. fair v h l f q t i o.ecn x)
+    (option_value Positions.drop_batch v h kind_name.FqCodel (fair_draft l f q t i o.ecn None)) (refl, refl) (λ n. refl)
     (λ n a e. ap (λ r. value r (λ m. fair v h l f q t i o.ecn (Some m))) e)
     (number_reads 1 ranges.most_batch o.drop_batch (lit< tt) is.drop_batch)))))))
 

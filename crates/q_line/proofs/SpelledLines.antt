@@ -40,12 +40,24 @@ counted true = word (tc false) (tc true) (codes "-s") (refl, refl) (λ i. refl)
 counted false = nowhere (tc false)
 
 shown : (counters : Bool) (o : Object) → Path (tc counters) (show_line (record { object = o; counters = counters }) false) (object_word o ∷ codes "show" ∷ [])
-shown true object.Qdisc = pair (tc true) (Positions.qdisc true) (show_line (record { object = object.Qdisc; counters = true }) false) (codes "qdisc") (codes "show") (refl, refl) (refl, refl) (λ i. refl) (λ i. refl)
-shown true object.Class = pair (tc true) (Positions.class true) (show_line (record { object = object.Class; counters = true }) false) (codes "class") (codes "show") (refl, refl) (refl, refl) (λ i. refl) (λ i. refl)
-shown true object.Filter = pair (tc true) (Positions.filter true) (show_line (record { object = object.Filter; counters = true }) false) (codes "filter") (codes "show") (refl, refl) (refl, refl) (λ i. refl) (λ i. refl)
-shown false object.Qdisc = pair (tc false) (Positions.qdisc false) (show_line (record { object = object.Qdisc; counters = false }) false) (codes "qdisc") (codes "show") (refl, refl) (refl, refl) (λ i. refl) (λ i. refl)
-shown false object.Class = pair (tc false) (Positions.class false) (show_line (record { object = object.Class; counters = false }) false) (codes "class") (codes "show") (refl, refl) (refl, refl) (λ i. refl) (λ i. refl)
-shown false object.Filter = pair (tc false) (Positions.filter false) (show_line (record { object = object.Filter; counters = false }) false) (codes "filter") (codes "show") (refl, refl) (refl, refl) (λ i. refl) (λ i. refl)
+shown true object.Qdisc =
+    pair (tc true) (Positions.qdisc true) (show_line (record { object = object.Qdisc; counters = true }) false) (codes "qdisc") (codes "show")
+    (refl, refl) (refl, refl) (λ i. refl) (λ i. refl)
+shown true object.Class =
+    pair (tc true) (Positions.class true) (show_line (record { object = object.Class; counters = true }) false) (codes "class") (codes "show")
+    (refl, refl) (refl, refl) (λ i. refl) (λ i. refl)
+shown true object.Filter =
+    pair (tc true) (Positions.filter true) (show_line (record { object = object.Filter; counters = true }) false) (codes "filter") (codes "show")
+    (refl, refl) (refl, refl) (λ i. refl) (λ i. refl)
+shown false object.Qdisc =
+    pair (tc false) (Positions.qdisc false) (show_line (record { object = object.Qdisc; counters = false }) false) (codes "qdisc") (codes "show")
+    (refl, refl) (refl, refl) (λ i. refl) (λ i. refl)
+shown false object.Class =
+    pair (tc false) (Positions.class false) (show_line (record { object = object.Class; counters = false }) false) (codes "class") (codes "show")
+    (refl, refl) (refl, refl) (λ i. refl) (λ i. refl)
+shown false object.Filter =
+    pair (tc false) (Positions.filter false) (show_line (record { object = object.Filter; counters = false }) false) (codes "filter") (codes "show")
+    (refl, refl) (refl, refl) (λ i. refl) (λ i. refl)
 
 show_says : (s : Show) → Says first (line.Show s) ((codes "tc" ∷ []) ++ (counters_words s.counters ++ (object_word s.object ∷ codes "show" ∷ [])))
 show_says s =
@@ -82,10 +94,14 @@ pub spellings : SpellingsAreRead
 spellings name packet line.Blank is_name h = refl
 spellings name packet (line.Tc command) is_name h = tc_read name command is_name h.0 h.1
 spellings name packet (line.Show s) is_name h = line_read (line.Show s) _ _ (show_says s) refl
-spellings name packet (line.At n) is_name h = line_read (line.At n) _ _ (number_line Positions.at (codes "at") 0 (2 ^ 62) n line.At (refl, refl) (λ i. refl) (λ i w. refl) (omega arith) h (lit< tt)) refl
+spellings name packet (line.At n) is_name h =
+    line_read (line.At n) _ _
+    (number_line Positions.at (codes "at") 0 (2 ^ 62) n line.At (refl, refl) (λ i. refl) (λ i w. refl) (omega arith) h (lit< tt)) refl
 spellings name packet (line.Pkt a) is_name h = line_read (line.Pkt a) _ _ (arrival_says a h) refl
 spellings name packet (line.Frame len head) is_name h =
     line_read (line.Frame len (head_in packet)) _ _ (frame_says packet len h.0 h.1) refl ∙ ap (λ k. Ok (line.Frame len k)) (sym h.2)
-spellings name packet (line.Poll n) is_name h = line_read (line.Poll n) _ _ (number_line Positions.poll (codes "poll") 1 100000 n line.Poll (refl, refl) (λ i. refl) (λ i w. refl) h.0 h.1 (lit< tt)) refl
+spellings name packet (line.Poll n) is_name h =
+    line_read (line.Poll n) _ _
+    (number_line Positions.poll (codes "poll") 1 100000 n line.Poll (refl, refl) (λ i. refl) (λ i w. refl) h.0 h.1 (lit< tt)) refl
 spellings name packet line.Reap is_name h = line_read line.Reap _ _ (plain_says (codes "reap") line.Reap (refl, refl) (λ i. refl)) refl
 spellings name packet line.Totals is_name h = line_read line.Totals _ _ (plain_says (codes "totals") line.Totals (refl, refl) (λ i. refl)) refl

@@ -9,7 +9,8 @@ use Rattle.std.proofs.lemmas.List.Elements.{recursion_from_All}
 use Rattle.q_words.specs.Values.{is_numeral}
 use Rattle.q_words.specs.declared.wrong.Wrong.TheVariants.{BadNumber}
 use Rattle.q_line.specs.Spelling.{is_word}
-use Rattle.q_line.proofs.SpelledWords.{both, digits_from_numeral, number_read, decimal_digits, digits_word}
+use Rattle.q_words.proofs.Both.{both}
+use Rattle.q_line.proofs.SpelledWords.{digits_from_numeral, number_read, decimal_digits, digits_word}
 use Rattle.q_model.specs.Options.{PrioSettings, IsPrio}
 use Rattle.q_model.specs.declared.command.Command.{Command}
 use Rattle.q_model.specs.declared.kind.Kind.TheVariants.{Prio}
@@ -111,22 +112,30 @@ no_bad_band bands xs h =
 
 abbrev verdict : QdiscVerb → HeadDraft → ℕ → List ℕ → ℕ → Option ℕ → Bool → Result Line LineFault
 verdict v h bands xs index late whole =
-    elim late as (λ _. Result Line LineFault) [ Some word ↦ Err (fault.OutOfRange word) | None ↦ said (option_map Tc (option_and_then (qdisc_line v h) (option_map (λ m. Prio (record { bands = bands; priomap = m })) (if whole then Some xs else None)))) index ]
+    elim late as (λ _. Result Line LineFault) [
+      | Some word ↦ Err (fault.OutOfRange word)
+      | None ↦ said
+          (option_map Tc
+          (option_and_then (qdisc_line v h) (option_map (λ m. Prio (record { bands = bands; priomap = m })) (if whole then Some xs else None)))) index
+    ]
 
-map_ends : (v : QdiscVerb) (h : HeadDraft) (bands from index : ℕ) (xs : List ℕ) (c : Command) → Below bands xs → length xs ≡ 16 → qdisc_line v h (Prio (record { bands = bands; priomap = xs })) ≡ Some c
+map_ends : (v : QdiscVerb) (h : HeadDraft) (bands from index : ℕ) (xs : List ℕ) (c : Command) → Below bands xs → length xs ≡ 16
+    → qdisc_line v h (Prio (record { bands = bands; priomap = xs })) ≡ Some c
     → rest_of (at_options v h (mapped bands from xs)) index [] ≡ Ok (Tc c)
 map_ends v h bands from index xs c below all made =
     ap (λ late. verdict v h bands xs index (option_map (λ i. from + i) late) (length xs == 16)) (no_bad_band bands xs below)
     ∙ ap (verdict v h bands xs index None) (eq-eqb _ _ all)
     ∙ ap (λ o. said (option_map Tc o) index) made
 
-priomap_read : (v : QdiscVerb) (h : HeadDraft) (bands i : ℕ) (xs : List ℕ) (c : Command) → bands ≤ 16 → Below bands xs → length xs ≡ 16 → qdisc_line v h (Prio (record { bands = bands; priomap = xs })) ≡ Some c
+priomap_read : (v : QdiscVerb) (h : HeadDraft) (bands i : ℕ) (xs : List ℕ) (c : Command) → bands ≤ 16 → Below bands xs → length xs ≡ 16
+    → qdisc_line v h (Prio (record { bands = bands; priomap = xs })) ≡ Some c
     → rest_of (at_map v h (record no_options { bands = Some bands })) i (map decimal xs) ≡ Ok (Tc c)
 priomap_read v h bands i [] c few below all made = absurd (omega arith)
 priomap_read v h bands i (x ∷ xs) c few below all made =
     let x_below = below.0 in
     let rest = numbers_read xs v h bands i (suc i) (x ∷ []) few below.1 (omega arith) (omega arith) in
-    word_at (at_map v h (record no_options { bands = Some bands })) (at_map v h (mapped bands i (x ∷ []))) (decimal x) i (map decimal xs) (number_word x (omega arith)) (first_fits v h bands i x (omega arith))
+    word_at (at_map v h (record no_options { bands = Some bands })) (at_map v h (mapped bands i (x ∷ []))) (decimal x) i (map decimal xs)
+    (number_word x (omega arith)) (first_fits v h bands i x (omega arith))
     ∙ rest.1 ∙ map_ends v h bands i rest.0 (x ∷ xs) c below all made
 
 -- behind the kind's name
@@ -138,7 +147,8 @@ prio_says v h s c is made =
     let start = record no_options { bands = Some s.bands } in
     chain_says (at_options v h no_options) (at_map v h start) (Tc c) (codes "bands" ∷ decimal s.bands ∷ codes "priomap" ∷ []) (map decimal s.priomap)
     (chain (at_options v h no_options) (at_options v h start) (at_map v h start) (codes "bands" ∷ decimal s.bands ∷ []) (codes "priomap" ∷ [])
-    (pair (at_options v h no_options) (option_value Positions.bands v h kind_name.Prio no_options) (at_options v h start) (codes "bands") (decimal s.bands) (refl, refl) (decimal_word s.bands (omega arith)) (λ i. refl)
+    (pair (at_options v h no_options) (option_value Positions.bands v h kind_name.Prio no_options) (at_options v h start) (codes "bands")
+    (decimal s.bands) (refl, refl) (decimal_word s.bands (omega arith)) (λ i. refl)
     (λ i. ap (λ r. value r (λ n. at_options v h (record no_options { bands = Some n }))) (number_read 2 16 s.bands is.few.0 few (lit< tt))))
     (word (at_options v h start) (at_map v h start) (codes "priomap") (refl, refl) (λ i. refl)))
     (record { good = numbers_good s.bands s.priomap few below; read = λ i. priomap_read v h s.bands i s.priomap c few below is.each made })

@@ -12,7 +12,8 @@ use Rattle.q_words.specs.declared.wrong.Wrong.{Wrong}
 use Rattle.q_words.specs.declared.wrong.Wrong.TheVariants as wrong
 use Rattle.q_line.specs.Laws.{IsName}
 use Rattle.q_line.specs.Spelling.{is_word, given, hex}
-use Rattle.q_line.proofs.SpelledWords.{both, number_read, right_of, utf8_from_ascii, decimal_digits, digits_ascii, digits_word, handle_ascii, handle_word, hex_digits}
+use Rattle.q_words.proofs.Both.{both, right_of}
+use Rattle.q_line.proofs.SpelledWords.{number_read, utf8_from_ascii, decimal_digits, digits_ascii, digits_word, handle_ascii, handle_word, hex_digits}
 use Rattle.q_model.specs.Numbers.{IsWithin}
 use Rattle.q_line.specs.Grammar.{ended, fits, rest_of}
 use Rattle.q_line.specs.Positions.{Position}

@@ -18,7 +18,8 @@ use Rattle.q_words.specs.Values.{is_digits, is_numeral}
 use Rattle.q_words.specs.Words.{is_blank}
 use Rattle.q_words.specs.declared.wrong.Wrong.{Wrong}
 use Rattle.q_words.specs.declared.wrong.Wrong.TheVariants.{BadNumber, OutOfRange}
-use Rattle.q_line.proofs.SpelledWords.{both, digit_not_blank, digit_small, digits_from_numeral, every_digit, right_of, wider}
+use Rattle.q_words.proofs.Both.{both, right_of}
+use Rattle.q_line.proofs.SpelledWords.{digit_not_blank, digit_small, digits_from_numeral, every_digit, wider}
 use Rattle.q_line.specs.Spelling.{last_three, time_word}
 use Rattle.q_line.proofs.SpelledAddresses.{any_at}
 use Rattle.q_line.proofs.SpelledSteps.{Word, decimal_word, word_more}
@@ -47,7 +48,8 @@ digits_together n ds value =
     sym (append_assoc (ds ++ (a ∷ [])) (b ∷ []) (c ∷ []) ∙ append_assoc ds (a ∷ []) (b ∷ c ∷ [])) in
     let one : digits_value 10 (ds ++ (a ∷ [])) ≡ digits_value 10 ds * 10 + digit_value a = digits_value_push 10 ds a in
     let two : digits_value 10 ((ds ++ (a ∷ [])) ++ (b ∷ [])) ≡ digits_value 10 (ds ++ (a ∷ [])) * 10 + digit_value b = digits_value_push 10 (ds ++ (a ∷ [])) b in
-    let three : digits_value 10 (((ds ++ (a ∷ [])) ++ (b ∷ [])) ++ (c ∷ [])) ≡ digits_value 10 ((ds ++ (a ∷ [])) ++ (b ∷ [])) * 10 + digit_value c = digits_value_push 10 ((ds ++ (a ∷ [])) ++ (b ∷ [])) c in
+    let three : digits_value 10 (((ds ++ (a ∷ [])) ++ (b ∷ [])) ++ (c ∷ [])) ≡ digits_value 10 ((ds ++ (a ∷ [])) ++ (b ∷ [])) * 10 + digit_value c =
+    digits_value_push 10 ((ds ++ (a ∷ [])) ++ (b ∷ [])) c in
     ap (digits_value 10) apart ∙ three
     ∙ ap (λ v. v * 10 + digit_value c) (two ∙ ap (λ v. v * 10 + digit_value b) (one ∙ ap (λ v. v * 10 + digit_value a) value))
     ∙ ap (λ v. ((n / 1000 * 10 + v) * 10 + digit_value b) * 10 + digit_value c) x
@@ -97,7 +99,8 @@ time_read low high n above below few =
 pub time_is_word : (n : ℕ) → n < 2 ^ 64 → Word (time_word n)
 time_is_word n few =
     word_more (decimal (n / 1000)) (codes "." ++ (last_three n ++ codes "us")) (decimal_word (n / 1000) (omega arith))
-    (list_all-append (λ b. not (is_blank b)) (46 ∷ last_three n) (codes "us") ∙ both (every_digit 10 (λ b. not (is_blank b)) (λ c h. digit_not_blank c (wider c h)) (last_three n) (places_form n)) refl)
+    (list_all-append (λ b. not (is_blank b)) (46 ∷ last_three n) (codes "us")
+    ∙ both (every_digit 10 (λ b. not (is_blank b)) (λ c h. digit_not_blank c (wider c h)) (last_three n) (places_form n)) refl)
     (list_all-append (λ b. ltb b 128) (46 ∷ last_three n) (codes "us") ∙ both (every_digit 10 (λ b. ltb b 128) (λ c h. digit_small c (wider c h)) (last_three n) (places_form n)) refl)
 
 pub time_reads : (low high : ℕ) (o : Option ℕ) → high < 2 ^ 64 → IfSome o (IsWithin low high) → IfSome o (λ n. Word (time_word n) × (time_in low high (time_word n) ≡ Ok n))
