@@ -21,7 +21,7 @@ use Rattle.q_drive.specs.Driven.{HasDriven}
 use Rattle.q_drive.specs.Reported.{IsDriven, IsDrivenOf, IsPartlyDriven, not_done, outcome, outcome_with, set_up}
 use Rattle.q_drive.specs.SetUp.{effect_of}
 use Rattle.q_drive.specs.Texts.{ending_text}
-use Rattle.q_drive.specs.declared.driven.Driven.{Driven}
+use Rattle.q_drive.specs.declared.driving.Driven.{Driven}
 
 -- two texts, one put behind the other
 pub in-turn : (o₀ o₁ o₂ a b : List ℕ) → o₁ ≡ o₀ ++ a → o₂ ≡ o₁ ++ b → o₂ ≡ o₀ ++ (a ++ b)

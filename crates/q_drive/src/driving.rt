@@ -9,13 +9,12 @@ ghost use Rattle.q_ports.specs.Held.{held};
 ghost use Rattle.q_ports.specs.Placed.{placed_by, ring_of_port, HasRing};
 ghost use Rattle.q_ports.specs.Rings.{ring_id};
 
-use crate::draining::drain_if;
-use crate::driven::Driven;
+use crate::draining::{Drained, drain_if};
 use crate::free_gate::FreeGate;
 use crate::loads::loads;
 use crate::pace::{Pace, drive_pace};
 use crate::settings::DriveSettings;
-use q_device::Device;
+use q_device::{Device, Totals};
 use q_device::laws::{device_is_lawful, device_is_replayed};
 use q_packet::Packet;
 use q_ports::laws::{booked_is_replayed, settled};
@@ -145,6 +144,16 @@ fn open_drain<P: Ledger, B: Ledger, R: Wait>(
         Ok((drain, ports, _gauges)) => Some((drain, ports)),
         Err(_) => None,
     }
+}
+
+/// The result of the senders: the settled share, how many packets of the loads no try placed, what was drained if that was asked
+/// for, and the device.
+#[derive(Drop)]
+pub struct Driven {
+    pub settled: Totals,
+    pub given_up: u64,
+    pub drained: Option<Drained>,
+    pub device: Device,
 }
 
 /// What a drive came to that has settled: the share is what has arrived at the device, which is drained where that is asked for.
