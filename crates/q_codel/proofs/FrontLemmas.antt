@@ -1,14 +1,13 @@
 -- What the front of a queue tells of it: the head is there, and the bytes behind it are the others.
-use Rattle.std.proofs.Common.{◌≡◌, ℕ, ◌-◌, ◌^◌, ◌<◌, ◌≤◌, List, [], ◌∷◌, ◌++◌, Bool, true, take, drop, arith, refl, sym, ap, subst, ◌∙◌}
+use Rattle.std.proofs.Common.{◌≡◌, ℕ, ◌-◌, ◌^◌, ◌<◌, ◌≤◌, List, [], ◌∷◌, Bool, true, take, drop, arith, refl, sym, ap, subst, ◌∙◌}
 use Rattle.std.proofs.lemmas.Option.{none-some, same_Some}
 use Rattle.q_packet.proofs.TotalsLemmas.{size-cons}
 use Rattle.q_packet.specs.Totals.{count, size}
 use Rattle.q_packet.specs.declared.stamped.Stamped.{Stamped}
 use Rattle.q_packet.specs.declared.cause.Cause.{Cause}
-use Rattle.q_codel.specs.declared.loss.Loss.{Loss}
 use Rattle.q_codel.specs.declared.front.Front.{Front}
 use Rattle.q_codel.specs.Codel.{CodelState, is_late, Chooses, HasChosen}
-use Rattle.q_codel.specs.Losses.{losses_of}
+use Rattle.q_codel.specs.Losses.{AreLost, SinkState}
 use Rattle.q_codel.proofs.Law.{OnTheWay, OnTheWay_start}
 use Rattle.q_codel.specs.Front.{front_of, IsFront}
 
@@ -44,9 +43,9 @@ next front before after head rest is gone h =
     record { head = s.head; behind = s.rest; here = s.is; rest_is = sym (gone ∙ ap (drop 1) is) ∙ s.is; front_is = s.front_is }
 
 -- the loss of a head
-pub head_lost : (old new : List Loss) (cause : Cause) (queue : List Stamped) (head : Stamped) (rest : List Stamped) → queue ≡ head ∷ rest
-    → new ≡ old ++ losses_of cause (take 1 queue) → new ≡ old ++ record { packet = head.packet; cause = cause } ∷ []
-head_lost old new cause queue head rest is e = e ∙ ap (λ (q : List Stamped). old ++ losses_of cause (take 1 q)) is
+pub head_lost : (old new : SinkState) (cause : Cause) (queue : List Stamped) (head : Stamped) (rest : List Stamped) → queue ≡ head ∷ rest
+    → AreLost cause (take 1 queue) old new → AreLost cause (head ∷ []) old new
+head_lost old new cause queue head rest is e = subst (λ (q : List Stamped). AreLost cause (take 1 q) old new) is e
 
 -- what is chosen, where a caller knows what waits by its head and the rest
 pub chosen_at : (s : CodelState) (now : ℕ) (all : List Stamped) (head : Stamped) (marked : Bool) (rest : List Stamped) (t : CodelState) (waiting : List Stamped)

@@ -1,15 +1,15 @@
 -- How the heads go one by one, against the definition of how many go at once.
-use Rattle.std.proofs.Common.{◌≡◌, ℕ, zero, suc, ◌+◌, ◌-◌, ◌^◌, ◌<◌, ◌≤◌, min, Bool, true, false, not, ◌&&◌, ◌||◌, nat_lt, nat_le, Some, List, [], ◌∷◌, length, drop, arith, refl, sym, ap, ◌∙◌, subst, below_more, take, ◌++◌, append_assoc, drop-cons, length-drop}
+use Rattle.std.proofs.Common.{◌≡◌, ℕ, zero, suc, ◌+◌, ◌-◌, ◌^◌, ◌<◌, ◌≤◌, min, Bool, true, false, not, ◌&&◌, ◌||◌, nat_lt, nat_le, Some, List, [], ◌∷◌, length, drop, arith, refl, sym, ap, ◌∙◌, subst, below_more, take, drop-cons, length-drop}
 use Rattle.std.specs.Prelude.{slice_get, ◌==◌}
 use Rattle.std.proofs.lemmas.Bool.{lt-ltb, le-ltb, le-leb, lt-leb, ltb-true, ne_eqb, and_parts, or_left, or_right, or_from, not_from_true, not_from_false, cond-true, cond-false}
 use Rattle.std.proofs.lemmas.Option.{slice_get-get_or}
 use Rattle.q_packet.specs.declared.stamped.Stamped.{Stamped}
 use Rattle.q_packet.specs.declared.cause.Cause.{Cause}
-use Rattle.q_codel.specs.declared.loss.Loss.{Loss}
-use Rattle.q_codel.specs.Losses.{losses_of, AreLost}
+use Rattle.q_codel.specs.Losses.{AreLost, SinkState}
 use Rattle.q_codel.specs.Gap.{gap_of}
 use Rattle.q_codel.specs.Codel.{CodelState, CodelParams, CodelVars, joined, count_after, is_standing, is_late, is_capable, is_markable, moment, stops, drops, marks, gone_on, control_after, above_after, Chooses}
 use Rattle.q_packet.proofs.LeastLemmas.{least_is}
+use Rattle.q_codel.proofs.SinkLemmas.{lost_next}
 
 -- where a place is, what stands at it, and what behind it
 pub drop_within : (queue : List Stamped) (j : ℕ) (head : Stamped) (rest : List Stamped) → drop j queue ≡ head ∷ rest → j < length queue
@@ -251,22 +251,10 @@ module _ (s : CodelState) (now : ℕ) (all : List Stamped) (j : ℕ) (t : CodelS
               ∙ next_state g (length ∙ ap (λ (y : CodelVars). gap_of p.interval y.count) unmoved)
 
 -- one loss more
-pub lost_more : (cause : Cause) (all : List Stamped) (j : ℕ) (head : Stamped) (rest : List Stamped) → drop j all ≡ head ∷ rest → losses_of cause (take j all) ++ record { packet = head.packet; cause = cause } ∷ [] ≡ losses_of cause (take (suc j) all)
-lost_more cause [] zero head rest e = cc
-lost_more cause [] (suc j) head rest e = cc
-lost_more cause (x ∷ all) zero head rest e = let h : x ≡ head = cc in ap (λ (y : Stamped). losses_of cause (y ∷ [])) (sym h)
-lost_more cause (x ∷ all) (suc j) head rest e = ap (λ (l : List Loss). record { packet = x.packet; cause = cause } ∷ l) (lost_more cause all j head rest e)
-
-pub losses_more : (cause : Cause) (all : List Stamped) (j : ℕ) (old now later : List Loss) (room left less : ℕ) (head : Stamped) (rest : List Stamped) → drop j all ≡ head ∷ rest
-    → AreLost cause j all old now room left → later ≡ now ++ record { packet = head.packet; cause = cause } ∷ [] → less + 1 ≡ left → AreLost cause (suc j) all old later room less
-losses_more cause all j old now later room left less head rest place are added taken = record {
-  lost =
-      added ∙ ap (λ (l : List Loss). l ++ record { packet = head.packet; cause = cause } ∷ []) are.lost
-      ∙ append_assoc old (losses_of cause (take j all)) (record { packet = head.packet; cause = cause } ∷ [])
-      ∙ ap (λ (l : List Loss). old ++ l) (lost_more cause all j head rest place);
-  room = let r = are.room in omega arith;
-}
+pub losses_more : (cause : Cause) (all : List Stamped) (j : ℕ) (old now later : SinkState) (head : Stamped) (rest : List Stamped) → drop j all ≡ head ∷ rest
+    → AreLost cause (take j all) old now → AreLost cause (head ∷ []) now later → AreLost cause (take (suc j) all) old later
+losses_more cause all j old now later head rest place are one = lost_next cause all j head old now later (ap (λ (q : List Stamped). slice_get q 0) place) are one
 
 -- losses told by the number that the definition gives
-pub lost_at : (cause : Cause) (all : List Stamped) (j n : ℕ) (old now : List Loss) (room left : ℕ) → n ≡ j → AreLost cause j all old now room left → AreLost cause n all old now room left
-lost_at cause all j n old now room left e are = subst (λ (k : ℕ). AreLost cause k all old now room left) (sym e) are
+pub lost_at : (cause : Cause) (all : List Stamped) (j n : ℕ) (old now : SinkState) → n ≡ j → AreLost cause (take j all) old now → AreLost cause (take n all) old now
+lost_at cause all j n old now e are = subst (λ (k : ℕ). AreLost cause (take k all) old now) (sym e) are

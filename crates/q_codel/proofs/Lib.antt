@@ -7,4 +7,5 @@ pub mod Promises
 pub mod RangeLaw
 pub mod RingLemmas
 pub mod Root
+pub mod SinkLemmas
 pub mod TakeLaws

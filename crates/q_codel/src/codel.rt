@@ -1,7 +1,7 @@
 //! CoDel over a queue that it is lent, with its settings and its state together, as a caller with one queue uses it.
-ghost use Rattle.std.specs.Prelude.{◌≡◌, ◌≤◌, ◌<◌, ◌+◌, ◌^◌, ◌↔◌, ◌++◌, take, IsSome};
+ghost use Rattle.std.specs.Prelude.{◌≡◌, ◌≤◌, ◌<◌, ◌^◌, ◌↔◌, take, IsSome};
 ghost use Rattle.q_packet.specs.Totals.{count};
-ghost use Rattle.q_codel.specs.Losses.{losses_of};
+ghost use Rattle.q_codel.specs.Losses.{AreLost};
 
 use crate::control_state::ControlState;
 use crate::parameters::Parameters;
@@ -109,15 +109,13 @@ impl Codel {
         now: Moment,
         sink: &mut S,
     ) -> Option<Taken>
-        requires { count (Q.packets queue.old) ≤ S.room sink.old }
+        requires { count (Q.packets queue.old) ≤ (S.state sink.old).room }
         ensures taken { result ≡ taken self.old now (Q.packets queue.old) }
         ensures some { IsSome result ↔ (0 < count (Q.packets queue.old)) }
         ensures left { Q.packets queue.new ≡ left self.old now (Q.packets queue.old) }
         ensures state { self.new ≡ after self.old now (Q.packets queue.old) }
         ensures lost { let all = Q.packets queue.old in
-            S.losses sink.new ≡ S.losses sink.old
-            ++ losses_of Cause.CoDel (take (drops self.old now all) all) }
-        ensures room { S.room sink.new + drops self.old now (Q.packets queue.old) ≡ S.room sink.old }
+            AreLost Cause.CoDel (take (drops self.old now all) all) (S.state sink.old) (S.state sink.new) }
         ensures kept { Q.keeps queue.old queue.new }
         ensures sink_kept { S.keeps sink.old sink.new }
     {

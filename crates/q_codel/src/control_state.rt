@@ -5,13 +5,13 @@
 //! - While it goes on, the next drop is due after the interval over the square root of how many there were, so that drops come faster
 //!   the longer the queue stays.
 //! - The first sojourn time below the target ends it. If it begins again soon, the count goes on from near where it was.
-ghost use Rattle.std.specs.Prelude.{◌≡◌, ◌≤◌, ◌<◌, ◌+◌, ◌^◌, ◌↔◌, ◌∷◌, ◌++◌, List, Some, true, false, drop, take, option_map, slice_get, IsSome, IfSome, IfNone};
+ghost use Rattle.std.specs.Prelude.{◌≡◌, ◌≤◌, ◌<◌, ◌+◌, ◌^◌, ◌↔◌, ◌∷◌, List, Some, true, false, drop, take, option_map, slice_get, IsSome, IfSome, IfNone};
 ghost use Rattle.std.specs.Option.{option_map_or};
 ghost use Rattle.q_packet.specs.Totals.{count, size};
 ghost use Rattle.q_packet.specs.declared.stamped.Stamped.{Stamped};
 ghost use Rattle.q_codel.specs.Front.{front_of, IsFront};
 ghost use Rattle.q_codel.specs.declared.taken.Taken.{Taken};
-ghost use Rattle.q_codel.specs.Losses.{losses_of, AreLost};
+ghost use Rattle.q_codel.specs.Losses.{AreLost};
 ghost use Rattle.q_codel.specs.Codel.{leaving};
 
 use crate::control_law::gap;
@@ -129,7 +129,7 @@ impl ControlState {
         sink: &mut S,
         out: &mut KeptPacket,
     ) -> Option<bool>
-        requires { count (Q.packets queue.old) ≤ S.room sink.old }
+        requires { count (Q.packets queue.old) ≤ (S.state sink.old).room }
         ensures marked { result ≡ option_map (λ (t : Taken). t.marked) (taken (joined parameters.now self.old) now (Q.packets queue.old)) }
         ensures packet { out.new ≡ option_map_or (λ (t : Taken). t.packet) (taken (joined parameters.now self.old) now (Q.packets queue.old)) out.old }
         ensures some { IsSome result ↔ (0 < count (Q.packets queue.old)) }
@@ -137,10 +137,7 @@ impl ControlState {
         ensures state { joined parameters.now self.new
             ≡ after (joined parameters.now self.old) now (Q.packets queue.old) }
         ensures lost { let all = Q.packets queue.old in
-            S.losses sink.new ≡ S.losses sink.old
-            ++ losses_of Cause.CoDel (take (drops (joined parameters.now self.old) now all) all) }
-        ensures room { S.room sink.new + drops (joined parameters.now self.old) now (Q.packets queue.old)
-            ≡ S.room sink.old }
+            AreLost Cause.CoDel (take (drops (joined parameters.now self.old) now all) all) (S.state sink.old) (S.state sink.new) }
         ensures kept { Q.keeps queue.old queue.new }
         ensures sink_kept { S.keeps sink.old sink.new }
     {
@@ -168,17 +165,14 @@ impl ControlState {
     ) -> Leaving
         requires front { IsFront front (Q.packets queue.old) }
         requires late { is_late (joined parameters.now self.old) now (Q.packets queue.old) ≡ true }
-        requires room { count (Q.packets queue.old) ≤ S.room sink.old }
+        requires room { count (Q.packets queue.old) ≤ (S.state sink.old).room }
         ensures taken { Some (record { packet = out.new; marked = result.marked }) ≡ taken (joined parameters.now self.old) now (Q.packets queue.old) }
         ensures at { Some result.at ≡ option_map (λ (s : Stamped). s.at) (sent (joined parameters.now self.old) now (Q.packets queue.old)) }
         ensures left { Q.packets queue.new ≡ left (joined parameters.now self.old) now (Q.packets queue.old) }
         ensures state { joined parameters.now self.new
             ≡ after (joined parameters.now self.old) now (Q.packets queue.old) }
         ensures lost { let all = Q.packets queue.old in
-            S.losses sink.new ≡ S.losses sink.old
-            ++ losses_of Cause.CoDel (take (drops (joined parameters.now self.old) now all) all) }
-        ensures room { S.room sink.new + drops (joined parameters.now self.old) now (Q.packets queue.old)
-            ≡ S.room sink.old }
+            AreLost Cause.CoDel (take (drops (joined parameters.now self.old) now all) all) (S.state sink.old) (S.state sink.new) }
         ensures kept { Q.keeps queue.old queue.new }
         ensures sink_kept { S.keeps sink.old sink.new }
     {
@@ -235,12 +229,11 @@ impl ControlState {
         sink: &mut S,
     ) -> bool
         requires front { IsFront front (Q.packets queue.old) }
-        requires room { count (Q.packets queue.old) ≤ S.room sink.old }
+        requires room { count (Q.packets queue.old) ≤ (S.state sink.old).room }
         ensures chosen { HasChosen (joined parameters.now self.old) now (Q.packets queue.old) result (Q.packets queue.new)
             (joined parameters.now self.new) }
         ensures lost { let all = Q.packets queue.old in
-            AreLost Cause.CoDel (drops (joined parameters.now self.old) now all) all (S.losses sink.old) (S.losses sink.new)
-            (S.room sink.old) (S.room sink.new) }
+            AreLost Cause.CoDel (take (drops (joined parameters.now self.old) now all) all) (S.state sink.old) (S.state sink.new) }
         ensures kept { Q.keeps queue.old queue.new }
         ensures sink_kept { S.keeps sink.old sink.new }
     {
@@ -265,13 +258,12 @@ impl ControlState {
         sink: &mut S,
     ) -> bool
         requires front { IsFront front (Q.packets queue.old) }
-        requires room { count (Q.packets queue.old) ≤ S.room sink.old }
+        requires room { count (Q.packets queue.old) ≤ (S.state sink.old).room }
         requires late { is_late (joined parameters.now self.old) now (Q.packets queue.old) ≡ true }
         ensures chosen { HasChosen (joined parameters.now self.old) now (Q.packets queue.old) result (Q.packets queue.new)
             (joined parameters.now self.new) }
         ensures lost { let all = Q.packets queue.old in
-            AreLost Cause.CoDel (drops (joined parameters.now self.old) now all) all (S.losses sink.old) (S.losses sink.new)
-            (S.room sink.old) (S.room sink.new) }
+            AreLost Cause.CoDel (take (drops (joined parameters.now self.old) now all) all) (S.state sink.old) (S.state sink.new) }
         ensures kept { Q.keeps queue.old queue.new }
         ensures sink_kept { S.keeps sink.old sink.new }
     {
@@ -289,13 +281,12 @@ impl ControlState {
         sink: &mut S,
     ) -> bool
         requires front { IsFront front (Q.packets queue.old) }
-        requires room { count (Q.packets queue.old) ≤ S.room sink.old }
+        requires room { count (Q.packets queue.old) ≤ (S.state sink.old).room }
         requires late { is_late (joined parameters.now self.old) now (Q.packets queue.old) ≡ true }
         ensures chosen { HasChosen (joined parameters.now self.old) now (Q.packets queue.old) result (Q.packets queue.new)
             (joined parameters.now self.new) }
         ensures lost { let all = Q.packets queue.old in
-            AreLost Cause.CoDel (drops (joined parameters.now self.old) now all) all (S.losses sink.old) (S.losses sink.new)
-            (S.room sink.old) (S.room sink.new) }
+            AreLost Cause.CoDel (take (drops (joined parameters.now self.old) now all) all) (S.state sink.old) (S.state sink.new) }
         ensures kept { Q.keeps queue.old queue.new }
         ensures sink_kept { S.keeps sink.old sink.new }
     {
@@ -326,15 +317,14 @@ impl ControlState {
         sink: &mut S,
     ) -> bool
         requires front { IsFront first (Q.packets queue.old) }
-        requires room { count (Q.packets queue.old) ≤ S.room sink.old }
+        requires room { count (Q.packets queue.old) ≤ (S.state sink.old).room }
         requires counted { self.old.count < 2 ^ 32 }
         requires dropping { self.old.dropping ≡ true }
         requires late { is_late (joined parameters.now self.old) now (Q.packets queue.old) ≡ true }
         ensures chosen { HasChosen (joined parameters.now self.old) now (Q.packets queue.old) result (Q.packets queue.new)
             (joined parameters.now self.new) }
         ensures lost { let all = Q.packets queue.old in
-            AreLost Cause.CoDel (drops (joined parameters.now self.old) now all) all (S.losses sink.old) (S.losses sink.new)
-            (S.room sink.old) (S.room sink.new) }
+            AreLost Cause.CoDel (take (drops (joined parameters.now self.old) now all) all) (S.state sink.old) (S.state sink.new) }
         ensures kept { Q.keeps queue.old queue.new }
         ensures sink_kept { S.keeps sink.old sink.new }
     {
@@ -438,11 +428,10 @@ fn give_head<Q: Queue>(queue: &mut Q, marked: bool, out: &mut KeptPacket)
 #[inline(always)]
 fn drop_head<Q: Queue, S: Sink>(queue: &mut Q, sink: &mut S) -> Front
     requires some { 1 < count (Q.packets queue.old) }
-    requires room { 1 ≤ S.room sink.old }
+    requires room { 1 ≤ (S.state sink.old).room }
     ensures front { IsFront result (Q.packets queue.new) }
     ensures rest { Q.packets queue.new ≡ drop 1 (Q.packets queue.old) }
-    ensures lost { S.losses sink.new ≡ S.losses sink.old ++ losses_of Cause.CoDel (take 1 (Q.packets queue.old)) }
-    ensures room { S.room sink.new + 1 ≡ S.room sink.old }
+    ensures lost { AreLost Cause.CoDel (take 1 (Q.packets queue.old)) (S.state sink.old) (S.state sink.new) }
     ensures kept { Q.keeps queue.old queue.new }
     ensures sink_kept { S.keeps sink.old sink.new }
 {

@@ -6,7 +6,7 @@ ghost use Rattle.q_packet.specs.Totals.{count, size};
 ghost use Rattle.q_codel.specs.Bursts.{HasWidths, IsShort, room_of, stamped_at};
 ghost use Rattle.q_codel.specs.FifoState.{most_places};
 ghost use Rattle.q_codel.specs.Front.{front_of};
-ghost use Rattle.q_codel.specs.Losses.{losses_of};
+ghost use Rattle.q_codel.specs.Losses.{AreLost};
 ghost use Rattle.q_packet.specs.declared.stamped.Stamped.{Stamped};
 ghost use Rattle.std.specs.Option.{option_map_or};
 
@@ -296,10 +296,9 @@ impl Fifo {
 
     /// Loses every packet, front first, with the cause `Purged`. The places stay reserved.
     pub fn purge<S: Sink>(&mut self, sink: &mut S)
-        requires { count self.old.packets ≤ S.room sink.old }
+        requires { count self.old.packets ≤ (S.state sink.old).room }
         ensures empty { self.new ≡ record self.old { packets = [] } }
-        ensures lost { S.losses sink.new ≡ S.losses sink.old ++ losses_of Cause.Purged self.old.packets }
-        ensures room { S.room sink.new + count self.old.packets ≡ S.room sink.old }
+        ensures lost { AreLost Cause.Purged self.old.packets (S.state sink.old) (S.state sink.new) }
         ensures kept { S.keeps sink.old sink.new }
     {
         while let Some(stamped) = self.take() {

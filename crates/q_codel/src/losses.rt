@@ -87,9 +87,7 @@ impl Losses {
 impl Sink for Losses {
     ghost use Rattle.std.specs.Prelude.{◌≡◌, ◌-◌, length, refl};
 
-    ghost losses = { λ l. l.waiting };
-
-    ghost room = { λ l. l.places - length l.waiting };
+    ghost state = { λ l. record { losses = l.waiting; room = l.places - length l.waiting } };
 
     ghost keeps = { λ l m. m ≡ record l { waiting = m.waiting } };
 

@@ -1,9 +1,9 @@
 //! What CoDel asks of a queue that it is lent.
-ghost use Rattle.std.specs.Prelude.{◌≡◌, ◌<◌, ◌≤◌, ◌+◌, ◌++◌, List, Some, option_map, slice_get, drop, take};
+ghost use Rattle.std.specs.Prelude.{◌≡◌, ◌<◌, ◌≤◌, List, Some, option_map, slice_get, drop, take};
 ghost use Rattle.q_packet.specs.Totals.{count, size};
 ghost use Rattle.q_packet.specs.declared.stamped.Stamped.{Stamped};
 ghost use Rattle.q_codel.specs.Front.{front_of};
-ghost use Rattle.q_codel.specs.Losses.{losses_of};
+ghost use Rattle.q_codel.specs.Losses.{AreLost};
 
 use crate::front::Front;
 use crate::sink::Sink;
@@ -56,10 +56,9 @@ pub trait Queue {
     /// Loses the packet in front, which is there: `sink` gets it, with this cause.
     fn lose<S: Sink>(&mut self, cause: Cause, sink: &mut S)
         requires some { 0 < count (packets self.old) }
-        requires room { 1 ≤ S.room sink.old }
+        requires room { 1 ≤ (S.state sink.old).room }
         ensures rest { packets self.new ≡ drop 1 (packets self.old) }
-        ensures lost { S.losses sink.new ≡ S.losses sink.old ++ losses_of cause (take 1 (packets self.old)) }
-        ensures room { S.room sink.new + 1 ≡ S.room sink.old }
+        ensures lost { AreLost cause (take 1 (packets self.old)) (S.state sink.old) (S.state sink.new) }
         ensures kept { keeps self.old self.new }
         ensures sink_kept { S.keeps sink.old sink.new }
     {

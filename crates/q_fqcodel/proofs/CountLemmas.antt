@@ -33,6 +33,9 @@ packets_all : (flows : List Flow) → packets_of flows ≡ sum_by one (all_packe
 packets_all [] = packets_of-nil ∙ sym (ap (sum_by one) all_packets-nil)
 packets_all (f ∷ fs) = omega (arith, packets_of-cons f fs, ap (sum_by one) (all_packets-cons f fs), sum_by-append one f.queue (all_packets fs), sum_by_one f.queue, packets_all fs)
 
+pub packets_counted : (flows : List Flow) → packets_of flows ≡ count (all_packets flows)
+packets_counted flows = omega (arith, packets_all flows, sum_by_one (all_packets flows))
+
 bytes_all : (flows : List Flow) → bytes_of flows ≡ sum_by len (all_packets flows)
 bytes_all [] = bytes_of-nil ∙ sym (ap (sum_by len) all_packets-nil)
 bytes_all (f ∷ fs) = omega (arith, bytes_of-cons f fs, ap (sum_by len) (all_packets-cons f fs), sum_by-append len f.queue (all_packets fs), bytes_all fs)

@@ -30,25 +30,6 @@ adjust_id g (suc n) (x ∷ xs) e = ap (λ (l : List _). x ∷ l) (adjust_id g n 
 pub shortened_none : (n : ℕ) (flows : List Flow) → adjust (shortened 0) n flows ≡ flows
 shortened_none n flows = adjust_id (shortened 0) n flows (λ f. refl)
 
--- a queue read at its i-th packet
-pub taken_more : (q : List Stamped) (i : ℕ) (x : Stamped) → slice_get (drop i q) 0 ≡ Some x → take (suc i) q ≡ take i q ++ x ∷ []
-taken_more [] zero x h = absurd cc
-taken_more [] (suc i) x h = absurd cc
-taken_more (y ∷ ys) zero x h = let e : y ≡ x = cc in ap (λ (z : Stamped). z ∷ []) e
-taken_more (y ∷ ys) (suc i) x h = ap (λ (l : List Stamped). y ∷ l) (taken_more ys i x h)
-
--- the losses with one more
-pub lost_one : (old now new : List Loss) (cause : Cause) (q : List Stamped) (i : ℕ) (x : Stamped) → now ≡ old ++ losses_of cause (take i q) → new ≡ now ++ record { packet = x.packet; cause = cause } ∷ []
-    → slice_get (drop i q) 0 ≡ Some x → new ≡ old ++ losses_of cause (take (i + 1) q)
-lost_one old now new cause q i x before more read =
-    let one : losses_of cause (take (suc i) q) ≡ losses_of cause (take i q) ++ record { packet = x.packet; cause = cause } ∷ [] =
-    ap (losses_of cause) (taken_more q i x read) ∙ map-append (λ (s : Stamped). record { packet = s.packet; cause = cause }) (take i q) (x ∷ []) in
-    let next : losses_of cause (take (suc i) q) ≡ losses_of cause (take (i + 1) q) = ap (λ (n : ℕ). losses_of cause (take n q)) (sym (add-one i)) in
-    more
-    ∙ ap (λ (l : List Loss). l ++ record { packet = x.packet; cause = cause } ∷ []) before
-    ∙ append_assoc old (losses_of cause (take i q)) (record { packet = x.packet; cause = cause } ∷ [])
-    ∙ ap (λ (l : List Loss). old ++ l) (sym one ∙ next)
-
 -- what CoDel knew of a flow is forgotten
 abbrev pub forgotten : Flow → Flow
 forgotten f = record f { codel = at_first f.codel.target f.codel.interval f.codel.mtu f.codel.ecn }

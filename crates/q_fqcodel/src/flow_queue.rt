@@ -1,10 +1,10 @@
 //! One flow's queue as CoDel sees it: CoDel is lent a queue, and the packets of all flows are in one pool.
-ghost use Rattle.std.specs.Prelude.{◌≡◌, ◌+◌, ◌≤◌, [], ◌++◌, Some, take, get_or, option_map, true, refl};
+ghost use Rattle.std.specs.Prelude.{◌≡◌, ◌≤◌, [], Some, take, get_or, option_map, true, refl};
 ghost use Rattle.std.proofs.Common.{◌∙◌};
 ghost use Rattle.q_packet.specs.Totals.{count};
 ghost use Rattle.q_codel.specs.Codel.{joined, drops, sent, taken, left, after, is_late};
 ghost use Rattle.q_codel.specs.Front.{IsFront};
-ghost use Rattle.q_codel.specs.Losses.{losses_of};
+ghost use Rattle.q_codel.specs.Losses.{AreLost};
 ghost use Rattle.q_fqcodel.specs.Pool.{SameBeside};
 ghost use Rattle.q_packet.specs.declared.stamped.Stamped.{Stamped};
 ghost use Rattle.q_fqcodel.specs.Take.{taken_as};
@@ -79,14 +79,13 @@ pub(crate) fn send_late_from<S: Sink>(
 ) -> Leaving
     requires front { IsFront front (get_or pool.old.queues flow []) }
     requires late { is_late (joined parameters.now codel.old) now (get_or pool.old.queues flow []) ≡ true }
-    requires room { count (get_or pool.old.queues flow []) ≤ S.room sink.old }
+    requires room { count (get_or pool.old.queues flow []) ≤ (S.state sink.old).room }
     ensures sent { taken_as out.new result.marked ≡ taken (joined parameters.now codel.old) now (get_or pool.old.queues flow []) }
     ensures at { Some result.at ≡ option_map (λ (s : Stamped). s.at) (sent (joined parameters.now codel.old) now (get_or pool.old.queues flow [])) }
     ensures left { get_or pool.new.queues flow [] ≡ left (joined parameters.now codel.old) now (get_or pool.old.queues flow []) }
     ensures state { joined parameters.now codel.new ≡ after (joined parameters.now codel.old) now (get_or pool.old.queues flow []) }
-    ensures lost { S.losses sink.new ≡ S.losses sink.old
-        ++ losses_of Cause.CoDel (take (drops (joined parameters.now codel.old) now (get_or pool.old.queues flow [])) (get_or pool.old.queues flow [])) }
-    ensures room { S.room sink.new + drops (joined parameters.now codel.old) now (get_or pool.old.queues flow []) ≡ S.room sink.old }
+    ensures lost { AreLost Cause.CoDel (take (drops (joined parameters.now codel.old) now (get_or pool.old.queues flow [])) (get_or pool.old.queues flow []))
+        (S.state sink.old) (S.state sink.new) }
     ensures others { SameBeside flow pool.old.queues pool.new.queues }
     ensures places { pool.new.places ≡ pool.old.places }
     ensures kept { S.keeps sink.old sink.new }

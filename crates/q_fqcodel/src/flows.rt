@@ -1,16 +1,17 @@
 //! All flows by index: where a flow's packets are, what CoDel knows of it, and how its list is told of both.
-ghost use Rattle.std.specs.Prelude.{◌≡◌, ◌+◌, ◌<◌, ◌≤◌, ◌%◌, ◌^◌, [], ◌++◌, ◌&&◌, ◌==◌, not, true, false, nat_le, length, map, replicate, take, drop, set, slice_get, get_or, ◌↔◌, Some, option_map, IsSome, IfSome, IsOk, IfOk, OnOk, OnErr};
+ghost use Rattle.std.specs.Prelude.{◌≡◌, ◌+◌, ◌<◌, ◌≤◌, ◌%◌, ◌^◌, [], ◌&&◌, ◌==◌, not, true, false, nat_le, length, map, replicate, take, drop, set, slice_get, get_or, ◌↔◌, Some, option_map, IsSome, IfSome, IsOk, IfOk, OnOk, OnErr};
 ghost use Rattle.q_packet.specs.Totals.{count};
 ghost use Rattle.q_packet.specs.declared.stamped.Stamped.{Stamped};
 ghost use Rattle.q_codel.specs.Codel.{is_late, sent};
 ghost use Rattle.q_codel.specs.Front.{IsFront};
-ghost use Rattle.q_codel.specs.Losses.{losses_of};
+ghost use Rattle.q_codel.specs.Losses.{AreLost};
 ghost use Rattle.q_fqcodel.specs.Cleared.{adjust};
 ghost use Rattle.q_fqcodel.specs.FqState.{queue_of, is_idle, packets_of, bytes_of, rested_flow, retuned, all_packets, first_flow};
 ghost use Rattle.q_fqcodel.specs.Put.{joined, shortened, fattest, shed_count};
 ghost use Rattle.q_fqcodel.specs.Take.{taken_as, packet_sent, packets_dropped, flow_after};
 ghost use Rattle.q_fqcodel.specs.Pool.{stamp, cleared};
-ghost use Rattle.q_fqcodel.specs.Oldest.{earlier, earliest, first_arrival, first_arrivals};
+
+mod oldest;
 
 use crate::course::Course;
 use crate::flow_queue::send_late_from;
@@ -185,7 +186,7 @@ impl Flows {
         requires in_range { flow < length self.old.flows }
         requires some { 0 < count (queue_of self.old.flows flow) }
         requires late { IfSome (slice_get self.old.flows flow) (λ f. is_late f.codel now f.queue ≡ true) }
-        requires room { count (queue_of self.old.flows flow) ≤ S.room sink.old }
+        requires room { count (queue_of self.old.flows flow) ≤ (S.state sink.old).room }
         ensures sent { IfSome (slice_get self.old.flows flow) (λ f. taken_as out.new result.marked ≡ packet_sent now f) }
         ensures at { IfSome (slice_get self.old.flows flow) (λ f. Some result.at ≡ option_map (λ (s : Stamped). s.at) (sent f.codel now f.queue)) }
         ensures len { result.len ≡ out.new.len }
@@ -194,9 +195,7 @@ impl Flows {
         ensures flows { self.new.flows ≡ adjust (flow_after now) flow self.old.flows }
         ensures places { self.new.places ≡ self.old.places }
         ensures lost { IfSome (slice_get self.old.flows flow)
-            (λ f. S.losses sink.new ≡ S.losses sink.old ++ losses_of Cause.CoDel (packets_dropped now f)) }
-        ensures room { IfSome (slice_get self.old.flows flow)
-            (λ f. S.room sink.new + count (packets_dropped now f) ≡ S.room sink.old) }
+            (λ f. AreLost Cause.CoDel (packets_dropped now f) (S.state sink.old) (S.state sink.new)) }
         ensures kept { S.keeps sink.old sink.new }
     {
         let (front, _) = self.pool.peek(flow);
@@ -223,24 +222,6 @@ impl Flows {
         }
     }
 
-    /// When the packet arrived that has been queued longest, of those in front of a flow.
-    pub(crate) fn oldest(&self) -> Option<Moment>
-        ensures { result ≡ earliest (first_arrivals self.now.flows) }
-    {
-        let mut oldest = None;
-        for flow in 0..self.len() {
-            oldest = earlier(oldest, self.first_arrival(flow));
-        }
-        oldest
-    }
-
-    // When the packet in front of a flow arrived.
-    fn first_arrival(&self, flow: u32) -> Option<Moment>
-        ensures { result ≡ first_arrival (queue_of self.now.flows flow) }
-    {
-        self.pool.arrival_of(flow)
-    }
-
     // The fat flow, once a packet with so many bytes has joined a flow.
     fn fattest_with(&self, flow: u32, len: u16) -> u32
         requires within { flow < length self.now.flows }
@@ -257,11 +238,10 @@ impl Flows {
     /// Loses the first `lost` packets of a flow.
     pub(crate) fn lose<S: Sink>(&mut self, flow: u32, lost: u64, cause: Cause, sink: &mut S)
         requires held { lost ≤ count (queue_of self.old.flows flow) }
-        requires room { lost ≤ S.room sink.old }
+        requires room { lost ≤ (S.state sink.old).room }
         ensures flows { self.new.flows ≡ adjust (shortened lost) flow self.old.flows }
         ensures places { self.new.places ≡ self.old.places }
-        ensures lost { S.losses sink.new ≡ S.losses sink.old ++ losses_of cause (take lost (queue_of self.old.flows flow)) }
-        ensures room { S.room sink.new + lost ≡ S.room sink.old }
+        ensures lost { AreLost cause (take lost (queue_of self.old.flows flow)) (S.state sink.old) (S.state sink.new) }
         ensures kept { S.keeps sink.old sink.new }
     {
         if lost == 0 {
@@ -298,12 +278,11 @@ impl Flows {
         requires place { packets_of self.old.flows < self.old.places }
         requires few { packets_of self.old.flows < 2 ^ 32 }
         requires held { lost ≤ count (queue_of (adjust (joined (stamp packet.now now)) flow self.old.flows) flow) }
-        requires room { lost ≤ S.room sink.old }
+        requires room { lost ≤ (S.state sink.old).room }
         ensures flows { self.new.flows ≡ adjust (shortened lost) flow (adjust (joined (stamp packet.now now)) flow self.old.flows) }
         ensures places { self.new.places ≡ self.old.places }
-        ensures lost { S.losses sink.new ≡ S.losses sink.old
-            ++ losses_of Cause.FatFlow (take lost (queue_of (adjust (joined (stamp packet.now now)) flow self.old.flows) flow)) }
-        ensures room { S.room sink.new + lost ≡ S.room sink.old }
+        ensures lost { AreLost Cause.FatFlow (take lost (queue_of (adjust (joined (stamp packet.now now)) flow self.old.flows) flow))
+            (S.state sink.old) (S.state sink.new) }
         ensures kept { S.keeps sink.old sink.new }
     {
         let _ = self.pool.push(packet, now, flow);
@@ -332,12 +311,11 @@ impl Flows {
         requires place { packets_of self.old.flows < self.old.places }
         requires few { packets_of self.old.flows < 2 ^ 32 }
         requires held { 0 < count (queue_of self.old.flows fat) }
-        requires room { 1 ≤ S.room sink.old }
+        requires room { 1 ≤ (S.state sink.old).room }
         ensures flows { self.new.flows ≡ adjust (shortened 1) fat (adjust (joined (stamp packet.now now)) flow self.old.flows) }
         ensures places { self.new.places ≡ self.old.places }
-        ensures lost { S.losses sink.new ≡ S.losses sink.old
-            ++ losses_of Cause.FatFlow (take 1 (queue_of (adjust (joined (stamp packet.now now)) flow self.old.flows) fat)) }
-        ensures room { S.room sink.new + 1 ≡ S.room sink.old }
+        ensures lost { AreLost Cause.FatFlow (take 1 (queue_of (adjust (joined (stamp packet.now now)) flow self.old.flows) fat))
+            (S.state sink.old) (S.state sink.new) }
         ensures kept { S.keeps sink.old sink.new }
     {
         let own = self.pool.replace(fat, flow, packet, now, sink);
@@ -365,16 +343,16 @@ impl Flows {
         requires own { packet.now.hash % length self.old.flows ≡ flow }
         requires place { packets_of self.old.flows < self.old.places }
         requires few { packets_of self.old.flows < 2 ^ 32 }
-        requires room { shed_count (adjust (joined (stamp packet.now now)) flow self.old.flows) batch ≤ S.room sink.old }
+        requires room { shed_count (adjust (joined (stamp packet.now now)) flow self.old.flows) batch ≤ (S.state sink.old).room }
         ensures answer { result ≡ ((fattest (adjust (joined (stamp packet.now now)) flow self.old.flows) == flow)
             && nat_le (count (queue_of (adjust (joined (stamp packet.now now)) flow self.old.flows) flow)) (shed_count (adjust (joined (stamp packet.now now)) flow self.old.flows) batch)) }
         ensures flows { self.new.flows ≡ adjust (shortened (shed_count (adjust (joined (stamp packet.now now)) flow self.old.flows) batch))
             (fattest (adjust (joined (stamp packet.now now)) flow self.old.flows)) (adjust (joined (stamp packet.now now)) flow self.old.flows) }
         ensures places { self.new.places ≡ self.old.places }
         ensures some { 0 < count (queue_of (adjust (joined (stamp packet.now now)) flow self.old.flows) (fattest (adjust (joined (stamp packet.now now)) flow self.old.flows))) }
-        ensures lost { S.losses sink.new ≡ S.losses sink.old ++ losses_of Cause.FatFlow (take (shed_count (adjust (joined (stamp packet.now now)) flow self.old.flows) batch)
-            (queue_of (adjust (joined (stamp packet.now now)) flow self.old.flows) (fattest (adjust (joined (stamp packet.now now)) flow self.old.flows)))) }
-        ensures room { S.room sink.new + shed_count (adjust (joined (stamp packet.now now)) flow self.old.flows) batch ≡ S.room sink.old }
+        ensures lost { AreLost Cause.FatFlow (take (shed_count (adjust (joined (stamp packet.now now)) flow self.old.flows) batch)
+            (queue_of (adjust (joined (stamp packet.now now)) flow self.old.flows) (fattest (adjust (joined (stamp packet.now now)) flow self.old.flows))))
+            (S.state sink.old) (S.state sink.new) }
         ensures kept { S.keeps sink.old sink.new }
     {
         let fat = self.fattest_with(flow, packet.stored.len);
@@ -409,11 +387,10 @@ impl Flows {
     /// Loses all packets of a flow, and forgets what CoDel knew of it.
     fn empty<S: Sink>(&mut self, flow: u32, sink: &mut S)
         requires in_range { flow < length self.old.flows }
-        requires room { count (queue_of self.old.flows flow) ≤ S.room sink.old }
+        requires room { count (queue_of self.old.flows flow) ≤ (S.state sink.old).room }
         ensures flows { self.new.flows ≡ adjust cleared flow self.old.flows }
         ensures places { self.new.places ≡ self.old.places }
-        ensures lost { S.losses sink.new ≡ S.losses sink.old ++ losses_of Cause.Purged (queue_of self.old.flows flow) }
-        ensures room { S.room sink.new + count (queue_of self.old.flows flow) ≡ S.room sink.old }
+        ensures lost { AreLost Cause.Purged (queue_of self.old.flows flow) (S.state sink.old) (S.state sink.new) }
         ensures kept { S.keeps sink.old sink.new }
     {
         let count = self.count_of(flow);
@@ -423,11 +400,10 @@ impl Flows {
 
     /// Loses every packet, flow by flow. The flows are then as at first, with the settings of CoDel from these settings.
     pub(crate) fn purge<S: Sink>(&mut self, settings: Settings, sink: &mut S)
-        requires { packets_of self.old.flows ≤ S.room sink.old }
+        requires { packets_of self.old.flows ≤ (S.state sink.old).room }
         ensures flows { self.new.flows ≡ replicate (length self.old.flows) (first_flow settings) }
         ensures places { self.new.places ≡ self.old.places }
-        ensures lost { S.losses sink.new ≡ S.losses sink.old ++ losses_of Cause.Purged (all_packets self.old.flows) }
-        ensures room { S.room sink.new + packets_of self.old.flows ≡ S.room sink.old }
+        ensures lost { AreLost Cause.Purged (all_packets self.old.flows) (S.state sink.old) (S.state sink.new) }
         ensures kept { S.keeps sink.old sink.new }
     {
         for flow in 0..self.len() {
@@ -463,28 +439,14 @@ fn parameters_of(settings: Settings) -> Parameters
 #[inline(always)]
 fn lose_from<S: Sink>(pool: &mut Pool, flow: u32, lost: u64, cause: Cause, sink: &mut S)
     requires held { lost ≤ count (get_or pool.old.queues flow []) }
-    requires room { lost ≤ S.room sink.old }
+    requires room { lost ≤ (S.state sink.old).room }
     ensures queues { pool.new.queues ≡ set pool.old.queues flow (drop lost (get_or pool.old.queues flow [])) }
     ensures places { pool.new.places ≡ pool.old.places }
-    ensures lost { S.losses sink.new ≡ S.losses sink.old ++ losses_of cause (take lost (get_or pool.old.queues flow [])) }
-    ensures room { S.room sink.new + lost ≡ S.room sink.old }
+    ensures lost { AreLost cause (take lost (get_or pool.old.queues flow [])) (S.state sink.old) (S.state sink.new) }
     ensures kept { S.keeps sink.old sink.new }
 {
     for _i in 0..lost {
         let stamped = pool.take_of(flow).unwrap();
         sink.lost(stamped.packet, cause);
     }
-}
-
-// The earlier of two times, each of which may not be there.
-fn earlier(a: Option<Moment>, b: Option<Moment>) -> Option<Moment>
-    ensures { result ≡ earlier a b }
-{
-    let Some(first) = a else {
-        return b;
-    };
-    let Some(second) = b else {
-        return a;
-    };
-    Some(first.min(second))
 }

@@ -1,11 +1,13 @@
-ghost use Rattle.std.specs.Prelude.{ℕ, ◌≡◌, ◌+◌, ◌%◌, ◌<◌, nat_lt, ◌≤◌, ◌↔◌, ◌==◌, [], ◌∷◌, ◌++◌, length, set, slice_get, option_map, pos, true, false, if◌then◌else◌, IsSome, IfSome, IsNone, IsOk, IfOk, OnOk, OnErr};
+ghost use Rattle.std.specs.Prelude.{ℕ, ◌≡◌, ◌+◌, ◌%◌, ◌<◌, nat_lt, ◌≤◌, ◌↔◌, ◌==◌, [], ◌∷◌, length, set, slice_get, option_map, pos, true, false, if◌then◌else◌, IsSome, IfSome, IsNone, IsOk, IfOk, OnOk, OnErr};
 ghost use Rattle.std.specs.Option.{option_map_or};
 ghost use Rattle.q_packet.specs.Totals.{count, size};
 ghost use Rattle.q_packet.specs.Descriptor.{Descriptor};
 ghost use Rattle.q_codel.specs.declared.front.Front.{Front as Read};
 ghost use Rattle.q_codel.specs.declared.taken.Taken.{Taken};
+ghost use Rattle.q_codel.specs.Losses.{AreLost};
 ghost use Rattle.q_packet.specs.declared.stamped.Stamped.{Stamped};
-ghost use Rattle.q_codel.specs.Losses.{losses_of};
+
+mod oldest;
 
 use crate::active_lists::ActiveLists;
 use crate::dropped::Dropped;
@@ -61,7 +63,6 @@ impl FqCodel {
     ghost use Rattle.q_fqcodel.specs.Put.{after_put, lost_by_put, is_lost_itself};
     ghost use Rattle.q_fqcodel.specs.Take.{selected, front, head_sent, sent_from, dropped_from, after_sending, IsFrontLate};
     ghost use Rattle.q_fqcodel.specs.Lawful.{IsLawful};
-    ghost use Rattle.q_fqcodel.specs.Oldest.{earliest, first_arrivals};
     ghost use Rattle.q_fqcodel.specs.Turns.{GoesOn, IsSettled};
 
     /// Takes the next packet to send at the time `now`, and hands those that CoDel drops before it to `sink`. Returns
@@ -69,13 +70,12 @@ impl FqCodel {
     ///
     /// `sink` needs room for as many packets as all flows hold.
     pub fn take<S: Sink>(&mut self, now: Moment, sink: &mut S) -> Option<Taken>
-        requires { packets_of self.old.state.flows ≤ S.room sink.old }
+        requires { packets_of self.old.state.flows ≤ (S.state sink.old).room }
         ensures sent { result ≡ sent_from now (selected self.old.state) }
         ensures some { IsSome result ↔ (0 < packets_of self.old.state.flows) }
         ensures after { self.new.state ≡ after_sending now (selected self.old.state) }
         ensures places { self.new.places ≡ self.old.places }
-        ensures lost { S.losses sink.new ≡ S.losses sink.old ++ losses_of Cause.CoDel (dropped_from now (selected self.old.state)) }
-        ensures room { S.room sink.new + count (dropped_from now (selected self.old.state)) ≡ S.room sink.old }
+        ensures lost { AreLost Cause.CoDel (dropped_from now (selected self.old.state)) (S.state sink.old) (S.state sink.new) }
         ensures kept { S.keeps sink.old sink.new }
     {
         let mut packet = SOME_KEPT;
@@ -95,7 +95,7 @@ impl FqCodel {
     /// has a packet. The result has its length, and whether CoDel marked it or dropped packets before it.
     #[inline(always)]
     pub fn take_into<S: Sink>(&mut self, now: Moment, out: &mut KeptPacket, sink: &mut S) -> Sent
-        requires { packets_of self.old.state.flows ≤ S.room sink.old }
+        requires { packets_of self.old.state.flows ≤ (S.state sink.old).room }
         ensures len { result.len ≡ option_map_or (λ (t : Taken). t.packet.len) (sent_from now (selected self.old.state)) 0 }
         ensures some { (0 < result.len) ↔ (0 < packets_of self.old.state.flows) }
         ensures packet { out.new ≡ option_map_or (λ (t : Taken). t.packet) (sent_from now (selected self.old.state)) out.old }
@@ -104,8 +104,7 @@ impl FqCodel {
         ensures dropped { result.dropped ≡ not (count (dropped_from now (selected self.old.state)) == 0) }
         ensures after { self.new.state ≡ after_sending now (selected self.old.state) }
         ensures places { self.new.places ≡ self.old.places }
-        ensures lost { S.losses sink.new ≡ S.losses sink.old ++ losses_of Cause.CoDel (dropped_from now (selected self.old.state)) }
-        ensures room { S.room sink.new + count (dropped_from now (selected self.old.state)) ≡ S.room sink.old }
+        ensures lost { AreLost Cause.CoDel (dropped_from now (selected self.old.state)) (S.state sink.old) (S.state sink.new) }
         ensures kept { S.keeps sink.old sink.new }
     {
         match self.pass_into(now, out) {
@@ -167,7 +166,7 @@ impl FqCodel {
     ) -> Sent
         requires settled { IsSettled self.old.state }
         requires late { IsFrontLate now self.old.state }
-        requires room { packets_of self.old.state.flows ≤ S.room sink.old }
+        requires room { packets_of self.old.state.flows ≤ (S.state sink.old).room }
         ensures len { result.len ≡ option_map_or (λ (t : Taken). t.packet.len) (sent_from now self.old.state) 0 }
         ensures sends { 0 < result.len }
         ensures some { (0 < result.len) ↔ (0 < packets_of self.old.state.flows) }
@@ -177,8 +176,7 @@ impl FqCodel {
         ensures dropped { result.dropped ≡ not (count (dropped_from now self.old.state) == 0) }
         ensures after { self.new.state ≡ after_sending now self.old.state }
         ensures places { self.new.places ≡ self.old.places }
-        ensures lost { S.losses sink.new ≡ S.losses sink.old ++ losses_of Cause.CoDel (dropped_from now self.old.state) }
-        ensures room { S.room sink.new + count (dropped_from now self.old.state) ≡ S.room sink.old }
+        ensures lost { AreLost Cause.CoDel (dropped_from now self.old.state) (S.state sink.old) (S.state sink.new) }
         ensures kept { S.keeps sink.old sink.new }
     {
         let front = self.first().unwrap();
@@ -195,12 +193,11 @@ impl FqCodel {
     /// that was put is itself among them. It takes no memory: [`FqCodel::reserve`] makes the place.
     pub fn put<S: Sink>(&mut self, packet: Packet, now: Moment, sink: &mut S) -> bool
         requires place { packets_of self.old.state.flows < self.old.places }
-        requires room { min self.old.state.settings.drop_batch (packets_of self.old.state.flows + 1) ≤ S.room sink.old }
+        requires room { min self.old.state.settings.drop_batch (packets_of self.old.state.flows + 1) ≤ (S.state sink.old).room }
         ensures answer { result ≡ is_lost_itself self.old.state packet now }
         ensures after { self.new.state ≡ after_put self.old.state packet now }
         ensures places { self.new.places ≡ self.old.places }
-        ensures lost { S.losses sink.new ≡ S.losses sink.old ++ losses_of Cause.FatFlow (lost_by_put self.old.state packet now) }
-        ensures room { S.room sink.new + count (lost_by_put self.old.state packet now) ≡ S.room sink.old }
+        ensures lost { AreLost Cause.FatFlow (lost_by_put self.old.state packet now) (S.state sink.old) (S.state sink.new) }
         ensures kept { S.keeps sink.old sink.new }
     {
         let packet = KeptPacket::of(&packet);
@@ -211,12 +208,11 @@ impl FqCodel {
     #[inline(always)]
     pub fn put_from<S: Sink>(&mut self, packet: &KeptPacket, now: Moment, sink: &mut S) -> bool
         requires place { packets_of self.old.state.flows < self.old.places }
-        requires room { min self.old.state.settings.drop_batch (packets_of self.old.state.flows + 1) ≤ S.room sink.old }
+        requires room { min self.old.state.settings.drop_batch (packets_of self.old.state.flows + 1) ≤ (S.state sink.old).room }
         ensures answer { result ≡ is_lost_itself self.old.state packet.now now }
         ensures after { self.new.state ≡ after_put self.old.state packet.now now }
         ensures places { self.new.places ≡ self.old.places }
-        ensures lost { S.losses sink.new ≡ S.losses sink.old ++ losses_of Cause.FatFlow (lost_by_put self.old.state packet.now now) }
-        ensures room { S.room sink.new + count (lost_by_put self.old.state packet.now now) ≡ S.room sink.old }
+        ensures lost { AreLost Cause.FatFlow (lost_by_put self.old.state packet.now now) (S.state sink.old) (S.state sink.new) }
         ensures kept { S.keeps sink.old sink.new }
     {
         self.put_counted(packet, now, sink).itself
@@ -231,14 +227,13 @@ impl FqCodel {
         sink: &mut S,
     ) -> Dropped
         requires place { packets_of self.old.state.flows < self.old.places }
-        requires room { min self.old.state.settings.drop_batch (packets_of self.old.state.flows + 1) ≤ S.room sink.old }
+        requires room { min self.old.state.settings.drop_batch (packets_of self.old.state.flows + 1) ≤ (S.state sink.old).room }
         ensures itself { result.itself ≡ is_lost_itself self.old.state packet.now now }
         ensures packets { result.packets ≡ count (lost_by_put self.old.state packet.now now) }
         ensures bytes { result.bytes ≡ size (lost_by_put self.old.state packet.now now) }
         ensures after { self.new.state ≡ after_put self.old.state packet.now now }
         ensures places { self.new.places ≡ self.old.places }
-        ensures lost { S.losses sink.new ≡ S.losses sink.old ++ losses_of Cause.FatFlow (lost_by_put self.old.state packet.now now) }
-        ensures room { S.room sink.new + count (lost_by_put self.old.state packet.now now) ≡ S.room sink.old }
+        ensures lost { AreLost Cause.FatFlow (lost_by_put self.old.state packet.now now) (S.state sink.old) (S.state sink.new) }
         ensures kept { S.keeps sink.old sink.new }
     {
         // Before the lists are written, so that the compiler asks once where the caller has asked `fits`.
@@ -317,11 +312,10 @@ impl FqCodel {
 
     /// Loses every packet, flow by flow, each from its front. The flows, the lists and their credits are then as at first.
     pub fn purge<S: Sink>(&mut self, sink: &mut S)
-        requires { packets_of self.old.state.flows ≤ S.room sink.old }
+        requires { packets_of self.old.state.flows ≤ (S.state sink.old).room }
         ensures after { self.new.state ≡ first_state self.old.state.settings }
         ensures places { self.new.places ≡ self.old.places }
-        ensures lost { S.losses sink.new ≡ S.losses sink.old ++ losses_of Cause.Purged (all_packets self.old.state.flows) }
-        ensures room { S.room sink.new + packets_of self.old.state.flows ≡ S.room sink.old }
+        ensures lost { AreLost Cause.Purged (all_packets self.old.state.flows) (S.state sink.old) (S.state sink.new) }
         ensures kept { S.keeps sink.old sink.new }
     {
         self.flows.purge(self.settings, sink);
@@ -337,14 +331,6 @@ impl FqCodel {
         ensures lawful { IsLawful self.now.state }
     {
         (self.flows.count(), self.flows.bytes())
-    }
-
-    /// When the packet arrived that has been queued longest, of those in front of a flow; `None` where every flow is empty. It looks at
-    /// each flow once.
-    pub fn oldest(&self) -> Option<Moment>
-        ensures { result ≡ earliest (first_arrivals self.now.state.flows) }
-    {
-        self.flows.oldest()
     }
 
     /// How many flows are listed as new, and how many as old (RFC 8290, section 4.2). It walks no list.

@@ -3,8 +3,8 @@ ghost use Rattle.std.specs.Prelude.{ℕ, ◌≡◌, ◌≢◌, ◌+◌, ◌-◌,
 ghost use Rattle.q_packet.specs.Totals.{count, size};
 ghost use Rattle.q_packet.specs.declared.stamped.Stamped.{Stamped};
 ghost use Rattle.q_codel.specs.Front.{front_of};
+ghost use Rattle.q_codel.specs.Losses.{AreLost};
 ghost use Rattle.q_fqcodel.specs.Oldest.{first_arrival};
-ghost use Rattle.q_codel.specs.Losses.{losses_of};
 ghost use Rattle.q_fqcodel.specs.Pool.{stamp, packets_in, bytes_in, no_list, moved, SameBeside};
 
 use crate::chain::{append, drop_head, take_head_into};
@@ -172,12 +172,11 @@ impl Pool {
     #[inline(always)]
     pub(crate) fn lose_head<S: Sink>(&mut self, flow: u32, cause: Cause, sink: &mut S)
         requires some { 0 < count (get_or self.old.queues flow []) }
-        requires room { 1 ≤ S.room sink.old }
+        requires room { 1 ≤ (S.state sink.old).room }
         ensures queues { self.new.queues ≡ set self.old.queues flow (drop 1 (get_or self.old.queues flow [])) }
         ensures packets { packets_in self.new.queues + 1 ≡ packets_in self.old.queues }
         ensures places { self.new.places ≡ self.old.places }
-        ensures lost { S.losses sink.new ≡ S.losses sink.old ++ losses_of cause (take 1 (get_or self.old.queues flow [])) }
-        ensures room { S.room sink.new + 1 ≡ S.room sink.old }
+        ensures lost { AreLost cause (take 1 (get_or self.old.queues flow [])) (S.state sink.old) (S.state sink.new) }
         ensures kept { S.keeps sink.old sink.new }
     {
         // It is copied before its node is written, and so once.
@@ -218,13 +217,12 @@ impl Pool {
         requires place { packets_in self.old.queues < self.old.places }
         requires few { packets_in self.old.queues < 2 ^ 32 }
         requires some { 0 < count (get_or self.old.queues from []) }
-        requires room { 1 ≤ S.room sink.old }
+        requires room { 1 ≤ (S.state sink.old).room }
         ensures queues { self.new.queues ≡ moved from flow (stamp packet.now now) self.old.queues }
         ensures places { self.new.places ≡ self.old.places }
         ensures bytes { result ≡ size (get_or self.new.queues flow []) }
         ensures bytes_few { result < 2 ^ 48 - 1 }
-        ensures lost { S.losses sink.new ≡ S.losses sink.old ++ losses_of Cause.FatFlow (take 1 (get_or self.old.queues from [])) }
-        ensures room { S.room sink.new + 1 ≡ S.room sink.old }
+        ensures lost { AreLost Cause.FatFlow (take 1 (get_or self.old.queues from [])) (S.state sink.old) (S.state sink.new) }
         ensures kept { S.keeps sink.old sink.new }
     {
         self.lose_head(from, Cause::FatFlow, sink);

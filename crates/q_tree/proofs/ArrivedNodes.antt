@@ -7,7 +7,7 @@ use Rattle.std.proofs.lemmas.List.{length-append}
 use Rattle.std.proofs.lemmas.Option.{same_Some}
 use Rattle.q_packet.specs.Descriptor.{Descriptor}
 use Rattle.q_packet.specs.declared.cause.Cause.{Cause}
-use Rattle.q_codel.specs.declared.loss.Loss.{Loss}
+use Rattle.q_codel.specs.Losses.{SinkState}
 use Rattle.q_model.specs.declared.filter.Filter.{Filter}
 use Rattle.q_model.specs.declared.row.Row.{Row}
 use Rattle.q_model.specs.Beneath.{beneath, beneath_own, packets_in}
@@ -74,7 +74,7 @@ module _ (now : ℕ) (p : Descriptor) (a : Inside) (n : Node Kept) (k : IsKept a
         by [] there = subst (λ (m : Node Kept). HasPlaceIn m.memory.places m.own.discipline) (sym view) there
         by (i ∷ rest) there = place-off i rest (i ∷ rest) a n view refl there
 
-    module _ (d : Discipline) (o : Outcome) (ls ls2 : List Loss) (r r2 : ℕ) (h : HasComeIn now p filters a.discipline d o ls ls2 r r2) where
+    module _ (d : Discipline) (o : Outcome) (sink sink2 : SinkState) (h : HasComeIn now p filters a.discipline d o sink sink2) where
       mid : Inside
       mid = record a { discipline = h.placed }
 
@@ -125,8 +125,8 @@ module _ (now : ℕ) (p : Descriptor) (a : Inside) (n : Node Kept) (k : IsKept a
           ∙ ap (λ (c : Node Kept). (put_along now p refusal rest (shape c)).rises) (same_Some put.child on.child (sym put.there ∙ on.there))
           ∙ sym (on-rises now p refusal (record a { discipline = h.placed }) m (i ∷ rest) kept-mid refl can2 i rest refl)
 
-      pub come-told : IsToldOf (rises_along now p n) ls ls2 r r2
-      come-told = subst (λ (notes : List Note). IsToldOf notes ls ls2 r r2)
+      pub come-told : IsToldOf (rises_along now p n) sink sink2
+      come-told = subst (λ (notes : List Note). IsToldOf notes sink sink2)
           (rises-by (route p n).path (route p n).refusal put-on can-mid
           ∙ ap (λ (s : Shape). (put_along now p (route p n).refusal (route p n).path s).rises) (same-shape n (seen (record a { discipline = h.placed })) is-placed.same)) h.told
 

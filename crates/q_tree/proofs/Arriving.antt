@@ -14,7 +14,8 @@ use Rattle.q_bucket.specs.Level.{TokenBucket}
 use Rattle.q_drr.specs.Schedule as drr
 use Rattle.q_drr.specs.Schedule.{Schedule}
 use Rattle.q_codel.specs.FifoState.{FifoState, takes}
-use Rattle.q_codel.specs.declared.loss.Loss.{Loss}
+use Rattle.q_codel.specs.Losses.{IsTold, SinkState}
+use Rattle.q_codel.proofs.SinkLemmas.{told_nothing}
 use Rattle.q_fqcodel.specs.FqState.{FqState, packets_of}
 use Rattle.q_model.specs.declared.filter.Filter.{Filter}
 use Rattle.q_model.specs.Beneath.{is_empty}
@@ -30,7 +31,7 @@ use Rattle.q_model.proofs.ShrinkLemmas.{each-each_memory, shape-with_memory}
 use Rattle.q_tree.specs.Ahead.{ways}
 use Rattle.q_tree.specs.Arrivals.{HasPlace, HasPlaceIn}
 use Rattle.q_tree.specs.ArriveSteps.{HasCome, HasComeIn, HasPlaceOn, IsAsPlaced, IsPlaced, IsPlacedIn, IsPutOn, rises_along, way_in, IsPutInFlow}
-use Rattle.q_tree.specs.AskSteps.{IsTold, IsToldOf, own_of}
+use Rattle.q_tree.specs.AskSteps.{IsToldOf, own_of}
 use Rattle.q_tree.specs.Kept.{Kept}
 use Rattle.q_tree.specs.Places.{unplaced, places_under}
 use Rattle.q_tree.specs.PutSteps.{IsQueued, rises_here}
@@ -74,10 +75,10 @@ same-route p n m e =
 pub refusal-counted : (p : Descriptor) (cause : Cause) → is_refusal cause ≡ true → counted no_counts (Lost p cause) ≡ record no_counts { refused = with_packet no_totals p }
 refusal-counted p cause e = ap (λ b. if b then record no_counts { refused = with_packet no_totals p } else record no_counts { dropped = with_packet no_totals p }) e
 
-pub refused-in : (now : ℕ) (p : Descriptor) (cause : Cause) (filters : List Filter) (d : Discipline) (o : Outcome) (ls ls2 : List Loss) (r r2 : ℕ) → is_refusal cause ≡ true → way_in p filters d ≡ refused cause
-    → (q : Descriptor) → q ≡ p → o ≡ record { loss = Some cause; refused = with_packet no_totals q; dropped = no_totals } → ls2 ≡ ls ++ record { packet = q; cause = cause } ∷ [] → r2 + 1 ≡ r
-    → HasComeIn now p filters d d o ls ls2 r r2
-refused-in now p cause filters d o ls ls2 r r2 refusal way q same is told room = record {
+pub refused-in : (now : ℕ) (p : Descriptor) (cause : Cause) (filters : List Filter) (d : Discipline) (o : Outcome) (sink sink2 : SinkState) → is_refusal cause ≡ true → way_in p filters d ≡ refused cause
+    → (q : Descriptor) → q ≡ p → o ≡ record { loss = Some cause; refused = with_packet no_totals q; dropped = no_totals } → IsTold (record { packet = q; cause = cause } ∷ []) sink sink2
+    → HasComeIn now p filters d d o sink sink2
+refused-in now p cause filters d o sink sink2 refusal way q same is told = record {
   placed = d;
   is_placed = nothing-placed d;
   notes = Lost p cause ∷ [];
@@ -95,15 +96,15 @@ refused-in now p cause filters d o ls ls2 r r2 refusal way q same is told room =
     };
     notes_are = refl;
   });
-  told = record { lost = told ∙ ap (λ (x : Descriptor). ls ++ record { packet = x; cause = cause } ∷ []) same; room_taken = room };
+  told = subst (λ (x : Descriptor). IsTold (record { packet = x; cause = cause } ∷ []) sink sink2) same told;
   in_place = λ there. record { children = refl; places = refl };
 }
 
 -- in an fq_codel
-pub queued-in-flows : (now : ℕ) (p : Descriptor) (filters : List Filter) (before placed after : Discipline) (s : FqState) (o : Outcome) (notes : List Note) (ls ls2 : List Loss) (r r2 : ℕ) → discipline_seen before ≡ spec.FqCodel s
+pub queued-in-flows : (now : ℕ) (p : Descriptor) (filters : List Filter) (before placed after : Discipline) (s : FqState) (o : Outcome) (notes : List Note) (sink sink2 : SinkState) → discipline_seen before ≡ spec.FqCodel s
     → IsPlacedIn before placed → HasPlaceIn (places_seen placed) (discipline_seen placed) → IsQueued now p None placed after o → notes ≡ rises_here now p None (discipline_seen placed)
-    → IsToldOf notes ls ls2 r r2 → (((way_in p filters before).refusal ≡ None → HasPlaceOn (way_in p filters before).path before) → IsAsPlaced before placed) → HasComeIn now p filters before after o ls ls2 r r2
-queued-in-flows now p filters before placed after s o notes ls ls2 r r2 is h room queued are told stays = record {
+    → IsToldOf notes sink sink2 → (((way_in p filters before).refusal ≡ None → HasPlaceOn (way_in p filters before).path before) → IsAsPlaced before placed) → HasComeIn now p filters before after o sink sink2
+queued-in-flows now p filters before placed after s o notes sink sink2 is h room queued are told stays = record {
   placed = placed;
   is_placed = h;
   notes = notes;
@@ -134,8 +135,8 @@ module _ (now : ℕ) (p : Descriptor) (filters : List Filter) (before placed aft
 
   pub gone-in : (h : HasCome now p x x2 o) → children_seen placed ≡ set ns i h.placed → discipline_seen placed ≡ discipline_seen before → places_seen placed ≡ places_seen before → children_seen after ≡ set ns i x2
       → places_seen after ≡ places_seen before → discipline_seen after ≡ settled_in i (is_empty (put_along now p (route p x).refusal (route p x).path (shape h.placed)).node) (discipline_seen before)
-      → (ls ls2 : List Loss) (r r2 : ℕ) → IsToldOf (rises_along now p x) ls ls2 r r2 → HasComeIn now p filters before after o ls ls2 r r2
-  gone-in h kids2 same2 places2 kids3 places3 settled ls ls2 r r2 told =
+      → (sink sink2 : SinkState) → IsToldOf (rises_along now p x) sink sink2 → HasComeIn now p filters before after o sink sink2
+  gone-in h kids2 same2 places2 kids3 places3 settled sink sink2 told =
       let there : slice_get (children_seen placed) i ≡ Some h.placed = ap (λ xs. slice_get xs i) kids2 ∙ set-there ns i h.placed inside in
       record {
         placed = placed;
@@ -199,10 +200,10 @@ module _ (p : Descriptor) (filters : List Filter) (d : Discipline) where
       by (Some minor) = refl
 
 -- what a fifo made of it
-pub queued-in-fifo : (now : ℕ) (p : Descriptor) (filters : List Filter) (f f2 : FifoState) (places : ℕ) (o : Outcome) (ls ls2 : List Loss) (r r2 : ℕ) → takes f.limit f.packets p.len ≡ true → f.places ≤ places
+pub queued-in-fifo : (now : ℕ) (p : Descriptor) (filters : List Filter) (f f2 : FifoState) (places : ℕ) (o : Outcome) (sink : SinkState) → takes f.limit f.packets p.len ≡ true → f.places ≤ places
     → length f.packets < places → (length f.packets < f.places → places ≡ f.places) → f2 ≡ record { packets = f.packets ++ record { packet = p; at = now } ∷ []; limit = f.limit; places = places } → o ≡ record { loss = None; refused = no_totals; dropped = no_totals }
-    → ls2 ≡ ls → r2 ≡ r → HasComeIn now p filters (code.Fifo f) (code.Fifo f2) o ls ls2 r r2
-queued-in-fifo now p filters f f2 places o ls ls2 r r2 fits grows room stays is out told taken = record {
+    → HasComeIn now p filters (code.Fifo f) (code.Fifo f2) o sink sink
+queued-in-fifo now p filters f f2 places o sink fits grows room stays is out = record {
   placed = code.Fifo (record f { places = places });
   is_placed = record { discipline = refl; children = refl; places = grows; grows = λ way i. omega arith };
   notes = [];
@@ -216,19 +217,19 @@ queued-in-fifo now p filters f f2 places o ls ls2 r r2 fits grows room stays is 
     };
     notes_are = refl;
   });
-  told = record { lost = told ∙ sym (append-nil ls); room_taken = omega (arith, taken) };
+  told = told_nothing sink;
   in_place = λ there. record { children = refl; places = stays (fifo-place p filters (code.Fifo f) f refl there fits) };
 }
 
 -- what an fq_codel made of it
-pub flows-after : (now : ℕ) (p : Descriptor) (filters : List Filter) (before placed after : Discipline) (s s2 : FqState) (places : ℕ) (res : Result Outcome AllocError) (ls ls2 : List Loss) (r r2 : ℕ)
+pub flows-after : (now : ℕ) (p : Descriptor) (filters : List Filter) (before placed after : Discipline) (s s2 : FqState) (places : ℕ) (res : Result Outcome AllocError) (sink sink2 : SinkState)
     → discipline_seen before ≡ spec.FqCodel s → children_seen before ≡ [] → places_seen before ≤ places → discipline_seen placed ≡ spec.FqCodel s → children_seen placed ≡ [] → places_seen placed ≡ places
     → discipline_seen after ≡ spec.FqCodel s2 → children_seen after ≡ [] → places_seen after ≡ places
-    → OnOk res (packets_of s.flows < places) → (packets_of s.flows < places_seen before → places ≡ places_seen before) → IfOk res (λ o. IsPutInFlow now p s s2 o ls ls2 r r2)
-    → IfOk res (λ o. HasComeIn now p filters before after o ls ls2 r r2)
-flows-after now p filters before placed after s s2 places (Err e) ls ls2 r r2 is kids more isP kidsP placesP isA kidsA placesA room stays put = tt
-flows-after now p filters before placed after s s2 places (Ok o) ls ls2 r r2 is kids more isP kidsP placesP isA kidsA placesA room stays put =
-    queued-in-flows now p filters before placed after s o (rises_here now p None (discipline_seen placed)) ls ls2 r r2 is
+    → OnOk res (packets_of s.flows < places) → (packets_of s.flows < places_seen before → places ≡ places_seen before) → IfOk res (λ o. IsPutInFlow now p s s2 o sink sink2)
+    → IfOk res (λ o. HasComeIn now p filters before after o sink sink2)
+flows-after now p filters before placed after s s2 places (Err e) sink sink2 is kids more isP kidsP placesP isA kidsA placesA room stays put = tt
+flows-after now p filters before placed after s s2 places (Ok o) sink sink2 is kids more isP kidsP placesP isA kidsA placesA room stays put =
+    queued-in-flows now p filters before placed after s o (rises_here now p None (discipline_seen placed)) sink sink2 is
     (record {
       discipline = isP ∙ sym is;
       children = ap (map unplaced) (kidsP ∙ sym kids);
@@ -238,7 +239,7 @@ flows-after now p filters before placed after s s2 places (Ok o) ls ls2 r r2 is 
     (subst (HasPlaceIn (places_seen placed)) (sym isP) (omega (arith, room, placesP)))
     (queued-flow now p None placed after s s2 o refl isP isA (kidsA ∙ sym kidsP) (placesA ∙ sym placesP) put.after put.loss put.refused put.dropped)
     refl
-    (subst (λ xs. IsTold xs ls ls2 r r2) (sym (told-here now p None placed s refl isP)) put.told)
+    (subst (λ xs. IsTold xs sink sink2) (sym (told-here now p None placed s refl isP)) put.told)
     (λ there. record { children = kidsP ∙ sym kids; places = placesP ∙ stays (flows-place p filters before s (places_seen before) is refl there) })
 
 -- ---- where a child was asked, by what it answered
@@ -264,11 +265,11 @@ lt-false a b h = by (nat_lt a b) refl
 pub gone-after : (now : ℕ) (p : Descriptor) (filters : List Filter) (before after : Discipline) (ns : List (Node Kept)) (i : ℕ) (x x2 : Node Kept) → children_seen before ≡ ns → i < length ns → x ≡ slice_index_or ns i x
     → way_in p filters before ≡ through (ways p ns) i → (place : Node Kept → Discipline) → ((m : Node Kept) → children_seen (place m) ≡ set ns i m) → ((m : Node Kept) → discipline_seen (place m) ≡ discipline_seen before)
     → ((m : Node Kept) → places_seen (place m) ≡ places_seen before) → children_seen after ≡ set ns i x2 → places_seen after ≡ places_seen before → ((b : Bool) → discipline_seen after ≡ settled_in i b (discipline_seen before))
-    → (res : Result Outcome AllocError) (ls ls2 : List Loss) (r r2 : ℕ) → IfOk res (λ o. HasCome now p x x2 o) → OnOk res (IsToldOf (rises_along now p x) ls ls2 r r2) → IfOk res (λ o. HasComeIn now p filters before after o ls ls2 r r2)
-gone-after now p filters before after ns i x x2 kids inside is to place kids2 same2 places2 kids3 places3 settled (Err e) ls ls2 r r2 h told = tt
-gone-after now p filters before after ns i x x2 kids inside is to place kids2 same2 places2 kids3 places3 settled (Ok o) ls ls2 r r2 h told =
+    → (res : Result Outcome AllocError) (sink sink2 : SinkState) → IfOk res (λ o. HasCome now p x x2 o) → OnOk res (IsToldOf (rises_along now p x) sink sink2) → IfOk res (λ o. HasComeIn now p filters before after o sink sink2)
+gone-after now p filters before after ns i x x2 kids inside is to place kids2 same2 places2 kids3 places3 settled (Err e) sink sink2 h told = tt
+gone-after now p filters before after ns i x x2 kids inside is to place kids2 same2 places2 kids3 places3 settled (Ok o) sink sink2 h told =
     gone-in now p filters before (place h.placed) after ns i x x2 o kids inside is to h (kids2 h.placed) (same2 h.placed) (places2 h.placed) kids3 places3
-    (settled (is_empty (put_along now p (route p x).refusal (route p x).path (shape h.placed)).node)) ls ls2 r r2 told
+    (settled (is_empty (put_along now p (route p x).refusal (route p x).path (shape h.placed)).node)) sink sink2 told
 
 pub gone-same : (before after : Discipline) (ns : List (Node Kept)) (i : ℕ) (x x2 : Node Kept) (res : Result Outcome AllocError) → children_seen before ≡ ns → x ≡ slice_index_or ns i x → children_seen after ≡ set ns i x2
     → discipline_seen after ≡ discipline_seen before → places_seen after ≡ places_seen before → OnErr res (IsPlaced x x2) → OnErr res (IsPlacedIn before after)

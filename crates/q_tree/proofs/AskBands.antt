@@ -5,7 +5,7 @@ use Rattle.std.specs.List.{position_or_len}
 use Rattle.std.proofs.lemmas.List.{append-nil, take_all, drop_all, length-map}
 use Rattle.std.proofs.lemmas.Option.{same_Some, slice_get-map, get_or_from_slice_get}
 use Rattle.q_packet.specs.Descriptor.{Descriptor}
-use Rattle.q_codel.specs.declared.loss.Loss.{Loss}
+use Rattle.q_codel.specs.Losses.{SinkState}
 use Rattle.q_model.specs.Ask.{Asked, befores, ask, ask_prio}
 use Rattle.q_model.specs.Node.{Node, Own, shape, side_by_side}
 use Rattle.q_model.specs.Tally.{Note, counts_in}
@@ -113,8 +113,8 @@ module _ (now : ℕ) (ns ms : List (Node Kept)) (i : ℕ) (s : Shown) (each : Ca
   pub band-before : slice_get (peeked_to i (answers now ns)) i ≡ Some (ask now (shape c)).before
   band-before = at-place (answers now ns) i (ask now (shape c)) answer-at
 
-  pub band-once : (losses losses_after : List Loss) (room room_after : ℕ) → IsToldOf (told_to i (answers now ns)) losses losses_after room room_after → length (packets_beneath ns) ≤ room → CanAskOnce now c s room_after
-  band-once l l2 r r2 told room = can-ask-once now ns ms (peeked_to i (answers now ns)) (told_to i (answers now ns)) each h.asking i c at band-before s h.counted l l2 r r2 told room
+  pub band-once : (sink sink2 : SinkState) → IsToldOf (told_to i (answers now ns)) sink sink2 → length (packets_beneath ns) ≤ sink.room → CanAskOnce now c s sink2.room
+  band-once sink sink2 told room = can-ask-once now ns ms (peeked_to i (answers now ns)) (told_to i (answers now ns)) each h.asking i c at band-before s h.counted sink sink2 told room
 
   module _ (d : Node Kept) (result : Shown) (asked : IsAskedOnce now c d s result) where
     band-asked : IsAsking ns (set ms i d) (peeked_to (suc i) (answers now ns)) (told_to (suc i) (answers now ns))
@@ -160,21 +160,21 @@ module _ (now : ℕ) (ns ms : List (Node Kept)) (i : ℕ) (s : Shown) (each : Ca
           };
         }
 
-    module _ (losses losses_so_far losses_after : List Loss) (room room_so_far room_after : ℕ) (so_far : IsToldOf (told_to i (answers now ns)) losses losses_so_far room room_so_far)
-        (told : IsToldOf (ask now (shape c)).rises losses_so_far losses_after room_so_far room_after) where
-      told-so-far : IsToldOf (told_to (suc i) (answers now ns)) losses losses_after room room_after
+    module _ (sink sink_so_far sink2 : SinkState) (so_far : IsToldOf (told_to i (answers now ns)) sink sink_so_far)
+        (told : IsToldOf (ask now (shape c)).rises sink_so_far sink2) where
+      told-so-far : IsToldOf (told_to (suc i) (answers now ns)) sink sink2
       told-so-far =
-          subst (λ notes. IsToldOf notes losses losses_after room room_after) (told-next (answers now ns) i (ask now (shape c)) answer-at)
-          (told-then (told_to i (answers now ns)) (ask now (shape c)).rises losses losses_so_far losses_after room room_so_far room_after so_far told)
+          subst (λ notes. IsToldOf notes sink sink2) (told-next (answers now ns) i (ask now (shape c)) answer-at)
+          (told-then (told_to i (answers now ns)) (ask now (shape c)).rises sink sink_so_far sink2 so_far told)
 
-      pub bands-go-on : is_some result.packet ≡ false → AreBandsAsked now ns (set ms i d) (i + 1) result × IsToldOf (told_to (i + 1) (answers now ns)) losses losses_after room room_after
+      pub bands-go-on : is_some result.packet ≡ false → AreBandsAsked now ns (set ms i d) (i + 1) result × IsToldOf (told_to (i + 1) (answers now ns)) sink sink2
       bands-go-on none = (
         subst (λ n. AreBandsAsked now ns (set ms i d) n result) (sym (add-one i)) (band-passed none),
-        subst (λ n. IsToldOf (told_to n (answers now ns)) losses losses_after room room_after) (sym (add-one i)) told-so-far,
+        subst (λ n. IsToldOf (told_to n (answers now ns)) sink sink2) (sym (add-one i)) told-so-far,
       )
 
-      pub bands-told : is_some result.packet ≡ true → (own : Own) → IsToldOf (ask_prio own (answers now ns)).rises losses losses_after room room_after
-      bands-told some own = subst (λ notes. IsToldOf notes losses losses_after room room_after) (sym (prio-rises own (answers now ns) i (band-place some))) told-so-far
+      pub bands-told : is_some result.packet ≡ true → (own : Own) → IsToldOf (ask_prio own (answers now ns)).rises sink sink2
+      bands-told some own = subst (λ notes. IsToldOf notes sink sink2) (sym (prio-rises own (answers now ns) i (band-place some))) told-so-far
 
 -- where no band shows a packet, all were asked
 module _ (now : ℕ) (ns ms : List (Node Kept)) (i : ℕ) (s : Shown) (h : AreBandsAsked now ns ms i s) (past : length ns ≤ i) (inside : i ≤ length ns) where

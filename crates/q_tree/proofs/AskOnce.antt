@@ -1,9 +1,10 @@
 -- A child that is asked after others: it can be asked, the sink has room for what it loses, and the counts fit.
-use Rattle.std.proofs.Common.{◌≡◌, ℕ, ◌+◌, ◌≤◌, ◌<◌, ◌^◌, ◌∙◌, List, [], ◌∷◌, ◌++◌, append_assoc, length, sym, ap, Some, arith}
+use Rattle.std.proofs.Common.{◌≡◌, ℕ, ◌+◌, ◌≤◌, ◌<◌, ◌^◌, ◌∙◌, List, [], ◌∷◌, ◌++◌, append_assoc, length, sym, ap, Some, arith, subst}
 use Rattle.std.specs.Prelude.{slice_get}
 use Rattle.std.proofs.lemmas.List.{append-nil, length-append}
 use Rattle.std.proofs.lemmas.List.Elements.{filter_map-append}
-use Rattle.q_codel.specs.declared.loss.Loss.{Loss}
+use Rattle.q_codel.specs.Losses.{IsTold, SinkState}
+use Rattle.q_codel.proofs.SinkLemmas.{told_both}
 use Rattle.q_model.specs.Ask.{Asked, ask}
 use Rattle.q_model.specs.Beneath.{beneath}
 use Rattle.q_model.specs.Node.{Node, shape}
@@ -35,15 +36,9 @@ losses-count (Spent spent ∷ notes) = omega (arith, losses-count notes, lost-co
 losses-count (FlowGranted flow times ∷ notes) = omega (arith, losses-count notes, lost-cons one (FlowGranted flow times) notes)
 losses-count (FlowGave flow gave ∷ notes) = omega (arith, losses-count notes, lost-cons one (FlowGave flow gave) notes)
 
--- a sink that was told of nothing, and one that is told of more
-pub told-nothing : (losses : List Loss) (room : ℕ) → IsToldOf [] losses losses room room
-told-nothing losses room = record { lost = sym (append-nil losses); room_taken = omega arith }
-
-pub told-then : (ms ns : List Note) (a b c : List Loss) (r s t : ℕ) → IsToldOf ms a b r s → IsToldOf ns b c s t → IsToldOf (ms ++ ns) a c r t
-told-then ms ns a b c r s t h k = record {
-  lost = k.lost ∙ ap (λ (xs : List Loss). xs ++ losses_in ns) h.lost ∙ append_assoc a (losses_in ms) (losses_in ns) ∙ ap (λ (xs : List Loss). a ++ xs) (sym (filter_map-append loss_in ms ns));
-  room_taken = omega (arith, h.room_taken, k.room_taken, ap (λ (xs : List Loss). length xs) (filter_map-append loss_in ms ns), length-append (losses_in ms) (losses_in ns));
-}
+-- a sink that is told of the losses of some notes, and then of others
+pub told-then : (ms ns : List Note) (a b c : SinkState) → IsToldOf ms a b → IsToldOf ns b c → IsToldOf (ms ++ ns) a c
+told-then ms ns a b c h k = subst (λ xs. IsTold xs a c) (sym (filter_map-append loss_in ms ns)) (told_both (losses_in ms) (losses_in ns) a b c h k)
 
 -- what was counted of these notes
 pub record IsCounted (rises : List Note) (s : Shown) : Type 0 where
@@ -60,13 +55,13 @@ module _ (now : ℕ) (ns ms : List (Node Kept)) (ws : List Worked) (rises : List
   pub can-ask : CanAsk now c
   can-ask = record { mtu = each.mtu; least = each.least; moment = each.moment; lawful = lawful-at each.mtu now ns i c each.lawful at }
 
-  pub can-ask-once : (s : Shown) → IsCounted rises s → (losses losses_after : List Loss) (room room_after : ℕ) → IsToldOf rises losses losses_after room room_after → length (packets_beneath ns) ≤ room → CanAskOnce now c s room_after
-  can-ask-once s counted losses losses_after room room_after told enough =
+  pub can-ask-once : (s : Shown) → IsCounted rises s → (sink sink2 : SinkState) → IsToldOf rises sink sink2 → length (packets_beneath ns) ≤ sink.room → CanAskOnce now c s sink2.room
+  can-ask-once s counted sink sink2 told enough =
       let f = fits now ns ms ws rises h i c at before in
       let z = counts-of rises s counted.dropped counted.marked in
       record {
         ready = can-ask;
-        sink = omega (arith, told.room_taken, losses-count rises, f.lost_fits one, weigh-count (beneath c), weigh-count (packets_beneath ns), enough);
+        sink = omega (arith, told.room, losses-count rises, f.lost_fits one, weigh-count (beneath c), weigh-count (packets_beneath ns), enough);
         dropped_packets = omega (arith, z.dropped_packets, h.quiet.all_dropped one, f.lost_fits one, weigh-count (beneath c), weigh-count (packets_beneath ns), each.packets);
         dropped_bytes = omega (arith, z.dropped_bytes, h.quiet.all_dropped bytes, f.lost_fits bytes, weigh-bytes (beneath c), weigh-bytes (packets_beneath ns), each.bytes);
         marked_packets = omega (arith, z.marked_packets, f.marked_fits one, weigh-count (beneath c), weigh-count (packets_beneath ns), each.packets);

@@ -4,12 +4,11 @@ use Rattle.std.specs.Prelude.{slice_index_or}
 use Rattle.std.specs.List.{remove}
 use Rattle.std.proofs.lemmas.List.{drop_more, length-append}
 use Rattle.std.proofs.lemmas.List.Sums.{sum_by-append}
-use Rattle.q_codel.specs.declared.loss.Loss.{Loss}
+use Rattle.q_codel.specs.Losses.{IsTold, SinkState}
 use Rattle.q_packet.specs.Descriptor.{Descriptor}
 use Rattle.q_model.specs.declared.totals.Totals.{Totals}
 use Rattle.q_model.specs.Beneath.{beneath, totals_in}
 use Rattle.q_model.specs.Node.{Node}
-use Rattle.q_tree.specs.AskSteps.{IsTold}
 use Rattle.q_tree.specs.Arrivals.{plus}
 use Rattle.q_tree.specs.Kept.{Kept}
 use Rattle.q_tree.specs.Purging.{purged}
@@ -29,17 +28,17 @@ take-removed [] (suc i) = refl
 take-removed (n ∷ ns) zero = refl
 take-removed (n ∷ ns) (suc i) = ap (λ xs. n ∷ xs) (take-removed ns i)
 
-pub record IsGoing (count : ℕ) (before ns : List (Node Kept)) (lost : Totals) (losses_before losses : List Loss) (room_before room : ℕ) : Type 0 where
+pub record IsGoing (count : ℕ) (before ns : List (Node Kept)) (lost : Totals) (sink_before sink : SinkState) : Type 0 where
   pub gone : List Descriptor
   pub front : take count ns ≡ take count before
   pub back : packets_beneath (drop count before) ≡ gone ++ packets_beneath (drop count ns)
   pub totals : lost ≡ totals_in gone
-  pub told : IsTold (purged gone) losses_before losses room_before room
+  pub told : IsTold (purged gone) sink_before sink
 
 totals-append : (ps qs : List Descriptor) → plus (totals_in ps) (totals_in qs) ≡ totals_in (ps ++ qs)
 totals-append ps qs = same-totals (plus (totals_in ps) (totals_in qs)) (totals_in (ps ++ qs)) (omega (arith, length-append ps qs)) (omega (arith, sum_by-append (λ (p : Descriptor). p.len) ps qs))
 
-module _ (count : ℕ) (before ns : List (Node Kept)) (lost : Totals) (losses_before losses : List Loss) (room_before room : ℕ) (h : IsGoing count before ns lost losses_before losses room_before room) where
+module _ (count : ℕ) (before ns : List (Node Kept)) (lost : Totals) (sink_before sink : SinkState) (h : IsGoing count before ns lost sink_before sink) where
   module _ (x : Node Kept) (lt : count < length ns) (at : x ≡ slice_index_or ns count x) where
     split : packets_beneath (drop count ns) ≡ beneath x ++ packets_beneath (drop (suc count) ns)
     split = ap packets_beneath (drop_more ns count x lt ∙ ap (λ y. y ∷ drop (count + 1) ns) (sym at) ∙ ap (λ k. x ∷ drop k ns) {x = count + 1} {y = suc count} (omega arith))
@@ -47,12 +46,12 @@ module _ (count : ℕ) (before ns : List (Node Kept)) (lost : Totals) (losses_be
     whole : packets_beneath (drop count before) ≡ (h.gone ++ beneath x) ++ packets_beneath (drop (suc count) ns)
     whole = h.back ∙ ap (λ ps. h.gone ++ ps) split ∙ sym (append_assoc h.gone (beneath x) (packets_beneath (drop (suc count) ns)))
 
-    pub one-goes : (sum : Totals) → sum ≡ plus lost (totals_in (beneath x)) → (after : List Loss) (left : ℕ) → IsTold (purged (beneath x)) losses after room left
-        → IsGoing count before (remove ns count) sum losses_before after room_before left
-    one-goes sum sum_is after left told = record {
+    pub one-goes : (sum : Totals) → sum ≡ plus lost (totals_in (beneath x)) → (after : SinkState) → IsTold (purged (beneath x)) sink after
+        → IsGoing count before (remove ns count) sum sink_before after
+    one-goes sum sum_is after told = record {
       gone = h.gone ++ beneath x;
       front = take-removed ns count ∙ h.front;
       back = whole ∙ ap (λ xs. (h.gone ++ beneath x) ++ packets_beneath xs) (sym (drop-removed ns count));
       totals = sum_is ∙ ap (λ t. plus t (totals_in (beneath x))) h.totals ∙ totals-append h.gone (beneath x);
-      told = told-both h.gone (beneath x) losses_before losses after room_before room left h.told told;
+      told = told-both h.gone (beneath x) sink_before sink after h.told told;
     }

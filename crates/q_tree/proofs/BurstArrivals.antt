@@ -15,6 +15,8 @@ use Rattle.q_codel.specs.Bursts.{HasWidths, IsShort, stamped_at}
 use Rattle.q_codel.specs.FifoState.{takes}
 use Rattle.q_codel.specs.declared.limit.Limit.{Limit}
 use Rattle.q_codel.specs.declared.limit.Limit.TheVariants.{Packets, Bytes}
+use Rattle.q_codel.specs.Losses.{SinkState}
+use Rattle.q_codel.proofs.SinkLemmas.{told_nothing}
 use Rattle.q_model.specs.declared.reply.Reply.TheVariants as reply
 use Rattle.q_model.specs.declared.row.Row.{Row}
 use Rattle.q_model.specs.declared.totals.Totals.{Totals}
@@ -115,10 +117,10 @@ module _ (now : ℕ) (p : Descriptor) (n : Node Kept) (alone : n.below ≡ none)
     pub place-one : IfSome (device_route p mtu n) (λ (way : Route). way.refusal ≡ None → HasPlace way.path n)
     place-one = subst (λ (r : Option Route). IfSome r (λ (way : Route). way.refusal ≡ None → HasPlace way.path n)) way-is (λ none. (kept-by keep).place)
 
-    pub told-one : IsToldOf (put_on now p (device_route p mtu n) (shape n)).rises [] [] 0 0
-    told-one =
-        subst (λ (r : Option Route). IsToldOf (put_on now p r (shape n)).rises [] [] 0 0) way-is
-        (subst (λ (notes : List Note). IsToldOf notes [] [] 0 0) (sym (kept-by keep).rises) (record { lost = refl; room_taken = refl }))
+    pub told-one : (sink : SinkState) → IsToldOf (put_on now p (device_route p mtu n) (shape n)).rises sink sink
+    told-one sink =
+        subst (λ (r : Option Route). IsToldOf (put_on now p r (shape n)).rises sink sink) way-is
+        (subst (λ (notes : List Note). IsToldOf notes sink sink) (sym (kept-by keep).rises) (told_nothing sink))
 
 -- ---- room
 
@@ -184,7 +186,7 @@ burst-came now (p ∷ ps) a k later low long packets bytes room alone =
       each = (
         record {
           fate = ap (λ c. reply.Fate (fate_of c)) (sym (tree-loss a k now p later low long.0.0 count nothing_lost b.root come));
-          losses = sym (told-tree a k now p later low long.0.0 count [] [] 0 0 (told-one now p a.root alone a.mtu long.0.1 keep)).lost;
+          losses = let empty : SinkState = record { losses = []; room = 0 } in sym (told-tree a k now p later low long.0.0 count empty empty (told-one now p a.root alone a.mtu long.0.1 keep empty)).lost;
         },
         subst (λ (d : DeviceState Kept). AreKept kept now ps d) first rest.each,
       );

@@ -8,7 +8,6 @@ use Rattle.q_packet.specs.Descriptor.{Descriptor}
 use Rattle.q_packet.specs.declared.cause.Cause.{Cause}
 use Rattle.q_packet.specs.declared.stamped.Stamped.{Stamped}
 use Rattle.q_codel.specs.Losses as codel
-use Rattle.q_codel.specs.declared.loss.Loss.{Loss}
 use Rattle.q_fqcodel.specs.FqState.{Flow, packets_of, bytes_of, all_packets}
 use Rattle.q_fqcodel.proofs.FlowLemmas.{packets_of-cons, packets_of-nil}
 use Rattle.q_fqcodel.proofs.LawLemmas.{all_packets-cons}
@@ -16,7 +15,6 @@ use Rattle.q_model.specs.Beneath as beneath
 use Rattle.q_model.specs.Beneath.{totals_in}
 use Rattle.q_model.specs.Step.{losses_in}
 use Rattle.q_model.specs.Work.{losses_of}
-use Rattle.q_tree.specs.AskSteps.{IsTold}
 
 abbrev pub one : Stamped → ℕ
 one s = 1
@@ -27,13 +25,6 @@ len s = s.packet.len
 pub count-sum : (queue : List Stamped) → sum_by one queue ≡ length queue
 count-sum [] = refl
 count-sum (s ∷ queue) = omega (arith, sum_by-cons one s queue, count-sum queue)
-
--- a sink that was told of the packets of a queue
-pub lost-told : (cause : Cause) (queue : List Stamped) (a b : List Loss) (r s : ℕ) → b ≡ a ++ codel.losses_of cause queue → s + length queue ≡ r → IsTold (codel.losses_of cause queue) a b r s
-lost-told cause queue a b r s lost room = record {
-  lost = lost;
-  room_taken = omega (arith, room, length-map {B = Loss} queue (λ (x : Stamped). record { packet = x.packet; cause = cause }));
-}
 
 none-left : all_packets [] ≡ []
 unfolding all_packets

@@ -3,6 +3,7 @@ use Rattle.std.proofs.Common.{◌≡◌, ℕ, ◌∙◌, List, [], take, refl, s
 use Rattle.std.specs.Prelude.{is_some, slice_get}
 use Rattle.std.specs.Option.{option_map_or}
 use Rattle.std.proofs.lemmas.Bool.{false≢true}
+use Rattle.q_codel.specs.Losses.{SinkState}
 use Rattle.q_drr.specs.Schedule as drr
 use Rattle.q_drr.specs.Schedule.{Entry, Schedule, front_of}
 use Rattle.q_drr.specs.Take.{choice_of, prepared}
@@ -23,7 +24,7 @@ use Rattle.q_tree.specs.Meeting.{AreUnserved}
 use Rattle.q_tree.specs.Shown.{Shown}
 use Rattle.q_tree.proofs.AskOnce.{IsCounted}
 use Rattle.q_tree.proofs.Asking.{side-all}
-use Rattle.q_tree.proofs.ServeLemmas.{AreClassesAsked, SinkTold, classes_to, heads_of, rises_to}
+use Rattle.q_tree.proofs.ServeLemmas.{AreClassesAsked, classes_to, heads_of, rises_to}
 
 nobody-at : (s : Schedule) (r : Option ℕ) → r ≡ None → is_some r ≡ is_some (front_of s) → None ≡ front_of s
 nobody-at s r gone same = by (front_of s) refl (ap is_some (sym gone) ∙ same)
@@ -33,7 +34,7 @@ nobody-at s r gone same = by (front_of s) refl (ap is_some (sym gone) ∙ same)
     by (Some n) is e = absurd (false≢true e)
 
 -- where no class is active, nobody is asked
-module _ {now : ℕ} {first s : Schedule} {ns ms : List (Node Kept)} {unasked : ℕ} {so_far : Shown} {k : SinkTold} (can : CanServe now first ns) (h : AreClassesAsked now first s ns ms unasked so_far k) (law : drr.IsLawful s) (r : Option ℕ) (gone : r ≡ None) (same : is_some r ≡ is_some (front_of s)) where
+module _ {now : ℕ} {first s : Schedule} {ns ms : List (Node Kept)} {unasked : ℕ} {so_far : Shown} {sink sink2 : SinkState} (can : CanServe now first ns) (h : AreClassesAsked now first s ns ms unasked so_far sink sink2) (law : drr.IsLawful s) (r : Option ℕ) (gone : r ≡ None) (same : is_some r ≡ is_some (front_of s)) where
   nobody : s.active ≡ []
   nobody = empty_front s (nobody-at s r gone same)
 
@@ -63,8 +64,8 @@ module _ {now : ℕ} {first s : Schedule} {ns ms : List (Node Kept)} {unasked : 
   idle-since : (own : Own) → 0 ≡ (ask_drr own (answers now ns) first).peeked.own.since
   idle-since own = ap (λ (x : Asked). x.peeked.own.since) (sym (idle-answer own))
 
-  pub idle-told : (own : Own) → IsToldOf (ask_drr own (answers now ns) first).rises k.losses k.losses_now k.room k.room_now
-  idle-told own = subst (λ notes. IsToldOf notes k.losses k.losses_now k.room k.room_now) (sym (idle-rises own)) h.told
+  pub idle-told : (own : Own) → IsToldOf (ask_drr own (answers now ns) first).rises sink sink2
+  idle-told own = subst (λ notes. IsToldOf notes sink sink2) (sym (idle-rises own)) h.told
 
   idle-asked : {result : Shown} → result.packet ≡ None → IsCounted [] result → (own : Own) → AreAsked (ask_drr own (answers now ns) first) ns ms result
   idle-asked empty counted own =

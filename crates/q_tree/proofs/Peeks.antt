@@ -7,7 +7,7 @@ use Rattle.std.proofs.lemmas.List.{append-nil, drop_all, take_all, length-append
 use Rattle.std.proofs.lemmas.List.Sums.{sum_by-append}
 use Rattle.q_packet.specs.Descriptor.{Descriptor}
 use Rattle.q_codel.specs.declared.limit.Limit.{Limit}
-use Rattle.q_codel.specs.declared.loss.Loss.{Loss}
+use Rattle.q_codel.specs.Losses.{SinkState}
 use Rattle.q_bucket.specs.Level.{TokenBucket, allows}
 use Rattle.q_drr.specs.Schedule.{Schedule, is_active}
 use Rattle.q_model.specs.declared.filter.Filter.{Filter}
@@ -238,9 +238,9 @@ fifo-asked now handle filters d limit queue s is kids packet dropped marked =
     asked-in now handle filters d d (spec.Fifo limit queue) (spec.Fifo limit queue) [] [] s is kids is kids refl refl
     (record { long = refl; nodes = refl; within = λ t h. h; shown = record { packet = packet; dropped = dropped; marked = marked } })
 
-pub told-in : (now : ℕ) (handle : Option ℕ) (filters : List Filter) (d : Discipline) (k : spec.Discipline) (ns : List (Node Kept)) (l l2 : List Loss) (r r2 : ℕ) → discipline_seen d ≡ k → children_seen d ≡ ns
-    → IsToldOf (ask_discipline now (own_of handle filters k) (answers now ns) k).rises l l2 r r2 → IsToldOf (answer_of now handle filters d).rises l l2 r r2
-told-in now handle filters d k ns l l2 r r2 is kids h = subst (λ (a : Asked). IsToldOf a.rises l l2 r r2) (sym (answer-is now handle filters d k ns is kids)) h
+pub told-in : (now : ℕ) (handle : Option ℕ) (filters : List Filter) (d : Discipline) (k : spec.Discipline) (ns : List (Node Kept)) (sink sink2 : SinkState) → discipline_seen d ≡ k → children_seen d ≡ ns
+    → IsToldOf (ask_discipline now (own_of handle filters k) (answers now ns) k).rises sink sink2 → IsToldOf (answer_of now handle filters d).rises sink sink2
+told-in now handle filters d k ns sink sink2 is kids h = subst (λ (a : Asked). IsToldOf a.rises sink sink2) (sym (answer-is now handle filters d k ns is kids)) h
 
 -- a node that holds a packet stays as it is
 pub holding-after : (now : ℕ) (a : Inside) (n : Node Kept) (p : Descriptor) → seen a ≡ n → packet_held a.held ≡ Some p → n ≡ booked kept n (ask now (shape n)).peeked
@@ -296,8 +296,8 @@ module _ (now : ℕ) (a : Inside) (n : Node Kept) (k : IsKept a) (view : seen a 
   enough room h = omega (arith, h, within-packets, ap (λ (m : Node Kept). length (beneath m)) view)
 
   module _ (none : packet_held a.held ≡ None) where
-    pub told-here : (l l2 : List Loss) (r r2 : ℕ) → IsToldOf (answer_of now a.handle a.filters a.discipline).rises l l2 r r2 → IsToldOf (ask now (shape n)).rises l l2 r r2
-    told-here l l2 r r2 h = subst (λ (m : Node Kept). IsToldOf (ask now (shape m)).rises l l2 r r2) view (subst (λ (x : Asked). IsToldOf x.rises l l2 r r2) (sym (ask-none now a none)) h)
+    pub told-here : (sink sink2 : SinkState) → IsToldOf (answer_of now a.handle a.filters a.discipline).rises sink sink2 → IsToldOf (ask now (shape n)).rises sink sink2
+    told-here sink sink2 h = subst (λ (m : Node Kept). IsToldOf (ask now (shape m)).rises sink sink2) view (subst (λ (x : Asked). IsToldOf x.rises sink sink2) (sym (ask-none now a none)) h)
 
     module _ (s : Shown) (shown : IsShown (answer_of now a.handle a.filters a.discipline) s) where
       pub shown-inside : IsShown (ask now (shape (seen a))) s

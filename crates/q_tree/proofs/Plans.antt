@@ -7,7 +7,8 @@ use Rattle.std.specs.Result.{IsErrAnd}
 use Rattle.std.proofs.lemmas.Bool.{false≢true}
 use Rattle.std.proofs.lemmas.List.{length-map}
 use Rattle.std.proofs.lemmas.Option.{same_Some}
-use Rattle.q_codel.specs.declared.loss.Loss.{Loss}
+use Rattle.q_codel.specs.Losses.{IsTold, SinkState}
+use Rattle.q_codel.proofs.SinkLemmas.{told_nothing}
 use Rattle.q_packet.specs.declared.cause.Cause.TheVariants.{Purged}
 use Rattle.q_invariants.proofs.Answer.{one}
 use Rattle.q_invariants.proofs.Weights.{weigh-count}
@@ -105,15 +106,10 @@ module _ (memory : Type 0) (command : Command) (d : DeviceState Kept) (now : ℕ
     told-none : (why : Refusal) → told planned (shape d.tree.root) (Err why) ≡ []
     told-none why = ap (λ q. told q (shape d.tree.root) (Err why)) tree-plan
 
-    pub tree-lost : (before after : List Loss) (A : Type 0) (result : Result (Unit {0}) Refusal) → OnOk result (after ≡ before ++ purged (removed_at p.edit p.path.items d.tree.root)) → OnErr result ((after ≡ before) × A)
-        → after ≡ before ++ told planned (shape d.tree.root) result
-    tree-lost before after A (Ok done) ok err = ok ∙ ap (λ xs. before ++ xs) (sym told-done)
-    tree-lost before after A (Err why) ok err = err.0 ∙ sym (append-nil before) ∙ ap (λ xs. before ++ xs) (sym (told-none why))
-
-    pub tree-room : (before after : ℕ) (A : Type 0) (result : Result (Unit {0}) Refusal) → OnOk result (after + length (removed_at p.edit p.path.items d.tree.root) ≡ before) → OnErr result (A × (after ≡ before))
-        → after + length (told planned (shape d.tree.root) result) ≡ before
-    tree-room before after A (Ok done) ok err = omega (arith, ok, ap (λ xs. length xs) told-done, length-map {B = Loss} (removed_at p.edit p.path.items d.tree.root) (λ q. record { packet = q; cause = Purged }))
-    tree-room before after A (Err why) ok err = omega (arith, err.1, ap (λ xs. length xs) (told-none why))
+    pub tree-told : (before after : SinkState) (result : Result (Unit {0}) Refusal) → OnOk result (IsTold (purged (removed_at p.edit p.path.items d.tree.root)) before after) → OnErr result (after ≡ before)
+        → IsTold (told planned (shape d.tree.root) result) before after
+    tree-told before after (Ok done) ok err = subst (λ xs. IsTold xs before after) (sym told-done) ok
+    tree-told before after (Err why) ok err = subst (λ s. IsTold (told planned (shape d.tree.root) (Err why)) before s) (sym err) (subst (λ xs. IsTold xs before before) (sym (told-none why)) (told_nothing before))
 
 -- an edit that loses nothing
 quiet-lost : (r : shapes.DisciplineChange) (d : Discipline) (ns : List (Node Kept)) → KeepsAll r → lost_with r d ns ≡ []

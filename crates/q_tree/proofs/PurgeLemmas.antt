@@ -6,21 +6,21 @@ use Rattle.std.proofs.lemmas.List.{map-append, length-append, length-map}
 use Rattle.q_packet.specs.Descriptor.{Descriptor}
 use Rattle.q_packet.specs.declared.cause.Cause.TheVariants.{Purged}
 use Rattle.q_packet.specs.declared.stamped.Stamped.{Stamped}
-use Rattle.q_codel.specs.Losses.{losses_of}
+use Rattle.q_codel.specs.Losses.{losses_of, IsTold, SinkState, AreLost}
 use Rattle.q_codel.specs.declared.loss.Loss.{Loss}
+use Rattle.q_codel.proofs.SinkLemmas.{told_both}
 use Rattle.q_fqcodel.specs.FqState.{Flow, all_packets, packets_of}
 use Rattle.q_model.specs.Beneath.{beneath, beneath_own, packets_in}
 use Rattle.q_model.specs.Beneath.{packets_of as bare}
 use Rattle.q_model.specs.Node.{Node, side_by_side}
 use Rattle.q_invariants.proofs.Forests.{each-side}
-use Rattle.q_tree.specs.AskSteps.{IsTold}
 use Rattle.q_tree.specs.Kept.{Kept}
 use Rattle.q_tree.specs.NodeCode.{forest_size, node_size}
 use Rattle.q_tree.specs.Purging.{purged}
 use Rattle.q_tree.specs.PutSteps.{packets_beneath}
 use Rattle.q_tree.specs.Seen.{seen, children_seen, discipline_seen}
 use Rattle.q_tree.specs.declared.node.Node.TheInside.{Inside}
-use Rattle.q_tree.proofs.FlowCounts.{lost-told, packets-all, packets-bare}
+use Rattle.q_tree.proofs.FlowCounts.{packets-all, packets-bare}
 use Rattle.q_tree.specs.Holding.{packet_held}
 
 -- the packets at a node and beneath it: the one that it holds, its own, and those of its children
@@ -41,40 +41,33 @@ own-count a n view =
 pub flows-count : (flows : List Flow) → packets_of flows ≡ length (bare (all_packets flows))
 flows-count flows = omega (arith, packets-all flows, packets-bare (all_packets flows))
 
-pub flows-length : (flows : List Flow) → packets_of flows ≡ length (all_packets flows)
-flows-length flows = omega (arith, flows-count flows, length-map {B = Descriptor} (all_packets flows) (λ (s : Stamped). s.packet))
-
 pub own-size : (a : Inside) (n : Node Kept) → seen a ≡ n → forest_size (side_by_side (children_seen a.discipline)) < node_size n
 own-size a n view = omega (arith, ap node_size view)
 
 -- the room that these packets have taken
-pub room-taken : (ps : List Descriptor) (a b : List Loss) (r s : ℕ) → IsTold (purged ps) a b r s → s + length ps ≡ r
-room-taken ps a b r s h = omega (arith, h.room_taken, length-map {B = Loss} ps (λ (p : Descriptor). record { packet = p; cause = Purged }))
+pub room-taken : (ps : List Descriptor) (a b : SinkState) → IsTold (purged ps) a b → b.room + length ps ≡ a.room
+room-taken ps a b h = omega (arith, h.room, length-map {B = Loss} ps (λ (p : Descriptor). record { packet = p; cause = Purged }))
 
 -- one after another
-pub told-both : (ps qs : List Descriptor) (a b c : List Loss) (r s t : ℕ) → IsTold (purged ps) a b r s → IsTold (purged qs) b c s t → IsTold (purged (ps ++ qs)) a c r t
-told-both ps qs a b c r s t h k =
-    let both = map-append (λ (p : Descriptor). record { packet = p; cause = Purged }) ps qs in
-    record {
-      lost = k.lost ∙ ap (λ ls. ls ++ purged qs) h.lost ∙ append_assoc a (purged ps) (purged qs) ∙ ap (λ ls. a ++ ls) (sym both);
-      room_taken = omega (arith, h.room_taken, k.room_taken, ap (λ (ls : List Loss). length ls) both, length-append (purged ps) (purged qs));
-    }
+pub told-both : (ps qs : List Descriptor) (a b c : SinkState) → IsTold (purged ps) a b → IsTold (purged qs) b c → IsTold (purged (ps ++ qs)) a c
+told-both ps qs a b c h k =
+    subst (λ ls. IsTold ls a c) (sym (map-append (λ (p : Descriptor). record { packet = p; cause = Purged }) ps qs)) (told_both (purged ps) (purged qs) a b c h k)
 
 queue-purged : (queue : List Stamped) → losses_of Purged queue ≡ purged (bare queue)
 queue-purged [] = refl
 queue-purged (s ∷ queue) = ap (λ ls. record { packet = s.packet; cause = Purged } ∷ ls) (queue-purged queue)
 
 -- a queue of a node's own
-pub queue-told : (queue : List Stamped) (a b : List Loss) (r s : ℕ) → b ≡ a ++ losses_of Purged queue → s + length queue ≡ r → IsTold (purged (bare queue)) a b r s
-queue-told queue a b r s lost room = subst (λ ls. IsTold ls a b r s) (queue-purged queue) (lost-told Purged queue a b r s lost room)
+pub queue-told : (queue : List Stamped) (a b : SinkState) → AreLost Purged queue a b → IsTold (purged (bare queue)) a b
+queue-told queue a b lost = subst (λ ls. IsTold ls a b) (queue-purged queue) lost
 
 -- a node, whose own packets and those beneath its children these are
 pub node-told : (x : Inside) (n : Node Kept) → seen x ≡ n → (ps : List Descriptor) → packets_in (discipline_seen x.discipline) ++ packets_beneath (children_seen x.discipline) ≡ ps
-    → (a b c : List Loss) (r s t : ℕ) → IsTold (purged (option_to_list (packet_held x.held))) a b r s → IsTold (purged ps) b c s t → IsTold (purged (beneath n)) a c r t
-node-told x n view ps is a b c r s t h k =
-    subst (λ qs. IsTold (purged qs) a c r t)
+    → (a b c : SinkState) → IsTold (purged (option_to_list (packet_held x.held))) a b → IsTold (purged ps) b c → IsTold (purged (beneath n)) a c
+node-told x n view ps is a b c h k =
+    subst (λ qs. IsTold (purged qs) a c)
     (ap (λ qs. option_to_list (packet_held x.held) ++ qs) (sym is) ∙ sym (append_assoc (option_to_list (packet_held x.held)) (packets_in (discipline_seen x.discipline)) (packets_beneath (children_seen x.discipline))) ∙ sym (own-beneath x n view))
-    (told-both (option_to_list (packet_held x.held)) ps a b c r s t h k)
+    (told-both (option_to_list (packet_held x.held)) ps a b c h k)
 
 pub beneath-split : (xs ys : List (Node Kept)) → packets_beneath (xs ++ ys) ≡ packets_beneath xs ++ packets_beneath ys
 beneath-split [] ys = refl

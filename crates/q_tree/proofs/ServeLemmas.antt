@@ -8,7 +8,8 @@ use Rattle.std.proofs.lemmas.List.{length-map, length-set, take_all, get_or-set_
 use Rattle.std.proofs.lemmas.List.Elements.{All-head, All-set}
 use Rattle.std.proofs.lemmas.Option.{same_Some, slice_get-map, slice_get_within, get_or_from_slice_get}
 use Rattle.q_packet.specs.Descriptor.{Descriptor}
-use Rattle.q_codel.specs.declared.loss.Loss.{Loss}
+use Rattle.q_codel.specs.Losses.{SinkState}
+use Rattle.q_codel.proofs.SinkLemmas.{told_nothing}
 use Rattle.q_drr.specs.Schedule as drr
 use Rattle.q_drr.specs.Schedule.{Entry, Schedule, has_class, place_of, front_of, is_active, quantum_of, turned, turn_answer, IsEntry}
 use Rattle.q_drr.specs.Take.{choice_of, need, prepared}
@@ -40,7 +41,7 @@ use Rattle.q_tree.specs.Shown.{Shown}
 use Rattle.q_tree.specs.NodeCode.{node_size, forest_size}
 use Rattle.q_tree.proofs.AskBands.{get-there}
 use Rattle.q_tree.proofs.RouteLemmas.{child-size}
-use Rattle.q_tree.proofs.AskOnce.{IsCounted, can-ask, can-ask-once, counted-then, told-nothing, told-then}
+use Rattle.q_tree.proofs.AskOnce.{IsCounted, can-ask, can-ask-once, counted-then, told-then}
 use Rattle.q_tree.proofs.Asking.{IsAsking, answered, taken-told, lawful-at, asking-starts, asking-goes, still-there, booked_all, side-all, all-at, all-set, set-at, set-same}
 use Rattle.q_tree.proofs.Peeks.{popped-asked, hand-asked, since-asked}
 use Rattle.q_model.specs.Since.{at_hand_since, since_of}
@@ -56,34 +57,27 @@ classes_to now first ns turns = peeked_classes first (take turns first.active) (
 abbrev pub rises_to : ℕ → Schedule → List (Node Kept) → ℕ → List Note
 rises_to now first ns turns = rises_of first (take turns first.active) (answers now ns)
 
--- a sink at first and now: what it was told, and the room in it
-pub record SinkTold : Type 0 where
-  pub losses : List Loss
-  pub losses_now : List Loss
-  pub room : ℕ
-  pub room_now : ℕ
-
 -- A drr in the midst of it: at first its schedule was `first` and its children `ns`; so many classes are still to be asked.
-pub record AreClassesAsked (now : ℕ) (first s : Schedule) (ns ms : List (Node Kept)) (unasked : ℕ) (so_far : Shown) (k : SinkTold) : Type 0 where
+pub record AreClassesAsked (now : ℕ) (first s : Schedule) (ns ms : List (Node Kept)) (unasked : ℕ) (so_far : Shown) (sink sink2 : SinkState) : Type 0 where
   pub turns : ℕ
   pub serving : IsServing (heads_of now first ns) first s turns
   pub remaining : unasked ≡ length first.active - turns
   pub asking : IsAsking ns ms (classes_to now first ns turns) (rises_to now first ns turns)
   pub counted : IsCounted (rises_to now first ns turns) so_far
-  pub told : IsToldOf (rises_to now first ns turns) k.losses k.losses_now k.room k.room_now
+  pub told : IsToldOf (rises_to now first ns turns) sink sink2
 
 answer-count : (now : ℕ) (ns : List (Node Kept)) → length (answers now ns) ≡ length ns
 answer-count now ns = length-map ns (λ (n : Node Kept). ask now (shape n))
 
-pub classes-start : (now : ℕ) (first : Schedule) (ns : List (Node Kept)) (unasked : ℕ) (s : Shown) (losses : List Loss) (room : ℕ) → CanServe now first ns → unasked ≡ length first.active → IsCounted [] s
-    → AreClassesAsked now first first ns ns unasked s (record { losses = losses; losses_now = losses; room = room; room_now = room })
-classes-start now first ns unasked s losses room can count counted = record {
+pub classes-start : (now : ℕ) (first : Schedule) (ns : List (Node Kept)) (unasked : ℕ) (s : Shown) (sink : SinkState) → CanServe now first ns → unasked ≡ length first.active → IsCounted [] s
+    → AreClassesAsked now first first ns ns unasked s sink sink
+classes-start now first ns unasked s sink can count counted = record {
   turns = 0;
   serving = serving_start (heads_of now first ns) first;
   remaining = omega (arith, count);
   asking = subst (λ (ws : List Worked). IsAsking ns ns ws []) (sym (nobody-asked first (answers now ns) (answer-count now ns ∙ can.same))) (asking-starts now ns);
   counted = counted;
-  told = told-nothing losses room;
+  told = told_nothing sink;
 }
 
 size-booked : (x : Forest Kept) (y : Forest (List Note)) → forest_size (each_booked kept x y) ≤ forest_size x
@@ -109,7 +103,7 @@ front-known s n law f =
     let is : IsEntry s.max_len s.classes f.first = All-head (IsEntry s.max_len s.classes) f.first f.rest (subst (All (IsEntry s.max_len s.classes)) f.is law.entries) in
     ap (λ m. has_class m s.classes) (sym f.class) ∙ is.there
 
-module _ (now : ℕ) (first s : Schedule) (ns ms : List (Node Kept)) (unasked : ℕ) (so_far : Shown) (k : SinkTold) (can : CanServe now first ns) (h : AreClassesAsked now first s ns ms unasked so_far k) (n : ℕ) (law : drr.IsLawful s) (f : Front n s) where
+module _ (now : ℕ) (first s : Schedule) (ns ms : List (Node Kept)) (unasked : ℕ) (so_far : Shown) (sink sink2 : SinkState) (can : CanServe now first ns) (h : AreClassesAsked now first s ns ms unasked so_far sink sink2) (n : ℕ) (law : drr.IsLawful s) (f : Front n s) where
   in-front : (i : ℕ) × IsInFront now first ns n i
   in-front =
       let known : has_class n first.classes ≡ true = ap (has_class n) (sym h.serving.classes) ∙ front-known s n law f in
@@ -124,23 +118,23 @@ module _ (now : ℕ) (first s : Schedule) (ns ms : List (Node Kept)) (unasked : 
   class-in-front place e = subst (IsInFront now first ns n) (same_Some in-front.0 place (sym in-front.1.at_place ∙ sym same-place ∙ sym e)) in-front.1
 
 -- the class in front of a drr in the midst of it, and the place where it is found
-pub record IsMet (now : ℕ) (first s : Schedule) (ns ms : List (Node Kept)) (unasked : ℕ) (so_far : Shown) (k : SinkTold) (place : ℕ) : Type 0 where
+pub record IsMet (now : ℕ) (first s : Schedule) (ns ms : List (Node Kept)) (unasked : ℕ) (so_far : Shown) (sink sink2 : SinkState) (place : ℕ) : Type 0 where
   pub can : CanServe now first ns
-  pub asked : AreClassesAsked now first s ns ms unasked so_far k
+  pub asked : AreClassesAsked now first s ns ms unasked so_far sink sink2
   pub class : ℕ
   pub lawful : drr.IsLawful s
   pub front : Front class s
   pub at : IsInFront now first ns class place
 
-pub front-met : {now : ℕ} {first s : Schedule} {ns ms : List (Node Kept)} {unasked : ℕ} {so_far : Shown} {k : SinkTold} → CanServe now first ns → AreClassesAsked now first s ns ms unasked so_far k → drr.IsLawful s
-    → (place : ℕ) → Some place ≡ option_and_then (λ n. place_of n s.classes) (front_of s) → IsMet now first s ns ms unasked so_far k place
-front-met {now} {first} {s} {ns} {ms} {unasked} {so_far} {k} can h law place e = by (front_of s) refl e
+pub front-met : {now : ℕ} {first s : Schedule} {ns ms : List (Node Kept)} {unasked : ℕ} {so_far : Shown} {sink sink2 : SinkState} → CanServe now first ns → AreClassesAsked now first s ns ms unasked so_far sink sink2 → drr.IsLawful s
+    → (place : ℕ) → Some place ≡ option_and_then (λ n. place_of n s.classes) (front_of s) → IsMet now first s ns ms unasked so_far sink sink2 place
+front-met {now} {first} {s} {ns} {ms} {unasked} {so_far} {sink} {sink2} can h law place e = by (front_of s) refl e
   where
-    by : (o : Option ℕ) → front_of s ≡ o → Some place ≡ option_and_then (λ n. place_of n s.classes) o → IsMet now first s ns ms unasked so_far k place
+    by : (o : Option ℕ) → front_of s ≡ o → Some place ≡ option_and_then (λ n. place_of n s.classes) o → IsMet now first s ns ms unasked so_far sink sink2 place
     by None is at = cc
     by (Some n) is at =
         let f : Front n s = front_is n s (sym is) in
-        record { can = can; asked = h; class = n; lawful = law; front = f; at = class-in-front now first s ns ms unasked so_far k can h n law f place at }
+        record { can = can; asked = h; class = n; lawful = law; front = f; at = class-in-front now first s ns ms unasked so_far sink sink2 can h n law f place at }
 
 -- an entry of the list as it began
 active-at : (n : ℕ) (es : List Entry) → is_active n es ≡ true → (k : ℕ) × (e : Entry) × (slice_get es k ≡ Some e) × (e.class ≡ n) × (k < length es)
@@ -153,16 +147,16 @@ active-at n (x ∷ es) h = elim (cases_Bool (n == x.class)) [
 ]
 
 -- what a class shows when it comes to the front
-pub record IsClassShown (now : ℕ) (first : Schedule) (ns ms : List (Node Kept)) (turns place : ℕ) (c d : Node Kept) (s : Shown) (losses losses_after : List Loss) (room room_after : ℕ) : Type 0 where
+pub record IsClassShown (now : ℕ) (first : Schedule) (ns ms : List (Node Kept)) (turns place : ℕ) (c d : Node Kept) (s : Shown) (sink sink2 : SinkState) : Type 0 where
   pub asking : IsAsking ns (set ms place d) (classes_to now first ns (suc turns)) (rises_to now first ns (suc turns))
   pub counted : IsCounted (rises_to now first ns (suc turns)) s
-  pub told : IsToldOf (rises_to now first ns (suc turns)) losses losses_after room room_after
+  pub told : IsToldOf (rises_to now first ns (suc turns)) sink sink2
   pub shown : s.packet ≡ (ask now (shape c)).shown
   pub peeked : d ≡ booked kept c (ask now (shape c)).peeked
   pub stored : slice_get (set ms place d) place ≡ Some d
 
 -- what is known where this class stands in front
-module _ {now : ℕ} {first s : Schedule} {ns ms : List (Node Kept)} {unasked : ℕ} {so_far : Shown} {k : SinkTold} {place : ℕ} (met : IsMet now first s ns ms unasked so_far k place) where
+module _ {now : ℕ} {first s : Schedule} {ns ms : List (Node Kept)} {unasked : ℕ} {so_far : Shown} {sink sink2 : SinkState} {place : ℕ} (met : IsMet now first s ns ms unasked so_far sink sink2 place) where
   pub place-within : place < length ms
   place-within = omega (arith, slice_get_within ns place met.at.child met.at.there, met.asked.asking.long)
 
@@ -188,12 +182,12 @@ module _ {now : ℕ} {first s : Schedule} {ns ms : List (Node Kept)} {unasked : 
     pub still-child : slice_get ms place ≡ Some met.at.child
     still-child = still-there now ns ms (classes_to now first ns met.asked.turns) (rises_to now first ns met.asked.turns) met.asked.asking place met.at.child met.at.there unasked-before
 
-    early-once : (l l2 : List Loss) (r r2 : ℕ) → IsToldOf (rises_to now first ns met.asked.turns) l l2 r r2 → length (packets_beneath ns) ≤ r → CanAskOnce now met.at.child so_far r2
-    early-once l l2 r r2 told room = can-ask-once now ns ms (classes_to now first ns met.asked.turns) (rises_to now first ns met.asked.turns) met.can.each met.asked.asking place met.at.child met.at.there unasked-before so_far met.asked.counted l l2 r r2 told room
+    early-once : (sink sink2 : SinkState) → IsToldOf (rises_to now first ns met.asked.turns) sink sink2 → length (packets_beneath ns) ≤ sink.room → CanAskOnce now met.at.child so_far sink2.room
+    early-once sink sink2 told room = can-ask-once now ns ms (classes_to now first ns met.asked.turns) (rises_to now first ns met.asked.turns) met.can.each met.asked.asking place met.at.child met.at.there unasked-before so_far met.asked.counted sink sink2 told room
 
-    early-shown : (d : Node Kept) (result : Shown) (l l2 l3 : List Loss) (r r2 r3 : ℕ) → IsToldOf (rises_to now first ns met.asked.turns) l l2 r r2 → IsAskedOnce now met.at.child d so_far result
-        → IsToldOf (ask now (shape met.at.child)).rises l2 l3 r2 r3 → IsClassShown now first ns ms met.asked.turns place met.at.child d result l l3 r r3
-    early-shown d result l l2 l3 r r2 r3 before asked told =
+    early-shown : (d : Node Kept) (result : Shown) (sink sink2 sink3 : SinkState) → IsToldOf (rises_to now first ns met.asked.turns) sink sink2 → IsAskedOnce now met.at.child d so_far result
+        → IsToldOf (ask now (shape met.at.child)).rises sink2 sink3 → IsClassShown now first ns ms met.asked.turns place met.at.child d result sink sink3
+    early-shown d result sink sink2 sink3 before asked told =
         let a : Asked = ask now (shape met.at.child) in
         let rises : List Note = rises_to now first ns met.asked.turns in
         let more : rises ++ a.rises ≡ rises_to now first ns (suc met.asked.turns) = sym (next-rises first (answers now ns) met.asked.turns entry.0 place a entry.1 entry-place answer-there) in
@@ -204,7 +198,7 @@ module _ {now : ℕ} {first s : Schedule} {ns ms : List (Node Kept)} {unasked : 
               (subst (λ ws. IsAsking ns (set ms place d) ws (rises ++ a.rises)) next
               (asking-goes now ns ms (classes_to now first ns met.asked.turns) rises met.asked.asking place met.at.child met.at.there unasked-before (can-ask now ns ms (classes_to now first ns met.asked.turns) rises met.can.each met.asked.asking place met.at.child met.at.there unasked-before) d asked.peeked asked.arrived));
           counted = subst (λ notes. IsCounted notes result) more (counted-then rises a.rises so_far shown result met.asked.counted refl refl asked.dropped asked.marked);
-          told = subst (λ notes. IsToldOf notes l l3 r r3) more (told-then rises a.rises l l2 l3 r r2 r3 before told);
+          told = subst (λ notes. IsToldOf notes sink sink3) more (told-then rises a.rises sink sink2 sink3 before told);
           shown = asked.packet;
           peeked = asked.peeked;
           stored = set-at ms place met.at.child d still-child;
@@ -231,9 +225,9 @@ module _ {now : ℕ} {first s : Schedule} {ns ms : List (Node Kept)} {unasked : 
     all-turns : take met.asked.turns first.active ≡ take (suc met.asked.turns) first.active
     all-turns = take_all met.asked.turns first.active late ∙ sym (take_all (suc met.asked.turns) first.active (omega (arith, late)))
 
-    late-shown : CanAsk now met.at.child → (d : Node Kept) (result : Shown) (l l2 : List Loss) (r r2 : ℕ) → IsToldOf (rises_to now first ns met.asked.turns) l l2 r r2 → d ≡ booked kept met.at.child (ask now (shape met.at.child)).peeked
-        → result ≡ record so_far { packet = (pop (booked kept met.at.child (ask now (shape met.at.child)).peeked)).shown } → IsClassShown now first ns ms met.asked.turns place met.at.child d result l l2 r r2
-    late-shown may d result l l2 r r2 told is result_is =
+    late-shown : CanAsk now met.at.child → (d : Node Kept) (result : Shown) (sink sink2 : SinkState) → IsToldOf (rises_to now first ns met.asked.turns) sink sink2 → d ≡ booked kept met.at.child (ask now (shape met.at.child)).peeked
+        → result ≡ record so_far { packet = (pop (booked kept met.at.child (ask now (shape met.at.child)).peeked)).shown } → IsClassShown now first ns ms met.asked.turns place met.at.child d result sink sink2
+    late-shown may d result sink sink2 told is result_is =
         let a : Asked = ask now (shape met.at.child) in
         let stays : set ms place d ≡ ms = ap (set ms place) is ∙ set-same ms place (booked kept met.at.child a.peeked) peeked-child in
         record {
@@ -241,7 +235,7 @@ module _ {now : ℕ} {first s : Schedule} {ns ms : List (Node Kept)} {unasked : 
               (subst (λ xs. IsAsking ns xs (classes_to now first ns met.asked.turns) (rises_to now first ns met.asked.turns)) (sym stays) met.asked.asking);
           counted = subst (λ (es : List Entry). IsCounted (rises_of first es (answers now ns)) result) all-turns
               (record { dropped = ap (λ (x : Shown). x.dropped) result_is ∙ met.asked.counted.dropped; marked = ap (λ (x : Shown). x.marked) result_is ∙ met.asked.counted.marked });
-          told = subst (λ (es : List Entry). IsToldOf (rises_of first es (answers now ns)) l l2 r r2) all-turns told;
+          told = subst (λ (es : List Entry). IsToldOf (rises_of first es (answers now ns)) sink sink2) all-turns told;
           shown = ap (λ (x : Shown). x.packet) result_is ∙ hand-asked now met.at.child (booked kept met.at.child a.peeked) may refl;
           peeked = is;
           stored = set-at ms place (booked kept met.at.child a.peeked) d peeked-child;
@@ -252,27 +246,27 @@ module _ {now : ℕ} {first s : Schedule} {ns ms : List (Node Kept)} {unasked : 
 
   -- the class as the code has it
   module _ (dummy : Node Kept) where
-    pub class-once : nat_lt 0 unasked ≡ true → length (packets_beneath ns) ≤ k.room → CanAskOnce now (slice_index_or ms place dummy) so_far k.room_now
+    pub class-once : nat_lt 0 unasked ≡ true → length (packets_beneath ns) ≤ sink.room → CanAskOnce now (slice_index_or ms place dummy) so_far sink2.room
     class-once some room =
         let early : met.asked.turns < length first.active = omega (arith, ltb-true 0 unasked some, met.asked.remaining) in
-        subst (λ (m : Node Kept). CanAskOnce now m so_far k.room_now) (sym (get_or_from_slice_get ms place met.at.child dummy (still-child early))) (early-once early k.losses k.losses_now k.room k.room_now met.asked.told room)
+        subst (λ (m : Node Kept). CanAskOnce now m so_far sink2.room) (sym (get_or_from_slice_get ms place met.at.child dummy (still-child early))) (early-once early sink sink2 met.asked.told room)
 
-    pub class-shown : {d : Node Kept} {result : Shown} {l3 : List Loss} {r3 : ℕ}
+    pub class-shown : {d : Node Kept} {result : Shown} {sink3 : SinkState}
         → (nat_lt 0 unasked ≡ true → IsAskedOnce now (slice_index_or ms place dummy) d so_far result)
-        → (nat_lt 0 unasked ≡ true → IsToldOf (ask now (shape (slice_index_or ms place dummy))).rises k.losses_now l3 k.room_now r3)
+        → (nat_lt 0 unasked ≡ true → IsToldOf (ask now (shape (slice_index_or ms place dummy))).rises sink2 sink3)
         → (nat_lt 0 unasked ≡ false → (d ≡ slice_index_or ms place dummy) × (result ≡ record so_far { packet = (pop (slice_index_or ms place dummy)).shown }))
-        → (nat_lt 0 unasked ≡ false → (l3 ≡ k.losses_now) × (r3 ≡ k.room_now)) → IsClassShown now first ns ms met.asked.turns place met.at.child d result k.losses l3 k.room r3
-    class-shown {d} {result} {l3} {r3} asked told hand kept_told = elim (cases_Bool (nat_lt 0 unasked)) [
+        → (nat_lt 0 unasked ≡ false → sink3 ≡ sink2) → IsClassShown now first ns ms met.asked.turns place met.at.child d result sink sink3
+    class-shown {d} {result} {sink3} asked told hand kept_told = elim (cases_Bool (nat_lt 0 unasked)) [
       | inl some ↦
           let early : met.asked.turns < length first.active = omega (arith, ltb-true 0 unasked some, met.asked.remaining) in
           let is : slice_index_or ms place dummy ≡ met.at.child = get_or_from_slice_get ms place met.at.child dummy (still-child early) in
-          early-shown early d result k.losses k.losses_now l3 k.room k.room_now r3 met.asked.told (subst (λ (m : Node Kept). IsAskedOnce now m d so_far result) is (asked some)) (subst (λ (m : Node Kept). IsToldOf (ask now (shape m)).rises k.losses_now l3 k.room_now r3) is (told some))
+          early-shown early d result sink sink2 sink3 met.asked.told (subst (λ (m : Node Kept). IsAskedOnce now m d so_far result) is (asked some)) (subst (λ (m : Node Kept). IsToldOf (ask now (shape m)).rises sink2 sink3) is (told some))
       | inr asked_all ↦
           let late : length first.active ≤ met.asked.turns = omega (arith, ltb-false 0 unasked asked_all, met.asked.remaining) in
           let is : slice_index_or ms place dummy ≡ booked kept met.at.child (ask now (shape met.at.child)).peeked = get_or_from_slice_get ms place (booked kept met.at.child (ask now (shape met.at.child)).peeked) dummy (peeked-child late) in
           let same = hand asked_all in
           let nothing = kept_told asked_all in
-          late-shown late child-can d result k.losses l3 k.room r3 (subst (λ xs. IsToldOf (rises_to now first ns met.asked.turns) k.losses xs k.room r3) (sym nothing.0) (subst (λ m. IsToldOf (rises_to now first ns met.asked.turns) k.losses k.losses_now k.room m) (sym nothing.1) met.asked.told))
+          late-shown late child-can d result sink sink3 (subst (λ t. IsToldOf (rises_to now first ns met.asked.turns) sink t) (sym nothing) met.asked.told)
           (same.0 ∙ is) (same.1 ∙ ap (λ (m : Node Kept). record so_far { packet = (pop m).shown }) is)
     ]
 
@@ -313,7 +307,7 @@ module _ {now : ℕ} {first s : Schedule} {ns ms : List (Node Kept)} {unasked : 
     service-rises = ap (λ (es : List Entry). rises_of first es (answers now ns)) asked-to
 
   -- a class that shows nothing ends it
-  module _ {d : Node Kept} {result : Shown} {l2 : List Loss} {r2 : ℕ} (shows : IsClassShown now first ns ms met.asked.turns place met.at.child d result k.losses l2 k.room r2) where
+  module _ {d : Node Kept} {result : Shown} {sink3 : SinkState} (shows : IsClassShown now first ns ms met.asked.turns place met.at.child d result sink sink3) where
     module _ (empty : result.packet ≡ None) where
       silent : (ask now (shape met.at.child)).shown ≡ None
       silent = sym shows.shown ∙ empty
@@ -329,8 +323,8 @@ module _ {now : ℕ} {first s : Schedule} {ns ms : List (Node Kept)} {unasked : 
       nothing-since : (own : Own) → 0 ≡ (ask_drr own (answers now ns) first).peeked.own.since
       nothing-since own = ap (λ (x : Asked). x.peeked.own.since) (sym (drr-answer None silent uncovered own))
 
-      pub nothing-told : (own : Own) → IsToldOf (ask_drr own (answers now ns) first).rises k.losses l2 k.room r2
-      nothing-told own = subst (λ notes. IsToldOf notes k.losses l2 k.room r2) (sym (ap (λ (x : Asked). x.rises) (drr-answer None silent uncovered own) ∙ service-rises None silent uncovered)) shows.told
+      pub nothing-told : (own : Own) → IsToldOf (ask_drr own (answers now ns) first).rises sink sink3
+      nothing-told own = subst (λ notes. IsToldOf notes sink sink3) (sym (ap (λ (x : Asked). x.rises) (drr-answer None silent uncovered own) ∙ service-rises None silent uncovered)) shows.told
 
       nothing-asked : (own : Own) → AreAsked (ask_drr own (answers now ns) first) ns (set ms place d) result
       nothing-asked own =
@@ -377,9 +371,9 @@ module _ {now : ℕ} {first s : Schedule} {ns ms : List (Node Kept)} {unasked : 
             ∙ ap (λ (o : Option ℕ). unwrap_or o 0) (since-asked now met.at.child d child-can shows.peeked)
             ∙ ap (λ (y : Asked). y.peeked.own.since) (sym (drr-answer (Some offer.0) offers enough own))
 
-        pub given-told : (own : Own) → IsToldOf (ask_drr own (answers now ns) first).rises k.losses l2 k.room r2
+        pub given-told : (own : Own) → IsToldOf (ask_drr own (answers now ns) first).rises sink sink3
         given-told own =
-            subst (λ notes. IsToldOf notes k.losses l2 k.room r2) (sym (ap (λ (y : Asked). y.rises) (drr-answer (Some offer.0) offers enough own) ∙ service-rises (Some offer.0) offers enough)) shows.told
+            subst (λ notes. IsToldOf notes sink sink3) (sym (ap (λ (y : Asked). y.rises) (drr-answer (Some offer.0) offers enough own) ∙ service-rises (Some offer.0) offers enough)) shows.told
 
       -- gives it where it can send it
       module _ (send : Send ≡ turn_answer len s.active) {s1 s2 : Schedule} {ms2 : List (Node Kept)} (turn : s1 ≡ turned len s) (given : (c : Node Kept) → slice_get (set ms place d) place ≡ Some c → IsGivenBy place c s1 s2 (set ms place d) ms2) where
@@ -456,7 +450,7 @@ module _ {now : ℕ} {first s : Schedule} {ns ms : List (Node Kept)} {unasked : 
         pub fewer-grants : needs s1 < needs s
         fewer-grants = subst (λ t. needs t < needs s) (sym turn) (measure_falls (heads_of now first ns) s met.class len met.front offered-head (front_quantum s met.class met.front met.lawful) short)
 
-        pub classes-go-on : {left : ℕ} → left ≡ unasked - 1 → AreClassesAsked now first s1 ns (set ms place d) left result (record { losses = k.losses; losses_now = l2; room = k.room; room_now = r2 })
+        pub classes-go-on : {left : ℕ} → left ≡ unasked - 1 → AreClassesAsked now first s1 ns (set ms place d) left result sink sink3
         classes-go-on count = record {
           turns = suc met.asked.turns;
           serving = subst (λ t. IsServing (heads_of now first ns) first t (suc met.asked.turns)) (sym turn) (serving_granted (heads_of now first ns) first s met.asked.turns met.class len met.asked.serving met.lawful met.front offered-head short);

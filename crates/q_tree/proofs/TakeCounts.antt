@@ -7,8 +7,8 @@ use Rattle.std.proofs.lemmas.List.Elements.{filter_map-append}
 use Rattle.q_packet.specs.Descriptor.{Descriptor}
 use Rattle.q_packet.specs.declared.cause.Cause.TheVariants.{CoDel}
 use Rattle.q_codel.specs.Losses as codel
-use Rattle.q_codel.specs.declared.loss.Loss.{Loss}
 use Rattle.q_codel.specs.declared.taken.Taken.{Taken}
+use Rattle.q_codel.specs.Losses.{IsTold, SinkState}
 use Rattle.q_fqcodel.specs.FqState.{FqState, packets_of, bytes_of, all_packets}
 use Rattle.q_fqcodel.specs.Take.{selected, sent_from, dropped_from, after_sending}
 use Rattle.q_model.specs.declared.totals.Totals.{Totals}
@@ -23,7 +23,7 @@ use Rattle.q_invariants.proofs.Answer.{one}
 use Rattle.q_invariants.proofs.Counted.{bytes, all-more}
 use Rattle.q_invariants.proofs.FlowNotes.{take-weighs, lost-marks, quiet-marks}
 use Rattle.q_invariants.proofs.Weights.{weigh-count, marked, marked-nil, marked-cons, dropped-append, marked-append, dropped-losses, marked-losses}
-use Rattle.q_tree.specs.AskSteps.{IsShown, IsTold, IsToldOf}
+use Rattle.q_tree.specs.AskSteps.{IsShown, IsToldOf}
 use Rattle.q_tree.specs.Shown.{Shown}
 use Rattle.q_tree.proofs.FlowCounts.{packets-all, bytes-all, packets-bare, bytes-bare, told-losses}
 use Rattle.q_tree.proofs.Rows.{same-totals, weigh-bytes}
@@ -138,5 +138,5 @@ flow-losses now q own below =
     no-losses None = refl
     no-losses (Some t) = mark t.packet t.marked
 
-pub flow-told : (now : ℕ) (q : FqState) (own : Own) (below : List Asked) (l l2 : List Loss) (r r2 : ℕ) → IsTold (codel.losses_of CoDel (dropped_from now (selected q))) l l2 r r2 → IsToldOf (ask_fq_codel now own below q).rises l l2 r r2
-flow-told now q own below l l2 r r2 told = subst (λ xs. IsTold xs l l2 r r2) (sym (flow-losses now q own below)) told
+pub flow-told : (now : ℕ) (q : FqState) (own : Own) (below : List Asked) (sink sink2 : SinkState) → IsTold (codel.losses_of CoDel (dropped_from now (selected q))) sink sink2 → IsToldOf (ask_fq_codel now own below q).rises sink sink2
+flow-told now q own below sink sink2 told = subst (λ xs. IsTold xs sink sink2) (sym (flow-losses now q own below)) told

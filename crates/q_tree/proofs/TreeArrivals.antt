@@ -5,7 +5,7 @@ use Rattle.std.specs.Prelude.{Bool, true, false, nat_lt, IfOk, IfSome, OnOk, if�
 use Rattle.std.proofs.lemmas.Bool.{ltb-true}
 use Rattle.q_packet.specs.Descriptor.{Descriptor}
 use Rattle.q_packet.specs.declared.cause.Cause.TheVariants.{TooLong}
-use Rattle.q_codel.specs.declared.loss.Loss.{Loss}
+use Rattle.q_codel.specs.Losses.{IsTold, SinkState}
 use Rattle.q_model.specs.declared.row.Row.{Row}
 use Rattle.q_model.specs.Node.{Node, shape}
 use Rattle.q_model.specs.Route.{Route, route, device_route}
@@ -47,9 +47,9 @@ above-root now p mtu n m o long same q packet is = subst (λ b. HasComeBelow now
   in_place = λ there. refl;
 })
 
-pub above-told : (now : ℕ) (p : Descriptor) (mtu : ℕ) (n : Node Kept) (ls ls2 : List Loss) (r r2 : ℕ) → mtu < p.len → (q : Descriptor) → q ≡ p → ls2 ≡ ls ++ record { packet = q; cause = TooLong } ∷ [] → r2 + 1 ≡ r
-    → IsToldOf (put_on now p (device_route p mtu n) (shape n)).rises ls ls2 r r2
-above-told now p mtu n ls ls2 r r2 long q packet told room = subst (λ b. IsToldOf (put_on now p (if b then None else Some (route p n)) (shape n)).rises ls ls2 r r2) (sym (lt-true mtu p.len long)) (record { lost = told ∙ ap (λ (x : Descriptor). ls ++ record { packet = x; cause = TooLong } ∷ []) packet; room_taken = room })
+pub above-told : (now : ℕ) (p : Descriptor) (mtu : ℕ) (n : Node Kept) (sink sink2 : SinkState) → mtu < p.len → (q : Descriptor) → q ≡ p → IsTold (record { packet = q; cause = TooLong } ∷ []) sink sink2
+    → IsToldOf (put_on now p (device_route p mtu n) (shape n)).rises sink sink2
+above-told now p mtu n sink sink2 long q packet told = subst (λ b. IsToldOf (put_on now p (if b then None else Some (route p n)) (shape n)).rises sink sink2) (sym (lt-true mtu p.len long)) (subst (λ (x : Descriptor). IsTold (record { packet = x; cause = TooLong } ∷ []) sink sink2) packet told)
 
 pub at-root : (now : ℕ) (p : Descriptor) (mtu : ℕ) (n m : Node Kept) (res : Result Outcome AllocError) → p.len ≤ mtu → IfOk res (λ o. HasCome now p n m o) → IfOk res (λ o. HasComeBelow now p (device_route p mtu n) n m o)
 at-root now p mtu n m (Err e) short h = tt
@@ -63,10 +63,10 @@ at-root now p mtu n m (Ok o) short h = subst (λ b. HasComeBelow now p (if b the
   in_place = h.in_place;
 })
 
-pub at-root-told : (now : ℕ) (p : Descriptor) (mtu : ℕ) (n : Node Kept) (res : Result Outcome AllocError) (ls ls2 : List Loss) (r r2 : ℕ) → p.len ≤ mtu → OnOk res (IsToldOf (rises_along now p n) ls ls2 r r2)
-    → OnOk res (IsToldOf (put_on now p (device_route p mtu n) (shape n)).rises ls ls2 r r2)
-at-root-told now p mtu n (Err e) ls ls2 r r2 short h = tt
-at-root-told now p mtu n (Ok o) ls ls2 r r2 short h = subst (λ b. IsToldOf (put_on now p (if b then None else Some (route p n)) (shape n)).rises ls ls2 r r2) (sym (lt-false mtu p.len short)) h
+pub at-root-told : (now : ℕ) (p : Descriptor) (mtu : ℕ) (n : Node Kept) (res : Result Outcome AllocError) (sink sink2 : SinkState) → p.len ≤ mtu → OnOk res (IsToldOf (rises_along now p n) sink sink2)
+    → OnOk res (IsToldOf (put_on now p (device_route p mtu n) (shape n)).rises sink sink2)
+at-root-told now p mtu n (Err e) sink sink2 short h = tt
+at-root-told now p mtu n (Ok o) sink sink2 short h = subst (λ b. IsToldOf (put_on now p (if b then None else Some (route p n)) (shape n)).rises sink sink2) (sym (lt-false mtu p.len short)) h
 
 -- the place that is there for a packet which can arrive
 pub place-there : (p : Descriptor) (d : DeviceState Kept) → CanArrive (route_seen p d.tree.device.mtu d.tree.root) d → p.len ≤ d.tree.device.mtu → (route p d.tree.root).refusal ≡ None → HasPlace (route p d.tree.root).path d.tree.root
@@ -103,8 +103,8 @@ module _ (a : Inside) (k : IsIndexedDevice a) (now : ℕ) (p : Descriptor) (late
   shape-route : device_route p a.mtu (shape a.root) ≡ device_route p a.mtu a.root
   shape-route = ap (λ (x : Route). if nat_lt a.mtu p.len then None else Some x) (same-way p a.root)
 
-  pub told-tree : (ls ls2 : List Loss) (r r2 : ℕ) → IsToldOf (put_on now p (device_route p a.mtu a.root) (shape a.root)).rises ls ls2 r r2 → IsToldOf (noted_by_put now p (tree_seen a).tree) ls ls2 r r2
-  told-tree ls ls2 r r2 h = subst (λ (x : Option Route). IsToldOf (put_on now p x (shape a.root)).rises ls ls2 r r2) (sym shape-route) h
+  pub told-tree : (sink sink2 : SinkState) → IsToldOf (put_on now p (device_route p a.mtu a.root) (shape a.root)).rises sink sink2 → IsToldOf (noted_by_put now p (tree_seen a).tree) sink sink2
+  told-tree sink sink2 h = subst (λ (x : Option Route). IsToldOf (put_on now p x (shape a.root)).rises sink sink2) (sym shape-route) h
 
   module _ (o : Outcome) (after : Node Kept) (h : HasComeBelow now p (device_route p a.mtu a.root) a.root after o) where
     mid-kept : IsKeptDevice (record a { root = h.placed })

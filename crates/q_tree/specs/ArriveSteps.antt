@@ -5,8 +5,7 @@ use Rattle.q_packet.specs.Descriptor.{Descriptor}
 use Rattle.q_packet.specs.declared.cause.Cause.{Cause}
 use Rattle.q_packet.specs.declared.cause.Cause.TheVariants.{FatFlow}
 use Rattle.q_codel.specs.FifoState.{takes}
-use Rattle.q_codel.specs.Losses.{losses_of}
-use Rattle.q_codel.specs.declared.loss.Loss.{Loss}
+use Rattle.q_codel.specs.Losses.{AreLost, SinkState}
 use Rattle.q_fqcodel.specs.FqState.{FqState}
 use Rattle.q_fqcodel.specs.Put.{after_put, is_lost_itself, lost_by_put}
 use Rattle.q_model.specs.declared.filter.Filter.{Filter}
@@ -22,7 +21,7 @@ use Rattle.q_model.specs.Work.{booked}
 use Rattle.q_invariants.proofs.Kept.{IsLawfulRoot}
 use Rattle.q_tree.specs.Ahead.{ways}
 use Rattle.q_tree.specs.Arrivals.{CanCount, CanPut, HasPlace, HasPlaceIn, IsOutcome}
-use Rattle.q_tree.specs.AskSteps.{IsTold, IsToldOf, own_of}
+use Rattle.q_tree.specs.AskSteps.{IsToldOf, own_of}
 use Rattle.q_tree.specs.Kept.{Kept, kept}
 use Rattle.q_tree.specs.Places.{unplaced, places_at, places_under, HasPlaceAt}
 use Rattle.q_tree.specs.PutSteps.{CanFlow, IsQueued, IsPutInto, rises_here}
@@ -37,12 +36,12 @@ nothing_lost = record { loss = None; refused = no_totals; dropped = no_totals }
 
 -- A packet that was put into its flow of an fq_codel: what the flows hold then, what is counted of it, and which losses the sink got.
 -- Over the limit it may be lost itself, or packets of the fattest flow are; it is never refused.
-pub record IsPutInFlow (now : ℕ) (p : Descriptor) (old new : FqState) (o : Outcome) (losses losses_after : List Loss) (room room_after : ℕ) : Type 0 where
+pub record IsPutInFlow (now : ℕ) (p : Descriptor) (old new : FqState) (o : Outcome) (sink sink_after : SinkState) : Type 0 where
   pub after : new ≡ after_put old p now
   pub loss : o.loss ≡ (if is_lost_itself old p now then Some FatFlow else None)
   pub refused : o.refused ≡ no_totals
   pub dropped : o.dropped ≡ totals_in (packets_of (lost_by_put old p now))
-  pub told : IsTold (losses_of FatFlow (lost_by_put old p now)) losses losses_after room room_after
+  pub told : AreLost FatFlow (lost_by_put old p now) sink sink_after
 
 -- a packet can arrive at the node: the tree is lawful at `now`, where no packet is longer than some mtu, and the counters have room
 pub record CanCome (now : ℕ) (p : Descriptor) (n : spec.Node Kept) : Type 0 where
@@ -125,12 +124,12 @@ pub record IsAsPlaced (before after : Discipline) : Type 0 where
   pub places : places_seen after ≡ places_seen before
 
 -- the packet came to a discipline, and a sink got its losses
-pub record HasComeIn (now : ℕ) (p : Descriptor) (filters : List Filter) (before after : Discipline) (o : Outcome) (losses losses_after : List Loss) (room room_after : ℕ) : Type 0 where
+pub record HasComeIn (now : ℕ) (p : Descriptor) (filters : List Filter) (before after : Discipline) (o : Outcome) (sink sink_after : SinkState) : Type 0 where
   pub placed : Discipline
   pub is_placed : IsPlacedIn before placed
   pub notes : List Note
   pub put : IsPutOn now p (way_in p filters before).refusal (way_in p filters before).path placed after o notes
-  pub told : IsToldOf notes losses losses_after room room_after
+  pub told : IsToldOf notes sink sink_after
   pub in_place : ((way_in p filters before).refusal ≡ None → HasPlaceOn (way_in p filters before).path before) → IsAsPlaced before placed
 
 -- the packet came to the root, or was refused above it

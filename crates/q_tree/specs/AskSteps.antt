@@ -3,7 +3,7 @@
 use Rattle.std.specs.Prelude.{◌≡◌, ℕ, ◌<◌, ◌≤◌, ◌^◌, ◌+◌, ◌++◌, length, List, map, set, Option, None}
 use Rattle.std.specs.List.{All}
 use Rattle.q_packet.specs.Descriptor.{Descriptor}
-use Rattle.q_codel.specs.declared.loss.Loss.{Loss}
+use Rattle.q_codel.specs.Losses.{IsTold, SinkState}
 use Rattle.q_model.specs.declared.filter.Filter.{Filter}
 use Rattle.q_model.specs.declared.row.Row.{Row}
 use Rattle.q_model.specs.declared.totals.Totals.{Totals}
@@ -80,13 +80,8 @@ pub record AreAsked (a : Asked) (before after : List (spec.Node Kept)) (s : Show
   pub within : (t : Totals) → All (λ (child : spec.Node Kept). IsCountedWithin child.memory.counts.arrived t) before → All (λ (child : spec.Node Kept). IsCountedWithin child.memory.counts.arrived t) after
   pub shown : IsShown a s
 
--- a sink that was told of these losses: its losses and its room, before and after
-pub record IsTold (told : List Loss) (losses losses_after : List Loss) (room room_after : ℕ) : Type 0 where
-  pub lost : losses_after ≡ losses ++ told
-  pub room_taken : room_after + length told ≡ room
-
--- the same of the losses among these notes
-abbrev pub IsToldOf : List Note → List Loss → List Loss → ℕ → ℕ → Type 0
+-- a sink that was told of the losses among these notes
+abbrev pub IsToldOf : List Note → SinkState → SinkState → Type 0
 IsToldOf rises = IsTold (losses_in rises)
 
 -- a node that holds no packet

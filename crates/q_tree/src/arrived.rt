@@ -1,10 +1,10 @@
 ghost use Rattle.std.specs.Prelude.{◌≡◌, ◌≤◌, [], ◌∷◌, Some, true};
+ghost use Rattle.q_codel.specs.Losses.{IsTold};
 ghost use Rattle.q_model.specs.Conserved.{IsBalanced};
 ghost use Rattle.q_model.specs.Step.{fate_of};
 ghost use Rattle.q_model.specs.Tally.{no_totals, with_packet};
 ghost use Rattle.q_tree.specs.Arrivals.{CanCount, IsLostOf, with_arrival};
 ghost use Rattle.q_tree.specs.ArriveSteps.{nothing_lost};
-ghost use Rattle.q_tree.specs.AskSteps.{IsTold};
 
 use crate::booking::{NOTHING, book_outcome, one_packet};
 use crate::counters::Counters;
@@ -96,10 +96,10 @@ pub(crate) fn refuse<S: Sink>(
     lost: &mut Outcome,
     sink: &mut S,
 ) -> Arrived
-    requires { 1 ≤ S.room sink.old }
+    requires { 1 ≤ (S.state sink.old).room }
     ensures outcome { result ≡ record { loss = Some cause; refused = with_packet no_totals packet.now; dropped = no_totals } }
     ensures lost_is { lost.new ≡ result }
-    ensures told { IsTold (record { packet = packet.now; cause = cause } ∷ []) (S.losses sink.old) (S.losses sink.new) (S.room sink.old) (S.room sink.new) }
+    ensures told { IsTold (record { packet = packet.now; cause = cause } ∷ []) (S.state sink.old) (S.state sink.new) }
     ensures kept { S.keeps sink.old sink.new }
 {
     sink.lost(packet.packet(), cause);

@@ -1,5 +1,6 @@
 //! Commands on a tree: a command is planned, and then the edit that it comes to is made.
-ghost use Rattle.std.specs.Prelude.{◌≡◌, ◌≤◌, ◌+◌, ◌++◌, IfOk, length};
+ghost use Rattle.std.specs.Prelude.{◌≡◌, ◌≤◌, IfOk, length};
+ghost use Rattle.q_codel.specs.Losses.{IsTold};
 ghost use Rattle.q_model.specs.Beneath.{beneath};
 ghost use Rattle.q_model.specs.Node.{shape};
 ghost use Rattle.q_tree.specs.Commanding.{WantsMemory};
@@ -51,10 +52,9 @@ impl Tree {
         sink: &mut S,
     ) -> Result<(), Refusal>
         requires order { self.old.clock ≤ now }
-        requires sink { length (beneath self.old.tree.root) ≤ S.room sink.old }
+        requires sink { length (beneath self.old.tree.root) ≤ (S.state sink.old).room }
         ensures answer { IsAnswered (WantsMemory command (plan_of command now self.old)) now (plan_of command now self.old) self.old self.new result }
-        ensures lost { S.losses sink.new ≡ S.losses sink.old ++ told (plan_of command now self.old) (shape self.old.tree.root) result }
-        ensures room { S.room sink.new + length (told (plan_of command now self.old) (shape self.old.tree.root) result) ≡ S.room sink.old }
+        ensures lost { IsTold (told (plan_of command now self.old) (shape self.old.tree.root) result) (S.state sink.old) (S.state sink.new) }
         ensures kept { S.keeps sink.old sink.new }
     {
         let planned = self.plan(alloc, &command, now)?;

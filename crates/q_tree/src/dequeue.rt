@@ -5,14 +5,13 @@
 //! from the child that shows it. Each node books what CoDel dropped and marked below it, and then the packet as sent.
 //!
 //! `dequeue` asks, and may find that nothing can go now. `dequeue_at_hand` asks nobody: it takes what a node has already shown.
-ghost use Rattle.std.specs.Prelude.{◌≡◌, ◌≤◌, ◌+◌, ◌++◌, List, None, Option, Some, is_some, length, true, unwrap_or, ℕ};
+ghost use Rattle.std.specs.Prelude.{◌≡◌, ◌≤◌, List, None, Option, Some, is_some, length, true, unwrap_or, ℕ};
 ghost use Rattle.std.specs.Option.{option_map_or};
 ghost use Rattle.q_packet.specs.Stored.{stored_of};
 ghost use Rattle.q_model.specs.Ask.{ask};
 ghost use Rattle.q_model.specs.Beneath.{beneath};
 ghost use Rattle.q_model.specs.Node.{shape};
 ghost use Rattle.q_model.specs.Pop.{pop};
-ghost use Rattle.q_model.specs.Step.{losses_in};
 ghost use Rattle.q_model.specs.TreeState.{given, noted_by_take, take_packet};
 ghost use Rattle.q_model.specs.Work.{booked};
 ghost use Rattle.q_model.specs.declared.filter.Filter.{Filter};
@@ -42,12 +41,11 @@ impl Tree {
     /// needs room for what is queued.
     pub fn send<S: Sink>(&mut self, now: Moment, out: &mut KeptPacket, sink: &mut S) -> bool
         requires order { self.old.clock ≤ now }
-        requires sink { length (beneath self.old.tree.root) ≤ S.room sink.old }
+        requires sink { length (beneath self.old.tree.root) ≤ (S.state sink.old).room }
         ensures sent { result ≡ is_some (given now self.old.tree) }
         ensures packet { out.new ≡ unwrap_or (given now self.old.tree) out.old }
         ensures after { self.new ≡ record { clock = now; tree = take_packet kept now self.old.tree } }
-        ensures lost { S.losses sink.new ≡ S.losses sink.old ++ losses_in (noted_by_take now self.old.tree) }
-        ensures room { S.room sink.new + length (losses_in (noted_by_take now self.old.tree)) ≡ S.room sink.old }
+        ensures lost { IsToldOf (noted_by_take now self.old.tree) (S.state sink.old) (S.state sink.new) }
         ensures kept { S.keeps sink.old sink.new }
     {
         // A time is at most 2^62 nanoseconds.
@@ -73,12 +71,11 @@ impl Tree {
         sink: &mut S,
     ) -> bool
         requires order { self.old.clock ≤ now }
-        requires sink { length (beneath self.old.tree.root) ≤ S.room sink.old }
+        requires sink { length (beneath self.old.tree.root) ≤ (S.state sink.old).room }
         ensures sent { result ≡ is_some (given now self.old.tree) }
         ensures packet { out.new ≡ option_map_or stored_of (given now self.old.tree) out.old }
         ensures after { self.new ≡ record { clock = now; tree = take_packet kept now self.old.tree } }
-        ensures lost { S.losses sink.new ≡ S.losses sink.old ++ losses_in (noted_by_take now self.old.tree) }
-        ensures room { S.room sink.new + length (losses_in (noted_by_take now self.old.tree)) ≡ S.room sink.old }
+        ensures lost { IsToldOf (noted_by_take now self.old.tree) (S.state sink.old) (S.state sink.new) }
         ensures kept { S.keeps sink.old sink.new }
     {
         // A time is at most 2^62 nanoseconds.
@@ -102,12 +99,11 @@ impl Tree {
     #[inline(always)]
     fn send_asked<S: Sink>(&mut self, now: Moment, out: &mut KeptPacket, sink: &mut S) -> bool
         requires order { self.old.clock ≤ now }
-        requires sink { length (beneath self.old.tree.root) ≤ S.room sink.old }
+        requires sink { length (beneath self.old.tree.root) ≤ (S.state sink.old).room }
         ensures sent { result ≡ is_some (given now self.old.tree) }
         ensures packet { out.new ≡ unwrap_or (given now self.old.tree) out.old }
         ensures after { self.new ≡ record { clock = now; tree = take_packet kept now self.old.tree } }
-        ensures lost { S.losses sink.new ≡ S.losses sink.old ++ losses_in (noted_by_take now self.old.tree) }
-        ensures room { S.room sink.new + length (losses_in (noted_by_take now self.old.tree)) ≡ S.room sink.old }
+        ensures lost { IsToldOf (noted_by_take now self.old.tree) (S.state sink.old) (S.state sink.new) }
         ensures kept { S.keeps sink.old sink.new }
     {
         let _ = now.ns();
@@ -189,10 +185,10 @@ impl Node {
         sink: &mut S,
     ) -> Shown
         requires ready { CanAsk now self.old }
-        requires sink { length (beneath self.old) ≤ S.room sink.old }
+        requires sink { length (beneath self.old) ≤ (S.state sink.old).room }
         requires clean { signals.old ≡ no_signals }
         ensures dequeued { IsDequeued now self.old self.new out.old out.new signals.new result }
-        ensures told { IsToldOf (ask now (shape self.old)).rises (S.losses sink.old) (S.losses sink.new) (S.room sink.old) (S.room sink.new) }
+        ensures told { IsToldOf (ask now (shape self.old)).rises (S.state sink.old) (S.state sink.new) }
         ensures kept { S.keeps sink.old sink.new }
     {
         self.row.fit();
@@ -247,11 +243,11 @@ impl Discipline {
         sink: &mut S,
     ) -> Shown
         requires ready { CanAskIn now self.old }
-        requires sink { length (packets_within self.old) ≤ S.room sink.old }
+        requires sink { length (packets_within self.old) ≤ (S.state sink.old).room }
         requires clean { signals.old ≡ no_signals }
         ensures after { (handle : Option ℕ) (filters : List Filter) → IsSentIn (answer_of now handle filters self.old) self.old self.new result }
         ensures packet { out.new ≡ unwrap_or result.packet out.old }
-        ensures told { (handle : Option ℕ) (filters : List Filter) → IsToldOf (answer_of now handle filters self.old).rises (S.losses sink.old) (S.losses sink.new) (S.room sink.old) (S.room sink.new) }
+        ensures told { (handle : Option ℕ) (filters : List Filter) → IsToldOf (answer_of now handle filters self.old).rises (S.state sink.old) (S.state sink.new) }
         ensures signals { signals.new ≡ signals_of result }
         ensures kept { S.keeps sink.old sink.new }
     {

@@ -7,13 +7,13 @@
 //! a drr also makes the class active.
 //!
 //! A fifo that has a place is met without a call, at the root and wherever the walk comes to one, since most packets end there.
-ghost use Rattle.std.specs.Prelude.{◌≡◌, ◌≤◌, ◌+◌, ◌++◌, IfOk, IsOk, List, None, OnErr, OnOk, length, true, ℕ};
+ghost use Rattle.std.specs.Prelude.{◌≡◌, ◌≤◌, ◌+◌, IfOk, IsOk, List, None, OnErr, OnOk, length, true, ℕ};
 ghost use Rattle.q_codel.specs.declared.loss.Loss.{Loss};
 ghost use Rattle.q_model.specs.Beneath as beneath;
 ghost use Rattle.q_model.specs.Beneath.{beneath};
 ghost use Rattle.q_model.specs.Node.{shape};
 ghost use Rattle.q_model.specs.Route.{device_route, route};
-ghost use Rattle.q_model.specs.Step.{fate_of, losses_in};
+ghost use Rattle.q_model.specs.Step.{fate_of};
 ghost use Rattle.q_model.specs.Tally.{totals};
 ghost use Rattle.q_model.specs.TreeState.{noted_by_put, own_loss, put, put_on};
 ghost use Rattle.q_packet.specs.Descriptor.{Descriptor};
@@ -61,14 +61,13 @@ impl Tree {
         sink: &mut S,
     ) -> Result<Fate, AllocError>
         requires order { self.old.clock ≤ now }
-        requires sink { length (beneath self.old.tree.root) + 1 ≤ S.room sink.old }
+        requires sink { length (beneath self.old.tree.root) + 1 ≤ (S.state sink.old).room }
         ensures fate { IfOk result (λ fate. fate ≡ fate_of (own_loss now packet.now self.old.tree.device (shape self.old.tree.root))) }
         ensures after { OnOk result (numbers self.new ≡ record { clock = now; tree = put totals now packet.now (tree_numbers self.old.tree) }) }
-        ensures lost { OnOk result (S.losses sink.new ≡ S.losses sink.old ++ losses_in (noted_by_put now packet.now self.old.tree)) }
-        ensures room { OnOk result (S.room sink.new + length (losses_in (noted_by_put now packet.now self.old.tree)) ≡ S.room sink.old) }
+        ensures lost { OnOk result (IsToldOf (noted_by_put now packet.now self.old.tree) (S.state sink.old) (S.state sink.new)) }
         ensures counted { OnOk result (CanCount self.old.tree.top.counts.arrived packet.now) }
         ensures same { OnErr result (numbers self.new ≡ numbers self.old) }
-        ensures not_lost { OnErr result ((S.losses sink.new ≡ S.losses sink.old) × (S.room sink.new ≡ S.room sink.old)) }
+        ensures not_lost { OnErr result (S.state sink.new ≡ S.state sink.old) }
         ensures routes { OnErr result ((p : Descriptor) → device_route p self.new.tree.device.mtu self.new.tree.root ≡ device_route p self.old.tree.device.mtu self.old.tree.root) }
         ensures keeps { OnErr result ((other : RouteSeen) → CanArrive other self.old → CanArrive other self.new) }
         ensures places { (path : List ℕ) → places_at path self.old.tree.root ≤ places_at path self.new.tree.root }
@@ -99,14 +98,13 @@ impl Tree {
     ) -> Result<Fate, AllocError>
         requires order { self.old.clock ≤ now }
         requires counted { CanCount self.old.tree.top.counts.arrived packet.now }
-        requires sink { length (beneath self.old.tree.root) + 1 ≤ S.room sink.old }
+        requires sink { length (beneath self.old.tree.root) + 1 ≤ (S.state sink.old).room }
         ensures fate { IfOk result (λ fate. fate ≡ fate_of (own_loss now packet.now self.old.tree.device (shape self.old.tree.root))) }
         ensures after { OnOk result (numbers self.new ≡ record { clock = now; tree = put totals now packet.now (tree_numbers self.old.tree) }) }
         ensures exact { OnOk result (CanArrive (route_seen packet.now self.old.tree.device.mtu self.old.tree.root) self.old → self.new ≡ record { clock = now; tree = put kept now packet.now self.old.tree }) }
-        ensures lost { OnOk result (S.losses sink.new ≡ S.losses sink.old ++ losses_in (noted_by_put now packet.now self.old.tree)) }
-        ensures room { OnOk result (S.room sink.new + length (losses_in (noted_by_put now packet.now self.old.tree)) ≡ S.room sink.old) }
+        ensures lost { OnOk result (IsToldOf (noted_by_put now packet.now self.old.tree) (S.state sink.old) (S.state sink.new)) }
         ensures same { OnErr result (numbers self.new ≡ numbers self.old) }
-        ensures not_lost { OnErr result ((S.losses sink.new ≡ S.losses sink.old) × (S.room sink.new ≡ S.room sink.old)) }
+        ensures not_lost { OnErr result (S.state sink.new ≡ S.state sink.old) }
         ensures routes { OnErr result ((p : Descriptor) → device_route p self.new.tree.device.mtu self.new.tree.root ≡ device_route p self.old.tree.device.mtu self.old.tree.root) }
         ensures keeps { OnErr result ((other : RouteSeen) → CanArrive other self.old → CanArrive other self.new) }
         ensures places { (path : List ℕ) → places_at path self.old.tree.root ≤ places_at path self.new.tree.root }
@@ -140,14 +138,13 @@ impl Tree {
         requires order { self.old.clock ≤ now }
         requires in_range { IsStored packet.now }
         requires counted { CanCount self.old.tree.top.counts.arrived (descriptor packet.now) }
-        requires sink { length (beneath self.old.tree.root) + 1 ≤ S.room sink.old }
+        requires sink { length (beneath self.old.tree.root) + 1 ≤ (S.state sink.old).room }
         ensures fate { IfOk result (λ fate. fate ≡ fate_of (own_loss now (descriptor packet.now) self.old.tree.device (shape self.old.tree.root))) }
         ensures after { OnOk result (numbers self.new ≡ record { clock = now; tree = put totals now (descriptor packet.now) (tree_numbers self.old.tree) }) }
         ensures exact { OnOk result (CanArrive (route_seen (descriptor packet.now) self.old.tree.device.mtu self.old.tree.root) self.old → self.new ≡ record { clock = now; tree = put kept now (descriptor packet.now) self.old.tree }) }
-        ensures lost { OnOk result (S.losses sink.new ≡ S.losses sink.old ++ losses_in (noted_by_put now (descriptor packet.now) self.old.tree)) }
-        ensures room { OnOk result (S.room sink.new + length (losses_in (noted_by_put now (descriptor packet.now) self.old.tree)) ≡ S.room sink.old) }
+        ensures lost { OnOk result (IsToldOf (noted_by_put now (descriptor packet.now) self.old.tree) (S.state sink.old) (S.state sink.new)) }
         ensures same { OnErr result (numbers self.new ≡ numbers self.old) }
-        ensures not_lost { OnErr result ((S.losses sink.new ≡ S.losses sink.old) × (S.room sink.new ≡ S.room sink.old)) }
+        ensures not_lost { OnErr result (S.state sink.new ≡ S.state sink.old) }
         ensures routes { OnErr result ((p : Descriptor) → device_route p self.new.tree.device.mtu self.new.tree.root ≡ device_route p self.old.tree.device.mtu self.old.tree.root) }
         ensures keeps { OnErr result ((other : RouteSeen) → CanArrive other self.old → CanArrive other self.new) }
         ensures places { (path : List ℕ) → places_at path self.old.tree.root ≤ places_at path self.new.tree.root }
@@ -175,13 +172,13 @@ impl Tree {
     ) -> Result<Fate, AllocError>
         requires order { self.old.clock ≤ now }
         requires counted { CanCount self.old.tree.top.counts.arrived packet.now }
-        requires sink { length (beneath self.old.tree.root) + 1 ≤ S.room sink.old }
+        requires sink { length (beneath self.old.tree.root) + 1 ≤ (S.state sink.old).room }
         ensures fate { IfOk result (λ fate. fate ≡ fate_of (own_loss now packet.now self.old.tree.device (shape self.old.tree.root))) }
         ensures after { OnOk result (numbers self.new ≡ record { clock = now; tree = put totals now packet.now (tree_numbers self.old.tree) }) }
         ensures exact { OnOk result (CanArrive (route_seen packet.now self.old.tree.device.mtu self.old.tree.root) self.old → self.new ≡ record { clock = now; tree = put kept now packet.now self.old.tree }) }
-        ensures told { OnOk result (IsToldOf (noted_by_put now packet.now self.old.tree) (S.losses sink.old) (S.losses sink.new) (S.room sink.old) (S.room sink.new)) }
+        ensures told { OnOk result (IsToldOf (noted_by_put now packet.now self.old.tree) (S.state sink.old) (S.state sink.new)) }
         ensures same { OnErr result (numbers self.new ≡ numbers self.old) }
-        ensures not_lost { OnErr result ((S.losses sink.new ≡ S.losses sink.old) × (S.room sink.new ≡ S.room sink.old)) }
+        ensures not_lost { OnErr result (S.state sink.new ≡ S.state sink.old) }
         ensures routes { OnErr result ((p : Descriptor) → device_route p self.new.tree.device.mtu self.new.tree.root ≡ device_route p self.old.tree.device.mtu self.old.tree.root) }
         ensures keeps { OnErr result ((other : RouteSeen) → CanArrive other self.old → CanArrive other self.new) }
         ensures places { (path : List ℕ) → places_at path self.old.tree.root ≤ places_at path self.new.tree.root }
@@ -258,12 +255,12 @@ impl Node {
         sink: &mut S,
     ) -> Result<Arrived, AllocError>
         requires ready { CanCome now packet.now self.old }
-        requires sink { length (beneath self.old) + 1 ≤ S.room sink.old }
+        requires sink { length (beneath self.old) + 1 ≤ (S.state sink.old).room }
         requires clean { lost.old ≡ nothing_lost }
         ensures after { IfOk result (λ outcome. HasCome now packet.now self.old self.new outcome) }
-        ensures told { OnOk result (IsToldOf (rises_along now packet.now self.old) (S.losses sink.old) (S.losses sink.new) (S.room sink.old) (S.room sink.new)) }
+        ensures told { OnOk result (IsToldOf (rises_along now packet.now self.old) (S.state sink.old) (S.state sink.new)) }
         ensures same { OnErr result (IsPlaced self.old self.new) }
-        ensures not_lost { OnErr result ((S.losses sink.new ≡ S.losses sink.old) × (S.room sink.new ≡ S.room sink.old)) }
+        ensures not_lost { OnErr result (S.state sink.new ≡ S.state sink.old) }
         ensures succeeds { ((route packet.now self.old).refusal ≡ None → HasPlace (route packet.now self.old).path self.old) → IsOk result }
         ensures lost_is { IfOk result (λ outcome. lost.new ≡ outcome) }
         ensures kept { S.keeps sink.old sink.new }
@@ -287,12 +284,12 @@ impl Node {
         sink: &mut S,
     ) -> Result<Arrived, AllocError>
         requires ready { CanCome now packet.now self.old }
-        requires sink { length (beneath self.old) + 1 ≤ S.room sink.old }
+        requires sink { length (beneath self.old) + 1 ≤ (S.state sink.old).room }
         requires clean { lost.old ≡ nothing_lost }
         ensures after { IfOk result (λ outcome. HasCome now packet.now self.old self.new outcome) }
-        ensures told { OnOk result (IsToldOf (rises_along now packet.now self.old) (S.losses sink.old) (S.losses sink.new) (S.room sink.old) (S.room sink.new)) }
+        ensures told { OnOk result (IsToldOf (rises_along now packet.now self.old) (S.state sink.old) (S.state sink.new)) }
         ensures same { OnErr result (IsPlaced self.old self.new) }
-        ensures not_lost { OnErr result ((S.losses sink.new ≡ S.losses sink.old) × (S.room sink.new ≡ S.room sink.old)) }
+        ensures not_lost { OnErr result (S.state sink.new ≡ S.state sink.old) }
         ensures succeeds { ((route packet.now self.old).refusal ≡ None → HasPlace (route packet.now self.old).path self.old) → IsOk result }
         ensures lost_is { IfOk result (λ outcome. lost.new ≡ outcome) }
         ensures kept { S.keeps sink.old sink.new }
@@ -318,11 +315,11 @@ impl Discipline {
         sink: &mut S,
     ) -> Result<Arrived, AllocError>
         requires ready { CanComeIn now packet.now self.old }
-        requires sink { length (packets_within self.old) + 1 ≤ S.room sink.old }
+        requires sink { length (packets_within self.old) + 1 ≤ (S.state sink.old).room }
         requires clean { lost.old ≡ nothing_lost }
-        ensures after { IfOk result (λ outcome. HasComeIn now packet.now filters.now self.old self.new outcome (S.losses sink.old) (S.losses sink.new) (S.room sink.old) (S.room sink.new)) }
+        ensures after { IfOk result (λ outcome. HasComeIn now packet.now filters.now self.old self.new outcome (S.state sink.old) (S.state sink.new)) }
         ensures same { OnErr result (IsPlacedIn self.old self.new) }
-        ensures not_lost { OnErr result ((S.losses sink.new ≡ S.losses sink.old) × (S.room sink.new ≡ S.room sink.old)) }
+        ensures not_lost { OnErr result (S.state sink.new ≡ S.state sink.old) }
         ensures succeeds { ((way_in packet.now filters.now self.old).refusal ≡ None → HasPlaceOn (way_in packet.now filters.now self.old).path self.old) → IsOk result }
         ensures lost_is { IfOk result (λ outcome. lost.new ≡ outcome) }
         ensures kept { S.keeps sink.old sink.new }
@@ -375,12 +372,12 @@ fn enqueue_below<S: Sink>(
     sink: &mut S,
 ) -> Result<Arrived, AllocError>
     requires ready { packet.now.len ≤ mtu → CanCome now packet.now root.old }
-    requires sink { length (beneath root.old) + 1 ≤ S.room sink.old }
+    requires sink { length (beneath root.old) + 1 ≤ (S.state sink.old).room }
     requires clean { lost.old ≡ nothing_lost }
     ensures after { IfOk result (λ outcome. HasComeBelow now packet.now (device_route packet.now mtu root.old) root.old root.new outcome) }
-    ensures told { OnOk result (IsToldOf (put_on now packet.now (device_route packet.now mtu root.old) (shape root.old)).rises (S.losses sink.old) (S.losses sink.new) (S.room sink.old) (S.room sink.new)) }
+    ensures told { OnOk result (IsToldOf (put_on now packet.now (device_route packet.now mtu root.old) (shape root.old)).rises (S.state sink.old) (S.state sink.new)) }
     ensures same { OnErr result (IsPlaced root.old root.new) }
-    ensures not_lost { OnErr result ((S.losses sink.new ≡ S.losses sink.old) × (S.room sink.new ≡ S.room sink.old)) }
+    ensures not_lost { OnErr result (S.state sink.new ≡ S.state sink.old) }
     ensures succeeds { (packet.now.len ≤ mtu → (route packet.now root.old).refusal ≡ None → HasPlace (route packet.now root.old).path root.old) → IsOk result }
     ensures lost_is { IfOk result (λ outcome. lost.new ≡ outcome) }
     ensures kept { S.keeps sink.old sink.new }

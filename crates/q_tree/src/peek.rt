@@ -43,10 +43,10 @@ impl Node {
         sink: &mut S,
     ) -> Shown
         requires ready { CanAsk now self.old }
-        requires sink { length (beneath self.old) ≤ S.room sink.old }
+        requires sink { length (beneath self.old) ≤ (S.state sink.old).room }
         requires clean { signals.old ≡ no_signals }
         ensures peeked { IsPeeked now self.old self.new signals.new result }
-        ensures told { IsToldOf (ask now (shape self.old)).rises (S.losses sink.old) (S.losses sink.new) (S.room sink.old) (S.room sink.new) }
+        ensures told { IsToldOf (ask now (shape self.old)).rises (S.state sink.old) (S.state sink.new) }
         ensures kept { S.keeps sink.old sink.new }
     {
         self.row.fit();
@@ -66,10 +66,10 @@ impl Node {
     fn peek_further<S: Sink>(&mut self, now: Moment, signals: &mut Signals, sink: &mut S) -> Shown
         requires none { self.old.own.held ≡ None }
         requires ready { CanAsk now self.old }
-        requires sink { length (beneath self.old) ≤ S.room sink.old }
+        requires sink { length (beneath self.old) ≤ (S.state sink.old).room }
         requires clean { signals.old ≡ no_signals }
         ensures peeked { IsPeeked now self.old self.new signals.new result }
-        ensures told { IsToldOf (ask now (shape self.old)).rises (S.losses sink.old) (S.losses sink.new) (S.room sink.old) (S.room sink.new) }
+        ensures told { IsToldOf (ask now (shape self.old)).rises (S.state sink.old) (S.state sink.new) }
         ensures kept { S.keeps sink.old sink.new }
     {
         self.row.fit();
@@ -89,10 +89,10 @@ impl Node {
         signals: &mut Signals,
         sink: &mut S,
     ) -> Shown
-        requires ready { CanAskOnce now self.old so_far (S.room sink.old) }
+        requires ready { CanAskOnce now self.old so_far (S.state sink.old).room }
         requires counted { signals.old ≡ signals_of so_far }
         ensures asked { IsAskedOnce now self.old self.new so_far result }
-        ensures told { IsToldOf (ask now (shape self.old)).rises (S.losses sink.old) (S.losses sink.new) (S.room sink.old) (S.room sink.new) }
+        ensures told { IsToldOf (ask now (shape self.old)).rises (S.state sink.old) (S.state sink.new) }
         ensures signals { signals.new ≡ signals_of result }
         ensures kept { S.keeps sink.old sink.new }
     {
@@ -114,10 +114,10 @@ impl Node {
         signals: &mut Signals,
         sink: &mut S,
     ) -> Shown
-        requires ready { CanAskOnce now self.old so_far (S.room sink.old) }
+        requires ready { CanAskOnce now self.old so_far (S.state sink.old).room }
         requires counted { signals.old ≡ signals_of so_far }
         ensures asked { IsAskedOnce now self.old self.new so_far result }
-        ensures told { IsToldOf (ask now (shape self.old)).rises (S.losses sink.old) (S.losses sink.new) (S.room sink.old) (S.room sink.new) }
+        ensures told { IsToldOf (ask now (shape self.old)).rises (S.state sink.old) (S.state sink.new) }
         ensures signals { signals.new ≡ signals_of result }
         ensures kept { S.keeps sink.old sink.new }
     {
@@ -177,11 +177,11 @@ impl Discipline {
     ) -> Shown
         requires none { held.old ≡ None }
         requires ready { CanAskIn now self.old }
-        requires sink { length (packets_within self.old) ≤ S.room sink.old }
+        requires sink { length (packets_within self.old) ≤ (S.state sink.old).room }
         requires clean { signals.old ≡ no_signals }
         ensures after { (handle : Option ℕ) (filters : List Filter) → IsAskedIn (answer_of now handle filters self.old) self.old self.new result }
         ensures held { (handle : Option ℕ) (filters : List Filter) → held.new ≡ held_with (held_in (discipline_seen self.new) result.packet) (answer_of now handle filters self.old).peeked.own.since }
-        ensures told { (handle : Option ℕ) (filters : List Filter) → IsToldOf (answer_of now handle filters self.old).rises (S.losses sink.old) (S.losses sink.new) (S.room sink.old) (S.room sink.new) }
+        ensures told { (handle : Option ℕ) (filters : List Filter) → IsToldOf (answer_of now handle filters self.old).rises (S.state sink.old) (S.state sink.new) }
         ensures signals { signals.new ≡ signals_of result }
         ensures kept { S.keeps sink.old sink.new }
     {

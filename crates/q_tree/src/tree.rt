@@ -1,15 +1,15 @@
-ghost use Rattle.std.specs.Prelude.{◌≡◌, ◌≤◌, ◌+◌, ◌++◌, IfErr, IfOk, IfSome, IsOk, List, OnErr, OnOk, length, option_map, slice_get, ℕ};
+ghost use Rattle.std.specs.Prelude.{◌≡◌, ◌≤◌, ◌+◌, IfErr, IfOk, IfSome, IsOk, List, OnErr, OnOk, length, option_map, slice_get, ℕ};
 ghost use Rattle.q_model.specs.Beneath.{beneath, row_of};
 ghost use Rattle.q_model.specs.Node.{shape};
 ghost use Rattle.q_model.specs.Route.{device_route};
-ghost use Rattle.q_model.specs.Step.{fate_of, losses_in};
+ghost use Rattle.q_model.specs.Step.{fate_of};
 ghost use Rattle.q_model.specs.Tally.{totals};
 ghost use Rattle.q_model.specs.TreeState.{given, new_tree, noted_by_put, noted_by_take, own_loss, peek_packet, put, stats, take_packet};
 ghost use Rattle.q_model.specs.Views.{class_of, filter_of, node};
 ghost use Rattle.q_model.specs.declared.place.Place.TheVariants as place;
 ghost use Rattle.q_model.specs.declared.refusal.Refusal.TheVariants as refusal;
 ghost use Rattle.q_packet.specs.Descriptor.{Descriptor};
-ghost use Rattle.q_tree.specs.AskSteps.{IsTold};
+ghost use Rattle.q_codel.specs.Losses.{IsTold};
 ghost use Rattle.q_tree.specs.Commanding.{WantsMemory};
 ghost use Rattle.q_tree.specs.Commands.{IsPlanOf, IsPlanned, device_edited, plan_of};
 ghost use Rattle.q_tree.specs.Editing.{LosesNothing, TakesMemory, removed_at};
@@ -20,6 +20,7 @@ ghost use Rattle.q_tree.specs.Purging.{purged};
 ghost use Rattle.q_tree.specs.RouteSeen.{RouteSeen, route_seen};
 ghost use Rattle.q_tree.specs.Showing.{IsNumbered, standing};
 ghost use Rattle.q_tree.specs.TreeSeen.{CanArrive, IsRouteIn, numbers};
+ghost use Rattle.q_tree.specs.AskSteps.{IsToldOf};
 
 use crate::booking::{book_dropped, book_shown};
 use crate::commands::handles::Handles;
@@ -186,12 +187,12 @@ impl Tree {
     ) -> Result<(), Refusal>
         requires order { self.old.clock ≤ now }
         requires planned { IsPlanned planned.edit planned.path.items now self.old.tree.device self.old.tree.root }
-        requires sink { length (removed_at planned.edit planned.path.items self.old.tree.root) ≤ S.room sink.old }
+        requires sink { length (removed_at planned.edit planned.path.items self.old.tree.root) ≤ (S.state sink.old).room }
         ensures after { OnOk result (self.new ≡ device_edited planned.edit planned.path.items now self.old) }
-        ensures told { OnOk result (IsTold (purged (removed_at planned.edit planned.path.items self.old.tree.root)) (S.losses sink.old) (S.losses sink.new) (S.room sink.old) (S.room sink.new)) }
+        ensures told { OnOk result (IsTold (purged (removed_at planned.edit planned.path.items self.old.tree.root)) (S.state sink.old) (S.state sink.new)) }
         ensures memory { IfErr result (λ why. (why ≡ refusal.Memory) × TakesMemory planned.edit) }
         ensures same { OnErr result (self.new ≡ self.old) }
-        ensures not_lost { OnErr result ((S.losses sink.new ≡ S.losses sink.old) × (S.room sink.new ≡ S.room sink.old)) }
+        ensures not_lost { OnErr result (S.state sink.new ≡ S.state sink.old) }
         ensures kept { S.keeps sink.old sink.new }
     {
         // A time is at most 2^62 nanoseconds.
@@ -274,11 +275,10 @@ impl Tree {
         requires order { self.old.clock ≤ now }
         requires route { route.now ≡ route_seen packet self.old.tree.device.mtu self.old.tree.root }
         requires ready { CanArrive route.now self.old }
-        requires sink { length (beneath self.old.tree.root) + 1 ≤ S.room sink.old }
+        requires sink { length (beneath self.old.tree.root) + 1 ≤ (S.state sink.old).room }
         ensures fate { result ≡ fate_of (own_loss now packet self.old.tree.device (shape self.old.tree.root)) }
         ensures after { self.new ≡ record { clock = now; tree = put kept now packet self.old.tree } }
-        ensures lost { S.losses sink.new ≡ S.losses sink.old ++ losses_in (noted_by_put now packet self.old.tree) }
-        ensures room { S.room sink.new + length (losses_in (noted_by_put now packet self.old.tree)) ≡ S.room sink.old }
+        ensures lost { IsToldOf (noted_by_put now packet self.old.tree) (S.state sink.old) (S.state sink.new) }
         ensures kept { S.keeps sink.old sink.new }
     {
         // Only the contract speaks of the route: the walk finds it again.
@@ -296,11 +296,10 @@ impl Tree {
     /// `sink`, which needs room for all that is queued.
     pub fn peek<S: Sink>(&mut self, now: Moment, sink: &mut S) -> Option<Packet>
         requires order { self.old.clock ≤ now }
-        requires sink { length (beneath self.old.tree.root) ≤ S.room sink.old }
+        requires sink { length (beneath self.old.tree.root) ≤ (S.state sink.old).room }
         ensures packet { result ≡ given now self.old.tree }
         ensures after { self.new ≡ record { clock = now; tree = peek_packet kept now self.old.tree } }
-        ensures lost { S.losses sink.new ≡ S.losses sink.old ++ losses_in (noted_by_take now self.old.tree) }
-        ensures room { S.room sink.new + length (losses_in (noted_by_take now self.old.tree)) ≡ S.room sink.old }
+        ensures lost { IsToldOf (noted_by_take now self.old.tree) (S.state sink.old) (S.state sink.new) }
         ensures kept { S.keeps sink.old sink.new }
     {
         // A time is at most 2^62 nanoseconds.
@@ -320,11 +319,10 @@ impl Tree {
     /// queued.
     pub fn take<S: Sink>(&mut self, now: Moment, sink: &mut S) -> Option<Packet>
         requires order { self.old.clock ≤ now }
-        requires sink { length (beneath self.old.tree.root) ≤ S.room sink.old }
+        requires sink { length (beneath self.old.tree.root) ≤ (S.state sink.old).room }
         ensures packet { result ≡ given now self.old.tree }
         ensures after { self.new ≡ record { clock = now; tree = take_packet kept now self.old.tree } }
-        ensures lost { S.losses sink.new ≡ S.losses sink.old ++ losses_in (noted_by_take now self.old.tree) }
-        ensures room { S.room sink.new + length (losses_in (noted_by_take now self.old.tree)) ≡ S.room sink.old }
+        ensures lost { IsToldOf (noted_by_take now self.old.tree) (S.state sink.old) (S.state sink.new) }
         ensures kept { S.keeps sink.old sink.new }
     {
         let mut packet = SOME_KEPT;

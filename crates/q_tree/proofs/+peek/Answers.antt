@@ -16,7 +16,7 @@ use Rattle.q_tree.specs.declared.node.Discipline.TheVariants as code
 use Rattle.q_tree.specs.Shown.{Shown}
 use Rattle.q_tree.proofs.AskBands.{band-at, band-once, band-shown, bands-go-on, bands-told, bands-start, bands-end, bands-rises}
 use Rattle.q_tree.proofs.SendBands.{band-met}
-use Rattle.q_tree.proofs.AskOnce.{fits-beside, told-nothing}
+use Rattle.q_tree.proofs.AskOnce.{fits-beside}
 use Rattle.q_tree.proofs.AtHandLemmas.{shown-len}
 use Rattle.q_tree.proofs.HereLemmas.{flow-packets}
 use Rattle.q_tree.proofs.Peeks.{asked-in, fifo-asked, fifo-peeked, held-of, told-in, each-of, room-of, own-room, items-are, serve-of, holding-after, can-in, enough, can-book, peeked-done, shown-here, told-here, tbf-none, tbf-allowed, tbf-none-since, tbf-waiting}
@@ -33,18 +33,19 @@ use Rattle.q_packet.specs.Descriptor.{Descriptor}
 use Rattle.q_packet.specs.declared.stamped.Stamped.{Stamped}
 use Rattle.std.specs.Option.{option_map_or}
 use Rattle.std.proofs.lemmas.Option.{none-some, slice_get-get_or}
+use Rattle.q_codel.proofs.SinkLemmas.{told_nothing}
 
 pub node::Node::peek_after_counts-then-requires-clause-dropped_packets : goal.node::Node::peek_after_counts-then-requires-clause-dropped_packets
-node::Node::peek_after_counts-then-requires-clause-dropped_packets g t c = (fits-beside c.args.now c.args.self.now c.args.so_far c.peek-next.result (g.S.Sink.room c.args.sink.now) c.requires.ready c.peek-next.ensures.peeked.shown).dropped_packets
+node::Node::peek_after_counts-then-requires-clause-dropped_packets g t c = (fits-beside c.args.now c.args.self.now c.args.so_far c.peek-next.result (g.S.Sink.state c.args.sink.now).room c.requires.ready c.peek-next.ensures.peeked.shown).dropped_packets
 
 pub node::Node::peek_after_counts-then-requires-clause-dropped_bytes : goal.node::Node::peek_after_counts-then-requires-clause-dropped_bytes
-node::Node::peek_after_counts-then-requires-clause-dropped_bytes g t c = (fits-beside c.args.now c.args.self.now c.args.so_far c.peek-next.result (g.S.Sink.room c.args.sink.now) c.requires.ready c.peek-next.ensures.peeked.shown).dropped_bytes
+node::Node::peek_after_counts-then-requires-clause-dropped_bytes g t c = (fits-beside c.args.now c.args.self.now c.args.so_far c.peek-next.result (g.S.Sink.state c.args.sink.now).room c.requires.ready c.peek-next.ensures.peeked.shown).dropped_bytes
 
 pub node::Node::peek_after_counts-then-requires-clause-marked_packets : goal.node::Node::peek_after_counts-then-requires-clause-marked_packets
-node::Node::peek_after_counts-then-requires-clause-marked_packets g t c = (fits-beside c.args.now c.args.self.now c.args.so_far c.peek-next.result (g.S.Sink.room c.args.sink.now) c.requires.ready c.peek-next.ensures.peeked.shown).marked_packets
+node::Node::peek_after_counts-then-requires-clause-marked_packets g t c = (fits-beside c.args.now c.args.self.now c.args.so_far c.peek-next.result (g.S.Sink.state c.args.sink.now).room c.requires.ready c.peek-next.ensures.peeked.shown).marked_packets
 
 pub node::Node::peek_after_counts-then-requires-clause-marked_bytes : goal.node::Node::peek_after_counts-then-requires-clause-marked_bytes
-node::Node::peek_after_counts-then-requires-clause-marked_bytes g t c = (fits-beside c.args.now c.args.self.now c.args.so_far c.peek-next.result (g.S.Sink.room c.args.sink.now) c.requires.ready c.peek-next.ensures.peeked.shown).marked_bytes
+node::Node::peek_after_counts-then-requires-clause-marked_bytes g t c = (fits-beside c.args.now c.args.self.now c.args.so_far c.peek-next.result (g.S.Sink.state c.args.sink.now).room c.requires.ready c.peek-next.ensures.peeked.shown).marked_bytes
 
 pub disciplines::tbf::allow_child-returns-in_default-clause-allowed : goal.disciplines::tbf::allow_child-returns-in_default-clause-allowed
 disciplines::tbf::allow_child-returns-in_default-clause-allowed g t c = λ p is. absurd (none-some p (sym (c.packet_len.ensures.none c.in_default.is) ∙ is))
@@ -107,7 +108,7 @@ disciplines::tbf::peek_child-returns-else-has_packet-clause-held g t c = λ own 
 
 pub disciplines::drr::meet_class-loop-place-init : goal.disciplines::drr::meet_class-loop-place-init
 disciplines::drr::meet_class-loop-place-init g t c = (
-  classes-start c.args.now c.args.active.now c.args.classes.now c.active_count-unasked.result c.at_hand-shown.result (g.S.Sink.losses c.args.sink.now) (g.S.Sink.room c.args.sink.now) c.requires.ready c.active_count-unasked.ensures
+  classes-start c.args.now c.args.active.now c.args.classes.now c.active_count-unasked.result c.at_hand-shown.result (g.S.Sink.state c.args.sink.now) c.requires.ready c.active_count-unasked.ensures
       (record { dropped = ap (λ (s : Shown). s.dropped) c.at_hand-shown.ensures; marked = ap (λ (s : Shown). s.marked) c.at_hand-shown.ensures }),
   g.met.S.Sink.keeps_same c.args.sink.now,
   c.requires.clean ∙ sym (ap signals_of c.at_hand-shown.ensures),
@@ -275,7 +276,7 @@ node::Discipline::ask-returns-in-Prio-clause-after g t c = λ handle filters.
 
 pub node::Discipline::ask-returns-in-Prio-clause-told : goal.node::Discipline::ask-returns-in-Prio-clause-told
 node::Discipline::ask-returns-in-Prio-clause-told g t c = λ handle filters.
-    told-in c.args.now handle filters c.args.self.now (spec.Prio c.in-Prio.priomap) c.deref_mut.result.now (g.S.Sink.losses c.args.sink.now) (g.S.Sink.losses c.peek_bands.new.sink) (g.S.Sink.room c.args.sink.now) (g.S.Sink.room c.peek_bands.new.sink)
+    told-in c.args.now handle filters c.args.self.now (spec.Prio c.in-Prio.priomap) c.deref_mut.result.now (g.S.Sink.state c.args.sink.now) (g.S.Sink.state c.peek_bands.new.sink)
     (ap discipline_seen c.in-Prio.is) (sym (c.deref_mut.ensures.value ∙ sym (ap children_seen c.in-Prio.is))) (c.peek_bands.ensures.told (own_of handle filters (spec.Prio c.in-Prio.priomap)))
 
 pub node::Discipline::ask-returns-in-Tbf-clause-after : goal.node::Discipline::ask-returns-in-Tbf-clause-after
@@ -295,7 +296,7 @@ node::Discipline::ask-returns-in-Tbf-clause-held g t c = λ handle filters.
 pub node::Discipline::ask-returns-in-Tbf-clause-told : goal.node::Discipline::ask-returns-in-Tbf-clause-told
 node::Discipline::ask-returns-in-Tbf-clause-told g t c = λ handle filters.
     let own = own_of handle filters (spec.Tbf c.in-Tbf.bucket c.in-Tbf.limit) in
-    told-in c.args.now handle filters c.args.self.now (spec.Tbf c.in-Tbf.bucket c.in-Tbf.limit) (c.deref_mut-in-Tbf.result.now ∷ []) (g.S.Sink.losses c.args.sink.now) (g.S.Sink.losses c.peek_child.new.sink) (g.S.Sink.room c.args.sink.now) (g.S.Sink.room c.peek_child.new.sink)
+    told-in c.args.now handle filters c.args.self.now (spec.Tbf c.in-Tbf.bucket c.in-Tbf.limit) (c.deref_mut-in-Tbf.result.now ∷ []) (g.S.Sink.state c.args.sink.now) (g.S.Sink.state c.peek_child.new.sink)
     (ap discipline_seen c.in-Tbf.is) (ap children_seen c.in-Tbf.is ∙ ap (λ x. x ∷ []) (sym c.deref_mut-in-Tbf.ensures.value)) (c.peek_child.ensures.told own c.in-Tbf.limit)
 
 pub node::Discipline::ask-peek_classes-requires : goal.node::Discipline::ask-peek_classes-requires
@@ -320,7 +321,7 @@ node::Discipline::ask-returns-in-Drr-clause-held g t c = λ handle filters.
 
 pub node::Discipline::ask-returns-in-Drr-clause-told : goal.node::Discipline::ask-returns-in-Drr-clause-told
 node::Discipline::ask-returns-in-Drr-clause-told g t c = λ handle filters.
-    told-in c.args.now handle filters c.args.self.now (spec.Drr c.in-Drr.active) c.deref_mut-in-Drr.result.now (g.S.Sink.losses c.args.sink.now) (g.S.Sink.losses c.peek_classes.new.sink) (g.S.Sink.room c.args.sink.now) (g.S.Sink.room c.peek_classes.new.sink)
+    told-in c.args.now handle filters c.args.self.now (spec.Drr c.in-Drr.active) c.deref_mut-in-Drr.result.now (g.S.Sink.state c.args.sink.now) (g.S.Sink.state c.peek_classes.new.sink)
     (ap discipline_seen c.in-Drr.is) (sym (c.deref_mut-in-Drr.ensures.value ∙ sym (ap children_seen c.in-Drr.is))) (c.peek_classes.ensures.told (own_of handle filters (spec.Drr c.in-Drr.active)))
 
 pub node::Discipline::ask-peek_flow-requires : goal.node::Discipline::ask-peek_flow-requires
@@ -355,9 +356,9 @@ node::Discipline::ask-returns-in-FqCodel-clause-told g t c = λ handle filters.
     let state = c.deref_mut-in-FqCodel.result.now.state in
     let own = own_of handle filters (spec.FqCodel state) in
     let is = ap discipline_seen c.in-FqCodel.is ∙ ap (λ (q : FqView). spec.FqCodel q.state) (sym c.deref_mut-in-FqCodel.ensures.value) in
-    told-in c.args.now handle filters c.args.self.now (spec.FqCodel state) [] (g.S.Sink.losses c.args.sink.now) (g.S.Sink.losses c.peek_flow.new.sink) (g.S.Sink.room c.args.sink.now) (g.S.Sink.room c.peek_flow.new.sink)
+    told-in c.args.now handle filters c.args.self.now (spec.FqCodel state) [] (g.S.Sink.state c.args.sink.now) (g.S.Sink.state c.peek_flow.new.sink)
     is (ap children_seen c.in-FqCodel.is)
-    (flow-told c.args.now state own [] (g.S.Sink.losses c.args.sink.now) (g.S.Sink.losses c.peek_flow.new.sink) (g.S.Sink.room c.args.sink.now) (g.S.Sink.room c.peek_flow.new.sink) e.told)
+    (flow-told c.args.now state own [] (g.S.Sink.state c.args.sink.now) (g.S.Sink.state c.peek_flow.new.sink) e.told)
 
 pub node::Node::peek-returns-then-is_some-clause-peeked : goal.node::Node::peek-returns-then-is_some-clause-peeked
 node::Node::peek-returns-then-is_some-clause-peeked g t c = record {
@@ -387,14 +388,14 @@ node::Node::peek-returns-in-Fifo-clause-peeked g t c =
 
 pub node::Node::peek-returns-in-Fifo-clause-told : goal.node::Node::peek-returns-in-Fifo-clause-told
 node::Node::peek-returns-in-Fifo-clause-told g t c =
-    told-here c.args.now c.self.inside c.args.self.now c.self.invariant c.self.view_is c.requires.ready (none-kept c.self.inside.held c.if-is_some.ensures) (g.S.Sink.losses c.args.sink.now) (g.S.Sink.losses c.args.sink.now) (g.S.Sink.room c.args.sink.now) (g.S.Sink.room c.args.sink.now)
-    (told-in c.args.now c.self.inside.handle c.self.inside.filters c.self.inside.discipline (spec.Fifo c.in-Fifo.fifo.limit c.in-Fifo.fifo.packets) [] (g.S.Sink.losses c.args.sink.now) (g.S.Sink.losses c.args.sink.now) (g.S.Sink.room c.args.sink.now) (g.S.Sink.room c.args.sink.now) (ap discipline_seen c.in-Fifo.is) (ap children_seen c.in-Fifo.is) (told-nothing (g.S.Sink.losses c.args.sink.now) (g.S.Sink.room c.args.sink.now)))
+    told-here c.args.now c.self.inside c.args.self.now c.self.invariant c.self.view_is c.requires.ready (none-kept c.self.inside.held c.if-is_some.ensures) (g.S.Sink.state c.args.sink.now) (g.S.Sink.state c.args.sink.now)
+    (told-in c.args.now c.self.inside.handle c.self.inside.filters c.self.inside.discipline (spec.Fifo c.in-Fifo.fifo.limit c.in-Fifo.fifo.packets) [] (g.S.Sink.state c.args.sink.now) (g.S.Sink.state c.args.sink.now) (ap discipline_seen c.in-Fifo.is) (ap children_seen c.in-Fifo.is) (told_nothing (g.S.Sink.state c.args.sink.now)))
 
 pub node::Node::peek_further-ask-shown-requires : goal.node::Node::peek_further-ask-shown-requires
 node::Node::peek_further-ask-shown-requires g t c κs within =
     let none = empty-held c.self.inside.held (ap (λ (n : Node Kept). n.own.held) c.self.view_is ∙ c.requires.none) in
     let can = can-in c.args.now c.self.inside c.args.self.now c.self.invariant c.self.view_is c.requires.ready (omega (arith, c.self.ranges, c.fit.ensures.packets, c.fit.ensures.bytes)) (omega (arith, c.self.ranges, c.fit.ensures.packets, c.fit.ensures.bytes)) in
-    let room = enough c.args.now c.self.inside c.args.self.now c.self.invariant c.self.view_is c.requires.ready (g.S.Sink.room c.args.sink.now) c.requires.sink in
+    let room = enough c.args.now c.self.inside c.args.self.now c.self.invariant c.self.view_is c.requires.ready (g.S.Sink.state c.args.sink.now).room c.requires.sink in
     (omega (arith, children-size c.self.inside c.args.self.now (children_seen c.self.inside.discipline) c.self.view_is refl, c.decreases), (within, (none, (can, (room, c.requires.clean)))))
 
 pub node::Node::peek_further-book_shown-requires-clause-room : goal.node::Node::peek_further-book_shown-requires-clause-room
@@ -425,13 +426,13 @@ node::Node::peek_further-returns-clause-peeked g t c =
 
 pub node::Node::peek_further-returns-clause-told : goal.node::Node::peek_further-returns-clause-told
 node::Node::peek_further-returns-clause-told g t c =
-    told-here c.args.now c.self.inside c.args.self.now c.self.invariant c.self.view_is c.requires.ready (ap (λ (n : Node Kept). n.own.held) c.self.view_is ∙ c.requires.none) (g.S.Sink.losses c.args.sink.now) (g.S.Sink.losses c.ask-shown.new.sink) (g.S.Sink.room c.args.sink.now) (g.S.Sink.room c.ask-shown.new.sink) (c.ask-shown.ensures.told c.self.inside.handle c.self.inside.filters)
+    told-here c.args.now c.self.inside c.args.self.now c.self.invariant c.self.view_is c.requires.ready (ap (λ (n : Node Kept). n.own.held) c.self.view_is ∙ c.requires.none) (g.S.Sink.state c.args.sink.now) (g.S.Sink.state c.ask-shown.new.sink) (c.ask-shown.ensures.told c.self.inside.handle c.self.inside.filters)
 
 pub disciplines::prio::meet_band-loop-place-init : goal.disciplines::prio::meet_band-loop-place-init
 disciplines::prio::meet_band-loop-place-init g t c = (
   bands-start c.args.now c.args.bands.now c.at_hand-shown.result (record { dropped = ap (λ (s : Shown). s.dropped) c.at_hand-shown.ensures; marked = ap (λ (s : Shown). s.marked) c.at_hand-shown.ensures })
       (ap (λ (s : Shown). s.packet) c.at_hand-shown.ensures),
-  told-nothing (g.S.Sink.losses c.args.sink.now) (g.S.Sink.room c.args.sink.now),
+  told_nothing (g.S.Sink.state c.args.sink.now),
   g.met.S.Sink.keeps_same c.args.sink.now,
   c.requires.clean ∙ sym (ap signals_of c.at_hand-shown.ensures),
 )
@@ -440,7 +441,7 @@ pub disciplines::prio::meet_band-peek_after-shown-requires : goal.disciplines::p
 disciplines::prio::meet_band-peek_after-shown-requires g t c κs within =
     let band = slice_index_or c.loop-place.bands c.loop-place.place c.index-bands-place.result in
     let at = band-at c.args.now c.args.bands.now c.loop-place.bands c.loop-place.place c.loop-place.shown c.loop-place.invariant.0 c.index-bands-place.result c.loop-place-test.true in
-    let once = band-once c.args.now c.args.bands.now c.loop-place.bands c.loop-place.place c.loop-place.shown c.requires.ready c.loop-place.invariant.0 band at (g.S.Sink.losses c.args.sink.now) (g.S.Sink.losses c.loop-place.sink) (g.S.Sink.room c.args.sink.now) (g.S.Sink.room c.loop-place.sink)
+    let once = band-once c.args.now c.args.bands.now c.loop-place.bands c.loop-place.place c.loop-place.shown c.requires.ready c.loop-place.invariant.0 band at (g.S.Sink.state c.args.sink.now) (g.S.Sink.state c.loop-place.sink)
     c.loop-place.invariant.1 c.requires.sink in
     (omega (arith, child-size c.args.bands.now c.loop-place.place band at, c.decreases), (within, (once, c.loop-place.invariant.3)))
 
@@ -461,8 +462,7 @@ disciplines::prio::meet_band-returns-then-has_packet-clause-told g t c = λ own.
     let band = slice_index_or c.loop-place.bands c.loop-place.place c.index-bands-place.result in
     let at = band-at c.args.now c.args.bands.now c.loop-place.bands c.loop-place.place c.loop-place.shown c.loop-place.invariant.0 c.index-bands-place.result c.loop-place-test.true in
     bands-told c.args.now c.args.bands.now c.loop-place.bands c.loop-place.place c.loop-place.shown c.requires.ready c.loop-place.invariant.0 band at c.peek_after-shown.new.self c.peek_after-shown.result c.peek_after-shown.ensures.asked
-    (g.S.Sink.losses c.args.sink.now) (g.S.Sink.losses c.loop-place.sink) (g.S.Sink.losses c.peek_after-shown.new.sink)
-    (g.S.Sink.room c.args.sink.now) (g.S.Sink.room c.loop-place.sink) (g.S.Sink.room c.peek_after-shown.new.sink) c.loop-place.invariant.1 c.peek_after-shown.ensures.told (sym c.if-has_packet.ensures) own
+    (g.S.Sink.state c.args.sink.now) (g.S.Sink.state c.loop-place.sink) (g.S.Sink.state c.peek_after-shown.new.sink) c.loop-place.invariant.1 c.peek_after-shown.ensures.told (sym c.if-has_packet.ensures) own
 
 pub disciplines::prio::meet_band-returns-then-has_packet-clause-kept : goal.disciplines::prio::meet_band-returns-then-has_packet-clause-kept
 disciplines::prio::meet_band-returns-then-has_packet-clause-kept g t c =
@@ -473,8 +473,7 @@ disciplines::prio::meet_band-loop-place-preserved g t c =
     let band = slice_index_or c.loop-place.bands c.loop-place.place c.index-bands-place.result in
     let at = band-at c.args.now c.args.bands.now c.loop-place.bands c.loop-place.place c.loop-place.shown c.loop-place.invariant.0 c.index-bands-place.result c.loop-place-test.true in
     let goes = bands-go-on c.args.now c.args.bands.now c.loop-place.bands c.loop-place.place c.loop-place.shown c.requires.ready c.loop-place.invariant.0 band at c.peek_after-shown.new.self c.peek_after-shown.result c.peek_after-shown.ensures.asked
-    (g.S.Sink.losses c.args.sink.now) (g.S.Sink.losses c.loop-place.sink) (g.S.Sink.losses c.peek_after-shown.new.sink)
-    (g.S.Sink.room c.args.sink.now) (g.S.Sink.room c.loop-place.sink) (g.S.Sink.room c.peek_after-shown.new.sink) c.loop-place.invariant.1 c.peek_after-shown.ensures.told (sym c.if-has_packet.ensures) in
+    (g.S.Sink.state c.args.sink.now) (g.S.Sink.state c.loop-place.sink) (g.S.Sink.state c.peek_after-shown.new.sink) c.loop-place.invariant.1 c.peek_after-shown.ensures.told (sym c.if-has_packet.ensures) in
     (goes.0, goes.1, g.met.S.Sink.keeps_on c.args.sink.now c.loop-place.sink c.peek_after-shown.new.sink c.loop-place.invariant.2 c.peek_after-shown.ensures.kept, c.peek_after-shown.ensures.signals)
 
 pub disciplines::prio::meet_band-returns-clause-after : goal.disciplines::prio::meet_band-returns-clause-after
@@ -485,7 +484,7 @@ disciplines::prio::meet_band-returns-clause-met g t c = λ p some. absurd (none-
 
 pub disciplines::prio::meet_band-returns-clause-told : goal.disciplines::prio::meet_band-returns-clause-told
 disciplines::prio::meet_band-returns-clause-told g t c = λ own.
-    subst (λ notes. IsToldOf notes (g.S.Sink.losses c.args.sink.now) (g.S.Sink.losses c.loop-place.sink) (g.S.Sink.room c.args.sink.now) (g.S.Sink.room c.loop-place.sink)) (bands-rises c.args.now c.args.bands.now c.loop-place.bands c.loop-place.place c.loop-place.shown c.loop-place.invariant.0 c.loop-place-test.false c.loop-place.auto.place-end own) c.loop-place.invariant.1
+    subst (λ notes. IsToldOf notes (g.S.Sink.state c.args.sink.now) (g.S.Sink.state c.loop-place.sink)) (bands-rises c.args.now c.args.bands.now c.loop-place.bands c.loop-place.place c.loop-place.shown c.loop-place.invariant.0 c.loop-place-test.false c.loop-place.auto.place-end own) c.loop-place.invariant.1
 
 pub disciplines::prio::meet_band-returns-clause-kept : goal.disciplines::prio::meet_band-returns-clause-kept
 disciplines::prio::meet_band-returns-clause-kept g t c = c.loop-place.invariant.2

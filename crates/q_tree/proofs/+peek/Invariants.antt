@@ -12,8 +12,7 @@ use Rattle.q_tree.proofs.+peek.Given as goal
 
 abbrev pub invariant-disciplines::drr::meet_class-loop-place : goal.invariant-disciplines::drr::meet_class-loop-place
 invariant-disciplines::drr::meet_class-loop-place g l =
-    AreClassesAsked l.fn.now l.fn.active l.active l.fn.classes l.classes l.unasked l.shown
-    (record { losses = g.S.Sink.losses l.fn.sink; losses_now = g.S.Sink.losses l.sink; room = g.S.Sink.room l.fn.sink; room_now = g.S.Sink.room l.sink })
+    AreClassesAsked l.fn.now l.fn.active l.active l.fn.classes l.classes l.unasked l.shown (g.S.Sink.state l.fn.sink) (g.S.Sink.state l.sink)
     × g.S.Sink.keeps l.fn.sink l.sink
     × (l.signals ≡ signals_of l.shown)
 
@@ -24,7 +23,7 @@ decreases-disciplines::drr::meet_class-loop-place g l = sum_by (need (λ m. quan
 abbrev pub invariant-disciplines::prio::meet_band-loop-place : goal.invariant-disciplines::prio::meet_band-loop-place
 invariant-disciplines::prio::meet_band-loop-place g l =
     AreBandsAsked l.fn.now l.fn.bands l.bands l.place l.shown
-    × IsToldOf (told_to l.place (answers l.fn.now l.fn.bands)) (g.S.Sink.losses l.fn.sink) (g.S.Sink.losses l.sink) (g.S.Sink.room l.fn.sink) (g.S.Sink.room l.sink)
+    × IsToldOf (told_to l.place (answers l.fn.now l.fn.bands)) (g.S.Sink.state l.fn.sink) (g.S.Sink.state l.sink)
     × g.S.Sink.keeps l.fn.sink l.sink
     × (l.signals ≡ signals_of l.shown)
 

@@ -1,5 +1,6 @@
 use Rattle.std.proofs.Common.{◌≡◌, ◌+◌, ◌++◌, length}
 use Rattle.std.specs.Vec.Iter.{into_iter_items, into_iter_len}
+use Rattle.q_codel.specs.Losses.{IsTold}
 use Rattle.q_model.specs.Node.{side_by_side}
 use Rattle.q_tree.specs.NodeCode.{node_size, forest_size}
 use Rattle.q_tree.specs.Purging.{purged}
@@ -16,6 +17,5 @@ abbrev pub invariant-commands::purge::purge_each-loop-node : goal.invariant-comm
 invariant-commands::purge::purge_each-loop-node g l =
     (l.yielded ++ into_iter_items l.node-iterator ≡ into_iter_items l.initial.node-iterator)
     × (into_iter_len l.node-iterator ≡ length (into_iter_items l.node-iterator))
-    × (g.S.Sink.losses l.sink ≡ g.S.Sink.losses l.fn.sink ++ purged (packets_beneath l.yielded))
-    × (g.S.Sink.room l.sink + length (packets_beneath l.yielded) ≡ g.S.Sink.room l.fn.sink)
+    × IsTold (purged (packets_beneath l.yielded)) (g.S.Sink.state l.fn.sink) (g.S.Sink.state l.sink)
     × g.S.Sink.keeps l.fn.sink l.sink

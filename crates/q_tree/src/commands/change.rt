@@ -1,4 +1,5 @@
-ghost use Rattle.std.specs.Prelude.{◌≡◌, ◌≤◌, ◌+◌, ◌++◌, length};
+ghost use Rattle.std.specs.Prelude.{◌≡◌, ◌≤◌, length};
+ghost use Rattle.q_codel.specs.Losses.{IsTold};
 ghost use Rattle.q_invariants.proofs.Kept.{IsLawfulRoot};
 ghost use Rattle.q_invariants.proofs.SizedChanges.{change_sized};
 ghost use Rattle.q_model.specs.Beneath.{beneath};
@@ -48,10 +49,9 @@ impl Tree {
         sink: &mut S,
     ) -> Result<(), Refusal>
         requires order { self.old.clock ≤ now }
-        requires sink { length (beneath self.old.tree.root) ≤ S.room sink.old }
+        requires sink { length (beneath self.old.tree.root) ≤ (S.state sink.old).room }
         ensures answer { IsAnswered (NeedsMore kind (plan_of (QdiscChange place handle kind) now self.old)) now (plan_of (QdiscChange place handle kind) now self.old) self.old self.new result }
-        ensures lost { S.losses sink.new ≡ S.losses sink.old ++ told (plan_of (QdiscChange place handle kind) now self.old) (shape self.old.tree.root) result }
-        ensures room { S.room sink.new + length (told (plan_of (QdiscChange place handle kind) now self.old) (shape self.old.tree.root) result) ≡ S.room sink.old }
+        ensures lost { IsTold (told (plan_of (QdiscChange place handle kind) now self.old) (shape self.old.tree.root) result) (S.state sink.old) (S.state sink.new) }
         ensures kept { S.keeps sink.old sink.new }
     {
         let command = Command::QdiscChange {

@@ -1,5 +1,6 @@
-ghost use Rattle.std.specs.Prelude.{◌≡◌, ◌<◌, ◌≤◌, ◌+◌, [], ◌++◌, ◌==◌, IfOk, length, not, unwrap_or};
+ghost use Rattle.std.specs.Prelude.{◌≡◌, ◌<◌, ◌≤◌, ◌+◌, [], ◌==◌, IfOk, length, not, unwrap_or};
 ghost use Rattle.std.specs.List.{list_any};
+ghost use Rattle.q_codel.specs.Losses.{IsTold};
 ghost use Rattle.q_model.specs.Beneath.{beneath};
 ghost use Rattle.q_model.specs.ClassCommands.{class_change_checks, class_del_checks};
 ghost use Rattle.q_model.specs.Filters.{names_class};
@@ -65,10 +66,9 @@ impl Tree {
         class: ClassId,
         sink: &mut S,
     ) -> Result<(), Refusal>
-        requires sink { length (beneath self.old.tree.root) ≤ S.room sink.old }
+        requires sink { length (beneath self.old.tree.root) ≤ (S.state sink.old).room }
         ensures answer { IsAnswered takes_none self.old.clock (plan_of (ClassDel parent class) self.old.clock self.old) self.old self.new result }
-        ensures lost { S.losses sink.new ≡ S.losses sink.old ++ told (plan_of (ClassDel parent class) self.old.clock self.old) (shape self.old.tree.root) result }
-        ensures room { S.room sink.new + length (told (plan_of (ClassDel parent class) self.old.clock self.old) (shape self.old.tree.root) result) ≡ S.room sink.old }
+        ensures lost { IsTold (told (plan_of (ClassDel parent class) self.old.clock self.old) (shape self.old.tree.root) result) (S.state sink.old) (S.state sink.new) }
         ensures kept { S.keeps sink.old sink.new }
     {
         let command = Command::ClassDel { parent, class };

@@ -1,6 +1,6 @@
 ghost use Rattle.std.specs.Prelude.{◌≡◌, ◌≤◌, Ok, OnErr, OnOk, length};
+ghost use Rattle.q_codel.specs.Losses.{IsTold};
 ghost use Rattle.q_model.specs.Beneath.{totals_in};
-ghost use Rattle.q_tree.specs.AskSteps.{IsTold};
 ghost use Rattle.q_tree.specs.Purging.{purged};
 ghost use Rattle.q_tree.specs.DisciplineChanges.{FitsCounters, IsChangedBy, IsUnchanged, TakesMore, adds_children, lost_with};
 ghost use Rattle.q_tree.specs.Seen.{children_seen, discipline_seen};
@@ -63,13 +63,13 @@ impl Discipline {
         sink: &mut S,
     ) -> Result<Totals, AllocError>
         requires few { FitsCounters (lost_with change (discipline_seen self.old) (children_seen self.old)) }
-        requires sink { length (lost_with change (discipline_seen self.old) (children_seen self.old)) ≤ S.room sink.old }
+        requires sink { length (lost_with change (discipline_seen self.old) (children_seen self.old)) ≤ (S.state sink.old).room }
         ensures after { OnOk result (IsChangedBy change self.old self.new) }
         ensures totals { OnOk result (result ≡ Ok (totals_in (lost_with change (discipline_seen self.old) (children_seen self.old)))) }
-        ensures told { OnOk result (IsTold (purged (lost_with change (discipline_seen self.old) (children_seen self.old))) (S.losses sink.old) (S.losses sink.new) (S.room sink.old) (S.room sink.new)) }
+        ensures told { OnOk result (IsTold (purged (lost_with change (discipline_seen self.old) (children_seen self.old))) (S.state sink.old) (S.state sink.new)) }
         ensures memory { OnErr result (TakesMore change) }
         ensures same { OnErr result (IsUnchanged self.old self.new) }
-        ensures not_lost { OnErr result ((S.losses sink.new ≡ S.losses sink.old) × (S.room sink.new ≡ S.room sink.old)) }
+        ensures not_lost { OnErr result (S.state sink.new ≡ S.state sink.old) }
         ensures kept { S.keeps sink.old sink.new }
     {
         match change {

@@ -1,8 +1,8 @@
 ghost use Rattle.std.specs.Prelude.{◌≡◌, ◌≤◌, IsSome, Ok, OnErr, OnOk, Some, length, slice_get};
+ghost use Rattle.q_codel.specs.Losses.{IsTold};
 ghost use Rattle.q_model.specs.Beneath.{totals_in};
 ghost use Rattle.q_model.specs.Find.{node_at};
 ghost use Rattle.q_model.specs.Node as spec;
-ghost use Rattle.q_tree.specs.AskSteps.{IsTold};
 ghost use Rattle.q_tree.specs.Editing.{IsEditedBeneath, IsReady, TakesMemory, adds_nodes, edited_by, effect, removed, removed_at};
 ghost use Rattle.q_tree.specs.Kept.{Kept};
 ghost use Rattle.q_tree.specs.Places.{Leads};
@@ -59,13 +59,13 @@ impl Node {
     ) -> Result<Totals, AllocError>
         requires there { IsSome (node_at path.now self.old) }
         requires ready { IsReady edit }
-        requires sink { length (removed_at edit path.now self.old) ≤ S.room sink.old }
+        requires sink { length (removed_at edit path.now self.old) ≤ (S.state sink.old).room }
         ensures after { OnOk result (self.new ≡ edited_by edit path.now self.old) }
         ensures totals { OnOk result (result ≡ Ok (totals_in (removed_at edit path.now self.old))) }
-        ensures told { OnOk result (IsTold (purged (removed_at edit path.now self.old)) (S.losses sink.old) (S.losses sink.new) (S.room sink.old) (S.room sink.new)) }
+        ensures told { OnOk result (IsTold (purged (removed_at edit path.now self.old)) (S.state sink.old) (S.state sink.new)) }
         ensures memory { OnErr result (TakesMemory edit) }
         ensures same { OnErr result (self.new ≡ self.old) }
-        ensures not_lost { OnErr result ((S.losses sink.new ≡ S.losses sink.old) × (S.room sink.new ≡ S.room sink.old)) }
+        ensures not_lost { OnErr result (S.state sink.new ≡ S.state sink.old) }
         ensures kept { S.keeps sink.old sink.new }
     {
         let Some((&place, rest)) = path.split_first() else {
@@ -80,13 +80,13 @@ impl Node {
     // Edits this node.
     fn apply<S: Sink>(&mut self, edit: Edit, sink: &mut S) -> Result<Totals, AllocError>
         requires ready { IsReady edit }
-        requires sink { length (removed edit self.old) ≤ S.room sink.old }
+        requires sink { length (removed edit self.old) ≤ (S.state sink.old).room }
         ensures after { OnOk result (self.new ≡ effect edit self.old) }
         ensures totals { OnOk result (result ≡ Ok (totals_in (removed edit self.old))) }
-        ensures told { OnOk result (IsTold (purged (removed edit self.old)) (S.losses sink.old) (S.losses sink.new) (S.room sink.old) (S.room sink.new)) }
+        ensures told { OnOk result (IsTold (purged (removed edit self.old)) (S.state sink.old) (S.state sink.new)) }
         ensures memory { OnErr result (TakesMemory edit) }
         ensures same { OnErr result (self.new ≡ self.old) }
-        ensures not_lost { OnErr result ((S.losses sink.new ≡ S.losses sink.old) × (S.room sink.new ≡ S.room sink.old)) }
+        ensures not_lost { OnErr result (S.state sink.new ≡ S.state sink.old) }
         ensures kept { S.keeps sink.old sink.new }
     {
         match edit {
@@ -126,13 +126,13 @@ impl Discipline {
     ) -> Result<Totals, AllocError>
         requires there { Leads rest.now place (children_seen self.old) }
         requires ready { IsReady edit }
-        requires sink { (c : spec.Node Kept) → slice_get (children_seen self.old) place ≡ Some c → length (removed_at edit rest.now c) ≤ S.room sink.old }
+        requires sink { (c : spec.Node Kept) → slice_get (children_seen self.old) place ≡ Some c → length (removed_at edit rest.now c) ≤ (S.state sink.old).room }
         ensures after { OnOk result ((c : spec.Node Kept) → slice_get (children_seen self.old) place ≡ Some c → IsEditedBeneath edit rest.now place c self.old self.new) }
         ensures totals { OnOk result ((c : spec.Node Kept) → slice_get (children_seen self.old) place ≡ Some c → result ≡ Ok (totals_in (removed_at edit rest.now c))) }
-        ensures told { OnOk result ((c : spec.Node Kept) → slice_get (children_seen self.old) place ≡ Some c → IsTold (purged (removed_at edit rest.now c)) (S.losses sink.old) (S.losses sink.new) (S.room sink.old) (S.room sink.new)) }
+        ensures told { OnOk result ((c : spec.Node Kept) → slice_get (children_seen self.old) place ≡ Some c → IsTold (purged (removed_at edit rest.now c)) (S.state sink.old) (S.state sink.new)) }
         ensures memory { OnErr result (TakesMemory edit) }
         ensures same { OnErr result (IsUnchanged self.old self.new) }
-        ensures not_lost { OnErr result ((S.losses sink.new ≡ S.losses sink.old) × (S.room sink.new ≡ S.room sink.old)) }
+        ensures not_lost { OnErr result (S.state sink.new ≡ S.state sink.old) }
         ensures kept { S.keeps sink.old sink.new }
     {
         match self {

@@ -11,9 +11,7 @@ impl Sink for OneLossSink {
     ghost use Rattle.std.specs.Prelude.{[], ◌∷◌};
     ghost use Rattle.std.specs.Option.{option_map_or};
 
-    ghost losses = { λ s. option_map_or (λ l. l ∷ []) s.told [] };
-
-    ghost room = { λ s. option_map_or (λ l. 0) s.told 1 };
+    ghost state = { λ s. record { losses = option_map_or (λ l. l ∷ []) s.told []; room = option_map_or (λ l. 0) s.told 1 } };
 
     ghost keeps = { λ s t. Unit {0} };
 

@@ -1,7 +1,7 @@
 ghost use Rattle.std.specs.Prelude.{◌≤◌, length};
 ghost use Rattle.std.specs.Option.{option_to_list};
+ghost use Rattle.q_codel.specs.Losses.{IsTold};
 ghost use Rattle.q_model.specs.Beneath.{beneath};
-ghost use Rattle.q_tree.specs.AskSteps.{IsTold};
 ghost use Rattle.q_tree.specs.Holding.{packet_held};
 ghost use Rattle.q_tree.specs.Purging.{purged};
 ghost use Rattle.q_tree.specs.PutSteps.{packets_beneath};
@@ -16,8 +16,8 @@ impl Node {
     /// below each child in class order.
     #[cycle(purge)]
     pub(crate) fn purge<S: Sink>(self, sink: &mut S)
-        requires { length (beneath self) ≤ S.room sink.old }
-        ensures told { IsTold (purged (beneath self)) (S.losses sink.old) (S.losses sink.new) (S.room sink.old) (S.room sink.new) }
+        requires { length (beneath self) ≤ (S.state sink.old).room }
+        ensures told { IsTold (purged (beneath self)) (S.state sink.old) (S.state sink.new) }
         ensures kept { S.keeps sink.old sink.new }
     {
         let Node {
@@ -38,8 +38,8 @@ impl Node {
 
 // Loses the packet that a node holds, if it holds one.
 fn purge_held<S: Sink>(held: Held, sink: &mut S)
-    requires { length (option_to_list (packet_held held)) ≤ S.room sink.old }
-    ensures told { IsTold (purged (option_to_list (packet_held held))) (S.losses sink.old) (S.losses sink.new) (S.room sink.old) (S.room sink.new) }
+    requires { length (option_to_list (packet_held held)) ≤ (S.state sink.old).room }
+    ensures told { IsTold (purged (option_to_list (packet_held held))) (S.state sink.old) (S.state sink.new) }
     ensures kept { S.keeps sink.old sink.new }
 {
     if let Some(packet) = held.packet() {
@@ -50,8 +50,8 @@ fn purge_held<S: Sink>(held: Held, sink: &mut S)
 // Removes nodes side by side, in their order.
 #[cycle(purge)]
 fn purge_each<S: Sink>(nodes: Vec<Node>, sink: &mut S)
-    requires { length (packets_beneath nodes.items) ≤ S.room sink.old }
-    ensures told { IsTold (purged (packets_beneath nodes.items)) (S.losses sink.old) (S.losses sink.new) (S.room sink.old) (S.room sink.new) }
+    requires { length (packets_beneath nodes.items) ≤ (S.state sink.old).room }
+    ensures told { IsTold (purged (packets_beneath nodes.items)) (S.state sink.old) (S.state sink.new) }
     ensures kept { S.keeps sink.old sink.new }
 {
     for node in nodes {

@@ -1,5 +1,6 @@
-ghost use Rattle.std.specs.Prelude.{◌≡◌, ◌≤◌, ◌+◌, [], ◌++◌, IsSome, length, unwrap_or};
+ghost use Rattle.std.specs.Prelude.{◌≡◌, ◌≤◌, ◌+◌, [], IsSome, length, unwrap_or};
 ghost use Rattle.std.specs.Result.{result_map_both};
+ghost use Rattle.q_codel.specs.Losses.{IsTold};
 ghost use Rattle.q_model.specs.Beneath.{beneath};
 ghost use Rattle.q_model.specs.Find.{free_handle, has_handle, node_at, place_path};
 ghost use Rattle.q_model.specs.Make.{implicit_beneath};
@@ -48,10 +49,9 @@ impl Tree {
         sink: &mut S,
     ) -> Result<(), Refusal>
         requires order { self.old.clock ≤ now }
-        requires sink { length (beneath self.old.tree.root) ≤ S.room sink.old }
+        requires sink { length (beneath self.old.tree.root) ≤ (S.state sink.old).room }
         ensures answer { IsAnswered (NeedsMemory kind) now (plan_of (QdiscAdd place handle kind) now self.old) self.old self.new result }
-        ensures lost { S.losses sink.new ≡ S.losses sink.old ++ told (plan_of (QdiscAdd place handle kind) now self.old) (shape self.old.tree.root) result }
-        ensures room { S.room sink.new + length (told (plan_of (QdiscAdd place handle kind) now self.old) (shape self.old.tree.root) result) ≡ S.room sink.old }
+        ensures lost { IsTold (told (plan_of (QdiscAdd place handle kind) now self.old) (shape self.old.tree.root) result) (S.state sink.old) (S.state sink.new) }
         ensures kept { S.keeps sink.old sink.new }
     {
         let command = Command::QdiscAdd {
@@ -77,10 +77,9 @@ impl Tree {
         handle: Option<Handle>,
         sink: &mut S,
     ) -> Result<(), Refusal>
-        requires sink { length (beneath self.old.tree.root) ≤ S.room sink.old }
+        requires sink { length (beneath self.old.tree.root) ≤ (S.state sink.old).room }
         ensures answer { IsAnswered takes_none self.old.clock (plan_of (QdiscDel place handle) self.old.clock self.old) self.old self.new result }
-        ensures lost { S.losses sink.new ≡ S.losses sink.old ++ told (plan_of (QdiscDel place handle) self.old.clock self.old) (shape self.old.tree.root) result }
-        ensures room { S.room sink.new + length (told (plan_of (QdiscDel place handle) self.old.clock self.old) (shape self.old.tree.root) result) ≡ S.room sink.old }
+        ensures lost { IsTold (told (plan_of (QdiscDel place handle) self.old.clock self.old) (shape self.old.tree.root) result) (S.state sink.old) (S.state sink.new) }
         ensures kept { S.keeps sink.old sink.new }
     {
         self.command(alloc, Command::QdiscDel { place, handle }, self.clock, sink)

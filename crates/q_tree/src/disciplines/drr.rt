@@ -2,6 +2,7 @@
 ghost use Rattle.std.specs.Prelude.{◌≡◌, ◌<◌, ◌≤◌, None, OnErr, OnOk, Some, false, length, map, option_and_then, slice_get, true, unwrap_or};
 ghost use Rattle.q_drr.specs.Schedule.{place_of};
 ghost use Rattle.q_packet.specs.Descriptor.{Descriptor};
+ghost use Rattle.q_codel.specs.Losses.{IsTold};
 ghost use Rattle.q_model.specs.Ask.{ask, ask_drr};
 ghost use Rattle.q_model.specs.Beneath.{totals_in};
 ghost use Rattle.q_model.specs.Filters.{named_class};
@@ -9,7 +10,7 @@ ghost use Rattle.q_model.specs.Node as spec;
 ghost use Rattle.q_model.specs.Node.{Own, shape};
 ghost use Rattle.q_model.specs.Pop.{pop};
 ghost use Rattle.q_model.specs.Work.{settled_class};
-ghost use Rattle.q_tree.specs.AskSteps.{AreAsked, CanAskOnce, CanServe, IsAskedOnce, IsGivenBy, IsTold, IsToldOf, answers, no_signals, signals_of};
+ghost use Rattle.q_tree.specs.AskSteps.{AreAsked, CanAskOnce, CanServe, IsAskedOnce, IsGivenBy, IsToldOf, answers, no_signals, signals_of};
 ghost use Rattle.q_tree.specs.Changing.{drr_same};
 ghost use Rattle.q_tree.specs.Choosing.{drr_choice};
 ghost use Rattle.q_tree.specs.Holding.{held_with};
@@ -104,12 +105,12 @@ pub(crate) fn dequeue_class<S: Sink>(
     sink: &mut S,
 ) -> Shown
     requires ready { CanServe now active.old classes.old }
-    requires sink { length (packets_beneath classes.old) ≤ S.room sink.old }
+    requires sink { length (packets_beneath classes.old) ≤ (S.state sink.old).room }
     requires clean { signals.old ≡ no_signals }
     ensures active { (own : Own) → spec.Drr active.new ≡ (ask_drr own (answers now classes.old) active.old).peeked.own.discipline }
     ensures after { (own : Own) → AreAsked (ask_drr own (answers now classes.old) active.old) classes.old classes.new result }
     ensures packet { out.new ≡ unwrap_or result.packet out.old }
-    ensures told { (own : Own) → IsToldOf (ask_drr own (answers now classes.old) active.old).rises (S.losses sink.old) (S.losses sink.new) (S.room sink.old) (S.room sink.new) }
+    ensures told { (own : Own) → IsToldOf (ask_drr own (answers now classes.old) active.old).rises (S.state sink.old) (S.state sink.new) }
     ensures signals { signals.new ≡ signals_of result }
     ensures kept { S.keeps sink.old sink.new }
 {
@@ -135,11 +136,11 @@ fn meet_class<S: Sink>(
     sink: &mut S,
 ) -> Shown
     requires ready { CanServe now active.old classes.old }
-    requires sink { length (packets_beneath classes.old) ≤ S.room sink.old }
+    requires sink { length (packets_beneath classes.old) ≤ (S.state sink.old).room }
     requires clean { signals.old ≡ no_signals }
     ensures met { (p : Descriptor) → result.packet ≡ Some p → IsMet now met.new active.old active.new classes.old classes.new result }
     ensures nothing { result.packet ≡ None → AreUnserved now active.old active.new classes.old classes.new result }
-    ensures told { (own : Own) → IsToldOf (ask_drr own (answers now classes.old) active.old).rises (S.losses sink.old) (S.losses sink.new) (S.room sink.old) (S.room sink.new) }
+    ensures told { (own : Own) → IsToldOf (ask_drr own (answers now classes.old) active.old).rises (S.state sink.old) (S.state sink.new) }
     ensures signals { signals.new ≡ signals_of result }
     ensures kept { S.keeps sink.old sink.new }
 {
@@ -193,12 +194,12 @@ pub(crate) fn peek_classes<S: Sink>(
 ) -> Shown
     requires none { held.old ≡ None }
     requires ready { CanServe now active.old classes.old }
-    requires sink { length (packets_beneath classes.old) ≤ S.room sink.old }
+    requires sink { length (packets_beneath classes.old) ≤ (S.state sink.old).room }
     requires clean { signals.old ≡ no_signals }
     ensures active { (own : Own) → spec.Drr active.new ≡ (ask_drr own (answers now classes.old) active.old).peeked.own.discipline }
     ensures after { (own : Own) → AreAsked (ask_drr own (answers now classes.old) active.old) classes.old classes.new result }
     ensures held { (own : Own) → held.new ≡ held_with result.packet (ask_drr own (answers now classes.old) active.old).peeked.own.since }
-    ensures told { (own : Own) → IsToldOf (ask_drr own (answers now classes.old) active.old).rises (S.losses sink.old) (S.losses sink.new) (S.room sink.old) (S.room sink.new) }
+    ensures told { (own : Own) → IsToldOf (ask_drr own (answers now classes.old) active.old).rises (S.state sink.old) (S.state sink.new) }
     ensures signals { signals.new ≡ signals_of result }
     ensures kept { S.keeps sink.old sink.new }
 {
@@ -222,12 +223,12 @@ fn peek_class<S: Sink>(
     signals: &mut Signals,
     sink: &mut S,
 ) -> Shown
-    requires ready { is_unasked ≡ true → CanAskOnce now class.old so_far (S.room sink.old) }
+    requires ready { is_unasked ≡ true → CanAskOnce now class.old so_far (S.state sink.old).room }
     requires counted { signals.old ≡ signals_of so_far }
     ensures asked { is_unasked ≡ true → IsAskedOnce now class.old class.new so_far result }
-    ensures told { is_unasked ≡ true → IsToldOf (ask now (shape class.old)).rises (S.losses sink.old) (S.losses sink.new) (S.room sink.old) (S.room sink.new) }
+    ensures told { is_unasked ≡ true → IsToldOf (ask now (shape class.old)).rises (S.state sink.old) (S.state sink.new) }
     ensures at_hand { is_unasked ≡ false → (class.new ≡ class.old) × (result ≡ record so_far { packet = (pop class.old).shown }) }
-    ensures not_lost { is_unasked ≡ false → (S.losses sink.new ≡ S.losses sink.old) × (S.room sink.new ≡ S.room sink.old) }
+    ensures not_lost { is_unasked ≡ false → S.state sink.new ≡ S.state sink.old }
     ensures signals { signals.new ≡ signals_of result }
     ensures kept { S.keeps sink.old sink.new }
 {
@@ -337,10 +338,10 @@ impl Discipline {
 
     /// Removes a class of a drr, with all that is below it, and returns how many packets and bytes were lost (tc-drr(8)).
     pub(crate) fn remove_class<S: Sink>(&mut self, class: Minor, sink: &mut S) -> Totals
-        requires sink { length (lost_with (RemoveClass class) (discipline_seen self.old) (children_seen self.old)) ≤ S.room sink.old }
+        requires sink { length (lost_with (RemoveClass class) (discipline_seen self.old) (children_seen self.old)) ≤ (S.state sink.old).room }
         ensures after { IsChangedBy (RemoveClass class) self.old self.new }
         ensures totals { result ≡ totals_in (lost_with (RemoveClass class) (discipline_seen self.old) (children_seen self.old)) }
-        ensures told { IsTold (purged (lost_with (RemoveClass class) (discipline_seen self.old) (children_seen self.old))) (S.losses sink.old) (S.losses sink.new) (S.room sink.old) (S.room sink.new) }
+        ensures told { IsTold (purged (lost_with (RemoveClass class) (discipline_seen self.old) (children_seen self.old))) (S.state sink.old) (S.state sink.new) }
         ensures kept { S.keeps sink.old sink.new }
     {
         let Discipline::Drr { active, classes } = self else {

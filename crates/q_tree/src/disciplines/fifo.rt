@@ -101,11 +101,11 @@ pub(crate) fn enqueue_in_fifo<S: Sink>(
     lost: &mut Outcome,
     sink: &mut S,
 ) -> Result<Arrived, AllocError>
-    requires sink { 1 ≤ S.room sink.old }
+    requires sink { 1 ≤ (S.state sink.old).room }
     requires clean { lost.old ≡ nothing_lost }
-    ensures after { (filters : List Filter) → IfOk result (λ outcome. HasComeIn now packet.now filters (code.Fifo fifo.old) (code.Fifo fifo.new) outcome (S.losses sink.old) (S.losses sink.new) (S.room sink.old) (S.room sink.new)) }
+    ensures after { (filters : List Filter) → IfOk result (λ outcome. HasComeIn now packet.now filters (code.Fifo fifo.old) (code.Fifo fifo.new) outcome (S.state sink.old) (S.state sink.new)) }
     ensures same { OnErr result (IsPlacedIn (code.Fifo fifo.old) (code.Fifo fifo.new)) }
-    ensures not_lost { OnErr result ((S.losses sink.new ≡ S.losses sink.old) × (S.room sink.new ≡ S.room sink.old)) }
+    ensures not_lost { OnErr result (S.state sink.new ≡ S.state sink.old) }
     ensures succeeds { (takes fifo.old.limit fifo.old.packets packet.now.len ≡ true → length fifo.old.packets < fifo.old.places) → IsOk result }
     ensures lost_is { IfOk result (λ outcome. lost.new ≡ outcome) }
     ensures kept { S.keeps sink.old sink.new }

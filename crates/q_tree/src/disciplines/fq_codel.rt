@@ -1,8 +1,8 @@
 //! fq_codel: how one is made, enqueues, dequeues, shows its packet, is ready, and changes (tc-fq_codel(8)).
 ghost use Rattle.std.specs.Prelude.{◌≡◌, ◌<◌, ◌≤◌, ◌+◌, IfOk, IsOk, List, None, OnErr, OnOk, Some, option_map, unwrap_or, if◌then◌else◌};
-ghost use Rattle.q_codel.specs.Losses.{losses_of};
 ghost use Rattle.q_fqcodel.specs.FqState.{first_state, packets_of};
 ghost use Rattle.q_codel.specs.declared.taken.Taken.{Taken};
+ghost use Rattle.q_codel.specs.Losses.{AreLost};
 ghost use Rattle.q_fqcodel.specs.Take.{IsFrontLate, after_sending, dropped_from, head_sent, selected, sent_from};
 ghost use Rattle.q_packet.specs.declared.stamped.Stamped.{Stamped};
 ghost use Rattle.q_fqcodel.specs.Turns.{IsSettled};
@@ -14,7 +14,7 @@ ghost use Rattle.q_model.specs.Make.{with_options};
 ghost use Rattle.q_model.specs.Node.{Own};
 ghost use Rattle.q_model.specs.Tally.{no_totals, with_packet};
 ghost use Rattle.q_tree.specs.ArriveSteps.{IsPutInFlow, nothing_lost};
-ghost use Rattle.q_tree.specs.AskSteps.{IsShown, IsTold, no_signals, signals_of};
+ghost use Rattle.q_tree.specs.AskSteps.{IsShown, no_signals, signals_of};
 ghost use Rattle.q_tree.specs.Changing.{fq_codel_answer};
 ghost use Rattle.q_tree.specs.Holding.{held_with};
 ghost use Rattle.q_tree.specs.PutSteps.{CanFlow};
@@ -81,12 +81,12 @@ pub(crate) fn enqueue_in_flows<S: Sink>(
     sink: &mut S,
 ) -> Result<Arrived, AllocError>
     requires flow { CanFlow packet.now queue.old.state }
-    requires sink { packets_of queue.old.state.flows + 1 ≤ S.room sink.old }
+    requires sink { packets_of queue.old.state.flows + 1 ≤ (S.state sink.old).room }
     requires clean { lost.old ≡ nothing_lost }
-    ensures put { IfOk result (λ outcome. IsPutInFlow now packet.now queue.old.state queue.new.state outcome (S.losses sink.old) (S.losses sink.new) (S.room sink.old) (S.room sink.new)) }
+    ensures put { IfOk result (λ outcome. IsPutInFlow now packet.now queue.old.state queue.new.state outcome (S.state sink.old) (S.state sink.new)) }
     ensures place { OnOk result (packets_of queue.old.state.flows < queue.new.places) }
     ensures same { OnErr result (queue.new.state ≡ queue.old.state) }
-    ensures not_lost { OnErr result ((S.losses sink.new ≡ S.losses sink.old) × (S.room sink.new ≡ S.room sink.old)) }
+    ensures not_lost { OnErr result (S.state sink.new ≡ S.state sink.old) }
     ensures grows { queue.old.places ≤ queue.new.places }
     ensures stays { packets_of queue.old.state.flows < queue.old.places → queue.new.places ≡ queue.old.places }
     ensures succeeds { packets_of queue.old.state.flows < queue.old.places → IsOk result }
@@ -113,8 +113,8 @@ fn enqueue_over<S: Sink>(
 ) -> Arrived
     requires place { packets_of queue.old.state.flows < queue.old.places }
     requires flow { CanFlow packet.now queue.old.state }
-    requires sink { packets_of queue.old.state.flows + 1 ≤ S.room sink.old }
-    ensures put { IsPutInFlow now packet.now queue.old.state queue.new.state result (S.losses sink.old) (S.losses sink.new) (S.room sink.old) (S.room sink.new) }
+    requires sink { packets_of queue.old.state.flows + 1 ≤ (S.state sink.old).room }
+    ensures put { IsPutInFlow now packet.now queue.old.state queue.new.state result (S.state sink.old) (S.state sink.new) }
     ensures places { queue.new.places ≡ queue.old.places }
     ensures lost_is { lost.new ≡ result }
     ensures kept { S.keeps sink.old sink.new }
@@ -133,8 +133,8 @@ fn put_in_flow<S: Sink>(
 ) -> Outcome
     requires place { packets_of queue.old.state.flows < queue.old.places }
     requires flow { CanFlow packet.now queue.old.state }
-    requires sink { packets_of queue.old.state.flows + 1 ≤ S.room sink.old }
-    ensures put { IsPutInFlow now packet.now queue.old.state queue.new.state result (S.losses sink.old) (S.losses sink.new) (S.room sink.old) (S.room sink.new) }
+    requires sink { packets_of queue.old.state.flows + 1 ≤ (S.state sink.old).room }
+    ensures put { IsPutInFlow now packet.now queue.old.state queue.new.state result (S.state sink.old) (S.state sink.new) }
     ensures places { queue.new.places ≡ queue.old.places }
     ensures kept { S.keeps sink.old sink.new }
 {
@@ -158,13 +158,13 @@ pub(crate) fn dequeue_flow<S: Sink>(
     signals: &mut Signals,
     sink: &mut S,
 ) -> Shown
-    requires sink { packets_of queue.old.state.flows ≤ S.room sink.old }
+    requires sink { packets_of queue.old.state.flows ≤ (S.state sink.old).room }
     requires clean { signals.old ≡ no_signals }
     ensures after { queue.new.state ≡ after_sending now (selected queue.old.state) }
     ensures places { queue.new.places ≡ queue.old.places }
     ensures shown { (own : Own) (below : List Asked) → IsShown (ask_fq_codel now own below queue.old.state) result }
     ensures packet { out.new ≡ unwrap_or result.packet out.old }
-    ensures told { IsTold (losses_of Cause.CoDel (dropped_from now (selected queue.old.state))) (S.losses sink.old) (S.losses sink.new) (S.room sink.old) (S.room sink.new) }
+    ensures told { AreLost Cause.CoDel (dropped_from now (selected queue.old.state)) (S.state sink.old) (S.state sink.new) }
     ensures signals { signals.new ≡ signals_of result }
     ensures kept { S.keeps sink.old sink.new }
 {
@@ -196,7 +196,7 @@ fn dequeue_late<S: Sink>(
     signals: &mut Signals,
     sink: &mut S,
 ) -> Shown
-    requires sink { packets_of queue.old.state.flows ≤ S.room sink.old }
+    requires sink { packets_of queue.old.state.flows ≤ (S.state sink.old).room }
     requires settled { IsSettled queue.old.state }
     requires late { IsFrontLate now queue.old.state }
     requires clean { signals.old ≡ no_signals }
@@ -207,7 +207,7 @@ fn dequeue_late<S: Sink>(
     ensures marked { result.marked ≡ option_map_or (λ (t : Taken). if t.marked then with_packet no_totals t.packet else no_totals) (sent_from now queue.old.state) no_totals }
     ensures since { Some since.new ≡ option_map (λ (s : Stamped). s.at) (head_sent now queue.old.state) }
     ensures packet { out.new ≡ unwrap_or result.packet out.old }
-    ensures told { IsTold (losses_of Cause.CoDel (dropped_from now queue.old.state)) (S.losses sink.old) (S.losses sink.new) (S.room sink.old) (S.room sink.new) }
+    ensures told { AreLost Cause.CoDel (dropped_from now queue.old.state) (S.state sink.old) (S.state sink.new) }
     ensures signals { signals.new ≡ signals_of result }
     ensures kept { S.keeps sink.old sink.new }
 {
@@ -268,13 +268,13 @@ pub(crate) fn peek_flow<S: Sink>(
     sink: &mut S,
 ) -> Shown
     requires none { held.old ≡ None }
-    requires sink { packets_of queue.old.state.flows ≤ S.room sink.old }
+    requires sink { packets_of queue.old.state.flows ≤ (S.state sink.old).room }
     requires clean { signals.old ≡ no_signals }
     ensures after { queue.new.state ≡ after_sending now (selected queue.old.state) }
     ensures places { queue.new.places ≡ queue.old.places }
     ensures shown { (own : Own) (below : List Asked) → IsShown (ask_fq_codel now own below queue.old.state) result }
     ensures held { held.new ≡ held_with result.packet (option_map_or (λ (s : Stamped). s.at) (head_sent now (selected queue.old.state)) 0) }
-    ensures told { IsTold (losses_of Cause.CoDel (dropped_from now (selected queue.old.state))) (S.losses sink.old) (S.losses sink.new) (S.room sink.old) (S.room sink.new) }
+    ensures told { AreLost Cause.CoDel (dropped_from now (selected queue.old.state)) (S.state sink.old) (S.state sink.new) }
     ensures signals { signals.new ≡ signals_of result }
     ensures kept { S.keeps sink.old sink.new }
 {

@@ -3,6 +3,7 @@ ghost use Rattle.std.specs.Prelude.{◌≡◌, ◌<◌, ◌≤◌, ◌-◌, IfOk
 ghost use Rattle.std.specs.List.{list_any};
 ghost use Rattle.std.specs.Option.{option_map_or};
 ghost use Rattle.q_packet.specs.Descriptor.{Descriptor};
+ghost use Rattle.q_codel.specs.Losses.{IsTold};
 ghost use Rattle.q_invariants.proofs.SizedChanges.{change_sized};
 ghost use Rattle.q_model.specs.Ask.{ask_prio};
 ghost use Rattle.q_model.specs.Beneath.{totals_in};
@@ -15,7 +16,7 @@ ghost use Rattle.q_model.specs.Pop.{first_shown, pop};
 ghost use Rattle.q_model.specs.Refusals.{most_nodes};
 ghost use Rattle.q_model.specs.declared.filter.Filter.{Filter};
 ghost use Rattle.q_model.specs.declared.kind.Kind.TheVariants as kind;
-ghost use Rattle.q_tree.specs.AskSteps.{AreAsked, CanAskEach, IsTold, IsToldOf, answers, no_signals, signals_of};
+ghost use Rattle.q_tree.specs.AskSteps.{AreAsked, CanAskEach, IsToldOf, answers, no_signals, signals_of};
 ghost use Rattle.q_tree.specs.Changing.{IsChange, MakesChildren, leaves_answer, nodes_from};
 ghost use Rattle.q_tree.specs.Choosing.{child_of};
 ghost use Rattle.q_tree.specs.Making.{AreNew};
@@ -96,11 +97,11 @@ pub(crate) fn dequeue_bands<S: Sink>(
     sink: &mut S,
 ) -> Shown
     requires ready { CanAskEach now bands.old }
-    requires sink { length (packets_beneath bands.old) ≤ S.room sink.old }
+    requires sink { length (packets_beneath bands.old) ≤ (S.state sink.old).room }
     requires clean { signals.old ≡ no_signals }
     ensures after { (own : Own) → AreSent (ask_prio own (answers now bands.old)) bands.old bands.new result }
     ensures packet { out.new ≡ unwrap_or result.packet out.old }
-    ensures told { (own : Own) → IsToldOf (ask_prio own (answers now bands.old)).rises (S.losses sink.old) (S.losses sink.new) (S.room sink.old) (S.room sink.new) }
+    ensures told { (own : Own) → IsToldOf (ask_prio own (answers now bands.old)).rises (S.state sink.old) (S.state sink.new) }
     ensures signals { signals.new ≡ signals_of result }
     ensures kept { S.keeps sink.old sink.new }
 {
@@ -124,11 +125,11 @@ fn meet_band<S: Sink>(
     sink: &mut S,
 ) -> Shown
     requires ready { CanAskEach now bands.old }
-    requires sink { length (packets_beneath bands.old) ≤ S.room sink.old }
+    requires sink { length (packets_beneath bands.old) ≤ (S.state sink.old).room }
     requires clean { signals.old ≡ no_signals }
     ensures after { (own : Own) → AreAsked (ask_prio own (answers now bands.old)) bands.old bands.new result }
     ensures met { (p : Descriptor) → result.packet ≡ Some p → IsBandMet now met.new bands.old bands.new result }
-    ensures told { (own : Own) → IsToldOf (ask_prio own (answers now bands.old)).rises (S.losses sink.old) (S.losses sink.new) (S.room sink.old) (S.room sink.new) }
+    ensures told { (own : Own) → IsToldOf (ask_prio own (answers now bands.old)).rises (S.state sink.old) (S.state sink.new) }
     ensures signals { signals.new ≡ signals_of result }
     ensures kept { S.keeps sink.old sink.new }
 {
@@ -153,10 +154,10 @@ pub(crate) fn peek_bands<S: Sink>(
     sink: &mut S,
 ) -> Shown
     requires ready { CanAskEach now bands.old }
-    requires sink { length (packets_beneath bands.old) ≤ S.room sink.old }
+    requires sink { length (packets_beneath bands.old) ≤ (S.state sink.old).room }
     requires clean { signals.old ≡ no_signals }
     ensures after { (own : Own) → AreAsked (ask_prio own (answers now bands.old)) bands.old bands.new result }
-    ensures told { (own : Own) → IsToldOf (ask_prio own (answers now bands.old)).rises (S.losses sink.old) (S.losses sink.new) (S.room sink.old) (S.room sink.new) }
+    ensures told { (own : Own) → IsToldOf (ask_prio own (answers now bands.old)).rises (S.state sink.old) (S.state sink.new) }
     ensures signals { signals.new ≡ signals_of result }
     ensures kept { S.keeps sink.old sink.new }
 {
@@ -322,13 +323,13 @@ impl Discipline {
         sink: &mut S,
     ) -> Result<Totals, AllocError>
         requires few { FitsCounters (lost_with (SetBands options leaves) (discipline_seen self.old) (children_seen self.old)) }
-        requires sink { length (lost_with (SetBands options leaves) (discipline_seen self.old) (children_seen self.old)) ≤ S.room sink.old }
+        requires sink { length (lost_with (SetBands options leaves) (discipline_seen self.old) (children_seen self.old)) ≤ (S.state sink.old).room }
         ensures after { OnOk result (IsChangedBy (SetBands options leaves) self.old self.new) }
         ensures totals { OnOk result (result ≡ Ok (totals_in (lost_with (SetBands options leaves) (discipline_seen self.old) (children_seen self.old)))) }
-        ensures told { OnOk result (IsTold (purged (lost_with (SetBands options leaves) (discipline_seen self.old) (children_seen self.old))) (S.losses sink.old) (S.losses sink.new) (S.room sink.old) (S.room sink.new)) }
+        ensures told { OnOk result (IsTold (purged (lost_with (SetBands options leaves) (discipline_seen self.old) (children_seen self.old))) (S.state sink.old) (S.state sink.new)) }
         ensures memory { OnErr result (0 < length leaves.items) }
         ensures same { OnErr result (IsUnchanged self.old self.new) }
-        ensures not_lost { OnErr result ((S.losses sink.new ≡ S.losses sink.old) × (S.room sink.new ≡ S.room sink.old)) }
+        ensures not_lost { OnErr result (S.state sink.new ≡ S.state sink.old) }
         ensures kept { S.keeps sink.old sink.new }
     {
         let Discipline::Prio { bands, .. } = self else {
@@ -363,10 +364,10 @@ fn names_beyond(filters: &[MaskedFilter], bands: usize) -> bool
 // Keeps so many nodes in front, removes the others in their order, and returns how many packets and bytes were lost with them.
 fn keep_first<S: Sink>(nodes: &mut Vec<Node>, count: usize, sink: &mut S) -> Totals
     requires few { FitsCounters (packets_beneath (drop count nodes.old.items)) }
-    requires sink { length (packets_beneath (drop count nodes.old.items)) ≤ S.room sink.old }
+    requires sink { length (packets_beneath (drop count nodes.old.items)) ≤ (S.state sink.old).room }
     ensures after { nodes.new.items ≡ take count nodes.old.items }
     ensures totals { result ≡ totals_in (packets_beneath (drop count nodes.old.items)) }
-    ensures told { IsTold (purged (packets_beneath (drop count nodes.old.items))) (S.losses sink.old) (S.losses sink.new) (S.room sink.old) (S.room sink.new) }
+    ensures told { IsTold (purged (packets_beneath (drop count nodes.old.items))) (S.state sink.old) (S.state sink.new) }
     ensures kept { S.keeps sink.old sink.new }
 {
     let mut lost = NOTHING;

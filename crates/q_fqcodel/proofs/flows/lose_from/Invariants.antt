@@ -1,5 +1,5 @@
-use Rattle.std.proofs.Common.{◌≡◌, ◌+◌, ◌++◌, [], take, drop, set, get_or}
-use Rattle.q_codel.specs.Losses.{losses_of}
+use Rattle.std.proofs.Common.{◌≡◌, [], take, drop, set, get_or}
+use Rattle.q_codel.specs.Losses.{AreLost}
 use Rattle.q_fqcodel.proofs.flows.lose_from.Given as goal
 
 abbrev pub invariant-loop-i : goal.invariant-loop-i
@@ -8,7 +8,6 @@ invariant-loop-i g l =
     record {
       queues : l.pool.queues ≡ set l.fn.pool.queues l.flow (drop l._i queue);
       places : l.pool.places ≡ l.fn.pool.places;
-      losses : g.S.Sink.losses l.sink ≡ g.S.Sink.losses l.fn.sink ++ losses_of l.cause (take l._i queue);
-      room : g.S.Sink.room l.sink + l._i ≡ g.S.Sink.room l.fn.sink;
+      lost : AreLost l.cause (take l._i queue) (g.S.Sink.state l.fn.sink) (g.S.Sink.state l.sink);
       kept : g.S.Sink.keeps l.fn.sink l.sink;
     }

@@ -4,12 +4,12 @@ use Rattle.std.proofs.lemmas.List.{get_or-set_same}
 use Rattle.std.proofs.lemmas.Option.{slice_get_within}
 use Rattle.std.specs.Box.{with_value}
 use Rattle.std.specs.Vec.{with_item}
+use Rattle.q_codel.specs.Losses.{IsTold}
 use Rattle.q_model.specs.Beneath.{is_empty, totals_in}
 use Rattle.q_model.specs.Find.{node_at}
 use Rattle.q_model.specs.Node as spec
 use Rattle.q_model.specs.Node.{Node}
 use Rattle.q_model.specs.Work.{settled_class, settled_in}
-use Rattle.q_tree.specs.AskSteps.{IsTold}
 use Rattle.q_tree.specs.Editing.{removed_at}
 use Rattle.q_tree.specs.Kept.{Kept}
 use Rattle.q_tree.specs.Purging.{purged}
@@ -55,7 +55,7 @@ pub Discipline::edit_beneath-returns-in-Prio-clause-told : goal.Discipline::edit
 Discipline::edit_beneath-returns-in-Prio-clause-told g t c =
     on-ok c.edit.result (λ e child at.
     let same = same-child c.in-Prio.bands.items c.args.place c.index_mut.result.now child c.index_mut.ensures.value (ap (λ xs. slice_get xs c.args.place) (sym (ap children_seen c.in-Prio.is)) ∙ at) in
-    subst (λ (n : Node Kept). IsTold (purged (removed_at c.args.edit c.args.rest.now n)) (g.S.Sink.losses c.args.sink.now) (g.S.Sink.losses c.edit.new.sink) (g.S.Sink.room c.args.sink.now) (g.S.Sink.room c.edit.new.sink)) same e) c.edit.ensures.told
+    subst (λ (n : Node Kept). IsTold (purged (removed_at c.args.edit c.args.rest.now n)) (g.S.Sink.state c.args.sink.now) (g.S.Sink.state c.edit.new.sink)) same e) c.edit.ensures.told
 
 pub Discipline::edit_beneath-index_mut-requires-in-Drr : goal.Discipline::edit_beneath-index_mut-requires-in-Drr
 Discipline::edit_beneath-index_mut-requires-in-Drr g t c =
@@ -100,7 +100,7 @@ pub Discipline::edit_beneath-returns-in-Drr-clause-told : goal.Discipline::edit_
 Discipline::edit_beneath-returns-in-Drr-clause-told g t c =
     λ child at.
     let same = same-child c.in-Drr.classes.items c.args.place c.index_mut-in-Drr.result.now child c.index_mut-in-Drr.ensures.value (ap (λ xs. slice_get xs c.args.place) (sym (ap children_seen c.in-Drr.is)) ∙ at) in
-    subst (λ (n : Node Kept). IsTold (purged (removed_at c.args.edit c.args.rest.now n)) (g.S.Sink.losses c.args.sink.now) (g.S.Sink.losses c.edit-in-Drr.new.sink) (g.S.Sink.room c.args.sink.now) (g.S.Sink.room c.edit-in-Drr.new.sink)) same c.in_ok-lost-in-Drr.ensures.told
+    subst (λ (n : Node Kept). IsTold (purged (removed_at c.args.edit c.args.rest.now n)) (g.S.Sink.state c.args.sink.now) (g.S.Sink.state c.edit-in-Drr.new.sink)) same c.in_ok-lost-in-Drr.ensures.told
 
 pub Node::edit-edit_beneath-requires : goal.Node::edit-edit_beneath-requires
 Node::edit-edit_beneath-requires g t c κs within = (
@@ -142,4 +142,4 @@ Node::edit-returns-clause-totals g t c =
 pub Node::edit-returns-clause-told : goal.Node::edit-returns-clause-told
 Node::edit-returns-clause-told g t c =
     of-child c.args.edit c.self.inside c.args.self.now c.self.view_is c.self.invariant c.args.path.now c.in-Some.field-0-0.now c.in-Some.rest.now c.in-Some.ensures.cases.0 c.requires.ready c.requires.there
-    (λ ps. IsTold (purged ps) (g.S.Sink.losses c.args.sink.now) (g.S.Sink.losses c.edit_beneath.new.sink) (g.S.Sink.room c.args.sink.now) (g.S.Sink.room c.edit_beneath.new.sink)) c.in_ok-lost.ensures.told
+    (λ ps. IsTold (purged ps) (g.S.Sink.state c.args.sink.now) (g.S.Sink.state c.edit_beneath.new.sink)) c.in_ok-lost.ensures.told

@@ -1,4 +1,4 @@
-use Rattle.std.proofs.Common.{◌≡◌, List, suc, ◌&&◌, ◌<◌, ◌≤◌, ◌∙◌, ap, sym, rules, arith}
+use Rattle.std.proofs.Common.{◌≡◌, List, suc, ◌&&◌, ◌<◌, ◌≤◌, ◌∙◌, ap, sym, arith}
 use Rattle.q_packet.specs.Totals.{count}
 use Rattle.q_packet.specs.declared.stamped.Stamped.{Stamped}
 use Rattle.q_codel.specs.Gap.{gap_of}
@@ -6,6 +6,7 @@ use Rattle.q_codel.specs.Codel.{CodelParams, joined, is_capable}
 use Rattle.q_codel.specs.declared.front.Front.{Front}
 use Rattle.q_codel.proofs.FrontLemmas.{split, next, head_lost, chosen_at, behind_is, len_within, way_from}
 use Rattle.q_codel.proofs.Law.{turn_waits, turn_marks, turn_ends, turn_goes_on, losses_more, lost_at}
+use Rattle.q_codel.proofs.SinkLemmas.{told_nothing}
 use Rattle.q_codel.proofs.control_state.ControlState.go_on.Goals as goal
 
 pub loop-self-init : goal.loop-self-init
@@ -18,7 +19,7 @@ loop-self-init g c =
         packets = s.is;
         front = s.front_is;
         way = way_from _ _ _ _ _ s.is c.requires.counted c.requires.late;
-        lost = record { lost = search rules; room = omega arith };
+        lost = told_nothing (g.S.Sink.state c.args.sink.now);
         enough = c.requires.room;
         kept = g.met.Q.Queue.keeps_same _;
         sink_kept = g.met.S.Sink.keeps_same _;
@@ -33,7 +34,7 @@ returns g c =
     let ends = turn_waits _ _ _ i.0 _ _ _ _ _ c.requires.dropping i.3.way (ap (joined c.args.parameters.now) c.self.view_is) waits in
     record {
       chosen = chosen_at _ _ _ _ _ _ _ _ ends.chosen i.3.packets;
-      lost = lost_at _ _ i.0 _ _ _ _ _ ends.count i.3.lost;
+      lost = lost_at _ _ i.0 _ _ _ ends.count i.3.lost;
       kept = i.3.kept;
       sink_kept = i.3.sink_kept;
     }
@@ -48,7 +49,7 @@ returns-then-marks g c =
     let ends = turn_marks _ _ _ i.0 _ i.1 _ _ _ _ i.3.way (ap (joined c.args.parameters.now) c.self.view_is) due c.saturating_add-self-inside.ensures _ c.requires.dropping markable length in
     record {
       chosen = chosen_at _ _ _ _ _ _ _ _ ends.chosen i.3.packets;
-      lost = lost_at _ _ i.0 _ _ _ _ _ ends.count i.3.lost;
+      lost = lost_at _ _ i.0 _ _ _ ends.count i.3.lost;
       kept = i.3.kept;
       sink_kept = i.3.sink_kept;
     }
@@ -68,10 +69,10 @@ returns-then-not-should_drop g c =
     let behind = behind_is _ _ _ _ _ c.bytes.ensures n.here (ap (λ (f : Front). f.len) n.front_is) in
     let plain = sym (c.if-marks.ensures ∙ ap (λ (f : Front). c.args.parameters.now.ecn && is_capable f.ecn) i.3.front) in
     let ends = turn_ends _ _ _ i.0 _ i.1 _ _ _ _ i.3.way (ap (joined c.args.parameters.now) c.self.view_is) due c.saturating_add-self-inside.ensures _ _ _ plain n.rest_is (c.self-in-loop-self.view_is ∙ c.if-not-should_drop.ensures.noted n.head n.behind n.front_is behind) c.requires.dropping (sym (c.if-not-should_drop.ensures.late n.head n.behind n.front_is behind)) in
-    let lost = losses_more _ _ i.0 _ _ _ _ _ _ _ _ i.3.way.place i.3.lost (head_lost _ _ _ _ _ _ i.3.packets c.drop_head-front.ensures.lost) c.drop_head-front.ensures.room in
+    let lost = losses_more _ _ i.0 _ _ _ _ _ i.3.way.place i.3.lost (head_lost _ _ _ _ _ _ i.3.packets c.drop_head-front.ensures.lost) in
     record {
       chosen = chosen_at _ _ _ _ _ _ _ _ ends.chosen n.here;
-      lost = lost_at _ _ _ _ _ _ _ _ ends.count lost;
+      lost = lost_at _ _ _ _ _ _ ends.count lost;
       kept = g.met.Q.Queue.keeps_on _ _ _ i.3.kept c.drop_head-front.ensures.kept;
       sink_kept = g.met.S.Sink.keeps_on _ _ _ i.3.sink_kept c.drop_head-front.ensures.sink_kept;
     }
@@ -93,8 +94,8 @@ loop-self-preserved g c =
         packets = n.here;
         front = n.front_is;
         way = way;
-        lost = losses_more _ _ i.0 _ _ _ _ _ _ _ _ i.3.way.place i.3.lost (head_lost _ _ _ _ _ _ i.3.packets c.drop_head-front.ensures.lost) c.drop_head-front.ensures.room;
-        enough = let a = ap (λ (q : List Stamped). count q) i.3.packets in let b = ap (λ (q : List Stamped). count q) n.here in let d = ap (λ (q : List Stamped). count q) n.rest_is in let k = c.drop_head-front.ensures.room in let e = i.3.enough in omega arith;
+        lost = losses_more _ _ i.0 _ _ _ _ _ i.3.way.place i.3.lost (head_lost _ _ _ _ _ _ i.3.packets c.drop_head-front.ensures.lost);
+        enough = let a = ap (λ (q : List Stamped). count q) i.3.packets in let b = ap (λ (q : List Stamped). count q) n.here in let d = ap (λ (q : List Stamped). count q) n.rest_is in let k = (head_lost _ _ _ _ _ _ i.3.packets c.drop_head-front.ensures.lost).room in let e = i.3.enough in omega arith;
         kept = g.met.Q.Queue.keeps_on _ _ _ i.3.kept c.drop_head-front.ensures.kept;
         sink_kept = g.met.S.Sink.keeps_on _ _ _ i.3.sink_kept c.drop_head-front.ensures.sink_kept;
       },

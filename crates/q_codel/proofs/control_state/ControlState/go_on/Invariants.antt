@@ -1,4 +1,4 @@
-use Rattle.std.proofs.Common.{◌≡◌, ◌≤◌, ◌∷◌, ℕ, List}
+use Rattle.std.proofs.Common.{◌≡◌, ◌≤◌, ◌∷◌, ℕ, List, take}
 use Rattle.q_packet.specs.Totals.{count}
 use Rattle.q_packet.specs.declared.cause.Cause.TheVariants.{CoDel}
 use Rattle.q_packet.specs.declared.stamped.Stamped.{Stamped}
@@ -13,8 +13,8 @@ invariant-loop-self g l = (j : ℕ) × (head : Stamped) × (rest : List Stamped)
   packets : g.Q.Queue.packets l.queue ≡ head ∷ rest;
   front : l.front ≡ front_of head;
   way : OnTheWay (joined l.parameters l.initial.self) l.now (g.Q.Queue.packets l.initial.queue) j (joined l.parameters l.self) head rest;
-  lost : AreLost CoDel j (g.Q.Queue.packets l.initial.queue) (g.S.Sink.losses l.initial.sink) (g.S.Sink.losses l.sink) (g.S.Sink.room l.initial.sink) (g.S.Sink.room l.sink);
-  enough : count (g.Q.Queue.packets l.queue) ≤ g.S.Sink.room l.sink;
+  lost : AreLost CoDel (take j (g.Q.Queue.packets l.initial.queue)) (g.S.Sink.state l.initial.sink) (g.S.Sink.state l.sink);
+  enough : count (g.Q.Queue.packets l.queue) ≤ (g.S.Sink.state l.sink).room;
   kept : g.Q.Queue.keeps l.initial.queue l.queue;
   sink_kept : g.S.Sink.keeps l.initial.sink l.sink;
 }

@@ -1,5 +1,5 @@
 use Rattle.std.proofs.Common.{◌∙◌, ◌-◌, ◌≤◌, List, ◌++◌, length, refl, sym, ap, subst, arith}
-use Rattle.q_codel.specs.Losses.{LossList}
+use Rattle.q_codel.specs.Losses.{LossList, SinkState}
 use Rattle.q_packet.specs.Descriptor.{Descriptor}
 use Rattle.q_packet.specs.Stored.{descriptor}
 use Rattle.q_model.specs.declared.event.Event.TheVariants as event
@@ -33,7 +33,7 @@ invariant_of-self c =
     let a = c.self.inside in
     let l = c.arrive_stored.new.sink in
     let refused = c.in_default.ensures in
-    room-kept a c.self.invariant c.arrive_stored.new.self l (a.spare - 1) refused.same (only-places a.losses a.losses l refl refused.not_lost.0) (omega arith)
+    room-kept a c.self.invariant c.arrive_stored.new.self l (a.spare - 1) refused.same (only-places a.losses a.losses l refl (ap (λ (s : SinkState). s.losses) refused.not_lost)) (omega arith)
     (omega (arith, c.self.invariant.room, ap (λ (x : LossList). x.places) c.arrive_stored.ensures.kept))
 
 pub returns-in_default-clause-succeeds : goal.returns-in_default-clause-succeeds
@@ -44,7 +44,7 @@ returns-in_default-clause-keeps c other there =
     let a = c.self.inside in
     let l = c.arrive_stored.new.sink in
     let refused = c.in_default.ensures in
-    room-still a c.arrive_stored.new.self l refused.same refused.routes refused.keeps (only-places a.losses a.losses l refl refused.not_lost.0)
+    room-still a c.arrive_stored.new.self l refused.same refused.routes refused.keeps (only-places a.losses a.losses l refl (ap (λ (s : SinkState). s.losses) refused.not_lost))
     (omega (arith, ap (λ (x : LossList). x.places) c.arrive_stored.ensures.kept)) other (subst (HasRoomFor other) (sym c.self.view_is) there)
 
 pub returns-in_default-clause-queues : goal.returns-in_default-clause-queues
@@ -63,7 +63,7 @@ happened c =
     let e = event.Arrive p c.args.now in
     let counted = events-after a c.self.invariant e b (c.stored_ranges.ensures.fields, c.moment_range.ensures) (arrived-device a b p c.args.now c.later-at.result c.later-at.ensures c.in-Ok.ensures.after) refl in
     let unrecorded = full a.settings.recorder (event.Arrive p c.later-at.result) a.recorded.items (c.self.invariant.full some) in
-    arrived a b p c.args.now c.later-at.result c.later-at.ensures refl c.in-Ok.ensures.after c.in-Ok.ensures.lost refl unrecorded refl counted
+    arrived a b p c.args.now c.later-at.result c.later-at.ensures refl c.in-Ok.ensures.after c.in-Ok.ensures.lost.lost refl unrecorded refl counted
 
 pub invariant_of-self-2 : goal.invariant_of-self-2
 invariant_of-self-2 c =

@@ -1,5 +1,5 @@
 use Rattle.std.proofs.Common.{◌∙◌, ℕ, List, ◌++◌, length, refl, sym, ap, subst, arith}
-use Rattle.q_codel.specs.Losses.{LossList}
+use Rattle.q_codel.specs.Losses.{LossList, SinkState}
 use Rattle.q_packet.specs.Descriptor.{Descriptor}
 use Rattle.q_model.specs.declared.event.Event.TheVariants as event
 use Rattle.q_model.specs.declared.reply.Reply.TheVariants as reply
@@ -45,7 +45,7 @@ invariant_of-self-in_default-arrive c =
     let l = c.arrive.new.sink in
     let made = c.make_room.ensures in
     let refused = c.in_default-arrive.ensures in
-    room-kept a c.self.invariant c.arrive.new.self l a.spare refused.same (only-places a.losses c.make_room.new.losses l made.same refused.not_lost.0) (omega arith)
+    room-kept a c.self.invariant c.arrive.new.self l a.spare refused.same (only-places a.losses c.make_room.new.losses l made.same (ap (λ (s : SinkState). s.losses) refused.not_lost)) (omega arith)
     (omega (arith, c.self.invariant.room, made.grows, ap (λ (x : LossList). x.places) c.arrive.ensures.kept))
 
 pub returns-in_default-arrive-clause-succeeds : goal.returns-in_default-arrive-clause-succeeds
@@ -57,7 +57,7 @@ returns-in_default-arrive-clause-keeps c other there =
     let l = c.arrive.new.sink in
     let made = c.make_room.ensures in
     let refused = c.in_default-arrive.ensures in
-    room-still a c.arrive.new.self l refused.same refused.routes refused.keeps (only-places a.losses c.make_room.new.losses l made.same refused.not_lost.0)
+    room-still a c.arrive.new.self l refused.same refused.routes refused.keeps (only-places a.losses c.make_room.new.losses l made.same (ap (λ (s : SinkState). s.losses) refused.not_lost))
     (omega (arith, made.grows, ap (λ (x : LossList). x.places) c.arrive.ensures.kept)) other (subst (HasRoomFor other) (sym c.self.view_is) there)
 
 pub returns-in_default-arrive-clause-queues : goal.returns-in_default-arrive-clause-queues
@@ -75,7 +75,7 @@ happened c n =
     let b = after c n in
     let p = c.args.packet.now in
     let e = event.Arrive p c.args.now in
-    let lost = c.in-Ok-arrive.ensures.lost ∙ ap (λ (l : LossList). l.waiting ++ losses_in (noted_by_put c.later-at.result p a.tree.tree)) c.make_room.ensures.same in
+    let lost = c.in-Ok-arrive.ensures.lost.lost ∙ ap (λ (l : LossList). l.waiting ++ losses_in (noted_by_put c.later-at.result p a.tree.tree)) c.make_room.ensures.same in
     let counted = events-after a c.self.invariant e b ((subst HasPacketFields c.packet.view_is c.stored_ranges.ensures.fields), c.moment_range.ensures) (arrived-device a b p c.args.now c.later-at.result c.later-at.ensures c.in-Ok-arrive.ensures.after) refl in
     arrived a b p c.args.now c.later-at.result c.later-at.ensures refl c.in-Ok-arrive.ensures.after lost refl c.record_arrival.ensures.items c.record_arrival.ensures.capacity counted
 

@@ -24,7 +24,7 @@ use Rattle.q_device.proofs.device.Device.command.Goals as goal
 pub invariant_of-self : goal.invariant_of-self
 invariant_of-self c =
     let a = c.self.inside in
-    let nothing = c.in_err-command.ensures.lost ∙ ap (λ (ls : List Loss). a.losses.waiting ++ ls) (told-nothing (plan_of c.args.command c.later-at.result a.tree) (shape a.tree.tree.root) c.in_err-command.field-0.0) ∙ append-nil a.losses.waiting in
+    let nothing = c.in_err-command.ensures.lost.lost ∙ ap (λ (ls : List Loss). a.losses.waiting ++ ls) (told-nothing (plan_of c.args.command c.later-at.result a.tree) (shape a.tree.tree.root) c.in_err-command.field-0.0) ∙ append-nil a.losses.waiting in
     let sink = c.in_err-command.ensures.kept ∙ ap (λ (ls : List Loss). record a.losses { waiting = ls }) nothing in
     subst IsKeptDevice (λ i. record a { tree = sym c.in_err-command.ensures.answer.1 i; losses = sym sink i }) c.self.invariant
 
@@ -57,7 +57,7 @@ happened c =
     let a = c.self.inside in
     let b = after c in
     let counted = events-after a c.self.invariant (event.Command c.args.command c.args.now) b (c.ranges-2.ensures, c.moment_range.ensures) (commanded-device a b c.args.command c.args.now c.later-at.result c.later-at.ensures c.in_ok-command.ensures.answer) c.count_other.ensures in
-    commanded a b c.args.command c.args.now c.later-at.result c.later-at.ensures refl c.in_ok-command.ensures.answer c.in_ok-command.ensures.lost refl c.record_command.ensures.items c.record_command.ensures.capacity counted
+    commanded a b c.args.command c.args.now c.later-at.result c.later-at.ensures refl c.in_ok-command.ensures.answer c.in_ok-command.ensures.lost.lost refl c.record_command.ensures.items c.record_command.ensures.capacity counted
 
 pub invariant_of-self-2 : goal.invariant_of-self-2
 invariant_of-self-2 c =

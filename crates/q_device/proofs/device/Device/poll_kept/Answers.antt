@@ -34,7 +34,7 @@ happened c =
     let b = after c in
     let others = polled-others a c.args.now c.later-at.result c.count_poll.new.others c.send-sent.result c.later-at.ensures c.send-sent.ensures.sent c.count_poll.ensures in
     let counted = events-after a c.self.invariant (event.Poll c.args.now) b c.moment_range.ensures (polled-device a b c.args.now c.later-at.result c.later-at.ensures c.send-sent.ensures.after) others in
-    polled a b c.args.now c.later-at.result c.later-at.ensures refl c.send-sent.ensures.after c.send-sent.ensures.lost refl c.record_poll.ensures.items c.record_poll.ensures.capacity counted
+    polled a b c.args.now c.later-at.result c.later-at.ensures refl c.send-sent.ensures.after c.send-sent.ensures.lost.lost refl c.record_poll.ensures.items c.record_poll.ensures.capacity counted
 
 pub invariant_of-self : goal.invariant_of-self
 invariant_of-self c =

@@ -1,4 +1,4 @@
-use Rattle.std.proofs.Common.{◌≡◌, ℕ, ◌+◌, List, [], get_or, set, ◌++◌, length, sym, ap, ◌∙◌, arith}
+use Rattle.std.proofs.Common.{◌≡◌, ℕ, List, [], get_or, set, length, sym, ap, ◌∙◌, arith, subst}
 use Rattle.q_packet.specs.declared.stamped.Stamped.{Stamped}
 use Rattle.q_codel.specs.Codel.{CodelState, CodelVars, joined}
 use Rattle.q_fqcodel.specs.Cleared.{adjust}
@@ -9,7 +9,7 @@ use Rattle.q_fqcodel.specs.Put.{shortened}
 use Rattle.q_fqcodel.proofs.PooledLemmas.{length-flows_from, length-codels_in, codel_at, codels_in-set, codel_written}
 use Rattle.std.proofs.lemmas.List.{take_all, length-set}
 use Rattle.q_packet.specs.declared.cause.Cause.TheVariants.{Purged}
-use Rattle.q_codel.specs.Losses.{losses_of}
+use Rattle.q_codel.specs.Losses.{AreLost}
 use Rattle.q_fqcodel.proofs.FlowLemmas.{length-adjust}
 use Rattle.q_fqcodel.proofs.ShedLemmas.{adjust-adjust, forgotten, emptied}
 use Rattle.q_fqcodel.proofs.flows.Flows.empty.Goals as goal
@@ -63,8 +63,4 @@ returns-clause-flows g c =
 pub returns-clause-lost : goal.returns-clause-lost
 returns-clause-lost g c =
     let q : List Stamped = queue_of c.args.self.now.flows c.args.flow in
-    c.lose.ensures.lost
-    ∙ ap (λ (l : List Stamped). g.S.Sink.losses c.args.sink.now ++ losses_of Purged l) (take_all c.count_of-count.result q (omega (arith, c.count_of-count.ensures)))
-
-pub returns-clause-room : goal.returns-clause-room
-returns-clause-room g c = ap (λ (n : ℕ). g.S.Sink.room c.lose.new.sink + n) (sym c.count_of-count.ensures) ∙ c.lose.ensures.room
+    subst (λ (l : List Stamped). AreLost Purged l (g.S.Sink.state c.args.sink.now) (g.S.Sink.state c.lose.new.sink)) (take_all c.count_of-count.result q (omega (arith, c.count_of-count.ensures))) c.lose.ensures.lost

@@ -1,10 +1,10 @@
-use Rattle.std.proofs.Common.{◌≡◌, ℕ, ◌%◌, ◌<◌, List, [], ◌∷◌, ◌++◌, length, get_or, set, take, drop, refl, sym, ap, ◌∙◌, arith}
+use Rattle.std.proofs.Common.{◌≡◌, ℕ, ◌%◌, ◌<◌, List, [], ◌∷◌, ◌++◌, length, get_or, set, take, drop, refl, sym, ap, ◌∙◌, arith, subst}
 use Rattle.std.proofs.lemmas.List.{length-set, set-set}
 use Rattle.q_packet.specs.Totals.{count, size}
 use Rattle.q_packet.specs.declared.stamped.Stamped.{Stamped}
 use Rattle.q_packet.specs.declared.cause.Cause.TheVariants.{FatFlow}
 use Rattle.q_codel.specs.Codel.{CodelState}
-use Rattle.q_codel.specs.Losses.{losses_of}
+use Rattle.q_codel.specs.Losses.{AreLost}
 use Rattle.q_fqcodel.specs.Cleared.{adjust}
 use Rattle.q_fqcodel.specs.FlowsState.{FlowsState}
 use Rattle.q_fqcodel.specs.FqState.{Flow, queue_of, packets_of}
@@ -96,5 +96,5 @@ returns-clause-flows g c =
 
 pub returns-clause-lost : goal.returns-clause-lost
 returns-clause-lost g c =
-    c.lose_from.ensures.lost
-    ∙ ap (λ (q : List Stamped). g.S.Sink.losses c.args.sink.now ++ losses_of FatFlow (take c.args.lost q)) (sym (queue_is g (goal.at.returns-clause-lost g c).After-push))
+    subst (λ (q : List Stamped). AreLost FatFlow (take c.args.lost q) (g.S.Sink.state c.args.sink.now) (g.S.Sink.state c.lose_from.new.sink))
+    (sym (queue_is g (goal.at.returns-clause-lost g c).After-push)) c.lose_from.ensures.lost

@@ -1,8 +1,8 @@
-use Rattle.std.proofs.Common.{◌≡◌, ◌≢◌, ℕ, ◌<◌, List, [], ◌++◌, length, get_or, set, take, drop, refl, sym, ap, ◌∙◌, arith}
+use Rattle.std.proofs.Common.{◌≡◌, ◌≢◌, ℕ, ◌<◌, List, [], length, get_or, set, take, drop, refl, sym, ap, ◌∙◌, arith, subst}
 use Rattle.std.proofs.lemmas.List.{length-set}
 use Rattle.q_packet.specs.Totals.{count}
 use Rattle.q_packet.specs.declared.stamped.Stamped.{Stamped}
-use Rattle.q_codel.specs.Losses.{losses_of}
+use Rattle.q_codel.specs.Losses.{AreLost}
 use Rattle.q_fqcodel.specs.Cleared.{adjust}
 use Rattle.q_fqcodel.specs.FlowsState.{FlowsState}
 use Rattle.q_fqcodel.specs.FqState.{queue_of}
@@ -61,5 +61,5 @@ returns-clause-flows g c =
 
 pub returns-clause-lost : goal.returns-clause-lost
 returns-clause-lost g c =
-    c.lose_from.ensures.lost
-    ∙ ap (λ (q : List Stamped). g.S.Sink.losses c.args.sink.now ++ losses_of c.args.cause (take c.args.lost q)) (sym (own g (goal.at.returns-clause-lost g c).After-lose_from))
+    subst (λ (q : List Stamped). AreLost c.args.cause (take c.args.lost q) (g.S.Sink.state c.args.sink.now) (g.S.Sink.state c.lose_from.new.sink))
+    (sym (own g (goal.at.returns-clause-lost g c).After-lose_from)) c.lose_from.ensures.lost

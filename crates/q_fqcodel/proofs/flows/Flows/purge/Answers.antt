@@ -1,16 +1,16 @@
-use Rattle.std.proofs.Common.{◌≡◌, ℕ, suc, ◌+◌, ◌<◌, List, [], ◌++◌, length, take, drop, map, replicate, refl, sym, ap, ap₂, ◌∙◌, arith, append_assoc, append-nil, add-one}
-use Rattle.std.proofs.lemmas.List.{map-append, take_all, drop_all}
+use Rattle.std.proofs.Common.{◌≡◌, ℕ, suc, ◌<◌, List, [], ◌++◌, length, take, drop, map, replicate, refl, sym, ap, ap₂, ◌∙◌, arith, append-nil, add-one, subst}
+use Rattle.std.proofs.lemmas.List.{take_all, drop_all}
 use Rattle.q_packet.specs.Totals.{count}
 use Rattle.q_packet.specs.declared.stamped.Stamped.{Stamped}
 use Rattle.q_packet.specs.declared.cause.Cause.TheVariants.{Purged}
 use Rattle.q_codel.specs.Codel.{CodelParams, joined, vars_at_first}
-use Rattle.q_codel.specs.Losses.{losses_of}
-use Rattle.q_codel.specs.declared.loss.Loss.{Loss}
+use Rattle.q_codel.specs.Losses.{AreLost, SinkState}
+use Rattle.q_codel.proofs.SinkLemmas.{lost_both, room_lost, told_nothing}
 use Rattle.q_fqcodel.specs.Cleared.{adjust}
 use Rattle.q_fqcodel.specs.FlowsState.{FlowsState}
-use Rattle.q_fqcodel.specs.FqState.{FqSettings, Flow, queue_of, packets_of, all_packets}
+use Rattle.q_fqcodel.specs.FqState.{FqSettings, Flow, queue_of, all_packets}
 use Rattle.q_fqcodel.specs.Pool.{cleared}
-use Rattle.q_fqcodel.proofs.FlowLemmas.{packets_of-nil}
+use Rattle.q_fqcodel.proofs.CountLemmas.{packets_counted}
 use Rattle.q_fqcodel.proofs.PooledLemmas.{length-codels_in, cleared_retuned}
 use Rattle.q_fqcodel.proofs.ShedLemmas.{purged_next, purged_at, all_packets_more, packets_of_more, packets_of_part, all_packets-nil}
 use Rattle.q_fqcodel.proofs.flows.Flows.purge.Goals as goal
@@ -20,8 +20,7 @@ pub loop-flow-init : goal.loop-flow-init
 loop-flow-init g c = record {
   flows = refl;
   places = refl;
-  losses = sym (append-nil (g.S.Sink.losses c.args.sink.now)) ∙ ap (λ (l : List Stamped). g.S.Sink.losses c.args.sink.now ++ losses_of Purged l) (sym all_packets-nil);
-  room = omega (arith, packets_of-nil);
+  lost = subst (λ (l : List Stamped). AreLost Purged l (g.S.Sink.state c.args.sink.now) (g.S.Sink.state c.args.sink.now)) (sym all_packets-nil) (told_nothing (g.S.Sink.state c.args.sink.now));
   kept = g.met.S.Sink.keeps_same c.args.sink.now;
 }
 
@@ -37,7 +36,16 @@ empty-requires-clause-room g c =
     let n : ℕ = c.loop-flow.flow in
     let within : n < length flows = omega (arith, c.loop-flow-test.true, c.len-flow-end.ensures.value) in
     let q : queue_of c.loop-flow.self.flows n ≡ queue_of flows n = ap (λ (fs : List Flow). queue_of fs n) c.loop-flow.invariant.flows ∙ purged_at cleared n flows within in
-    omega (arith, ap count q, packets_of_more n flows within, packets_of_part (suc n) flows, c.loop-flow.invariant.room, c.requires)
+    let before : List Stamped = all_packets (take n flows) in
+    omega (
+      arith,
+      ap count q,
+      packets_of_more n flows within,
+      packets_of_part (suc n) flows,
+      packets_counted (take n flows),
+      room_lost Purged before (g.S.Sink.state c.args.sink.now) (g.S.Sink.state c.loop-flow.sink) c.loop-flow.invariant.lost,
+      c.requires,
+    )
 
 pub loop-flow-preserved : goal.loop-flow-preserved
 loop-flow-preserved g c =
@@ -45,8 +53,10 @@ loop-flow-preserved g c =
     let n : ℕ = c.loop-flow.flow in
     let within : n < length flows = omega (arith, c.loop-flow-test.true, c.len-flow-end.ensures.value) in
     let q = next g c in
-    let old : List Loss = g.S.Sink.losses c.args.sink.now in
     let before : List Stamped = all_packets (take n flows) in
+    let old : SinkState = g.S.Sink.state c.args.sink.now in
+    let now : SinkState = g.S.Sink.state c.loop-flow.sink in
+    let new : SinkState = g.S.Sink.state c.empty.new.sink in
     record {
       flows =
           c.empty.ensures.flows
@@ -54,16 +64,8 @@ loop-flow-preserved g c =
           ∙ purged_next cleared n flows within
           ∙ ap (λ (k : ℕ). map cleared (take k flows) ++ drop k flows) (sym (add-one n));
       places = c.empty.ensures.places ∙ c.loop-flow.invariant.places;
-      losses =
-          c.empty.ensures.lost
-          ∙ ap₂ (λ (l : List Loss) (r : List Stamped). l ++ losses_of Purged r) c.loop-flow.invariant.losses q
-          ∙ append_assoc old (losses_of Purged before) (losses_of Purged (queue_of flows n))
-          ∙ ap (λ (l : List Loss). old ++ l) (sym (map-append (λ (s : Stamped). record { packet = s.packet; cause = Purged }) before (queue_of flows n)))
-          ∙ ap (λ (l : List Stamped). old ++ losses_of Purged l) (all_packets_more n flows within ∙ ap (λ (k : ℕ). all_packets (take k flows)) (sym (add-one n)));
-      room =
-          let more : packets_of (take (n + 1) flows) ≡ packets_of (take n flows) + count (queue_of flows n) =
-          ap (λ (k : ℕ). packets_of (take k flows)) (add-one n) ∙ sym (packets_of_more n flows within) in
-          omega (arith, more, ap count q, c.empty.ensures.room, c.loop-flow.invariant.room);
+      lost = subst (λ (l : List Stamped). AreLost Purged l old new) (all_packets_more n flows within ∙ ap (λ (k : ℕ). all_packets (take k flows)) (sym (add-one n)))
+          (lost_both Purged before (queue_of flows n) old now new c.loop-flow.invariant.lost (subst (λ (l : List Stamped). AreLost Purged l now new) q c.empty.ensures.lost));
       kept = g.met.S.Sink.keeps_on c.args.sink.now c.loop-flow.sink c.empty.new.sink c.loop-flow.invariant.kept c.empty.ensures.kept;
     }
 
@@ -81,10 +83,7 @@ all_cleared g c =
 
 pub returns-clause-lost : goal.returns-clause-lost
 returns-clause-lost g c =
-    c.loop-flow.invariant.losses ∙ ap (λ (fs : List Flow). g.S.Sink.losses c.args.sink.now ++ losses_of Purged (all_packets fs)) (whole g (goal.at.returns-clause-lost g c).After-loop-flow)
-
-pub returns-clause-room : goal.returns-clause-room
-returns-clause-room g c = omega (arith, c.loop-flow.invariant.room, ap packets_of (whole g (goal.at.returns-clause-room g c).After-loop-flow))
+    subst (λ (fs : List Flow). AreLost Purged (all_packets fs) (g.S.Sink.state c.args.sink.now) (g.S.Sink.state c.loop-flow.sink)) (whole g (goal.at.returns-clause-lost g c).After-loop-flow) c.loop-flow.invariant.lost
 
 pub invariant_of-self : goal.invariant_of-self
 invariant_of-self g c =

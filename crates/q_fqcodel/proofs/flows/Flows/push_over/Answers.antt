@@ -1,10 +1,10 @@
-use Rattle.std.proofs.Common.{◌≡◌, ◌≢◌, ℕ, ◌+◌, ◌-◌, ◌<◌, ◌≤◌, ◌==◌, ◌&&◌, min, nat_le, Bool, true, false, length, ⊎_elim, List, [], ◌∷◌, ◌++◌, take, sym, ap, ap₂, ◌∙◌, arith, length-append}
+use Rattle.std.proofs.Common.{◌≡◌, ◌≢◌, ℕ, ◌+◌, ◌-◌, ◌<◌, ◌≤◌, ◌==◌, ◌&&◌, min, nat_le, Bool, true, false, length, ⊎_elim, List, [], ◌∷◌, take, sym, ap, ap₂, ◌∙◌, arith, subst, length-append}
 use Rattle.std.proofs.lemmas.Bool.{cases_eq, eq-eqb, ne_eqb, lt-leb, and_right}
 use Rattle.q_packet.specs.Totals.{count}
 use Rattle.q_packet.specs.Descriptor.{Descriptor}
 use Rattle.q_packet.specs.declared.stamped.Stamped.{Stamped}
 use Rattle.q_packet.specs.declared.cause.Cause.TheVariants.{FatFlow}
-use Rattle.q_codel.specs.Losses.{losses_of}
+use Rattle.q_codel.specs.Losses.{AreLost}
 use Rattle.q_fqcodel.specs.Cleared.{adjust}
 use Rattle.q_fqcodel.specs.FqState.{Flow, queue_of, packets_of}
 use Rattle.q_fqcodel.specs.Pool.{stamp}
@@ -76,10 +76,8 @@ returns-then-sheds_one-clause-lost g c =
     let d = (goal.at.returns-then-sheds_one-clause-lost g c).After-sheds_one in
     let e = (goal.at.returns-then-sheds_one-clause-lost g c).After-fattest_with-fat in
     let a : List Flow = adjust (joined (stamp c.args.packet.now c.args.now)) c.args.flow c.args.self.now.flows in
-    c.swap.ensures.lost ∙ ap₂ (λ (l m : ℕ). g.S.Sink.losses c.args.sink.now ++ losses_of FatFlow (take l (queue_of a m))) (sym (one_is g d c.if-sheds_one.true)) (fat_is g e)
-
-pub returns-then-sheds_one-clause-room : goal.returns-then-sheds_one-clause-room
-returns-then-sheds_one-clause-room g c = omega (arith, c.swap.ensures.room, one_is g (goal.at.returns-then-sheds_one-clause-room g c).After-sheds_one c.if-sheds_one.true)
+    subst (λ (q : List Stamped). AreLost FatFlow q (g.S.Sink.state c.args.sink.now) (g.S.Sink.state c.swap.new.sink))
+    (ap₂ (λ (l m : ℕ). take l (queue_of a m)) (sym (one_is g d c.if-sheds_one.true)) (fat_is g e)) c.swap.ensures.lost
 
 -- ---- another flow is the fat one
 
@@ -138,7 +136,4 @@ pub returns-clause-lost : goal.returns-clause-lost
 returns-clause-lost g c =
     let d = (goal.at.returns-clause-lost g c).After-min-lost in
     let a : List Flow = adjust (joined (stamp c.args.packet.now c.args.now)) c.args.flow c.args.self.now.flows in
-    c.exchange.ensures.lost ∙ ap₂ (λ (l m : ℕ). g.S.Sink.losses c.args.sink.now ++ losses_of FatFlow (take l (queue_of a m))) (lost_is g d) (own_fat g d)
-
-pub returns-clause-room : goal.returns-clause-room
-returns-clause-room g c = omega (arith, c.exchange.ensures.room, lost_is g (goal.at.returns-clause-room g c).After-min-lost)
+    subst (λ (q : List Stamped). AreLost FatFlow q (g.S.Sink.state c.args.sink.now) (g.S.Sink.state c.exchange.new.sink)) (ap₂ (λ (l m : ℕ). take l (queue_of a m)) (lost_is g d) (own_fat g d)) c.exchange.ensures.lost

@@ -11,9 +11,9 @@ use Rattle.q_fqcodel.proofs.PooledLemmas.{length-flows_from, flow_read, queue_th
 use Rattle.std.proofs.lemmas.List.{length-set}
 use Rattle.std.proofs.Common.{Option, Some, IfSome, IsSome, option_map, true}
 use Rattle.q_packet.specs.declared.cause.Cause.TheVariants.{CoDel}
-use Rattle.q_codel.specs.Losses.{losses_of}
+use Rattle.q_codel.specs.Losses.{AreLost}
 use Rattle.q_codel.specs.declared.taken.Taken.{Taken}
-use Rattle.q_fqcodel.proofs.SentLemmas.{count_dropped, rest_count, drops_told}
+use Rattle.q_fqcodel.proofs.SentLemmas.{rest_count, drops_told}
 use Rattle.q_fqcodel.specs.Take.{taken_as, packet_sent, packets_dropped, flow_after}
 use Rattle.q_fqcodel.proofs.flows.Flows.send_late_into.Goals as goal
 use Rattle.q_fqcodel.proofs.flows.Flows.send_late_into.Goals.{After-index_mut-codel, After-send_late_from-leaving}
@@ -144,18 +144,9 @@ returns-clause-flows g c =
 pub returns-clause-lost : goal.returns-clause-lost
 unfolding packets_dropped
 returns-clause-lost g c =
-    subst (λ (o : Option Flow). IfSome o (λ f. g.S.Sink.losses c.send_late_from-leaving.new.sink ≡ g.S.Sink.losses c.args.sink.now ++ losses_of CoDel (packets_dropped c.args.now f)))
+    subst (λ (o : Option Flow). IfSome o (λ f. AreLost CoDel (packets_dropped c.args.now f) (g.S.Sink.state c.args.sink.now) (g.S.Sink.state c.send_late_from-leaving.new.sink)))
     (sym (there g (goal.at.returns-clause-lost g c).After-index_mut-codel))
     c.send_late_from-leaving.ensures.lost
-
-pub returns-clause-room : goal.returns-clause-room
-unfolding packets_dropped
-returns-clause-room g c =
-    let q : List Stamped = get_or c.self.inside.pool.queues c.args.flow [] in
-    let n = count_dropped (joined c.self.inside.parameters c.index_mut-codel.result.now) c.args.now q (λ _. sends g (goal.at.returns-clause-room g c).After-send_late_from-leaving) in
-    subst (λ (o : Option Flow). IfSome o (λ f. g.S.Sink.room c.send_late_from-leaving.new.sink + count (packets_dropped c.args.now f) ≡ g.S.Sink.room c.args.sink.now))
-    (sym (there g (goal.at.returns-clause-room g c).After-index_mut-codel))
-    (ap (λ (m : ℕ). g.S.Sink.room c.send_late_from-leaving.new.sink + m) n ∙ c.send_late_from-leaving.ensures.room)
 
 pub renew-requires-clause-in_range : goal.renew-requires-clause-in_range
 renew-requires-clause-in_range g c =

@@ -1,10 +1,10 @@
-use Rattle.std.proofs.Common.{◌≡◌, ℕ, ◌%◌, ◌<◌, List, [], ◌∷◌, ◌++◌, length, get_or, set, take, drop, refl, sym, ap, ◌∙◌, arith}
+use Rattle.std.proofs.Common.{◌≡◌, ℕ, ◌%◌, ◌<◌, List, [], ◌∷◌, ◌++◌, length, get_or, set, take, drop, refl, sym, ap, ◌∙◌, arith, subst}
 use Rattle.std.proofs.lemmas.List.{length-set, get_or-set_other}
 use Rattle.q_packet.specs.Totals.{count}
 use Rattle.q_packet.specs.declared.stamped.Stamped.{Stamped}
 use Rattle.q_packet.specs.declared.cause.Cause.TheVariants.{FatFlow}
 use Rattle.q_codel.specs.Codel.{CodelState}
-use Rattle.q_codel.specs.Losses.{losses_of}
+use Rattle.q_codel.specs.Losses.{AreLost}
 use Rattle.q_fqcodel.specs.Cleared.{adjust}
 use Rattle.q_fqcodel.specs.FlowsState.{FlowsState}
 use Rattle.q_fqcodel.specs.FqState.{Flow, queue_of, packets_of}
@@ -117,9 +117,8 @@ returns-then-fat-flow-clause-flows g c = flows_are g (goal.at.returns-then-fat-f
 pub returns-then-fat-flow-clause-lost : goal.returns-then-fat-flow-clause-lost
 returns-then-fat-flow-clause-lost g c =
     let d = (goal.at.returns-then-fat-flow-clause-lost g c).After-replace-own in
-    c.replace-own.ensures.lost
-    ∙ ap (λ (q : List Stamped). g.S.Sink.losses c.args.sink.now ++ losses_of FatFlow q)
-    (sym (ap (take 1) (queue_is g d) ∙ first_kept c.self.inside.pool.queues c.args.fat c.args.flow (stamp c.args.packet.now c.args.now) (some g d) (within g d)))
+    subst (λ (q : List Stamped). AreLost FatFlow q (g.S.Sink.state c.args.sink.now) (g.S.Sink.state c.replace-own.new.sink))
+    (sym (ap (take 1) (queue_is g d) ∙ first_kept c.self.inside.pool.queues c.args.fat c.args.flow (stamp c.args.packet.now c.args.now) (some g d) (within g d))) c.replace-own.ensures.lost
 
 pub renew-requires-2-clause-in_range : goal.renew-requires-2-clause-in_range
 renew-requires-2-clause-in_range g c = in_winners g (goal.at.renew-requires-2-clause-in_range g c).After-replace-own
@@ -186,6 +185,5 @@ returns-clause-flows g c = flows_are g (goal.at.returns-clause-flows g c).After-
 pub returns-clause-lost : goal.returns-clause-lost
 returns-clause-lost g c =
     let d = (goal.at.returns-clause-lost g c).After-replace-own in
-    c.replace-own.ensures.lost
-    ∙ ap (λ (q : List Stamped). g.S.Sink.losses c.args.sink.now ++ losses_of FatFlow q)
-    (sym (ap (take 1) (queue_is g d) ∙ first_kept c.self.inside.pool.queues c.args.fat c.args.flow (stamp c.args.packet.now c.args.now) (some g d) (within g d)))
+    subst (λ (q : List Stamped). AreLost FatFlow q (g.S.Sink.state c.args.sink.now) (g.S.Sink.state c.replace-own.new.sink))
+    (sym (ap (take 1) (queue_is g d) ∙ first_kept c.self.inside.pool.queues c.args.fat c.args.flow (stamp c.args.packet.now c.args.now) (some g d) (within g d))) c.replace-own.ensures.lost

@@ -1,11 +1,11 @@
 use Rattle.std.proofs.Common.{◌≡◌, ℕ, ◌+◌, ◌%◌, ◌<◌, ◌≤◌, List, [], ◌++◌, length, take, refl, sym, ap, ap₂, ◌∙◌, arith, append-nil, subst}
-use Rattle.std.proofs.lemmas.List.{length-take}
 use Rattle.std.proofs.lemmas.Bool.{ltb-true, ltb-false}
 use Rattle.q_packet.specs.Totals.{count, size}
 use Rattle.q_packet.specs.Descriptor.{Descriptor}
 use Rattle.q_packet.specs.declared.stamped.Stamped.{Stamped}
 use Rattle.q_packet.specs.declared.cause.Cause.TheVariants.{FatFlow}
-use Rattle.q_codel.specs.Losses.{losses_of}
+use Rattle.q_codel.specs.Losses.{AreLost}
+use Rattle.q_codel.proofs.SinkLemmas.{told_nothing}
 use Rattle.q_fqcodel.specs.Cleared.{adjust}
 use Rattle.q_fqcodel.specs.FlowsState.{state_of}
 use Rattle.q_fqcodel.specs.FqState.{FqSettings, Flow, FqState, FqView, queue_of, packets_of, bytes_of}
@@ -15,7 +15,7 @@ use Rattle.q_fqcodel.specs.Put.{flow_of, joined, appended, fattest, shed_count, 
 use Rattle.q_fqcodel.specs.Ranges.{IsInRange}
 use Rattle.q_fqcodel.proofs.CountLemmas.{IsCountedPut, put_is_counted}
 use Rattle.q_fqcodel.proofs.KeptLemmas.{lawful_after_put}
-use Rattle.q_fqcodel.proofs.PutLemmas.{place_for, listed_not, packets_of-joined, appended_is, cut_none, cut_some, shed_none, shed_some, lost_none, lost_some, shed_within, shed_batch}
+use Rattle.q_fqcodel.proofs.PutLemmas.{place_for, listed_not, packets_of-joined, appended_is, cut_none, cut_some, shed_none, shed_some, lost_none, lost_some, shed_batch}
 use Rattle.q_fqcodel.proofs.fq_codel.FqCodel.put_counted.Goals as goal
 use Rattle.q_fqcodel.proofs.fq_codel.FqCodel.put_counted.Goals.{After-enlist, After-push, After-bytes-bytes_after}
 
@@ -144,10 +144,7 @@ returns-then-fits-clause-after g c = stays g c
 
 pub returns-then-fits-clause-lost : goal.returns-then-fits-clause-lost
 returns-then-fits-clause-lost g c =
-    sym (append-nil (g.S.Sink.losses c.args.sink.now)) ∙ ap (λ (l : List Stamped). g.S.Sink.losses c.args.sink.now ++ losses_of FatFlow l) (none_lost g c)
-
-pub returns-then-fits-clause-room : goal.returns-then-fits-clause-room
-returns-then-fits-clause-room g c = omega (arith, ap count (none_lost g c))
+    subst (λ (l : List Stamped). AreLost FatFlow l (g.S.Sink.state c.args.sink.now) (g.S.Sink.state c.args.sink.now)) (none_lost g c) (told_nothing (g.S.Sink.state c.args.sink.now))
 
 -- ---- past the limit
 
@@ -261,10 +258,4 @@ returns-clause-after g c = cut g c
 
 pub returns-clause-lost : goal.returns-clause-lost
 unfolding opening
-returns-clause-lost g c = c.push_over-itself.ensures.lost ∙ ap (λ (l : List Stamped). g.S.Sink.losses c.args.sink.now ++ losses_of FatFlow l) (shed_is g c)
-
-pub returns-clause-room : goal.returns-clause-room
-unfolding opening
-returns-clause-room g c =
-    let at = opening g c in
-    omega (arith, c.push_over-itself.ensures.room, ap count (shed_is g c), length-take (shed_count (joins g at) c.settings.inside.drop_batch) (queue_of (joins g at) (fattest (joins g at))), shed_within (joins g at) c.settings.inside.drop_batch)
+returns-clause-lost g c = subst (λ (l : List Stamped). AreLost FatFlow l (g.S.Sink.state c.args.sink.now) (g.S.Sink.state c.push_over-itself.new.sink)) (shed_is g c) c.push_over-itself.ensures.lost

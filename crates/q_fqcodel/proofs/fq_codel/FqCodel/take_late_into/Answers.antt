@@ -6,7 +6,7 @@ use Rattle.q_packet.specs.declared.stamped.Stamped.{Stamped}
 use Rattle.q_packet.specs.declared.cause.Cause.TheVariants.{CoDel}
 use Rattle.q_codel.specs.Codel as codel
 use Rattle.q_codel.specs.Codel.{is_late}
-use Rattle.q_codel.specs.Losses.{losses_of}
+use Rattle.q_codel.specs.Losses.{AreLost}
 use Rattle.q_codel.specs.declared.taken.Taken.{Taken}
 use Rattle.q_fqcodel.specs.Cleared.{adjust}
 use Rattle.q_fqcodel.specs.Entry.{Entry}
@@ -167,7 +167,4 @@ returns-clause-after g c = after g c ∙ ap (after_sending c.args.now) (opened_i
 
 pub returns-clause-lost : goal.returns-clause-lost
 returns-clause-lost g c =
-    dropped g c (λ l. g.S.Sink.losses c.send_late_into-sent.new.sink ≡ g.S.Sink.losses c.args.sink.now ++ losses_of CoDel l) c.send_late_into-sent.ensures.lost
-
-pub returns-clause-room : goal.returns-clause-room
-returns-clause-room g c = dropped g c (λ l. g.S.Sink.room c.send_late_into-sent.new.sink + count l ≡ g.S.Sink.room c.args.sink.now) c.send_late_into-sent.ensures.room
+    dropped g c (λ l. AreLost CoDel l (g.S.Sink.state c.args.sink.now) (g.S.Sink.state c.send_late_into-sent.new.sink)) c.send_late_into-sent.ensures.lost

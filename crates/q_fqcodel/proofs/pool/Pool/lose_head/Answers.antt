@@ -1,7 +1,7 @@
-use Rattle.std.proofs.Common.{[], get_or, Option, IsSome, sym, ◌∙◌, subst, append-nil}
+use Rattle.std.proofs.Common.{[], get_or, Option, IsSome, sym, ◌∙◌, subst}
 use Rattle.q_packet.specs.declared.stamped.Stamped.{Stamped}
+use Rattle.q_codel.proofs.SinkLemmas.{lost_head}
 use Rattle.q_fqcodel.proofs.SentLemmas.{slice_there}
-use Rattle.q_fqcodel.proofs.ShedLemmas.{lost_one}
 use Rattle.q_fqcodel.proofs.pool.Pool.lose_head.Goals as goal
 
 pub unwrap-gone-requires : goal.unwrap-gone-requires
@@ -10,5 +10,4 @@ unwrap-gone-requires g c =
 
 pub returns-clause-lost : goal.returns-clause-lost
 returns-clause-lost g c =
-    lost_one (g.S.Sink.losses c.args.sink.now) (g.S.Sink.losses c.args.sink.now) (g.S.Sink.losses c.lost.new.self) c.args.cause (get_or c.args.self.now.queues c.args.flow []) 0 c.unwrap-gone.result
-    (sym (append-nil (g.S.Sink.losses c.args.sink.now))) c.lost.ensures.losses (sym c.head_of.ensures ∙ c.unwrap-gone.ensures)
+    lost_head c.args.cause (get_or c.args.self.now.queues c.args.flow []) c.unwrap-gone.result (g.S.Sink.state c.args.sink.now) (g.S.Sink.state c.lost.new.self) (sym c.head_of.ensures ∙ c.unwrap-gone.ensures) c.lost.ensures.told

@@ -14,18 +14,15 @@ pub returns-in-Refused-clause-after : goal.returns-in-Refused-clause-after
 returns-in-Refused-clause-after g c = λ filters.
     let why = fifo-refused (takes c.args.fifo.now.limit c.args.fifo.now.packets c.args.packet.now.len) c.in-Refused.cause (sym c.in-Refused.is ∙
     c.choose.ensures) in
-    refused-in c.args.now c.args.packet.now c.in-Refused.cause filters (code.Fifo c.args.fifo.now) c.refuse.result (g.S.Sink.losses c.args.sink.now)
-    (g.S.Sink.losses c.refuse.new.sink) (g.S.Sink.room c.args.sink.now) (g.S.Sink.room c.refuse.new.sink)
+    refused-in c.args.now c.args.packet.now c.in-Refused.cause filters (code.Fifo c.args.fifo.now) c.refuse.result (g.S.Sink.state c.args.sink.now) (g.S.Sink.state c.refuse.new.sink)
     (subst (λ (x : Cause). is_refusal x ≡ true) (sym why.1) refl)
-    (ap (λ b. if b then ends else refused OverLimit) why.0 ∙ ap refused (sym why.1)) _ refl c.refuse.ensures.outcome c.refuse.ensures.told.lost
-    c.refuse.ensures.told.room_taken
+    (ap (λ b. if b then ends else refused OverLimit) why.0 ∙ ap refused (sym why.1)) _ refl c.refuse.ensures.outcome c.refuse.ensures.told
 
 pub returns-clause-after : goal.returns-clause-after
 returns-clause-after g c = λ filters.
     let fits = fifo-here (takes c.args.fifo.now.limit c.args.fifo.now.packets c.args.packet.now.len) (sym c.in-Here.is ∙ c.choose.ensures) in
-    queued-in-fifo c.args.now c.args.packet.now filters c.args.fifo.now c.put_from.new.self c.reserve.new.self.places _ (g.S.Sink.losses
-    c.args.sink.now) (g.S.Sink.losses c.args.sink.now) (g.S.Sink.room c.args.sink.now) (g.S.Sink.room c.args.sink.now)
+    queued-in-fifo c.args.now c.args.packet.now filters c.args.fifo.now c.put_from.new.self c.reserve.new.self.places _ (g.S.Sink.state c.args.sink.now)
     fits c.reserve.ensures.grows (omega (arith, c.in_ok-reserve.ensures.ok, ap (λ (f : FifoState). length f.packets) c.reserve.ensures.same))
     (λ there. ap (λ (f : FifoState). f.places) (c.reserve.ensures.room there))
     (fifo-form c.args.fifo.now c.reserve.new.self c.put_from.new.self c.reserve.new.self.places _ c.args.packet.now c.args.now
-    c.reserve.ensures.same refl c.put_from.ensures) c.kept.ensures refl refl
+    c.reserve.ensures.same refl c.put_from.ensures) c.kept.ensures

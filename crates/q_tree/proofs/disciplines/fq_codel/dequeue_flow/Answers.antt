@@ -1,11 +1,10 @@
 use Rattle.std.proofs.Common.{◌∙◌, ◌≡◌, ap, subst, sym}
 use Rattle.q_packet.specs.declared.cause.Cause.TheVariants.{CoDel}
-use Rattle.q_codel.specs.Losses.{losses_of}
+use Rattle.q_codel.specs.Losses.{losses_of, IsTold}
 use Rattle.q_fqcodel.specs.FqState.{FqState}
 use Rattle.q_fqcodel.specs.Take.{selected, sent_from, dropped_from}
 use Rattle.q_model.specs.Beneath as beneath
 use Rattle.q_model.specs.Beneath.{totals_in}
-use Rattle.q_tree.specs.AskSteps.{IsTold}
 use Rattle.q_tree.proofs.TakeCounts.{packet_of, marked_of, marked_is, flow-shown}
 use Rattle.q_tree.proofs.disciplines.fq_codel.dequeue_flow.Goals as goal
 
@@ -22,5 +21,5 @@ returns-in-Err-clause-shown g c =
 
 pub returns-in-Err-clause-told : goal.returns-in-Err-clause-told
 returns-in-Err-clause-told g c =
-    subst (λ (t : FqState). IsTold (losses_of CoDel (dropped_from c.args.now t)) (g.S.Sink.losses c.args.sink.now) (g.S.Sink.losses c.dequeue_late.new.sink) (g.S.Sink.room c.args.sink.now) (g.S.Sink.room c.dequeue_late.new.sink))
+    subst (λ (t : FqState). IsTold (losses_of CoDel (dropped_from c.args.now t)) (g.S.Sink.state c.args.sink.now) (g.S.Sink.state c.dequeue_late.new.sink))
     c.in-Err.ensures.selected c.dequeue_late.ensures.told

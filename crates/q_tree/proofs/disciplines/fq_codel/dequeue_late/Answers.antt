@@ -12,7 +12,6 @@ use Rattle.q_model.specs.Beneath.{totals_in}
 use Rattle.q_tree.specs.Arrivals.{minus}
 use Rattle.q_tree.specs.AskSteps.{signals_of}
 use Rattle.q_tree.specs.Shown.{Shown}
-use Rattle.q_tree.proofs.FlowCounts.{lost-told}
 use Rattle.q_tree.proofs.Rows.{same-totals}
 use Rattle.q_tree.proofs.GivenInto.{none-dropped, sent-some}
 use Rattle.q_tree.proofs.TakeCounts.{late-packets, late-bytes, packet_of, marked_of, marked_is}
@@ -69,10 +68,6 @@ returns-clause-packet g c = ap (λ (s : Shown). unwrap_or s.packet c.args.out.no
 pub returns-clause-signals : goal.returns-clause-signals
 returns-clause-signals g c = sym (ap signals_of c.sending.ensures)
 
-pub returns-clause-told : goal.returns-clause-told
-returns-clause-told g c =
-    lost-told CoDel (dropped_from c.args.now c.args.queue.now.state) (g.S.Sink.losses c.args.sink.now) (g.S.Sink.losses c.take_late_into-sent.new.sink) (g.S.Sink.room c.args.sink.now) (g.S.Sink.room c.take_late_into-sent.new.sink) c.take_late_into-sent.ensures.lost c.take_late_into-sent.ensures.room
-
 -- nothing was dropped
 pub returns-then-not-sent-clause-given : goal.returns-then-not-sent-clause-given
 returns-then-not-sent-clause-given g c =
@@ -96,7 +91,3 @@ returns-then-not-sent-clause-packet g c = ap (λ (s : Shown). unwrap_or s.packet
 
 pub returns-then-not-sent-clause-signals : goal.returns-then-not-sent-clause-signals
 returns-then-not-sent-clause-signals g c = c.show_marked.ensures.signals
-
-pub returns-then-not-sent-clause-told : goal.returns-then-not-sent-clause-told
-returns-then-not-sent-clause-told g c =
-    lost-told CoDel (dropped_from c.args.now c.args.queue.now.state) (g.S.Sink.losses c.args.sink.now) (g.S.Sink.losses c.take_late_into-sent.new.sink) (g.S.Sink.room c.args.sink.now) (g.S.Sink.room c.take_late_into-sent.new.sink) c.take_late_into-sent.ensures.lost c.take_late_into-sent.ensures.room

@@ -4,7 +4,7 @@ use Rattle.q_packet.specs.declared.stamped.Stamped.{Stamped}
 use Rattle.q_fqcodel.specs.Put.{lost_by_put}
 use Rattle.q_model.specs.Beneath as beneath
 use Rattle.q_model.specs.Beneath.{totals_in}
-use Rattle.q_tree.proofs.FlowCounts.{count-sum, lost-told, packets-bare, bytes-bare}
+use Rattle.q_tree.proofs.FlowCounts.{count-sum, packets-bare, bytes-bare}
 use Rattle.q_tree.proofs.disciplines.fq_codel.put_in_flow.Goals as goal
 
 pub returns-clause-put : goal.returns-clause-put
@@ -17,5 +17,5 @@ returns-clause-put g c =
       loss = search rules;
       refused = search rules;
       dropped = λ i. record { packets = packets i; bytes = bytes i };
-      told = lost-told FatFlow lost (g.S.Sink.losses c.args.sink.now) (g.S.Sink.losses c.put_counted-dropped.new.sink) (g.S.Sink.room c.args.sink.now) (g.S.Sink.room c.put_counted-dropped.new.sink) c.put_counted-dropped.ensures.lost c.put_counted-dropped.ensures.room;
+      told = c.put_counted-dropped.ensures.lost;
     }

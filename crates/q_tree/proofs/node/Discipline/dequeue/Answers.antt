@@ -52,7 +52,7 @@ pub returns-in-Prio-clause-told : goal.returns-in-Prio-clause-told
 returns-in-Prio-clause-told g c =
     λ handle filters.
     let kids = sym (c.deref_mut.ensures.value ∙ sym (ap children_seen c.in-Prio.is)) in
-    told-in c.args.now handle filters c.args.self.now (spec.Prio c.in-Prio.priomap) c.deref_mut.result.now (g.S.Sink.losses c.args.sink.now) (g.S.Sink.losses c.dequeue_bands.new.sink) (g.S.Sink.room c.args.sink.now) (g.S.Sink.room c.dequeue_bands.new.sink)
+    told-in c.args.now handle filters c.args.self.now (spec.Prio c.in-Prio.priomap) c.deref_mut.result.now (g.S.Sink.state c.args.sink.now) (g.S.Sink.state c.dequeue_bands.new.sink)
     (ap discipline_seen c.in-Prio.is) kids (c.dequeue_bands.ensures.told (own_of handle filters (spec.Prio c.in-Prio.priomap)))
 
 pub returns-in-Tbf-clause-after :
@@ -69,7 +69,7 @@ pub returns-in-Tbf-clause-told :
 returns-in-Tbf-clause-told g c = λ handle filters.
     let own = own_of handle filters (spec.Tbf c.in-Tbf.bucket c.in-Tbf.limit) in
     let kids = ap children_seen c.in-Tbf.is ∙ ap (λ x. x ∷ []) (sym c.deref_mut-in-Tbf.ensures.value) in
-    told-in c.args.now handle filters c.args.self.now (spec.Tbf c.in-Tbf.bucket c.in-Tbf.limit) (c.deref_mut-in-Tbf.result.now ∷ []) (g.S.Sink.losses c.args.sink.now) (g.S.Sink.losses c.dequeue_child.new.sink) (g.S.Sink.room c.args.sink.now) (g.S.Sink.room c.dequeue_child.new.sink)
+    told-in c.args.now handle filters c.args.self.now (spec.Tbf c.in-Tbf.bucket c.in-Tbf.limit) (c.deref_mut-in-Tbf.result.now ∷ []) (g.S.Sink.state c.args.sink.now) (g.S.Sink.state c.dequeue_child.new.sink)
     (ap discipline_seen c.in-Tbf.is) kids (c.dequeue_child.ensures.told own c.in-Tbf.limit)
 
 pub dequeue_class-requires : goal.dequeue_class-requires
@@ -91,7 +91,7 @@ pub returns-in-Drr-clause-told :
     goal.returns-in-Drr-clause-told
 returns-in-Drr-clause-told g c = λ handle filters.
     let kids = sym (c.deref_mut-in-Drr.ensures.value ∙ sym (ap children_seen c.in-Drr.is)) in
-    told-in c.args.now handle filters c.args.self.now (spec.Drr c.in-Drr.active) c.deref_mut-in-Drr.result.now (g.S.Sink.losses c.args.sink.now) (g.S.Sink.losses c.dequeue_class.new.sink) (g.S.Sink.room c.args.sink.now) (g.S.Sink.room c.dequeue_class.new.sink)
+    told-in c.args.now handle filters c.args.self.now (spec.Drr c.in-Drr.active) c.deref_mut-in-Drr.result.now (g.S.Sink.state c.args.sink.now) (g.S.Sink.state c.dequeue_class.new.sink)
     (ap discipline_seen c.in-Drr.is) kids (c.dequeue_class.ensures.told (own_of handle filters (spec.Drr c.in-Drr.active)))
 
 pub dequeue_flow-requires :
@@ -120,6 +120,6 @@ returns-in-FqCodel-clause-told g c = λ handle filters.
     let state = c.deref_mut-in-FqCodel.result.now.state in
     let own = own_of handle filters (spec.FqCodel state) in
     let is = ap discipline_seen c.in-FqCodel.is ∙ ap (λ (q : FqView). spec.FqCodel q.state) (sym c.deref_mut-in-FqCodel.ensures.value) in
-    told-in c.args.now handle filters c.args.self.now (spec.FqCodel state) [] (g.S.Sink.losses c.args.sink.now) (g.S.Sink.losses c.dequeue_flow.new.sink) (g.S.Sink.room c.args.sink.now) (g.S.Sink.room c.dequeue_flow.new.sink)
+    told-in c.args.now handle filters c.args.self.now (spec.FqCodel state) [] (g.S.Sink.state c.args.sink.now) (g.S.Sink.state c.dequeue_flow.new.sink)
     is (ap children_seen c.in-FqCodel.is)
-    (flow-told c.args.now state own [] (g.S.Sink.losses c.args.sink.now) (g.S.Sink.losses c.dequeue_flow.new.sink) (g.S.Sink.room c.args.sink.now) (g.S.Sink.room c.dequeue_flow.new.sink) e.told)
+    (flow-told c.args.now state own [] (g.S.Sink.state c.args.sink.now) (g.S.Sink.state c.dequeue_flow.new.sink) e.told)

@@ -8,12 +8,12 @@ use Rattle.q_model.specs.Beneath.{beneath, totals_in}
 use Rattle.q_model.specs.Node as spec
 use Rattle.q_model.specs.Node.{Node}
 use Rattle.q_packet.specs.Descriptor.{Descriptor}
-use Rattle.q_tree.specs.AskSteps.{IsTold}
+use Rattle.q_codel.specs.Losses.{IsTold}
+use Rattle.q_codel.proofs.SinkLemmas.{told_nothing}
 use Rattle.q_tree.specs.Kept.{Kept}
 use Rattle.q_tree.specs.Purging.{purged}
 use Rattle.q_tree.specs.DisciplineChanges.{rescheduled}
 use Rattle.q_tree.specs.Seen.{children_seen, discipline_seen, places_seen}
-use Rattle.q_tree.proofs.AskOnce.{told-nothing}
 use Rattle.q_tree.proofs.ClassLemmas.{class-is-there, found-class, past-class}
 use Rattle.q_tree.proofs.node.Discipline.remove_class.Goals as goal
 
@@ -26,7 +26,7 @@ returns-then-place-len-clause-told g c =
     let place = c.in-Some.ensures.value ∙ ap (λ n. place_of n c.in-Drr.active.classes) c.number.ensures.value in
     let none = past-class c.args.class (discipline_seen c.args.self.now) c.in-Drr.active (children_seen c.args.self.now) c.in-Drr.classes.items (ap discipline_seen c.in-Drr.is) (ap children_seen c.in-Drr.is) c.in-Some.place place
     (slice_get_past c.in-Drr.classes.items c.in-Some.place (omega (arith, c.len.ensures, c.in-Drr.classes.ok, c.if-place-len.true))) in
-    subst (λ o. IsTold (purged (gone o)) (g.S.Sink.losses c.args.sink.now) (g.S.Sink.losses c.args.sink.now) (g.S.Sink.room c.args.sink.now) (g.S.Sink.room c.args.sink.now)) (sym none) (told-nothing (g.S.Sink.losses c.args.sink.now) (g.S.Sink.room c.args.sink.now))
+    subst (λ o. IsTold (purged (gone o)) (g.S.Sink.state c.args.sink.now) (g.S.Sink.state c.args.sink.now)) (sym none) (told_nothing (g.S.Sink.state c.args.sink.now))
 
 pub remove-requires : goal.remove-requires
 remove-requires g c =
@@ -66,4 +66,4 @@ returns-clause-told g c =
     let place = c.in-Some.ensures.value ∙ ap (λ n. place_of n c.in-Drr.active.classes) c.number.ensures.value in
     let found = found-class c.args.class (discipline_seen c.args.self.now) c.in-Drr.active (children_seen c.args.self.now) c.in-Drr.classes.items (ap discipline_seen c.in-Drr.is) (ap children_seen c.in-Drr.is) c.in-Some.place c.remove-child.result place
     (omega (arith, c.len.ensures, c.in-Drr.classes.ok, c.if-place-len.false)) c.remove-child.ensures.value in
-    subst (λ o. IsTold (purged (gone o)) (g.S.Sink.losses c.args.sink.now) (g.S.Sink.losses c.purge.new.sink) (g.S.Sink.room c.args.sink.now) (g.S.Sink.room c.purge.new.sink)) (sym found) c.purge.ensures.told
+    subst (λ o. IsTold (purged (gone o)) (g.S.Sink.state c.args.sink.now) (g.S.Sink.state c.purge.new.sink)) (sym found) c.purge.ensures.told

@@ -1,6 +1,6 @@
 use Rattle.std.proofs.Common.{◌∙◌, Ok, sym, ap, subst, arith}
+use Rattle.q_codel.specs.Losses.{IsTold}
 use Rattle.q_model.specs.Beneath.{totals_in}
-use Rattle.q_tree.specs.AskSteps.{IsTold}
 use Rattle.q_tree.specs.Editing.{CanDrop, with_dropped}
 use Rattle.q_tree.specs.Purging.{purged}
 use Rattle.q_tree.specs.DisciplineChanges.{lost_with}
@@ -16,7 +16,7 @@ change-requires-clause-few g c =
 
 pub change-requires-clause-sink : goal.change-requires-clause-sink
 change-requires-clause-sink g c =
-    goes-room c.in-DisciplineChange.change c.args.edit c.in-DisciplineChange.is c.self-in-DisciplineChange.inside c.args.self.now c.self-in-DisciplineChange.view_is c.self-in-DisciplineChange.invariant c.requires.ready (g.S.Sink.room c.args.sink.now) c.requires.sink
+    goes-room c.in-DisciplineChange.change c.args.edit c.in-DisciplineChange.is c.self-in-DisciplineChange.inside c.args.self.now c.self-in-DisciplineChange.view_is c.self-in-DisciplineChange.invariant c.requires.ready (g.S.Sink.state c.args.sink.now).room c.requires.sink
 
 pub book_dropped-requires-clause-room : goal.book_dropped-requires-clause-room
 book_dropped-requires-clause-room g c =
@@ -47,6 +47,6 @@ returns-in-DisciplineChange-clause-totals g c =
 
 pub returns-in-DisciplineChange-clause-told : goal.returns-in-DisciplineChange-clause-told
 returns-in-DisciplineChange-clause-told g c =
-    subst (λ ps. IsTold (purged ps) (g.S.Sink.losses c.args.sink.now) (g.S.Sink.losses c.change.new.sink) (g.S.Sink.room c.args.sink.now) (g.S.Sink.room c.change.new.sink))
+    subst (λ ps. IsTold (purged ps) (g.S.Sink.state c.args.sink.now) (g.S.Sink.state c.change.new.sink))
     (goes-is c.in-DisciplineChange.change c.args.edit c.in-DisciplineChange.is c.self-in-DisciplineChange.inside c.args.self.now c.self-in-DisciplineChange.view_is c.self-in-DisciplineChange.invariant c.requires.ready)
     c.in_ok-lost-in-DisciplineChange.ensures.told

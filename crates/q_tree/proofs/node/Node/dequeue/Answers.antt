@@ -33,7 +33,7 @@ returns-in-Some-clause-dequeued g c =
 pub dequeue-shown-requires : goal.dequeue-shown-requires
 dequeue-shown-requires g c = record {
   ready = can-in c.args.now c.self.inside c.args.self.now c.self.invariant c.self.view_is c.requires.ready (omega (arith, c.self.ranges, c.fit.ensures.packets, c.fit.ensures.bytes)) (omega (arith, c.self.ranges, c.fit.ensures.packets, c.fit.ensures.bytes));
-  sink = enough c.args.now c.self.inside c.args.self.now c.self.invariant c.self.view_is c.requires.ready (g.S.Sink.room c.args.sink.now) c.requires.sink;
+  sink = enough c.args.now c.self.inside c.args.self.now c.self.invariant c.self.view_is c.requires.ready (g.S.Sink.state c.args.sink.now).room c.requires.sink;
   clean = c.requires.clean;
 }
 
@@ -71,7 +71,7 @@ returns-then-not-has_packet-clause-dequeued g c =
 pub returns-then-not-has_packet-clause-told : goal.returns-then-not-has_packet-clause-told
 returns-then-not-has_packet-clause-told g c =
     let none : packet_held c.self.inside.held ≡ None = sym c.packet.ensures ∙ c.in_default.is in
-    told-here c.args.now c.self.inside c.args.self.now c.self.invariant c.self.view_is c.requires.ready none (g.S.Sink.losses c.args.sink.now) (g.S.Sink.losses c.dequeue-shown.new.sink) (g.S.Sink.room c.args.sink.now) (g.S.Sink.room c.dequeue-shown.new.sink)
+    told-here c.args.now c.self.inside c.args.self.now c.self.invariant c.self.view_is c.requires.ready none (g.S.Sink.state c.args.sink.now) (g.S.Sink.state c.dequeue-shown.new.sink)
     (c.dequeue-shown.ensures.told c.self.inside.handle c.self.inside.filters)
 
 pub returns-clause-dequeued : goal.returns-clause-dequeued
@@ -92,7 +92,7 @@ returns-clause-dequeued g c =
 pub returns-clause-told : goal.returns-clause-told
 returns-clause-told g c =
     let none : packet_held c.self.inside.held ≡ None = sym c.packet.ensures ∙ c.in_default.is in
-    told-here c.args.now c.self.inside c.args.self.now c.self.invariant c.self.view_is c.requires.ready none (g.S.Sink.losses c.args.sink.now) (g.S.Sink.losses c.dequeue-shown.new.sink) (g.S.Sink.room c.args.sink.now) (g.S.Sink.room c.dequeue-shown.new.sink)
+    told-here c.args.now c.self.inside c.args.self.now c.self.invariant c.self.view_is c.requires.ready none (g.S.Sink.state c.args.sink.now) (g.S.Sink.state c.dequeue-shown.new.sink)
     (c.dequeue-shown.ensures.told c.self.inside.handle c.self.inside.filters)
 
 pub book_sent-requires-2-clause-balanced : goal.book_sent-requires-2-clause-balanced

@@ -92,8 +92,8 @@ returns-clause-told g c =
     let low : c.args.now ≤ 2 ^ 62 = omega (arith, c.ns.ensures.in_range, c.ns.ensures.value) in
     let byte : 1 ≤ c.args.packet.now.len = omega (arith, c.packet.invariant.len, ap (λ (p : Descriptor). p.len) c.packet.view_is) in
     let room : CanCount c.self.inside.top.arrived c.args.packet.now = subst (λ (d : DeviceState Kept). CanCount d.tree.top.counts.arrived c.args.packet.now) (sym c.self.view_is) c.requires.counted in
-    subst (λ (d : DeviceState Kept). IsToldOf (noted_by_put c.args.now c.args.packet.now d.tree) (g.S.Sink.losses c.args.sink.now) (g.S.Sink.losses c.enqueue_below.new.sink) (g.S.Sink.room c.args.sink.now) (g.S.Sink.room c.enqueue_below.new.sink)) c.self.view_is
-    (told-tree c.self.inside c.self.invariant c.args.now c.args.packet.now later low byte room (g.S.Sink.losses c.args.sink.now) (g.S.Sink.losses c.enqueue_below.new.sink) (g.S.Sink.room c.args.sink.now) (g.S.Sink.room c.enqueue_below.new.sink) c.in_ok-outcome.ensures.told)
+    subst (λ (d : DeviceState Kept). IsToldOf (noted_by_put c.args.now c.args.packet.now d.tree) (g.S.Sink.state c.args.sink.now) (g.S.Sink.state c.enqueue_below.new.sink)) c.self.view_is
+    (told-tree c.self.inside c.self.invariant c.args.now c.args.packet.now later low byte room (g.S.Sink.state c.args.sink.now) (g.S.Sink.state c.enqueue_below.new.sink) c.in_ok-outcome.ensures.told)
 
 pub returns-clause-places : goal.returns-clause-places
 returns-clause-places g c =

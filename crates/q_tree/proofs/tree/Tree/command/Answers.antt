@@ -1,9 +1,7 @@
-use Rattle.std.proofs.Common.{◌≡◌, arith}
+use Rattle.std.proofs.Common.{arith}
 use Rattle.q_tree.specs.Commands.{plan_of}
 use Rattle.q_tree.specs.Commanding.{WantsMemory}
-use Rattle.q_tree.proofs.EditLemmas.{on-ok}
-use Rattle.q_tree.proofs.PurgeLemmas.{room-taken}
-use Rattle.q_tree.proofs.Plans.{tree-answered, tree-lost, tree-planned, tree-room, tree-room-for}
+use Rattle.q_tree.proofs.Plans.{tree-answered, tree-planned, tree-room-for, tree-told}
 use Rattle.q_tree.proofs.tree.Tree.command.Goals as goal
 
 pub edit-requires-clause-planned : goal.edit-requires-clause-planned
@@ -36,14 +34,5 @@ returns-clause-lost g c =
     let command = c.args.command in
     let memory = WantsMemory command (plan_of command c.args.now d) in
     let is_plan = c.plan.ensures.plan in
-    tree-lost memory command d c.args.now c.plan.result is_plan c.in_ok-planned.planned c.in_ok-planned.was
-    (g.S.Sink.losses c.args.sink.now) (g.S.Sink.losses c.edit.new.sink) (g.S.Sink.room c.edit.new.sink ≡ g.S.Sink.room c.args.sink.now) c.edit.result (on-ok c.edit.result (λ h. h.lost) c.edit.ensures.told) c.edit.ensures.not_lost
-
-pub returns-clause-room : goal.returns-clause-room
-returns-clause-room g c =
-    let d = c.args.self.now in
-    let command = c.args.command in
-    let memory = WantsMemory command (plan_of command c.args.now d) in
-    let is_plan = c.plan.ensures.plan in
-    tree-room memory command d c.args.now c.plan.result is_plan c.in_ok-planned.planned c.in_ok-planned.was
-    (g.S.Sink.room c.args.sink.now) (g.S.Sink.room c.edit.new.sink) (g.S.Sink.losses c.edit.new.sink ≡ g.S.Sink.losses c.args.sink.now) c.edit.result (on-ok c.edit.result (λ h. room-taken _ (g.S.Sink.losses c.args.sink.now) (g.S.Sink.losses c.edit.new.sink) (g.S.Sink.room c.args.sink.now) (g.S.Sink.room c.edit.new.sink) h) c.edit.ensures.told) c.edit.ensures.not_lost
+    tree-told memory command d c.args.now c.plan.result is_plan c.in_ok-planned.planned c.in_ok-planned.was
+    (g.S.Sink.state c.args.sink.now) (g.S.Sink.state c.edit.new.sink) c.edit.result c.edit.ensures.told c.edit.ensures.not_lost
