@@ -1,5 +1,5 @@
 -- What a sink is told, one loss after the other.
-use Rattle.std.proofs.Common.{◌≡◌, ℕ, zero, suc, List, [], ◌∷◌, ◌++◌, take, drop, Some, sym, ap, ◌∙◌, subst, arith, append_assoc, append-nil, length-append}
+use Rattle.std.proofs.Common.{◌≡◌, ℕ, zero, suc, ◌+◌, List, [], ◌∷◌, ◌++◌, take, drop, Some, sym, ap, ◌∙◌, subst, arith, append_assoc, append-nil, length-append}
 use Rattle.std.specs.Prelude.{slice_get}
 use Rattle.std.proofs.lemmas.List.{map-append, length-map}
 use Rattle.q_packet.specs.Totals.{count}
@@ -44,3 +44,8 @@ lost_next cause q i x s t u read before one =
 -- the head of a queue is lost
 pub lost_head : (cause : Cause) (q : List Stamped) (x : Stamped) (s t : SinkState) → slice_get q 0 ≡ Some x → AreLost cause (x ∷ []) s t → AreLost cause (take 1 q) s t
 lost_head cause q x s t read one = lost_next cause q 0 x s s t read (told_nothing s) one
+
+-- and then the rest of it
+pub lost_rest : (cause : Cause) (q : List Stamped) (x : Stamped) (s t u : SinkState) → slice_get q 0 ≡ Some x → AreLost cause (x ∷ []) s t → AreLost cause (drop 1 q) t u → AreLost cause q s u
+lost_rest cause [] x s t u read one rest = absurd cc
+lost_rest cause (y ∷ q) x s t u read one rest = let e : x ≡ y = cc in subst (λ (z : Stamped). AreLost cause (z ∷ q) s u) e (lost_both cause (x ∷ []) q s t u one rest)
