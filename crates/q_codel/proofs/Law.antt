@@ -1,5 +1,5 @@
 -- How the heads go one by one, against the definition of how many go at once.
-use Rattle.std.proofs.Common.{◌≡◌, ℕ, zero, suc, ◌+◌, ◌-◌, ◌^◌, ◌<◌, ◌≤◌, min, Bool, true, false, not, ◌&&◌, ◌||◌, nat_lt, nat_le, Some, List, [], ◌∷◌, length, drop, arith, refl, sym, ap, ◌∙◌, subst, below_more, take, drop-cons, length-drop}
+use Rattle.std.proofs.Common.{◌≡◌, ℕ, suc, ◌+◌, ◌-◌, ◌^◌, ◌<◌, ◌≤◌, min, Bool, true, false, not, ◌&&◌, ◌||◌, nat_lt, nat_le, Some, List, [], ◌∷◌, length, drop, arith, refl, sym, ap, ◌∙◌, subst, below_more, take, drop-cons, length-drop}
 use Rattle.std.specs.Prelude.{slice_get, ◌==◌}
 use Rattle.std.proofs.lemmas.Bool.{lt-ltb, le-ltb, le-leb, lt-leb, ltb-true, ne_eqb, and_parts, or_left, or_right, or_from, not_from_true, not_from_false, cond-true, cond-false}
 use Rattle.std.proofs.lemmas.Option.{slice_get-get_or}

@@ -1,4 +1,4 @@
-use Rattle.std.proofs.Common.{◌≡◌, ℕ, ◌+◌, ◌<◌, ◌==◌, not, false, true, pos, ◌-ℤ◌, Option, None, List, ◌∷◌, ◌++◌, length, set, drop, IfSome, IsSome, IsSomeAnd, Some, slice_get, option_map, option_and_then, refl, sym, ap, ◌∙◌, arith, subst}
+use Rattle.std.proofs.Common.{◌≡◌, ℕ, ◌<◌, ◌==◌, not, false, true, pos, ◌-ℤ◌, Option, None, List, ◌∷◌, ◌++◌, length, set, drop, IfSome, IsSome, IsSomeAnd, Some, slice_get, option_map, option_and_then, refl, sym, ap, ◌∙◌, arith, subst}
 use Rattle.std.proofs.lemmas.Bool.{eqb-false}
 use Rattle.std.specs.Option.{option_map_or}
 use Rattle.q_packet.specs.Totals.{count}
