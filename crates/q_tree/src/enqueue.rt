@@ -8,7 +8,7 @@
 //!
 //! A fifo that has a place is met without a call, at the root and wherever the walk comes to one, since most packets end there.
 ghost use Rattle.std.specs.Prelude.{◌≡◌, ◌≤◌, ◌+◌, IfOk, IsOk, List, None, OnErr, OnOk, length, true, ℕ};
-ghost use Rattle.q_codel.specs.declared.loss.Loss.{Loss};
+ghost use Rattle.q_codel.specs.Losses.{SinkState};
 ghost use Rattle.q_model.specs.Beneath as beneath;
 ghost use Rattle.q_model.specs.Beneath.{beneath};
 ghost use Rattle.q_model.specs.Node.{shape};
@@ -214,7 +214,7 @@ impl Node {
         requires ready { CanCome now packet.now self.old }
         requires fifo { CanKeep packet.now.len self.old }
         ensures after { HasCome now packet.now self.old self.new nothing_lost }
-        ensures told { (losses : List Loss) (room : ℕ) → IsToldOf (rises_along now packet.now self.old) losses losses room room }
+        ensures told { (sink : SinkState) → IsToldOf (rises_along now packet.now self.old) sink sink }
     {
         let Discipline::Fifo(fifo) = &mut self.discipline else {
             unreachable!()
@@ -230,7 +230,7 @@ impl Node {
         requires ready { CanCome now (descriptor packet.now) self.old }
         requires fifo { CanKeep packet.now.len self.old }
         ensures after { HasCome now (descriptor packet.now) self.old self.new nothing_lost }
-        ensures told { (losses : List Loss) (room : ℕ) → IsToldOf (rises_along now (descriptor packet.now) self.old) losses losses room room }
+        ensures told { (sink : SinkState) → IsToldOf (rises_along now (descriptor packet.now) self.old) sink sink }
     {
         let Discipline::Fifo(fifo) = &mut self.discipline else {
             unreachable!()
