@@ -12,7 +12,6 @@ use Rattle.q_model.specs.declared.filter.Filter.{Filter}
 use Rattle.q_model.specs.declared.row.Row.{Row}
 use Rattle.q_model.specs.Beneath.{beneath, beneath_own, packets_in}
 use Rattle.q_model.specs.Find.{node_at}
-use Rattle.q_model.specs.Node as spec
 use Rattle.q_model.specs.Node.{Node, Shape, shape, side_by_side}
 use Rattle.q_model.specs.Put.{put_along}
 use Rattle.q_model.specs.Route.{Route, route}

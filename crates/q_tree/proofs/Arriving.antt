@@ -1,9 +1,9 @@
 -- A packet that arrives at a node: what a discipline makes of it, and what the node then is.
-use Rattle.std.proofs.Common.{◌≡◌, ℕ, ◌≤◌, ◌<◌, ◌+◌, ◌-◌, ◌∙◌, Result, Ok, Err, List, [], ◌∷◌, ◌++◌, map, set, length, refl, sym, ap, subst, Option, Some, None, option_map, option_and_then, arith}
+use Rattle.std.proofs.Common.{◌≡◌, ℕ, ◌≤◌, ◌<◌, ◌-◌, ◌∙◌, Result, Ok, Err, List, [], ◌∷◌, ◌++◌, map, set, length, refl, sym, ap, subst, Option, Some, None, option_map, option_and_then, arith}
 use Rattle.std.specs.Prelude.{Bool, true, false, IfOk, IfSome, OnErr, OnOk, if◌then◌else◌, slice_get, slice_index, slice_index_or, nat_lt}
 use Rattle.std.specs.Option.{option_map_or}
 use Rattle.std.proofs.lemmas.Bool.{ltb-false, ltb-true}
-use Rattle.std.proofs.lemmas.List.{append-nil, set-set}
+use Rattle.std.proofs.lemmas.List.{set-set}
 use Rattle.std.proofs.lemmas.Option.{slice_get-map, slice_get_read}
 use Rattle.std.specs.declared.alloc.AllocError.{AllocError}
 use Rattle.q_packet.specs.Cause.{is_refusal}

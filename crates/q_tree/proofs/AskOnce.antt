@@ -1,7 +1,6 @@
 -- A child that is asked after others: it can be asked, the sink has room for what it loses, and the counts fit.
-use Rattle.std.proofs.Common.{◌≡◌, ℕ, ◌+◌, ◌≤◌, ◌<◌, ◌^◌, ◌∙◌, List, [], ◌∷◌, ◌++◌, append_assoc, length, sym, ap, Some, arith, subst}
+use Rattle.std.proofs.Common.{◌≡◌, ℕ, ◌+◌, ◌≤◌, ◌<◌, ◌^◌, ◌∙◌, List, [], ◌∷◌, ◌++◌, length, sym, ap, Some, arith, subst}
 use Rattle.std.specs.Prelude.{slice_get}
-use Rattle.std.proofs.lemmas.List.{append-nil, length-append}
 use Rattle.std.proofs.lemmas.List.Elements.{filter_map-append}
 use Rattle.q_codel.specs.Losses.{IsTold, SinkState}
 use Rattle.q_codel.proofs.SinkLemmas.{told_both}

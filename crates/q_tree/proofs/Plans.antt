@@ -1,5 +1,5 @@
 -- What the model plans of a command that names a qdisc by its handle, and that an edit of the code is this plan.
-use Rattle.std.proofs.Common.{◌≡◌, ℕ, ◌≤◌, ◌+◌, ◌∙◌, List, [], ◌∷◌, ◌++◌, append-nil, length, map, refl, sym, ap, subst, Option, Some, None, option_map, option_and_then, Result, Ok, Err, arith}
+use Rattle.std.proofs.Common.{◌≡◌, ℕ, ◌≤◌, ◌∙◌, List, [], ◌∷◌, length, map, refl, sym, ap, subst, Option, Some, None, option_map, option_and_then, Result, Ok, Err, arith}
 use Rattle.std.specs.Prelude.{IfErr, OnErr, OnOk, Bool, is_none, is_some, not, slice_get, true, false, ◌||◌}
 use Rattle.std.specs.List.{list_any}
 use Rattle.std.specs.Option.{option_map_or}

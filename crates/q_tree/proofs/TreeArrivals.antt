@@ -1,5 +1,5 @@
 -- A packet that arrives at a tree of the code in one walk: the tree is then what the rules make of it, but for places.
-use Rattle.std.proofs.Common.{◌≡◌, ℕ, ◌<◌, ◌≤◌, ◌^◌, ◌+◌, ◌∙◌, Result, Ok, Err, List, [], ◌∷◌, ◌++◌, refl, sym, ap, subst, Option, Some, None, inl, inr, arith}
+use Rattle.std.proofs.Common.{◌≡◌, ℕ, ◌<◌, ◌≤◌, ◌^◌, ◌∙◌, Result, Ok, Err, List, [], ◌∷◌, refl, sym, ap, subst, Option, Some, None, inl, inr, arith}
 use Rattle.std.specs.declared.alloc.AllocError.{AllocError}
 use Rattle.std.specs.Prelude.{Bool, true, false, nat_lt, IfOk, IfSome, OnOk, if◌then◌else◌}
 use Rattle.std.proofs.lemmas.Bool.{ltb-true}

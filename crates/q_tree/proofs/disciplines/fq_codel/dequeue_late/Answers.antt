@@ -3,7 +3,6 @@ use Rattle.std.specs.Prelude.{unwrap_or}
 use Rattle.std.proofs.lemmas.Bool.{not-true}
 use Rattle.std.proofs.lemmas.List.Sums.{sum_by-cons}
 use Rattle.q_packet.specs.Descriptor.{Descriptor}
-use Rattle.q_packet.specs.declared.cause.Cause.TheVariants.{CoDel}
 use Rattle.q_fqcodel.specs.FqState.{FqState, packets_of, bytes_of}
 use Rattle.q_fqcodel.specs.Take.{sent_from, dropped_from}
 use Rattle.q_model.specs.declared.totals.Totals.{Totals}

@@ -1,5 +1,4 @@
 use Rattle.std.proofs.Common.{◌≡◌, List, arith, rules}
-use Rattle.q_packet.specs.declared.cause.Cause.TheVariants.{FatFlow}
 use Rattle.q_packet.specs.declared.stamped.Stamped.{Stamped}
 use Rattle.q_fqcodel.specs.Put.{lost_by_put}
 use Rattle.q_model.specs.Beneath as beneath
