@@ -20,7 +20,7 @@ use crate::booking::book_shown;
 use crate::disciplines::drr::peek_classes;
 use crate::disciplines::fifo::{first_arrival, first_packet};
 use crate::disciplines::fq_codel::peek_flow;
-use crate::disciplines::prio::{first_at_hand, first_since, peek_bands};
+use crate::disciplines::prio::{first_at_hand, first_since, peek_bands, peek_bands_again};
 use crate::disciplines::tbf::peek_child;
 use crate::held::Held;
 use crate::node::{Discipline, Node};
@@ -140,6 +140,25 @@ impl Node {
         let mut asked = NO_SIGNALS;
         let next = self.peek(now, &mut asked, sink);
         so_far.then(next, signals, &asked)
+    }
+
+    /// Returns what the node shows where it was asked already: the packet that it has at hand, whose length alone is read, with what was
+    /// dropped and marked so far.
+    #[cycle(peek_again)]
+    #[inline(never)]
+    pub(crate) fn peek_again(&self, so_far: Shown) -> Shown
+        ensures { result ≡ record so_far { packet = (pop self.now).shown } }
+    {
+        if self.held.is_some() {
+            return so_far.showing(&self.held.packet());
+        }
+        match &self.discipline {
+            Discipline::Fifo(fifo) => return so_far.showing(&first_packet(fifo)),
+            Discipline::Prio { bands, .. } => return peek_bands_again(bands, so_far),
+            Discipline::Tbf { .. } | Discipline::Drr { .. } | Discipline::FqCodel(_) => {
+                return so_far.showing(&None);
+            }
+        }
     }
 
     /// Returns the packet that the node has at hand, without asking it: the one that it holds, a fifo's head, or that of a prio's first

@@ -144,6 +144,22 @@ pub(crate) fn peek_bands<S: Sink>(
     shown
 }
 
+/// Returns what the bands show where they were asked already: the packet of the first that has one at hand.
+#[cycle(peek_again)]
+#[inline(always)]
+pub(crate) fn peek_bands_again(bands: &[Node], so_far: Shown) -> Shown
+    ensures { result ≡ record so_far { packet = first_shown (map pop bands.now) } }
+{
+    let mut shown = so_far;
+    for band in bands {
+        shown = band.peek_again(shown);
+        if shown.has_packet() {
+            return shown;
+        }
+    }
+    shown.showing(&None)
+}
+
 /// Dequeues the packet of the first band that has one at hand into `out`. Returns whether there was one.
 #[cycle(dequeue_at_hand)]
 #[inline(always)]
