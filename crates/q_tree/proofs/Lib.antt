@@ -19,6 +19,7 @@ pub mod ClassPlans
 pub mod CountedLosses
 pub mod CountingLemmas
 pub mod EditLemmas
+pub mod EmptyFifo
 pub mod FifoHead
 pub mod FilterIndexValues
 pub mod FindLemmas
@@ -31,6 +32,7 @@ pub mod Forms
 pub mod GraftLemmas
 pub mod HeldLemmas
 pub mod HereLemmas
+pub mod IdleBands
 pub mod IdleClasses
 pub mod IndexLemmas
 pub mod IndexOfFilterLemmas

@@ -9,7 +9,7 @@ use Rattle.q_tree.specs.Shown.{Shown}
 use Rattle.q_tree.specs.declared.signals.Signals.{Signals}
 use Rattle.q_tree.proofs.Rows.{same-totals}
 
-plus-nothing : (t : Totals) → plus t no_totals ≡ t
+pub plus-nothing : (t : Totals) → plus t no_totals ≡ t
 plus-nothing t = same-totals (plus t no_totals) t (omega arith) (omega arith)
 
 minus-nothing : (t : Totals) → minus t no_totals ≡ t

@@ -1,5 +1,5 @@
 -- The bands of a prio up to the first that shows a packet, which has it at hand then, and sends it.
-use Rattle.std.proofs.Common.{◌≡◌, ℕ, zero, suc, ◌∙◌, List, [], ◌∷◌, ◌++◌, map, take, drop, set, sym, ap, Option, Some, None, arith}
+use Rattle.std.proofs.Common.{◌≡◌, ℕ, zero, suc, ◌<◌, ◌∙◌, List, [], ◌∷◌, ◌++◌, length, map, take, drop, set, sym, ap, Option, Some, None, arith}
 use Rattle.std.specs.Prelude.{true, is_some, slice_get, if◌then◌else◌}
 use Rattle.std.proofs.lemmas.List.{length-set, set-set}
 use Rattle.std.proofs.lemmas.Option.{same_Some, slice_get_within}
@@ -10,7 +10,6 @@ use Rattle.q_model.specs.Pop.{pop}
 use Rattle.q_model.specs.Work.{Worked, booked, each_booked}
 use Rattle.q_tree.specs.AskSteps.{CanAsk, CanAskEach, AreAsked, IsAskedOnce, answers}
 use Rattle.q_tree.specs.Kept.{Kept, kept}
-use Rattle.q_tree.specs.Meeting.{IsBandMet}
 use Rattle.q_tree.specs.SendSteps.{AreSent, left_of}
 use Rattle.q_tree.specs.Shown.{Shown}
 use Rattle.q_tree.proofs.AskBands.{AreBandsAsked, first_showing, peeked_to, told_to, answer-at, band-before, band-place, band-shown}
@@ -81,10 +80,14 @@ module _ (now : ℕ) (ns ms : List (Node Kept)) (i : ℕ) (s : Shown) (each : Ca
           shown = all.shown;
         }
 
-  pub band-met : IsBandMet now i ns (set ms i m) result
-  band-met = record {
-    inside = omega (arith, slice_get_within ms i c still, length-set ms i m);
-    shown = λ n there. ap (λ (x : Node Kept). (pop x).shown) (here n there) ∙ hand-asked now c m can asked.peeked ∙ sym asked.packet;
-    sent = λ n d there gone same. let is = here n there in
-        band-sent d (gone ∙ ap (λ (x : Node Kept). booked kept x (pop x).after) is) (same ∙ ap (λ (x : Node Kept). x.memory.counts.arrived) is);
-  }
+  pub band-inside : i < length (set ms i m)
+  band-inside = omega (arith, slice_get_within ms i c still, length-set ms i m)
+
+  pub band-hands : (n : Node Kept) → slice_get (set ms i m) i ≡ Some n → (pop n).shown ≡ result.packet
+  band-hands n there = ap (λ (x : Node Kept). (pop x).shown) (here n there) ∙ hand-asked now c m can asked.peeked ∙ sym asked.packet
+
+  pub band-gives : (n d : Node Kept) → slice_get (set ms i m) i ≡ Some n → d ≡ booked kept n (pop n).after → d.memory.counts.arrived ≡ n.memory.counts.arrived
+      → (own : Own) → AreSent (ask_prio own (answers now ns)) ns (set (set ms i m) i d) result
+  band-gives n d there gone same =
+      let is = here n there in
+      band-sent d (gone ∙ ap (λ (x : Node Kept). booked kept x (pop x).after) is) (same ∙ ap (λ (x : Node Kept). x.memory.counts.arrived) is)

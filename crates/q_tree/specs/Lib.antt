@@ -11,6 +11,7 @@ pub mod Commanding
 pub mod Commands
 pub mod CountersSeen
 pub mod Editing
+pub mod EmptyFifo
 pub mod FilterShapes
 pub mod FiltersSeen
 pub mod Finding

@@ -1,10 +1,10 @@
--- A class of a drr that is met in turn, the child of a tbf whose bucket has paid, and the band of a prio that is met first, before they
--- hand out their packet: what comes of it once they do (tc-drr(8), tc-tbf(8), tc-prio(8)).
-use Rattle.std.specs.Prelude.{◌≡◌, ℕ, ◌<◌, List, [], ◌∷◌, IsSome, None, Some, length, set, slice_get, unwrap_or}
+-- A class of a drr that is met in turn, and the child of a tbf whose bucket has paid, before they hand out their packet: what comes of it
+-- once they do (tc-drr(8), tc-tbf(8)).
+use Rattle.std.specs.Prelude.{◌≡◌, ℕ, ◌<◌, List, [], ◌∷◌, IsSome, None, Some, length, slice_get, unwrap_or}
 use Rattle.q_drr.specs.Schedule.{Schedule}
 use Rattle.q_packet.specs.Descriptor.{Descriptor}
 use Rattle.q_bucket.specs.Level.{TokenBucket}
-use Rattle.q_model.specs.Ask.{ask_drr, ask_prio, ask_tbf}
+use Rattle.q_model.specs.Ask.{ask_drr, ask_tbf}
 use Rattle.q_model.specs.Node as spec
 use Rattle.q_model.specs.Node.{Own}
 use Rattle.q_model.specs.Pop.{pop}
@@ -12,7 +12,6 @@ use Rattle.q_model.specs.Since.{at_hand_since, since_of}
 use Rattle.q_tree.specs.AskSteps.{AreAsked, IsGivenBy, answers}
 use Rattle.q_model.specs.Work.{booked}
 use Rattle.q_tree.specs.Kept.{Kept, kept}
-use Rattle.q_tree.specs.SendSteps.{AreSent}
 use Rattle.q_tree.specs.Shown.{Shown}
 
 -- the class in this place can send the packet that is shown, and has it at hand
@@ -46,11 +45,3 @@ pub record IsAllowed (now : ℕ) (p : Descriptor) (b : TokenBucket) (n m : spec.
 pub record IsWaiting (now : ℕ) (own : Own) (limit : ℕ) (b : TokenBucket) (n m : spec.Node Kept) (s : Shown) : Type 0 where
   pub since : 0 ≡ (ask_tbf now own (answers now (n ∷ [])) b limit).peeked.own.since
   pub asked : AreAsked (ask_tbf now own (answers now (n ∷ [])) b limit) (n ∷ []) (m ∷ []) s
-
--- the band in this place is the first that shows a packet, and has it at hand
-pub record IsBandMet (now place : ℕ) (ns ms : List (spec.Node Kept)) (s : Shown) : Type 0 where
-  pub inside : place < length ms
-  pub shown : (c : spec.Node Kept) → slice_get ms place ≡ Some c → (pop c).shown ≡ s.packet
-  -- once it has handed that out
-  pub sent : (c d : spec.Node Kept) → slice_get ms place ≡ Some c → d ≡ booked kept c (pop c).after → d.memory.counts.arrived ≡ c.memory.counts.arrived
-      → (own : Own) → AreSent (ask_prio own (answers now ns)) ns (set ms place d) s

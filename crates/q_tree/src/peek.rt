@@ -4,7 +4,7 @@
 //! dequeue a packet in order to show one, since a bucket pays for it, a deficit is spent on it, or CoDel decides on it. They hold it until
 //! it is taken, and show it again whenever they are asked. What CoDel drops or marks on the way is booked at each node, with the packet or
 //! without one.
-ghost use Rattle.std.specs.Prelude.{◌≡◌, ◌≤◌, List, None, Option, length, ℕ};
+ghost use Rattle.std.specs.Prelude.{◌≡◌, ◌≤◌, List, None, Option, length, true, ℕ};
 ghost use Rattle.q_model.specs.Ask.{ask};
 ghost use Rattle.q_model.specs.Beneath.{beneath};
 ghost use Rattle.q_model.specs.Node.{shape};
@@ -12,6 +12,7 @@ ghost use Rattle.q_model.specs.Pop.{pop};
 ghost use Rattle.q_model.specs.Since.{at_hand_since};
 ghost use Rattle.q_model.specs.declared.filter.Filter.{Filter};
 ghost use Rattle.q_tree.specs.AskSteps.{CanAsk, CanAskIn, CanAskOnce, IsAskedIn, IsAskedOnce, IsPeeked, IsToldOf, answer_of, held_in, no_signals, packets_within, signals_of};
+ghost use Rattle.q_tree.specs.EmptyFifo.{IsEmptyFifo};
 ghost use Rattle.q_tree.specs.Holding.{held_with};
 ghost use Rattle.q_tree.specs.Seen.{discipline_seen};
 
@@ -19,7 +20,7 @@ use crate::booking::book_shown;
 use crate::disciplines::drr::peek_classes;
 use crate::disciplines::fifo::{first_arrival, first_packet};
 use crate::disciplines::fq_codel::peek_flow;
-use crate::disciplines::prio::{first_at_hand, first_since, peek_bands};
+use crate::disciplines::prio::{first_at_hand, first_since, peek_bands, peek_bands_again};
 use crate::disciplines::tbf::peek_child;
 use crate::held::Held;
 use crate::node::{Discipline, Node};
@@ -58,6 +59,21 @@ impl Node {
             return Shown::at_hand(&first_packet(fifo));
         }
         self.peek_further(now, signals, sink)
+    }
+
+    /// Returns whether the node is a fifo that has no packet, and holds none: asking it comes to nothing, and leaves it as it is.
+    #[inline(always)]
+    pub(crate) fn is_an_empty_fifo(&self) -> bool
+        ensures means { result ≡ true → IsEmptyFifo self.now }
+        ensures comes { IsEmptyFifo self.now → result ≡ true }
+    {
+        if !self.is_empty() {
+            return false;
+        }
+        let Discipline::Fifo(_) = &self.discipline else {
+            return false;
+        };
+        true
     }
 
     // Asks a node of any discipline, which holds no packet, and books the answer.
@@ -124,6 +140,25 @@ impl Node {
         let mut asked = NO_SIGNALS;
         let next = self.peek(now, &mut asked, sink);
         so_far.then(next, signals, &asked)
+    }
+
+    /// Returns what the node shows where it was asked already: the packet that it has at hand, whose length alone is read, with what was
+    /// dropped and marked so far.
+    #[cycle(peek_again)]
+    #[inline(never)]
+    pub(crate) fn peek_again(&self, so_far: Shown) -> Shown
+        ensures { result ≡ record so_far { packet = (pop self.now).shown } }
+    {
+        if self.held.is_some() {
+            return so_far.showing(&self.held.packet());
+        }
+        match &self.discipline {
+            Discipline::Fifo(fifo) => return so_far.showing(&first_packet(fifo)),
+            Discipline::Prio { bands, .. } => return peek_bands_again(bands, so_far),
+            Discipline::Tbf { .. } | Discipline::Drr { .. } | Discipline::FqCodel(_) => {
+                return so_far.showing(&None);
+            }
+        }
     }
 
     /// Returns the packet that the node has at hand, without asking it: the one that it holds, a fifo's head, or that of a prio's first

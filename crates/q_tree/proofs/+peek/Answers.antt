@@ -15,7 +15,6 @@ use Rattle.q_tree.specs.Seen.{children_seen, discipline_seen, places_seen}
 use Rattle.q_tree.specs.declared.node.Discipline.TheVariants as code
 use Rattle.q_tree.specs.Shown.{Shown}
 use Rattle.q_tree.proofs.AskBands.{band-at, band-once, band-shown, bands-go-on, bands-told, bands-start, bands-end, bands-rises}
-use Rattle.q_tree.proofs.SendBands.{band-met}
 use Rattle.q_tree.proofs.AskOnce.{fits-beside}
 use Rattle.q_tree.proofs.AtHandLemmas.{shown-len}
 use Rattle.q_tree.proofs.HereLemmas.{flow-packets}
@@ -428,8 +427,8 @@ pub node::Node::peek_further-returns-clause-told : goal.node::Node::peek_further
 node::Node::peek_further-returns-clause-told g t c =
     told-here c.args.now c.self.inside c.args.self.now c.self.invariant c.self.view_is c.requires.ready (ap (λ (n : Node Kept). n.own.held) c.self.view_is ∙ c.requires.none) (g.S.Sink.state c.args.sink.now) (g.S.Sink.state c.ask-shown.new.sink) (c.ask-shown.ensures.told c.self.inside.handle c.self.inside.filters)
 
-pub disciplines::prio::meet_band-loop-place-init : goal.disciplines::prio::meet_band-loop-place-init
-disciplines::prio::meet_band-loop-place-init g t c = (
+pub disciplines::prio::peek_bands-loop-place-init : goal.disciplines::prio::peek_bands-loop-place-init
+disciplines::prio::peek_bands-loop-place-init g t c = (
   bands-start c.args.now c.args.bands.now c.at_hand-shown.result (record { dropped = ap (λ (s : Shown). s.dropped) c.at_hand-shown.ensures; marked = ap (λ (s : Shown). s.marked) c.at_hand-shown.ensures })
       (ap (λ (s : Shown). s.packet) c.at_hand-shown.ensures),
   told_nothing (g.S.Sink.state c.args.sink.now),
@@ -437,54 +436,45 @@ disciplines::prio::meet_band-loop-place-init g t c = (
   c.requires.clean ∙ sym (ap signals_of c.at_hand-shown.ensures),
 )
 
-pub disciplines::prio::meet_band-peek_after-shown-requires : goal.disciplines::prio::meet_band-peek_after-shown-requires
-disciplines::prio::meet_band-peek_after-shown-requires g t c κs within =
+pub disciplines::prio::peek_bands-peek_after-shown-requires : goal.disciplines::prio::peek_bands-peek_after-shown-requires
+disciplines::prio::peek_bands-peek_after-shown-requires g t c κs within =
     let band = slice_index_or c.loop-place.bands c.loop-place.place c.index-bands-place.result in
     let at = band-at c.args.now c.args.bands.now c.loop-place.bands c.loop-place.place c.loop-place.shown c.loop-place.invariant.0 c.index-bands-place.result c.loop-place-test.true in
     let once = band-once c.args.now c.args.bands.now c.loop-place.bands c.loop-place.place c.loop-place.shown c.requires.ready c.loop-place.invariant.0 band at (g.S.Sink.state c.args.sink.now) (g.S.Sink.state c.loop-place.sink)
     c.loop-place.invariant.1 c.requires.sink in
     (omega (arith, child-size c.args.bands.now c.loop-place.place band at, c.decreases), (within, (once, c.loop-place.invariant.3)))
 
-pub disciplines::prio::meet_band-returns-then-has_packet-clause-after : goal.disciplines::prio::meet_band-returns-then-has_packet-clause-after
-disciplines::prio::meet_band-returns-then-has_packet-clause-after g t c = λ own.
+pub disciplines::prio::peek_bands-returns-then-has_packet-clause-after : goal.disciplines::prio::peek_bands-returns-then-has_packet-clause-after
+disciplines::prio::peek_bands-returns-then-has_packet-clause-after g t c = λ own.
     let band = slice_index_or c.loop-place.bands c.loop-place.place c.index-bands-place.result in
     let at = band-at c.args.now c.args.bands.now c.loop-place.bands c.loop-place.place c.loop-place.shown c.loop-place.invariant.0 c.index-bands-place.result c.loop-place-test.true in
     band-shown c.args.now c.args.bands.now c.loop-place.bands c.loop-place.place c.loop-place.shown c.requires.ready c.loop-place.invariant.0 band at c.peek_after-shown.new.self c.peek_after-shown.result c.peek_after-shown.ensures.asked (sym c.if-has_packet.ensures) own
 
-pub disciplines::prio::meet_band-returns-then-has_packet-clause-met : goal.disciplines::prio::meet_band-returns-then-has_packet-clause-met
-disciplines::prio::meet_band-returns-then-has_packet-clause-met g t c = λ p some.
-    let band = slice_index_or c.loop-place.bands c.loop-place.place c.index-bands-place.result in
-    let at = band-at c.args.now c.args.bands.now c.loop-place.bands c.loop-place.place c.loop-place.shown c.loop-place.invariant.0 c.index-bands-place.result c.loop-place-test.true in
-    band-met c.args.now c.args.bands.now c.loop-place.bands c.loop-place.place c.loop-place.shown c.requires.ready c.loop-place.invariant.0 band at c.peek_after-shown.new.self c.peek_after-shown.result c.peek_after-shown.ensures.asked p some
-
-pub disciplines::prio::meet_band-returns-then-has_packet-clause-told : goal.disciplines::prio::meet_band-returns-then-has_packet-clause-told
-disciplines::prio::meet_band-returns-then-has_packet-clause-told g t c = λ own.
+pub disciplines::prio::peek_bands-returns-then-has_packet-clause-told : goal.disciplines::prio::peek_bands-returns-then-has_packet-clause-told
+disciplines::prio::peek_bands-returns-then-has_packet-clause-told g t c = λ own.
     let band = slice_index_or c.loop-place.bands c.loop-place.place c.index-bands-place.result in
     let at = band-at c.args.now c.args.bands.now c.loop-place.bands c.loop-place.place c.loop-place.shown c.loop-place.invariant.0 c.index-bands-place.result c.loop-place-test.true in
     bands-told c.args.now c.args.bands.now c.loop-place.bands c.loop-place.place c.loop-place.shown c.requires.ready c.loop-place.invariant.0 band at c.peek_after-shown.new.self c.peek_after-shown.result c.peek_after-shown.ensures.asked
     (g.S.Sink.state c.args.sink.now) (g.S.Sink.state c.loop-place.sink) (g.S.Sink.state c.peek_after-shown.new.sink) c.loop-place.invariant.1 c.peek_after-shown.ensures.told (sym c.if-has_packet.ensures) own
 
-pub disciplines::prio::meet_band-returns-then-has_packet-clause-kept : goal.disciplines::prio::meet_band-returns-then-has_packet-clause-kept
-disciplines::prio::meet_band-returns-then-has_packet-clause-kept g t c =
+pub disciplines::prio::peek_bands-returns-then-has_packet-clause-kept : goal.disciplines::prio::peek_bands-returns-then-has_packet-clause-kept
+disciplines::prio::peek_bands-returns-then-has_packet-clause-kept g t c =
     g.met.S.Sink.keeps_on c.args.sink.now c.loop-place.sink c.peek_after-shown.new.sink c.loop-place.invariant.2 c.peek_after-shown.ensures.kept
 
-pub disciplines::prio::meet_band-loop-place-preserved : goal.disciplines::prio::meet_band-loop-place-preserved
-disciplines::prio::meet_band-loop-place-preserved g t c =
+pub disciplines::prio::peek_bands-loop-place-preserved : goal.disciplines::prio::peek_bands-loop-place-preserved
+disciplines::prio::peek_bands-loop-place-preserved g t c =
     let band = slice_index_or c.loop-place.bands c.loop-place.place c.index-bands-place.result in
     let at = band-at c.args.now c.args.bands.now c.loop-place.bands c.loop-place.place c.loop-place.shown c.loop-place.invariant.0 c.index-bands-place.result c.loop-place-test.true in
     let goes = bands-go-on c.args.now c.args.bands.now c.loop-place.bands c.loop-place.place c.loop-place.shown c.requires.ready c.loop-place.invariant.0 band at c.peek_after-shown.new.self c.peek_after-shown.result c.peek_after-shown.ensures.asked
     (g.S.Sink.state c.args.sink.now) (g.S.Sink.state c.loop-place.sink) (g.S.Sink.state c.peek_after-shown.new.sink) c.loop-place.invariant.1 c.peek_after-shown.ensures.told (sym c.if-has_packet.ensures) in
     (goes.0, goes.1, g.met.S.Sink.keeps_on c.args.sink.now c.loop-place.sink c.peek_after-shown.new.sink c.loop-place.invariant.2 c.peek_after-shown.ensures.kept, c.peek_after-shown.ensures.signals)
 
-pub disciplines::prio::meet_band-returns-clause-after : goal.disciplines::prio::meet_band-returns-clause-after
-disciplines::prio::meet_band-returns-clause-after g t c = λ own. bands-end c.args.now c.args.bands.now c.loop-place.bands c.loop-place.place c.loop-place.shown c.loop-place.invariant.0 c.loop-place-test.false c.loop-place.auto.place-end own
+pub disciplines::prio::peek_bands-returns-clause-after : goal.disciplines::prio::peek_bands-returns-clause-after
+disciplines::prio::peek_bands-returns-clause-after g t c = λ own. bands-end c.args.now c.args.bands.now c.loop-place.bands c.loop-place.place c.loop-place.shown c.loop-place.invariant.0 c.loop-place-test.false c.loop-place.auto.place-end own
 
-pub disciplines::prio::meet_band-returns-clause-met : goal.disciplines::prio::meet_band-returns-clause-met
-disciplines::prio::meet_band-returns-clause-met g t c = λ p some. absurd (none-some p (sym c.loop-place.invariant.0.nothing ∙ some))
-
-pub disciplines::prio::meet_band-returns-clause-told : goal.disciplines::prio::meet_band-returns-clause-told
-disciplines::prio::meet_band-returns-clause-told g t c = λ own.
+pub disciplines::prio::peek_bands-returns-clause-told : goal.disciplines::prio::peek_bands-returns-clause-told
+disciplines::prio::peek_bands-returns-clause-told g t c = λ own.
     subst (λ notes. IsToldOf notes (g.S.Sink.state c.args.sink.now) (g.S.Sink.state c.loop-place.sink)) (bands-rises c.args.now c.args.bands.now c.loop-place.bands c.loop-place.place c.loop-place.shown c.loop-place.invariant.0 c.loop-place-test.false c.loop-place.auto.place-end own) c.loop-place.invariant.1
 
-pub disciplines::prio::meet_band-returns-clause-kept : goal.disciplines::prio::meet_band-returns-clause-kept
-disciplines::prio::meet_band-returns-clause-kept g t c = c.loop-place.invariant.2
+pub disciplines::prio::peek_bands-returns-clause-kept : goal.disciplines::prio::peek_bands-returns-clause-kept
+disciplines::prio::peek_bands-returns-clause-kept g t c = c.loop-place.invariant.2

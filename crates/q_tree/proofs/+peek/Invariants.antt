@@ -20,8 +20,8 @@ invariant-disciplines::drr::meet_class-loop-place g l =
 abbrev pub decreases-disciplines::drr::meet_class-loop-place : goal.decreases-disciplines::drr::meet_class-loop-place
 decreases-disciplines::drr::meet_class-loop-place g l = sum_by (need (λ m. quantum_of m l.active.classes) (heads_of l.fn.now l.fn.active l.fn.classes)) l.active.active
 
-abbrev pub invariant-disciplines::prio::meet_band-loop-place : goal.invariant-disciplines::prio::meet_band-loop-place
-invariant-disciplines::prio::meet_band-loop-place g l =
+abbrev pub invariant-disciplines::prio::peek_bands-loop-place : goal.invariant-disciplines::prio::peek_bands-loop-place
+invariant-disciplines::prio::peek_bands-loop-place g l =
     AreBandsAsked l.fn.now l.fn.bands l.bands l.place l.shown
     × IsToldOf (told_to l.place (answers l.fn.now l.fn.bands)) (g.S.Sink.state l.fn.sink) (g.S.Sink.state l.sink)
     × g.S.Sink.keeps l.fn.sink l.sink
@@ -42,9 +42,6 @@ decreases-node::Node::peek_after_counts g l = 4 * node_size l.self.now + 2
 
 abbrev pub decreases-node::Node::peek_after : goal.decreases-node::Node::peek_after
 decreases-node::Node::peek_after g l = 4 * node_size l.self.now + 3
-
-abbrev pub decreases-disciplines::prio::meet_band : goal.decreases-disciplines::prio::meet_band
-decreases-disciplines::prio::meet_band g l = 4 * forest_size (side_by_side l.bands.now) + 1
 
 abbrev pub decreases-disciplines::prio::peek_bands : goal.decreases-disciplines::prio::peek_bands
 decreases-disciplines::prio::peek_bands g l = 4 * forest_size (side_by_side l.bands.now) + 2

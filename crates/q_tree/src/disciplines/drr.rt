@@ -235,15 +235,7 @@ fn peek_class<S: Sink>(
     if is_unasked {
         return class.peek_after(so_far, now, signals, sink);
     }
-    peek_again(class, so_far)
-}
-
-// Returns what a class shows that was asked already. It is a call by itself, since it copies the packet.
-#[inline(never)]
-fn peek_again(class: &Node, so_far: Shown) -> Shown
-    ensures { result ≡ record so_far { packet = (pop class.now).shown } }
-{
-    so_far.showing(&class.at_hand())
+    class.peek_again(so_far)
 }
 
 /// Returns what is known of the next packet of a drr, by the class in front: no other is asked before that one has shown a packet.

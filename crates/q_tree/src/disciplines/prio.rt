@@ -1,8 +1,7 @@
 //! prio: how one is made, chooses a band, dequeues, shows its packet, is ready, and changes (tc-prio(8)).
-ghost use Rattle.std.specs.Prelude.{◌≡◌, ◌<◌, ◌≤◌, ◌-◌, IfOk, Ok, OnErr, OnOk, Some, drop, is_some, length, map, nat_lt, replicate, slice_index, take, unwrap_or};
+ghost use Rattle.std.specs.Prelude.{◌≡◌, ◌<◌, ◌≤◌, ◌-◌, IfOk, Ok, OnErr, OnOk, drop, is_some, length, map, nat_lt, replicate, slice_index, take, unwrap_or};
 ghost use Rattle.std.specs.List.{list_any};
 ghost use Rattle.std.specs.Option.{option_map_or};
-ghost use Rattle.q_packet.specs.Descriptor.{Descriptor};
 ghost use Rattle.q_codel.specs.Losses.{IsTold};
 ghost use Rattle.q_invariants.proofs.SizedChanges.{change_sized};
 ghost use Rattle.q_model.specs.Ask.{ask_prio};
@@ -21,7 +20,6 @@ ghost use Rattle.q_tree.specs.Changing.{IsChange, MakesChildren, leaves_answer, 
 ghost use Rattle.q_tree.specs.Choosing.{child_of};
 ghost use Rattle.q_tree.specs.Making.{AreNew};
 ghost use Rattle.q_tree.specs.Planning.{device_of, root_of};
-ghost use Rattle.q_tree.specs.Meeting.{IsBandMet};
 ghost use Rattle.q_tree.specs.PopSteps.{ArePopped};
 ghost use Rattle.q_tree.specs.Purging.{purged};
 ghost use Rattle.q_tree.specs.PutSteps.{packets_beneath};
@@ -105,39 +103,15 @@ pub(crate) fn dequeue_bands<S: Sink>(
     ensures signals { signals.new ≡ signals_of result }
     ensures kept { S.keeps sink.old sink.new }
 {
-    let mut met = 0;
-    let shown = meet_band(bands, &mut met, now, signals, sink);
-    if shown.has_packet() {
-        bands[met].dequeue_at_hand(out);
-    }
-    shown
-}
-
-// Asks the bands in order, up to the first that shows a packet: its place is written to `met`, and it still has the packet at hand.
-// Returns what the prio shows.
-#[cycle(peek)]
-#[inline(always)]
-fn meet_band<S: Sink>(
-    bands: &mut [Node],
-    met: &mut usize,
-    now: Moment,
-    signals: &mut Signals,
-    sink: &mut S,
-) -> Shown
-    requires ready { CanAskEach now bands.old }
-    requires sink { length (packets_beneath bands.old) ≤ (S.state sink.old).room }
-    requires clean { signals.old ≡ no_signals }
-    ensures after { (own : Own) → AreAsked (ask_prio own (answers now bands.old)) bands.old bands.new result }
-    ensures met { (p : Descriptor) → result.packet ≡ Some p → IsBandMet now met.new bands.old bands.new result }
-    ensures told { (own : Own) → IsToldOf (ask_prio own (answers now bands.old)).rises (S.state sink.old) (S.state sink.new) }
-    ensures signals { signals.new ≡ signals_of result }
-    ensures kept { S.keeps sink.old sink.new }
-{
     let mut shown = Shown::at_hand(&None);
     for place in 0..bands.len() {
+        // Most bands are fifos that have nothing, and need not be asked.
+        if bands[place].is_an_empty_fifo() {
+            continue;
+        }
         shown = bands[place].peek_after(shown, now, signals, sink);
         if shown.has_packet() {
-            *met = place;
+            bands[place].dequeue_at_hand(out);
             return shown;
         }
     }
@@ -161,8 +135,30 @@ pub(crate) fn peek_bands<S: Sink>(
     ensures signals { signals.new ≡ signals_of result }
     ensures kept { S.keeps sink.old sink.new }
 {
-    let mut met = 0;
-    meet_band(bands, &mut met, now, signals, sink)
+    let mut shown = Shown::at_hand(&None);
+    for place in 0..bands.len() {
+        shown = bands[place].peek_after(shown, now, signals, sink);
+        if shown.has_packet() {
+            return shown;
+        }
+    }
+    shown
+}
+
+/// Returns what the bands show where they were asked already: the packet of the first that has one at hand.
+#[cycle(peek_again)]
+#[inline(always)]
+pub(crate) fn peek_bands_again(bands: &[Node], so_far: Shown) -> Shown
+    ensures { result ≡ record so_far { packet = first_shown (map pop bands.now) } }
+{
+    let mut shown = so_far;
+    for band in bands {
+        shown = band.peek_again(shown);
+        if shown.has_packet() {
+            return shown;
+        }
+    }
+    shown.showing(&None)
 }
 
 /// Dequeues the packet of the first band that has one at hand into `out`. Returns whether there was one.

@@ -1,0 +1,22 @@
+-- A band of a prio that is a fifo with nothing queued may be passed over: asking it comes to nothing, and leaves it as it is.
+use Rattle.std.proofs.Common.{◌≡◌, ℕ, ◌+◌, List, set, ap, subst, Some}
+use Rattle.std.specs.Prelude.{is_some, slice_get}
+use Rattle.q_codel.specs.declared.loss.Loss.{Loss}
+use Rattle.q_model.specs.Node.{Node}
+use Rattle.q_tree.specs.AskSteps.{CanAskEach, IsToldOf, answers}
+use Rattle.q_tree.specs.EmptyFifo.{IsEmptyFifo}
+use Rattle.q_tree.specs.Kept.{Kept}
+use Rattle.q_tree.specs.Shown.{Shown}
+use Rattle.q_tree.proofs.AskBands.{AreBandsAsked, band-before, bands-go-on, peeked_to, told_to}
+use Rattle.q_tree.proofs.Asking.{set-same, still-there}
+use Rattle.q_tree.proofs.EmptyFifo.{idle-asked, idle-tells}
+
+module _ (now : ℕ) (ns ms : List (Node Kept)) (i : ℕ) (s : Shown) (each : CanAskEach now ns) (h : AreBandsAsked now ns ms i s) (c : Node Kept) (at : slice_get ns i ≡ Some c) (empty : IsEmptyFifo c) where
+  still : set ms i c ≡ ms
+  still = set-same ms i c (still-there now ns ms (peeked_to i (answers now ns)) (told_to i (answers now ns)) h.asking i c at (band-before now ns ms i s each h c at))
+
+  pub band-idle : (losses losses_so_far : List Loss) (room room_so_far : ℕ) → IsToldOf (told_to i (answers now ns)) losses losses_so_far room room_so_far
+      → AreBandsAsked now ns ms (i + 1) s × IsToldOf (told_to (i + 1) (answers now ns)) losses losses_so_far room room_so_far
+  band-idle l l2 r r2 so_far =
+      let goes = bands-go-on now ns ms i s each h c at c s (idle-asked now c empty s h.nothing) l l2 l2 r r2 r2 so_far (idle-tells now c empty l2 r2) (ap is_some h.nothing) in
+      (subst (λ (xs : List (Node Kept)). AreBandsAsked now ns xs (i + 1) s) still goes.0, goes.1)
