@@ -1,7 +1,7 @@
 -- A band of a prio that is a fifo with nothing queued may be passed over: asking it comes to nothing, and leaves it as it is.
 use Rattle.std.proofs.Common.{◌≡◌, ℕ, ◌+◌, List, set, ap, subst, Some}
 use Rattle.std.specs.Prelude.{is_some, slice_get}
-use Rattle.q_codel.specs.declared.loss.Loss.{Loss}
+use Rattle.q_codel.specs.Losses.{SinkState}
 use Rattle.q_model.specs.Node.{Node}
 use Rattle.q_tree.specs.AskSteps.{CanAskEach, IsToldOf, answers}
 use Rattle.q_tree.specs.EmptyFifo.{IsEmptyFifo}
@@ -15,8 +15,8 @@ module _ (now : ℕ) (ns ms : List (Node Kept)) (i : ℕ) (s : Shown) (each : Ca
   still : set ms i c ≡ ms
   still = set-same ms i c (still-there now ns ms (peeked_to i (answers now ns)) (told_to i (answers now ns)) h.asking i c at (band-before now ns ms i s each h c at))
 
-  pub band-idle : (losses losses_so_far : List Loss) (room room_so_far : ℕ) → IsToldOf (told_to i (answers now ns)) losses losses_so_far room room_so_far
-      → AreBandsAsked now ns ms (i + 1) s × IsToldOf (told_to (i + 1) (answers now ns)) losses losses_so_far room room_so_far
-  band-idle l l2 r r2 so_far =
-      let goes = bands-go-on now ns ms i s each h c at c s (idle-asked now c empty s h.nothing) l l2 l2 r r2 r2 so_far (idle-tells now c empty l2 r2) (ap is_some h.nothing) in
+  pub band-idle : (sink sink_so_far : SinkState) → IsToldOf (told_to i (answers now ns)) sink sink_so_far
+      → AreBandsAsked now ns ms (i + 1) s × IsToldOf (told_to (i + 1) (answers now ns)) sink sink_so_far
+  band-idle sink sink_so_far so_far =
+      let goes = bands-go-on now ns ms i s each h c at c s (idle-asked now c empty s h.nothing) sink sink_so_far sink_so_far so_far (idle-tells now c empty sink_so_far) (ap is_some h.nothing) in
       (subst (λ (xs : List (Node Kept)). AreBandsAsked now ns xs (i + 1) s) still goes.0, goes.1)

@@ -192,11 +192,10 @@ impl Node {
         ensures kept { S.keeps sink.old sink.new }
     {
         self.row.fit();
-        if let Some(packet) = self.held.packet() {
-            self.held.clear();
-            book_sent(&mut self.row, &packet);
-            *out = packet;
-            return Shown::sending(&packet, &NO_SIGNALS);
+        if self.held.is_some() {
+            self.held.release(out);
+            book_sent(&mut self.row, out);
+            return Shown::sending(out, &NO_SIGNALS);
         }
         let shown = self.discipline.dequeue(now, out, signals, sink);
         book_shown(&mut self.row, &shown, signals);
@@ -218,10 +217,9 @@ impl Node {
         ensures arrived { self.new.memory.counts.arrived ≡ self.old.memory.counts.arrived }
     {
         self.row.fit();
-        if let Some(packet) = self.held.packet() {
-            self.held.clear();
-            book_sent(&mut self.row, &packet);
-            *out = packet;
+        if self.held.is_some() {
+            self.held.release(out);
+            book_sent(&mut self.row, out);
             return true;
         }
         if !self.discipline.dequeue_at_hand(out) {

@@ -1,8 +1,8 @@
-ghost use Rattle.std.specs.Prelude.{◌≡◌, IsSome, None, is_some, option_map, unwrap_or};
+ghost use Rattle.std.specs.Prelude.{◌≡◌, IsSome, None, Some, is_some, option_map, unwrap_or};
 ghost use Rattle.q_model.specs.Pop.{pop};
 ghost use Rattle.q_model.specs.Since.{at_hand_since};
 ghost use Rattle.q_model.specs.Work.{booked};
-ghost use Rattle.q_tree.specs.Holding.{held_with};
+ghost use Rattle.q_tree.specs.Holding.{held_with, packet_held};
 ghost use Rattle.q_tree.specs.Kept.{kept};
 ghost use Rattle.q_packet.specs.declared.stamped.Stamped.{Stamped};
 
@@ -87,11 +87,14 @@ impl Held {
         self.holds = true;
     }
 
-    /// The packet leaves.
+    /// The packet that is held leaves: it is copied whole into `out`.
     #[inline(always)]
-    pub(crate) fn clear(&mut self)
-        ensures { self.new ≡ None }
+    pub(crate) fn release(&mut self, out: &mut KeptPacket)
+        requires { IsSome self.old }
+        ensures packet { Some out.new ≡ packet_held self.old }
+        ensures none { self.new ≡ None }
     {
+        *out = self.place;
         self.holds = false;
     }
 }

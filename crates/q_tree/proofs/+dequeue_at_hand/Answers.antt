@@ -11,6 +11,7 @@ use Rattle.q_tree.specs.PopSteps.{ArePopped, IsPoppedIn, popping_of}
 use Rattle.q_tree.specs.Seen.{seen, children_seen, discipline_seen, places_seen}
 use Rattle.q_tree.specs.declared.node.Discipline.TheVariants as code
 use Rattle.q_tree.proofs.AtHandLemmas.{none-held}
+use Rattle.q_tree.proofs.HeldLemmas.{none-kept}
 use Rattle.q_tree.proofs.Peeks.{items-are}
 use Rattle.q_tree.proofs.PopLemmas.{band-here, band-still, band-gave, bands-popped, bands-still, nothing-shown, ready-next, ready-none, none-popped, prio-popped, held-after, held-shown, own-shown, still-kept, gave}
 use Rattle.q_tree.proofs.RowsOf.{row-of, among}
@@ -26,58 +27,58 @@ pub node::Discipline::dequeue_at_hand_further-returns-in-Drr-clause-after : goal
 node::Discipline::dequeue_at_hand_further-returns-in-Drr-clause-after t c =
     subst (λ d. IsPoppedIn d d) (sym c.in-Drr.is) (none-popped (code.Drr c.in-Drr.active c.in-Drr.classes) tt)
 
-pub node::Node::dequeue_at_hand-returns-in-Some-clause-after : goal.node::Node::dequeue_at_hand-returns-in-Some-clause-after
-node::Node::dequeue_at_hand-returns-in-Some-clause-after t c =
-    ap (λ (h : Option Stamped). seen (record c.self.inside { held = h; row = c.book_sent.new.row })) c.clear.ensures ∙ held-after c.self.inside c.in-Some.packet (sym c.packet.ensures ∙ c.in-Some.is) c.book_sent.new.row c.book_sent.ensures ∙ ap (λ n. booked kept n (pop n).after) c.self.view_is
+pub node::Node::dequeue_at_hand-returns-then-is_some-clause-after : goal.node::Node::dequeue_at_hand-returns-then-is_some-clause-after
+node::Node::dequeue_at_hand-returns-then-is_some-clause-after t c =
+    ap (λ (h : Option Stamped). seen (record c.self.inside { held = h; row = c.book_sent.new.row })) c.release.ensures.none ∙ held-after c.self.inside c.release.new.out (sym c.release.ensures.packet) c.book_sent.new.row c.book_sent.ensures ∙ ap (λ n. booked kept n (pop n).after) c.self.view_is
 
-pub node::Node::dequeue_at_hand-returns-in-Some-clause-given : goal.node::Node::dequeue_at_hand-returns-in-Some-clause-given
-node::Node::dequeue_at_hand-returns-in-Some-clause-given t c =
-    sym (ap is_some (sym (ap (λ n. (pop n).shown) c.self.view_is) ∙ held-shown c.self.inside c.in-Some.packet (sym c.packet.ensures ∙ c.in-Some.is)))
+pub node::Node::dequeue_at_hand-returns-then-is_some-clause-given : goal.node::Node::dequeue_at_hand-returns-then-is_some-clause-given
+node::Node::dequeue_at_hand-returns-then-is_some-clause-given t c =
+    sym (ap is_some (sym (ap (λ n. (pop n).shown) c.self.view_is) ∙ held-shown c.self.inside c.release.new.out (sym c.release.ensures.packet)))
 
-pub node::Node::dequeue_at_hand-returns-in-Some-clause-packet : goal.node::Node::dequeue_at_hand-returns-in-Some-clause-packet
-node::Node::dequeue_at_hand-returns-in-Some-clause-packet t c =
-    sym (ap (λ o. unwrap_or o c.args.out.now) (sym (ap (λ n. (pop n).shown) c.self.view_is) ∙ held-shown c.self.inside c.in-Some.packet (sym c.packet.ensures ∙ c.in-Some.is)))
+pub node::Node::dequeue_at_hand-returns-then-is_some-clause-packet : goal.node::Node::dequeue_at_hand-returns-then-is_some-clause-packet
+node::Node::dequeue_at_hand-returns-then-is_some-clause-packet t c =
+    sym (ap (λ o. unwrap_or o c.args.out.now) (sym (ap (λ n. (pop n).shown) c.self.view_is) ∙ held-shown c.self.inside c.release.new.out (sym c.release.ensures.packet)))
 
 pub node::Node::dequeue_at_hand-invariant_of-self-then-not-dequeue_at_hand : goal.node::Node::dequeue_at_hand-invariant_of-self-then-not-dequeue_at_hand
 node::Node::dequeue_at_hand-invariant_of-self-then-not-dequeue_at_hand t c =
-    (still-kept c.self.inside (sym c.packet.ensures ∙ c.in_default.is) c.dequeue_at_hand.new.self (popping_of c.self.inside.discipline).shown refl c.dequeue_at_hand.ensures.after c.self.invariant (given-none (popping_of c.self.inside.discipline).shown c.args.out.now c.dequeue_at_hand.new.out (sym c.dequeue_at_hand.ensures.given ∙ c.if-not-dequeue_at_hand.true) c.dequeue_at_hand.ensures.packet).0).stays
+    (still-kept c.self.inside (none-kept c.self.inside.held c.if-is_some.ensures) c.dequeue_at_hand.new.self (popping_of c.self.inside.discipline).shown refl c.dequeue_at_hand.ensures.after c.self.invariant (given-none (popping_of c.self.inside.discipline).shown c.args.out.now c.dequeue_at_hand.new.out (sym c.dequeue_at_hand.ensures.given ∙ c.if-not-dequeue_at_hand.true) c.dequeue_at_hand.ensures.packet).0).stays
 
 pub node::Node::dequeue_at_hand-returns-then-not-dequeue_at_hand-clause-given : goal.node::Node::dequeue_at_hand-returns-then-not-dequeue_at_hand-clause-given
 node::Node::dequeue_at_hand-returns-then-not-dequeue_at_hand-clause-given t c =
-    sym (ap is_some (sym ((still-kept c.self.inside (sym c.packet.ensures ∙ c.in_default.is) c.dequeue_at_hand.new.self (popping_of c.self.inside.discipline).shown refl c.dequeue_at_hand.ensures.after c.self.invariant (given-none (popping_of c.self.inside.discipline).shown c.args.out.now c.dequeue_at_hand.new.out (sym c.dequeue_at_hand.ensures.given ∙ c.if-not-dequeue_at_hand.true) c.dequeue_at_hand.ensures.packet).0).shown ∙ ap (λ n. (pop n).shown) c.self.view_is)))
+    sym (ap is_some (sym ((still-kept c.self.inside (none-kept c.self.inside.held c.if-is_some.ensures) c.dequeue_at_hand.new.self (popping_of c.self.inside.discipline).shown refl c.dequeue_at_hand.ensures.after c.self.invariant (given-none (popping_of c.self.inside.discipline).shown c.args.out.now c.dequeue_at_hand.new.out (sym c.dequeue_at_hand.ensures.given ∙ c.if-not-dequeue_at_hand.true) c.dequeue_at_hand.ensures.packet).0).shown ∙ ap (λ n. (pop n).shown) c.self.view_is)))
 
 pub node::Node::dequeue_at_hand-returns-then-not-dequeue_at_hand-clause-packet : goal.node::Node::dequeue_at_hand-returns-then-not-dequeue_at_hand-clause-packet
 node::Node::dequeue_at_hand-returns-then-not-dequeue_at_hand-clause-packet t c =
-    (given-none (popping_of c.self.inside.discipline).shown c.args.out.now c.dequeue_at_hand.new.out (sym c.dequeue_at_hand.ensures.given ∙ c.if-not-dequeue_at_hand.true) c.dequeue_at_hand.ensures.packet).1 ∙ ap (λ o. unwrap_or o c.args.out.now) ((still-kept c.self.inside (sym c.packet.ensures ∙ c.in_default.is) c.dequeue_at_hand.new.self (popping_of c.self.inside.discipline).shown refl c.dequeue_at_hand.ensures.after c.self.invariant (given-none (popping_of c.self.inside.discipline).shown c.args.out.now c.dequeue_at_hand.new.out (sym c.dequeue_at_hand.ensures.given ∙ c.if-not-dequeue_at_hand.true) c.dequeue_at_hand.ensures.packet).0).shown ∙ ap (λ n. (pop n).shown) c.self.view_is)
+    (given-none (popping_of c.self.inside.discipline).shown c.args.out.now c.dequeue_at_hand.new.out (sym c.dequeue_at_hand.ensures.given ∙ c.if-not-dequeue_at_hand.true) c.dequeue_at_hand.ensures.packet).1 ∙ ap (λ o. unwrap_or o c.args.out.now) ((still-kept c.self.inside (none-kept c.self.inside.held c.if-is_some.ensures) c.dequeue_at_hand.new.self (popping_of c.self.inside.discipline).shown refl c.dequeue_at_hand.ensures.after c.self.invariant (given-none (popping_of c.self.inside.discipline).shown c.args.out.now c.dequeue_at_hand.new.out (sym c.dequeue_at_hand.ensures.given ∙ c.if-not-dequeue_at_hand.true) c.dequeue_at_hand.ensures.packet).0).shown ∙ ap (λ n. (pop n).shown) c.self.view_is)
 
 pub node::Node::dequeue_at_hand-returns-then-not-dequeue_at_hand-clause-after : goal.node::Node::dequeue_at_hand-returns-then-not-dequeue_at_hand-clause-after
 node::Node::dequeue_at_hand-returns-then-not-dequeue_at_hand-clause-after t c =
-    (still-kept c.self.inside (sym c.packet.ensures ∙ c.in_default.is) c.dequeue_at_hand.new.self (popping_of c.self.inside.discipline).shown refl c.dequeue_at_hand.ensures.after c.self.invariant (given-none (popping_of c.self.inside.discipline).shown c.args.out.now c.dequeue_at_hand.new.out (sym c.dequeue_at_hand.ensures.given ∙ c.if-not-dequeue_at_hand.true) c.dequeue_at_hand.ensures.packet).0).after ∙ ap (λ n. booked kept n (pop n).after) c.self.view_is
+    (still-kept c.self.inside (none-kept c.self.inside.held c.if-is_some.ensures) c.dequeue_at_hand.new.self (popping_of c.self.inside.discipline).shown refl c.dequeue_at_hand.ensures.after c.self.invariant (given-none (popping_of c.self.inside.discipline).shown c.args.out.now c.dequeue_at_hand.new.out (sym c.dequeue_at_hand.ensures.given ∙ c.if-not-dequeue_at_hand.true) c.dequeue_at_hand.ensures.packet).0).after ∙ ap (λ n. booked kept n (pop n).after) c.self.view_is
 
 pub node::Node::dequeue_at_hand-book_sent-requires-2-clause-among : goal.node::Node::dequeue_at_hand-book_sent-requires-2-clause-among
 node::Node::dequeue_at_hand-book_sent-requires-2-clause-among t c =
-    among (seen c.self.inside) c.self.inside.row (row-of c.self.inside c.self.invariant) c.dequeue_at_hand.new.out (own-shown c.self.inside (sym c.packet.ensures ∙ c.in_default.is) c.dequeue_at_hand.new.self (popping_of c.self.inside.discipline).shown refl c.dequeue_at_hand.ensures.after ∙ (given-some (popping_of c.self.inside.discipline).shown c.args.out.now c.dequeue_at_hand.new.out (sym c.dequeue_at_hand.ensures.given ∙ c.if-not-dequeue_at_hand.false) c.dequeue_at_hand.ensures.packet))
+    among (seen c.self.inside) c.self.inside.row (row-of c.self.inside c.self.invariant) c.dequeue_at_hand.new.out (own-shown c.self.inside (none-kept c.self.inside.held c.if-is_some.ensures) c.dequeue_at_hand.new.self (popping_of c.self.inside.discipline).shown refl c.dequeue_at_hand.ensures.after ∙ (given-some (popping_of c.self.inside.discipline).shown c.args.out.now c.dequeue_at_hand.new.out (sym c.dequeue_at_hand.ensures.given ∙ c.if-not-dequeue_at_hand.false) c.dequeue_at_hand.ensures.packet))
 
 pub node::Node::dequeue_at_hand-book_sent-requires-2-clause-room : goal.node::Node::dequeue_at_hand-book_sent-requires-2-clause-room
 node::Node::dequeue_at_hand-book_sent-requires-2-clause-room t c =
-    let had = (among (seen c.self.inside) c.self.inside.row (row-of c.self.inside c.self.invariant) c.dequeue_at_hand.new.out (own-shown c.self.inside (sym c.packet.ensures ∙ c.in_default.is) c.dequeue_at_hand.new.self (popping_of c.self.inside.discipline).shown refl c.dequeue_at_hand.ensures.after ∙ (given-some (popping_of c.self.inside.discipline).shown c.args.out.now c.dequeue_at_hand.new.out (sym c.dequeue_at_hand.ensures.given ∙ c.if-not-dequeue_at_hand.false) c.dequeue_at_hand.ensures.packet))) in
+    let had = (among (seen c.self.inside) c.self.inside.row (row-of c.self.inside c.self.invariant) c.dequeue_at_hand.new.out (own-shown c.self.inside (none-kept c.self.inside.held c.if-is_some.ensures) c.dequeue_at_hand.new.self (popping_of c.self.inside.discipline).shown refl c.dequeue_at_hand.ensures.after ∙ (given-some (popping_of c.self.inside.discipline).shown c.args.out.now c.dequeue_at_hand.new.out (sym c.dequeue_at_hand.ensures.given ∙ c.if-not-dequeue_at_hand.false) c.dequeue_at_hand.ensures.packet))) in
     record { packets = omega (arith, c.self.invariant.balanced.packets, had.packets, c.self.ranges, c.fit.ensures.packets, c.fit.ensures.bytes); bytes = omega (arith, c.self.invariant.balanced.bytes, had.bytes, c.self.ranges, c.fit.ensures.packets, c.fit.ensures.bytes) }
 
 pub node::Node::dequeue_at_hand-invariant_of-self-2 : goal.node::Node::dequeue_at_hand-invariant_of-self-2
 node::Node::dequeue_at_hand-invariant_of-self-2 t c =
-    (gave c.self.inside (sym c.packet.ensures ∙ c.in_default.is) c.dequeue_at_hand.new.self (popping_of c.self.inside.discipline).shown refl c.dequeue_at_hand.ensures.after c.self.invariant c.dequeue_at_hand.new.out (given-some (popping_of c.self.inside.discipline).shown c.args.out.now c.dequeue_at_hand.new.out (sym c.dequeue_at_hand.ensures.given ∙ c.if-not-dequeue_at_hand.false) c.dequeue_at_hand.ensures.packet) c.book_sent-2.new.row c.book_sent-2.ensures).stays
+    (gave c.self.inside (none-kept c.self.inside.held c.if-is_some.ensures) c.dequeue_at_hand.new.self (popping_of c.self.inside.discipline).shown refl c.dequeue_at_hand.ensures.after c.self.invariant c.dequeue_at_hand.new.out (given-some (popping_of c.self.inside.discipline).shown c.args.out.now c.dequeue_at_hand.new.out (sym c.dequeue_at_hand.ensures.given ∙ c.if-not-dequeue_at_hand.false) c.dequeue_at_hand.ensures.packet) c.book_sent-2.new.row c.book_sent-2.ensures).stays
 
 pub node::Node::dequeue_at_hand-returns-clause-given : goal.node::Node::dequeue_at_hand-returns-clause-given
 node::Node::dequeue_at_hand-returns-clause-given t c =
-    sym (ap is_some (sym ((gave c.self.inside (sym c.packet.ensures ∙ c.in_default.is) c.dequeue_at_hand.new.self (popping_of c.self.inside.discipline).shown refl c.dequeue_at_hand.ensures.after c.self.invariant c.dequeue_at_hand.new.out (given-some (popping_of c.self.inside.discipline).shown c.args.out.now c.dequeue_at_hand.new.out (sym c.dequeue_at_hand.ensures.given ∙ c.if-not-dequeue_at_hand.false) c.dequeue_at_hand.ensures.packet) c.book_sent-2.new.row c.book_sent-2.ensures).shown ∙ ap (λ n. (pop n).shown) c.self.view_is)))
+    sym (ap is_some (sym ((gave c.self.inside (none-kept c.self.inside.held c.if-is_some.ensures) c.dequeue_at_hand.new.self (popping_of c.self.inside.discipline).shown refl c.dequeue_at_hand.ensures.after c.self.invariant c.dequeue_at_hand.new.out (given-some (popping_of c.self.inside.discipline).shown c.args.out.now c.dequeue_at_hand.new.out (sym c.dequeue_at_hand.ensures.given ∙ c.if-not-dequeue_at_hand.false) c.dequeue_at_hand.ensures.packet) c.book_sent-2.new.row c.book_sent-2.ensures).shown ∙ ap (λ n. (pop n).shown) c.self.view_is)))
 
 pub node::Node::dequeue_at_hand-returns-clause-packet : goal.node::Node::dequeue_at_hand-returns-clause-packet
 node::Node::dequeue_at_hand-returns-clause-packet t c =
-    ap (λ o. unwrap_or o c.args.out.now) ((gave c.self.inside (sym c.packet.ensures ∙ c.in_default.is) c.dequeue_at_hand.new.self (popping_of c.self.inside.discipline).shown refl c.dequeue_at_hand.ensures.after c.self.invariant c.dequeue_at_hand.new.out (given-some (popping_of c.self.inside.discipline).shown c.args.out.now c.dequeue_at_hand.new.out (sym c.dequeue_at_hand.ensures.given ∙ c.if-not-dequeue_at_hand.false) c.dequeue_at_hand.ensures.packet) c.book_sent-2.new.row c.book_sent-2.ensures).shown ∙ ap (λ n. (pop n).shown) c.self.view_is)
+    ap (λ o. unwrap_or o c.args.out.now) ((gave c.self.inside (none-kept c.self.inside.held c.if-is_some.ensures) c.dequeue_at_hand.new.self (popping_of c.self.inside.discipline).shown refl c.dequeue_at_hand.ensures.after c.self.invariant c.dequeue_at_hand.new.out (given-some (popping_of c.self.inside.discipline).shown c.args.out.now c.dequeue_at_hand.new.out (sym c.dequeue_at_hand.ensures.given ∙ c.if-not-dequeue_at_hand.false) c.dequeue_at_hand.ensures.packet) c.book_sent-2.new.row c.book_sent-2.ensures).shown ∙ ap (λ n. (pop n).shown) c.self.view_is)
 
 pub node::Node::dequeue_at_hand-returns-clause-after : goal.node::Node::dequeue_at_hand-returns-clause-after
 node::Node::dequeue_at_hand-returns-clause-after t c =
-    (gave c.self.inside (sym c.packet.ensures ∙ c.in_default.is) c.dequeue_at_hand.new.self (popping_of c.self.inside.discipline).shown refl c.dequeue_at_hand.ensures.after c.self.invariant c.dequeue_at_hand.new.out (given-some (popping_of c.self.inside.discipline).shown c.args.out.now c.dequeue_at_hand.new.out (sym c.dequeue_at_hand.ensures.given ∙ c.if-not-dequeue_at_hand.false) c.dequeue_at_hand.ensures.packet) c.book_sent-2.new.row c.book_sent-2.ensures).after ∙ ap (λ n. booked kept n (pop n).after) c.self.view_is
+    (gave c.self.inside (none-kept c.self.inside.held c.if-is_some.ensures) c.dequeue_at_hand.new.self (popping_of c.self.inside.discipline).shown refl c.dequeue_at_hand.ensures.after c.self.invariant c.dequeue_at_hand.new.out (given-some (popping_of c.self.inside.discipline).shown c.args.out.now c.dequeue_at_hand.new.out (sym c.dequeue_at_hand.ensures.given ∙ c.if-not-dequeue_at_hand.false) c.dequeue_at_hand.ensures.packet) c.book_sent-2.new.row c.book_sent-2.ensures).after ∙ ap (λ n. booked kept n (pop n).after) c.self.view_is
 
 pub disciplines::prio::dequeue_first-loop-place-init : goal.disciplines::prio::dequeue_first-loop-place-init
 disciplines::prio::dequeue_first-loop-place-init t c = (refl, omega arith, refl)

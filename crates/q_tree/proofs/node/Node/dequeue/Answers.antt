@@ -10,22 +10,23 @@ use Rattle.q_tree.specs.Kept.{kept}
 use Rattle.q_tree.specs.Seen.{seen}
 use Rattle.q_tree.specs.Shown.{Shown}
 use Rattle.q_tree.proofs.AtHandLemmas.{none-held}
+use Rattle.q_tree.proofs.HeldLemmas.{none-kept}
 use Rattle.q_tree.proofs.Peeks.{holding-after, can-book, can-in, enough, shown-here, told-here}
 use Rattle.q_tree.proofs.PopLemmas.{held-after}
 use Rattle.q_tree.proofs.SendForms.{held-answer, held-shows, none-sent, sent-row, sent-queued, one-sent}
 use Rattle.q_tree.proofs.SendLemmas.{given-some, gave-asked}
 use Rattle.q_tree.proofs.node.Node.dequeue.Goals as goal
 
-pub returns-in-Some-clause-dequeued : goal.returns-in-Some-clause-dequeued
-returns-in-Some-clause-dequeued g c =
-    let held = sym c.packet.ensures ∙ c.in-Some.is in
-    let stays = holding-after c.args.now c.self.inside c.args.self.now c.in-Some.packet c.self.view_is held in
+pub returns-then-is_some-clause-dequeued : goal.returns-then-is_some-clause-dequeued
+returns-then-is_some-clause-dequeued g c =
+    let held = sym c.release.ensures.packet in
+    let stays = holding-after c.args.now c.self.inside c.args.self.now c.release.new.out c.self.view_is held in
     record {
-      after = ap (λ (h : Option Stamped). seen (record c.self.inside { held = h; row = c.book_sent.new.row })) c.clear.ensures
-          ∙ held-after c.self.inside c.in-Some.packet held c.book_sent.new.row c.book_sent.ensures ∙ ap (λ n. booked kept n (pop n).after) c.self.view_is
-          ∙ gave-asked c.args.now c.args.self.now c.args.self.now c.in-Some.packet c.requires.ready stays (held-answer c.args.now c.self.inside c.args.self.now c.in-Some.packet c.self.view_is held).packet;
+      after = ap (λ (h : Option Stamped). seen (record c.self.inside { held = h; row = c.book_sent.new.row })) c.release.ensures.none
+          ∙ held-after c.self.inside c.release.new.out held c.book_sent.new.row c.book_sent.ensures ∙ ap (λ n. booked kept n (pop n).after) c.self.view_is
+          ∙ gave-asked c.args.now c.args.self.now c.args.self.now c.release.new.out c.requires.ready stays (held-answer c.args.now c.self.inside c.args.self.now c.release.new.out c.self.view_is held).packet;
       arrived = search rules;
-      shown = held-shows c.args.now c.self.inside c.args.self.now c.in-Some.packet c.self.view_is held c.sending.result c.sending.ensures;
+      shown = held-shows c.args.now c.self.inside c.args.self.now c.release.new.out c.self.view_is held c.sending.result c.sending.ensures;
       packet = ap (λ (s : Shown). unwrap_or s.packet c.args.out.now) (sym c.sending.ensures);
       signals = search rules;
     }
@@ -39,14 +40,14 @@ dequeue-shown-requires g c = record {
 
 pub book_shown-requires-clause-room : goal.book_shown-requires-clause-room
 book_shown-requires-clause-room g c =
-    let none : packet_held c.self.inside.held ≡ None = sym c.packet.ensures ∙ c.in_default.is in
+    let none : packet_held c.self.inside.held ≡ None = none-kept c.self.inside.held c.if-is_some.ensures in
     let sent = c.dequeue-shown.ensures.after c.self.inside.handle c.self.inside.filters in
     can-book c.args.now c.self.inside c.args.self.now c.self.invariant c.self.view_is c.requires.ready none c.dequeue-shown.result sent.children.shown
     (omega (arith, c.self.ranges, c.fit.ensures.packets, c.fit.ensures.bytes)) (omega (arith, c.self.ranges, c.fit.ensures.packets, c.fit.ensures.bytes))
 
 pub invariant_of-self-then-not-has_packet : goal.invariant_of-self-then-not-has_packet
 invariant_of-self-then-not-has_packet g c =
-    let none : packet_held c.self.inside.held ≡ None = sym c.packet.ensures ∙ c.in_default.is in
+    let none : packet_held c.self.inside.held ≡ None = none-kept c.self.inside.held c.if-is_some.ensures in
     let sent = c.dequeue-shown.ensures.after c.self.inside.handle c.self.inside.filters in
     let can = can-book c.args.now c.self.inside c.args.self.now c.self.invariant c.self.view_is c.requires.ready none c.dequeue-shown.result sent.children.shown
     (omega (arith, c.self.ranges, c.fit.ensures.packets, c.fit.ensures.bytes)) (omega (arith, c.self.ranges, c.fit.ensures.packets, c.fit.ensures.bytes)) in
@@ -55,7 +56,7 @@ invariant_of-self-then-not-has_packet g c =
 
 pub returns-then-not-has_packet-clause-dequeued : goal.returns-then-not-has_packet-clause-dequeued
 returns-then-not-has_packet-clause-dequeued g c =
-    let none : packet_held c.self.inside.held ≡ None = sym c.packet.ensures ∙ c.in_default.is in
+    let none : packet_held c.self.inside.held ≡ None = none-kept c.self.inside.held c.if-is_some.ensures in
     let sent = c.dequeue-shown.ensures.after c.self.inside.handle c.self.inside.filters in
     let can = can-book c.args.now c.self.inside c.args.self.now c.self.invariant c.self.view_is c.requires.ready none c.dequeue-shown.result sent.children.shown
     (omega (arith, c.self.ranges, c.fit.ensures.packets, c.fit.ensures.bytes)) (omega (arith, c.self.ranges, c.fit.ensures.packets, c.fit.ensures.bytes)) in
@@ -70,13 +71,13 @@ returns-then-not-has_packet-clause-dequeued g c =
 
 pub returns-then-not-has_packet-clause-told : goal.returns-then-not-has_packet-clause-told
 returns-then-not-has_packet-clause-told g c =
-    let none : packet_held c.self.inside.held ≡ None = sym c.packet.ensures ∙ c.in_default.is in
+    let none : packet_held c.self.inside.held ≡ None = none-kept c.self.inside.held c.if-is_some.ensures in
     told-here c.args.now c.self.inside c.args.self.now c.self.invariant c.self.view_is c.requires.ready none (g.S.Sink.state c.args.sink.now) (g.S.Sink.state c.dequeue-shown.new.sink)
     (c.dequeue-shown.ensures.told c.self.inside.handle c.self.inside.filters)
 
 pub returns-clause-dequeued : goal.returns-clause-dequeued
 returns-clause-dequeued g c =
-    let none : packet_held c.self.inside.held ≡ None = sym c.packet.ensures ∙ c.in_default.is in
+    let none : packet_held c.self.inside.held ≡ None = none-kept c.self.inside.held c.if-is_some.ensures in
     let sent = c.dequeue-shown.ensures.after c.self.inside.handle c.self.inside.filters in
     let can = can-book c.args.now c.self.inside c.args.self.now c.self.invariant c.self.view_is c.requires.ready none c.dequeue-shown.result sent.children.shown
     (omega (arith, c.self.ranges, c.fit.ensures.packets, c.fit.ensures.bytes)) (omega (arith, c.self.ranges, c.fit.ensures.packets, c.fit.ensures.bytes)) in
@@ -91,13 +92,13 @@ returns-clause-dequeued g c =
 
 pub returns-clause-told : goal.returns-clause-told
 returns-clause-told g c =
-    let none : packet_held c.self.inside.held ≡ None = sym c.packet.ensures ∙ c.in_default.is in
+    let none : packet_held c.self.inside.held ≡ None = none-kept c.self.inside.held c.if-is_some.ensures in
     told-here c.args.now c.self.inside c.args.self.now c.self.invariant c.self.view_is c.requires.ready none (g.S.Sink.state c.args.sink.now) (g.S.Sink.state c.dequeue-shown.new.sink)
     (c.dequeue-shown.ensures.told c.self.inside.handle c.self.inside.filters)
 
 pub book_sent-requires-2-clause-balanced : goal.book_sent-requires-2-clause-balanced
 book_sent-requires-2-clause-balanced g c =
-    let none : packet_held c.self.inside.held ≡ None = sym c.packet.ensures ∙ c.in_default.is in
+    let none : packet_held c.self.inside.held ≡ None = none-kept c.self.inside.held c.if-is_some.ensures in
     let sent = c.dequeue-shown.ensures.after c.self.inside.handle c.self.inside.filters in
     let can = can-book c.args.now c.self.inside c.args.self.now c.self.invariant c.self.view_is c.requires.ready none c.dequeue-shown.result sent.children.shown
     (omega (arith, c.self.ranges, c.fit.ensures.packets, c.fit.ensures.bytes)) (omega (arith, c.self.ranges, c.fit.ensures.packets, c.fit.ensures.bytes)) in
@@ -106,7 +107,7 @@ book_sent-requires-2-clause-balanced g c =
 
 pub book_sent-requires-2-clause-among : goal.book_sent-requires-2-clause-among
 book_sent-requires-2-clause-among g c =
-    let none : packet_held c.self.inside.held ≡ None = sym c.packet.ensures ∙ c.in_default.is in
+    let none : packet_held c.self.inside.held ≡ None = none-kept c.self.inside.held c.if-is_some.ensures in
     let sent = c.dequeue-shown.ensures.after c.self.inside.handle c.self.inside.filters in
     let can = can-book c.args.now c.self.inside c.args.self.now c.self.invariant c.self.view_is c.requires.ready none c.dequeue-shown.result sent.children.shown
     (omega (arith, c.self.ranges, c.fit.ensures.packets, c.fit.ensures.bytes)) (omega (arith, c.self.ranges, c.fit.ensures.packets, c.fit.ensures.bytes)) in
@@ -115,7 +116,7 @@ book_sent-requires-2-clause-among g c =
 
 pub book_sent-requires-2-clause-room : goal.book_sent-requires-2-clause-room
 book_sent-requires-2-clause-room g c =
-    let none : packet_held c.self.inside.held ≡ None = sym c.packet.ensures ∙ c.in_default.is in
+    let none : packet_held c.self.inside.held ≡ None = none-kept c.self.inside.held c.if-is_some.ensures in
     let sent = c.dequeue-shown.ensures.after c.self.inside.handle c.self.inside.filters in
     let can = can-book c.args.now c.self.inside c.args.self.now c.self.invariant c.self.view_is c.requires.ready none c.dequeue-shown.result sent.children.shown
     (omega (arith, c.self.ranges, c.fit.ensures.packets, c.fit.ensures.bytes)) (omega (arith, c.self.ranges, c.fit.ensures.packets, c.fit.ensures.bytes)) in
@@ -130,7 +131,7 @@ book_sent-requires-2-clause-room g c =
 
 pub invariant_of-self-2 : goal.invariant_of-self-2
 invariant_of-self-2 g c =
-    let none : packet_held c.self.inside.held ≡ None = sym c.packet.ensures ∙ c.in_default.is in
+    let none : packet_held c.self.inside.held ≡ None = none-kept c.self.inside.held c.if-is_some.ensures in
     let sent = c.dequeue-shown.ensures.after c.self.inside.handle c.self.inside.filters in
     let can = can-book c.args.now c.self.inside c.args.self.now c.self.invariant c.self.view_is c.requires.ready none c.dequeue-shown.result sent.children.shown
     (omega (arith, c.self.ranges, c.fit.ensures.packets, c.fit.ensures.bytes)) (omega (arith, c.self.ranges, c.fit.ensures.packets, c.fit.ensures.bytes)) in
