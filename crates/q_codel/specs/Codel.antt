@@ -9,7 +9,7 @@ pub use Rattle.q_packet.specs.Ecn.{is_capable}
 use Rattle.q_packet.specs.declared.ecn.Ecn.TheVariants.{Ce}
 use Rattle.q_packet.specs.declared.stamped.Stamped.{Stamped}
 use Rattle.q_codel.specs.Gap.{gap_of}
-use Rattle.q_codel.specs.declared.taken.Taken.{Taken}
+use Rattle.q_codel.specs.declared.codel.Taken.{Taken}
 
 -- The settings and the state of one queue's CoDel. Times are in nanoseconds and `mtu` in bytes; `first_above_time`
 -- is the time at which a standing queue becomes late, 0 where there is none, and `drop_next` that of the next drop or mark, as

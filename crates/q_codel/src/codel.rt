@@ -7,8 +7,7 @@ use crate::control_state::ControlState;
 use crate::parameters::Parameters;
 use crate::queue::Queue;
 use crate::sink::Sink;
-use crate::taken::Taken;
-use q_packet::{Cause, Moment, SOME_KEPT};
+use q_packet::{Cause, Moment, Packet, SOME_KEPT};
 use std::marker::Model;
 
 /// The settings and the state of CoDel on one queue, put together (RFC 8289, section 5).
@@ -28,6 +27,15 @@ impl Model for Codel {
     ghost view = { λ c. joined c.parameters c.state };
 
     ghost inverse = { λ s. record { parameters = params_of s; state = vars_of s } };
+}
+
+/// A packet that was taken for sending, and whether it was marked on its way out.
+///
+/// A marked packet has the codepoint `Ce`, also where it came in so.
+#[derive(Clone, Copy, PartialEq, Eq, Debug)]
+pub struct Taken {
+    pub packet: Packet,
+    pub marked: bool,
 }
 
 impl Codel {

@@ -10,13 +10,12 @@ ghost use Rattle.std.specs.Option.{option_map_or};
 ghost use Rattle.q_packet.specs.Totals.{count, size};
 ghost use Rattle.q_packet.specs.declared.stamped.Stamped.{Stamped};
 ghost use Rattle.q_codel.specs.Front.{front_of, IsFront};
-ghost use Rattle.q_codel.specs.declared.taken.Taken.{Taken};
+ghost use Rattle.q_codel.specs.declared.codel.Taken.{Taken};
 ghost use Rattle.q_codel.specs.Losses.{AreLost};
 ghost use Rattle.q_codel.specs.Codel.{leaving};
 
 use crate::control_law::gap;
 use crate::front::Front;
-use crate::leaving::Leaving;
 use crate::parameters::Parameters;
 use crate::queue::Queue;
 use crate::sink::Sink;
@@ -66,6 +65,15 @@ impl Model for ControlState {
       lastcount = c.lastcount;
       dropping = c.dropping;
     } };
+}
+
+/// How a packet left a queue that CoDel takes from.
+#[derive(Clone, Copy, PartialEq, Eq, Debug)]
+pub struct Leaving {
+    /// Whether it was marked on its way out: it has the codepoint `Ce` then.
+    pub marked: bool,
+    /// When it was queued.
+    pub at: Moment,
 }
 
 impl ControlState {

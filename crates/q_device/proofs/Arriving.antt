@@ -12,8 +12,8 @@ use Rattle.q_packet.specs.Stored.{IsStored}
 use Rattle.q_packet.specs.declared.stored_packet.StoredPacket.{StoredPacket}
 use Rattle.q_model.specs.declared.fate.Fate.{Fate}
 use Rattle.q_model.specs.declared.fate.Fate.TheVariants.{Kept}
-use Rattle.q_device.specs.declared.stopped.Stopped.{Stopped}
-use Rattle.q_device.specs.declared.stopped.Stopped.TheVariants as stopped
+use Rattle.q_device.specs.declared.bursts.Stopped.{Stopped}
+use Rattle.q_device.specs.declared.bursts.Stopped.TheVariants as stopped
 use Rattle.q_device.specs.Bursts.{IsArrivals, IsNotNext, IsStoppedAt, arrival, arrived_by, fate_in, fates_by}
 use Rattle.q_device.specs.DeviceSeen.{DeviceSeen}
 use Rattle.q_device.specs.Events.{after_event, reply_to, with_memory}

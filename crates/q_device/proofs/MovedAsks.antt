@@ -6,11 +6,11 @@ use Rattle.std.specs.List.{position}
 use Rattle.std.proofs.lemmas.List.{length-map}
 use Rattle.std.proofs.lemmas.Option.{none-some, same_Some}
 use Rattle.q_packet.specs.Descriptor.{Descriptor}
-use Rattle.q_codel.specs.declared.taken.Taken.{Taken}
+use Rattle.q_codel.specs.declared.codel.Taken.{Taken}
 use Rattle.q_bucket.specs.Level.{TokenBucket, IsInRange, allows}
 use Rattle.q_drr.specs.Schedule.{Class, Entry, Schedule, is_active}
 use Rattle.q_drr.specs.Take.{choice_of, prepared, served}
-use Rattle.q_drr.specs.declared.met.Met.{Met}
+use Rattle.q_drr.specs.declared.take.Met.{Met}
 use Rattle.q_drr.proofs.ServedLemmas.{chosen_is_met}
 use Rattle.q_drr.proofs.TakeLemmas.{served_nobody}
 use Rattle.q_fqcodel.specs.FqState.{FqState}

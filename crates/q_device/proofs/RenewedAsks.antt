@@ -7,7 +7,7 @@ use Rattle.std.proofs.lemmas.Bool.{cases_Bool, cases_lt, cond-true, cond-false, 
 use Rattle.std.proofs.lemmas.List.{length-map}
 use Rattle.std.proofs.lemmas.Option.{none-some}
 use Rattle.q_packet.specs.Descriptor.{Descriptor}
-use Rattle.q_codel.specs.declared.taken.Taken.{Taken}
+use Rattle.q_codel.specs.declared.codel.Taken.{Taken}
 use Rattle.q_bucket.specs.Level.{TokenBucket, IsInRange, allows}
 use Rattle.q_drr.specs.Schedule.{Class, Entry, Schedule, IsLawful, is_active}
 use Rattle.q_drr.specs.Take.{choice_of, served}

@@ -4,7 +4,7 @@ use Rattle.std.specs.Prelude.{slice_get}
 use Rattle.q_packet.specs.Descriptor.{Descriptor}
 use Rattle.q_drr.specs.Schedule.{Entry, Schedule}
 use Rattle.q_drr.specs.Take.{prepared, served, met_in}
-use Rattle.q_drr.specs.declared.met.Met.{Met}
+use Rattle.q_drr.specs.declared.take.Met.{Met}
 use Rattle.q_drr.proofs.TakeLemmas.{Front, served_nothing}
 use Rattle.q_model.specs.Ask.{Asked, class_answer, length_of, head_of, place_met, ask_drr}
 use Rattle.q_model.specs.Node.{Own}

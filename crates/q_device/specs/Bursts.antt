@@ -15,8 +15,8 @@ use Rattle.q_model.specs.declared.reply.Reply.{Reply}
 use Rattle.q_model.specs.declared.reply.Reply.TheVariants as reply
 use Rattle.q_device.specs.declared.given.Given.{Given}
 use Rattle.q_device.specs.declared.given.Given.TheVariants as given
-use Rattle.q_device.specs.declared.stopped.Stopped.{Stopped}
-use Rattle.q_device.specs.declared.stopped.Stopped.TheVariants as stopped
+use Rattle.q_device.specs.declared.bursts.Stopped.{Stopped}
+use Rattle.q_device.specs.declared.bursts.Stopped.TheVariants as stopped
 use Rattle.q_device.specs.DeviceLaws.{HasItsMemory}
 use Rattle.q_device.specs.DeviceSeen.{DeviceSeen, HasRoomFor, longest}
 use Rattle.q_device.specs.Events.{after_event, reply_to, with_memory}

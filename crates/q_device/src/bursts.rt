@@ -14,10 +14,18 @@ ghost use Rattle.q_device.specs.declared.given.Given.TheVariants as given;
 use crate::answer::Answer;
 use crate::device::Device;
 use crate::given::Given;
-use crate::stopped::Stopped;
 use q_codel::Told;
 use q_model::Fate;
 use q_packet::{Moment, SOME_KEPT, StoredPacket};
+
+/// Why [`crate::Device::arrive_many`] did not let the next packet arrive.
+#[derive(Clone, Copy, PartialEq, Eq, Debug)]
+pub enum Stopped {
+    /// The next packet has a field out of its range.
+    OutOfRange,
+    /// An allocation failed for the next packet.
+    Memory,
+}
 
 impl Device {
     /// Lets packets arrive in order, each as by [`Device::arrive_stored`], and all at the time `now`. The first packet that has a field out of

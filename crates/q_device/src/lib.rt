@@ -53,16 +53,15 @@ mod packets;
 mod playing;
 mod recording;
 mod service;
-mod stopped;
 mod worst;
 
 pub use crate::answer::Answer;
+pub use crate::bursts::Stopped;
 pub use crate::device::Device;
 pub use crate::given::Given;
 pub use crate::last_events::LastEvents;
 pub use crate::latest::Latest;
 pub use crate::service::Service;
-pub use crate::stopped::Stopped;
 pub use crate::worst::Worst;
 pub use playing::{Replies, play};
 pub use q_codel::{Loss as Lost, Told};

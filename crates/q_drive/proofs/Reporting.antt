@@ -7,7 +7,7 @@ use Rattle.std.specs.declared.io.ErrorKind.{ErrorKind}
 use Rattle.q_script.specs.Ended.{Ended}
 use Rattle.q_script.specs.Step.{IsPartlyRun, IsRun, outcome_of}
 use Rattle.q_script.specs.declared.outcome.Outcome.{Outcome}
-use Rattle.q_script.specs.declared.reads.Reads.{Reads}
+use Rattle.q_script.specs.declared.source.Reads.{Reads}
 use Rattle.q_script.specs.declared.run_fault.RunFault.{RunFault}
 use Rattle.q_script.specs.declared.run_fault.RunFault.TheVariants as fault
 use Rattle.q_script.proofs.WrittenLemmas.{front-longer, front-of}
@@ -15,13 +15,13 @@ use Rattle.q_session.specs.Session.{SessionSeen, opened}
 use Rattle.q_session.proofs.Reported.{known}
 use Rattle.q_show.specs.Writes.{MayWrite, WriteFailed}
 use Rattle.q_show.specs.Written.{AppendsFront}
-use Rattle.q_show.specs.declared.writes.Writes.{Writes}
+use Rattle.q_show.specs.declared.target.Writes.{Writes}
 use Rattle.q_drive.specs.Drive.{Drive}
 use Rattle.q_drive.specs.Driven.{HasDriven}
 use Rattle.q_drive.specs.Reported.{IsDriven, IsDrivenOf, IsPartlyDriven, not_done, outcome, outcome_with, set_up}
 use Rattle.q_drive.specs.SetUp.{effect_of}
 use Rattle.q_drive.specs.Texts.{ending_text}
-use Rattle.q_drive.specs.declared.driven.Driven.{Driven}
+use Rattle.q_drive.specs.declared.driving.Driven.{Driven}
 
 -- two texts, one put behind the other
 pub in-turn : (o₀ o₁ o₂ a b : List ℕ) → o₁ ≡ o₀ ++ a → o₂ ≡ o₁ ++ b → o₂ ≡ o₀ ++ (a ++ b)

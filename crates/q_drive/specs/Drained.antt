@@ -6,7 +6,7 @@ use Rattle.q_model.specs.Step.{counts_at}
 use Rattle.q_device.specs.DeviceSeen.{DeviceSeen, polled_memory, with_event}
 use Rattle.q_device.specs.Waiting.{ready}
 use Rattle.q_tree.specs.ReadyAt.{is_before}
-use Rattle.q_drive.specs.declared.drained.Drained.{Drained}
+use Rattle.q_drive.specs.declared.draining.Drained.{Drained}
 
 -- the device after a poll at this time
 abbrev pub polled : ℕ → DeviceSeen → DeviceSeen

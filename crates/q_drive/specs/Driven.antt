@@ -10,7 +10,7 @@ use Rattle.q_ports.specs.Turned.{DrainSeen}
 use Rattle.q_drive.specs.Drained.{IsDrainedIf}
 use Rattle.q_drive.specs.Drive.{Drive}
 use Rattle.q_drive.specs.Loads.{AreLoads}
-use Rattle.q_drive.specs.declared.driven.Driven.{Driven}
+use Rattle.q_drive.specs.declared.driving.Driven.{Driven}
 
 -- So many packets and bytes were settled, and so many packets given up, as the loads were offered at new ports, whose rings have the
 -- places that were asked for: each packet a thousand million times at most, while the drain took a turn each microsecond from 0 on.

@@ -10,7 +10,7 @@ use Rattle.q_drive.specs.Drive.{Drive}
 use Rattle.q_drive.specs.Driven.{HasDriven}
 use Rattle.q_drive.specs.SetUp.{effect_of}
 use Rattle.q_drive.specs.Texts.{ending_text}
-use Rattle.q_drive.specs.declared.driven.Driven.{Driven}
+use Rattle.q_drive.specs.declared.driving.Driven.{Driven}
 
 -- what the lines of standard input do to a new device, with an allocation failure at these lines
 abbrev pub set_up : Drive → List ℕ → List ℕ → Effect SessionSeen

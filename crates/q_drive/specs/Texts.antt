@@ -12,8 +12,8 @@ use Rattle.q_model.specs.declared.totals.Totals.{Totals}
 use Rattle.q_script_semantics.specs.Report.{show_text}
 use Rattle.q_script_semantics.specs.Text.{device_line}
 use Rattle.q_script.specs.Script.{newline}
-use Rattle.q_drive.specs.declared.drained.Drained.{Drained}
-use Rattle.q_drive.specs.declared.driven.Driven.{Driven}
+use Rattle.q_drive.specs.declared.draining.Drained.{Drained}
+use Rattle.q_drive.specs.declared.driving.Driven.{Driven}
 
 -- `Pp Bb`, and the end of the line
 abbrev pub amount_text : Totals → List ℕ

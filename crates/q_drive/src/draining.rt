@@ -3,9 +3,15 @@ ghost use Rattle.q_device.specs.Counters.{HasNotFallen};
 ghost use Rattle.q_device.specs.Waiting.{ready};
 ghost use Rattle.q_drive.specs.Drained.{polled, polls_left, IsDrained, IsDrainedIf};
 
-use crate::drained::Drained;
 use q_device::laws::{device_tells_its_losses, ready_passes_empty_polls};
 use q_device::{Device, Moment, Totals};
+
+/// What polls sent until nothing went any more, and the device's clock then.
+#[derive(Clone, Copy)]
+pub struct Drained {
+    pub amount: Totals,
+    pub at: Moment,
+}
 
 /// Drains a device where that is asked for.
 pub fn drain_if(until_idle: bool, device: &mut Device) -> Option<Drained>

@@ -9,17 +9,15 @@ ghost use Rattle.q_ports.specs.Held.{held};
 ghost use Rattle.q_ports.specs.Placed.{placed_by, ring_of_port, HasRing};
 ghost use Rattle.q_ports.specs.Rings.{ring_id};
 
-use crate::draining::drain_if;
-use crate::driven::Driven;
-use crate::free_gate::FreeGate;
+use crate::draining::{Drained, drain_if};
 use crate::loads::loads;
 use crate::pace::{Pace, drive_pace};
 use crate::settings::DriveSettings;
-use q_device::Device;
 use q_device::laws::{device_is_lawful, device_is_replayed};
+use q_device::{Device, Totals};
 use q_packet::Packet;
 use q_ports::laws::{booked_is_replayed, settled};
-use q_ports::{Booked, Drain, Port, Seat, Settled, Unsettled, drive, open_ports};
+use q_ports::{Booked, Drain, Gate, Port, Seat, Settled, Unsettled, drive, open_ports};
 use std::alloc::Global;
 use std::marker::Brand;
 use std::sync::ledger::{Blank, Ledger};
@@ -28,6 +26,16 @@ use std::thread::Threads;
 
 /// How many parts the right to let packets in has.
 const PARTS: u64 = 65;
+
+/// The result of the senders: the settled share, how many packets of the loads no try placed, what was drained if that was asked
+/// for, and the device.
+#[derive(Drop)]
+pub struct Driven {
+    pub settled: Totals,
+    pub given_up: u64,
+    pub drained: Option<Drained>,
+    pub device: Device,
+}
 
 /// Lets the senders run over a device at which nothing has arrived. `None` where an allocation fails, or a thread could not be
 /// started.
@@ -88,6 +96,15 @@ fn drive_seat<P: Ledger + Send + Sync, B: Ledger + Send + Sync, R: Threads + Wai
         Ok(loads) => drive_loads(rt, alloc, lock, seat, loads, settings),
         Err(_) => None,
     }
+}
+
+/// A gate at which no sender waits.
+pub struct FreeGate;
+
+impl Gate for FreeGate {
+    fn before_offer(&self, _port: u32, _nth: u64) {}
+
+    fn after_offer(&self, _port: u32, _nth: u64) {}
 }
 
 /// The same, with the loads of the senders in hand.

@@ -11,8 +11,8 @@ ghost use Rattle.q_show.specs.Written.{AppendsFront, IsBuffered};
 ghost use Rattle.q_drive.specs.Lengths.{most_amount, most_amount_line, most_drained, most_driven, most_given_up};
 ghost use Rattle.q_drive.specs.Texts.{amount_text, arrived_line, drained_text, driven_lines, driven_text, ending_text, given_up_line, memory_line, qdiscs, settled_line, shown_text, totals_line};
 
-use crate::drained::Drained;
-use crate::driven::Driven;
+use crate::draining::Drained;
+use crate::driving::Driven;
 use q_device::{Device, Refusal, Totals};
 use q_line::{Object, Show};
 use q_script::Output;

@@ -19,12 +19,9 @@
 //! come to, `specs/Drained.antt` what polls do that go on until no packet goes any more, and `specs/Reported.antt` what is written.
 #![tactic(auto)]
 
-mod drained;
 mod draining;
-mod driven;
 mod driving;
 mod ending;
-mod free_gate;
 mod loads;
 mod pace;
 mod run;

@@ -8,8 +8,7 @@ ghost use Rattle.q_script.specs.Reads.{no_reads};
 ghost use Rattle.q_show.specs.Writes.{no_writes, MayWrite, WriteFailed};
 ghost use Rattle.q_show.specs.Written.{AppendsFront};
 
-use crate::driven::Driven;
-use crate::driving::drive_device;
+use crate::driving::{Driven, drive_device};
 use crate::ending::write_ending;
 use crate::set_up::SetUp;
 use crate::settings::DriveSettings;

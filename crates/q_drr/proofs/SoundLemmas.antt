@@ -6,8 +6,8 @@ use Rattle.std.proofs.lemmas.List.{length-map, length_push}
 use Rattle.std.proofs.lemmas.List.Edits.{length-remove}
 use Rattle.std.proofs.lemmas.List.Elements.{All-append, All-drop, All-filter, All-head, All-push, All-take, All-weaker}
 use Rattle.std.proofs.lemmas.Option.{slice_get-map, slice_get-get_or}
-use Rattle.q_drr.specs.declared.class_state.ClassState.{ClassState}
-use Rattle.q_drr.specs.declared.turn.Turn.TheVariants.{Send, Granted}
+use Rattle.q_drr.specs.declared.class_table.ClassState.{ClassState}
+use Rattle.q_drr.specs.declared.active.Turn.TheVariants.{Send, Granted}
 use Rattle.q_drr.specs.Links.{Circle, is_among, without, moved_down}
 use Rattle.q_drr.specs.States.{NamedState, no_state, named, kept_of, name_in, names_in, has_state, place_of_state, state_of, with_state, without_state, class_in}
 use Rattle.q_drr.specs.Schedule.{Class, Schedule, place_of, name_at, front_of, woken, asleep, removed, added, with_quantum, turned, turn_answer, counted, IsLawful}

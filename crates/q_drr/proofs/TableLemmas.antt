@@ -6,7 +6,7 @@ use Rattle.std.specs.Map.{keys_of, values_of}
 use Rattle.std.proofs.lemmas.Bool.{or_parts}
 use Rattle.std.proofs.lemmas.List.{length-map}
 use Rattle.indexmap.specs.IndexMap.{insert_entry, set_value_at}
-use Rattle.q_drr.specs.declared.class_state.ClassState.{ClassState}
+use Rattle.q_drr.specs.declared.class_table.ClassState.{ClassState}
 use Rattle.q_drr.specs.States.{NamedState, no_state, name_in, named, named_entry, kept_of, has_state, place_of_state}
 
 -- the place of a key is that of the class with this name

@@ -12,8 +12,8 @@ use Rattle.q_packet.proofs.ChoiceLemmas.{sooner_within, sooner_past, sooner_firs
 use Rattle.q_packet.proofs.LeastLemmas.{least_here, least_later, least_is, least_le, least_holds, least_gt}
 use Rattle.q_drr.specs.Schedule.{Class, Entry, Schedule, has_class, quantum_of, after_grants, turn_answer, active_after, turned, counted, front_of, IsEntry, IsLawful}
 use Rattle.q_drr.specs.Take.{grants_for, need, needs, choice_of, granted, brought_up, turns_until, prepared, sent_by, sent_in, served, met_in, met}
-use Rattle.q_drr.specs.declared.met.Met.{Met}
-use Rattle.q_drr.specs.declared.turn.Turn.TheVariants.{Send, Granted}
+use Rattle.q_drr.specs.declared.take.Met.{Met}
+use Rattle.q_drr.specs.declared.active.Turn.TheVariants.{Send, Granted}
 use Rattle.std.proofs.lemmas.List.Elements.{All-push, All-head, All-tail, All-weaker}
 use Rattle.q_drr.proofs.LookupLemmas.{quantum_here, quantum_behind}
 

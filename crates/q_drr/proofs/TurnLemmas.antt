@@ -4,7 +4,7 @@ use Rattle.std.specs.Prelude.{if◌then◌else◌, slice_get, nat_le}
 use Rattle.std.proofs.lemmas.Bool.{le-leb, lt-leb}
 use Rattle.std.proofs.lemmas.List.{map-append}
 use Rattle.q_drr.specs.Links.{is_among}
-use Rattle.q_drr.specs.declared.turn.Turn.TheVariants.{Send, Granted}
+use Rattle.q_drr.specs.declared.active.Turn.TheVariants.{Send, Granted}
 use Rattle.q_drr.specs.States.{NamedState, has_state, state_of, with_state, class_in, entry_in}
 use Rattle.q_drr.specs.Schedule.{quantum_of, after_grants, turn_answer, turned, counted}
 use Rattle.q_drr.specs.Kept.{shown}

@@ -3,8 +3,8 @@
 use Rattle.std.specs.Prelude.{◌≡◌, ◌≢◌, ℕ, true, ◌+◌, ◌-◌, ◌*◌, ◌^◌, ◌<◌, ◌≤◌, min, Bool, not, ◌==◌, nat_le, if◌then◌else◌, List, [], ◌∷◌, ◌++◌, map, Option, option_map, slice_get}
 use Rattle.std.specs.List.{filter, find, list_any, position, All, AllPairs}
 use Rattle.std.specs.Option.{option_map_or}
-use Rattle.q_drr.specs.declared.turn.Turn.{Turn}
-use Rattle.q_drr.specs.declared.turn.Turn.TheVariants.{Send, Granted}
+use Rattle.q_drr.specs.declared.active.Turn.{Turn}
+use Rattle.q_drr.specs.declared.active.Turn.TheVariants.{Send, Granted}
 
 -- a class and the bytes of each of its grants
 pub record Class : Type 0 where

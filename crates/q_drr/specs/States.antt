@@ -3,7 +3,7 @@
 use Rattle.std.specs.Prelude.{ℕ, Bool, not, ◌==◌, if◌then◌else◌, List, map, Option, slice_index_or, unwrap_or}
 use Rattle.std.specs.List.{filter, find, list_any, position}
 use Rattle.q_drr.specs.Schedule.{Class, Entry}
-use Rattle.q_drr.specs.declared.class_state.ClassState.{ClassState}
+use Rattle.q_drr.specs.declared.class_table.ClassState.{ClassState}
 
 -- a class's name, with what is kept of it
 pub record NamedState : Type 0 where

@@ -4,7 +4,7 @@ use Rattle.std.specs.Prelude.{ℕ, suc, ◌+◌, ◌-◌, ◌*◌, nat_le, List,
 use Rattle.q_packet.specs.Choice.{Choice, choose}
 use Rattle.q_packet.specs.Least.{least}
 use Rattle.q_drr.specs.Schedule.{Entry, Schedule, quantum_of, after_grants, counted}
-use Rattle.q_drr.specs.declared.met.Met.{Met}
+use Rattle.q_drr.specs.declared.take.Met.{Met}
 
 -- how often a class is granted before its deficit covers its head; never where it shows nothing
 unfoldable pub grants_for : ℕ → ℕ → Option ℕ → ℕ

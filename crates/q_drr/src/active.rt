@@ -1,10 +1,8 @@
 ghost use Rattle.std.specs.Prelude.{◌≡◌, ℕ, ◌<◌, ◌≤◌, ◌+◌, IsTrue, OnOk, OnErr, false, length, is_some, option_and_then, ◌^◌};
 ghost use Rattle.q_drr.specs.Schedule.{Schedule, no_classes, has_class, place_of, name_at, quantum_of, is_active, deficit_of, granted_of, added, woken, asleep, removed, with_quantum, front_of, turn_answer, turned, IsLawful};
 
-use crate::class_state::ClassState;
-use crate::class_table::ClassTable;
+use crate::class_table::{ClassState, ClassTable};
 use crate::ring::Ring;
-use crate::turn::Turn;
 use std::alloc::{AllocError, Global};
 use std::marker::Model;
 
@@ -35,6 +33,15 @@ impl Model for Active {
     ghost view = { λ a. shown a.max_len a.turns a.table (names_in a.table a.ring.order) };
 
     ghost invariant = { λ a. IsSound a.max_len a.turns a.table a.ring };
+}
+
+/// What a turn did.
+#[derive(Clone, Copy, PartialEq, Eq, Debug)]
+pub enum Turn {
+    /// The deficit covers the head: it fell by the head's length, and the class is still in front.
+    Send,
+    /// It does not: the class got one quantum and went to the end of the list.
+    Granted,
 }
 
 impl Active {

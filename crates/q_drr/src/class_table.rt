@@ -2,7 +2,6 @@ ghost use Rattle.std.specs.Prelude.{◌≡◌, ◌<◌, length, [], ◌∷◌, �
 ghost use Rattle.std.specs.List.{remove};
 ghost use Rattle.q_drr.specs.States.{no_state, has_state, place_of_state, named, kept_of, name_in};
 
-use crate::class_state::ClassState;
 use indexmap::IndexMap;
 use std::alloc::{AllocError, Global};
 use std::marker::Model;
@@ -22,6 +21,17 @@ impl Model for ClassTable {
     ghost Value = { List NamedState };
 
     ghost view = { λ t. map named_entry t.states.entries };
+}
+
+/// What is kept of a class beside its name. Deficit and grants have a meaning only while the class is active.
+#[derive(Clone, Copy)]
+pub(crate) struct ClassState {
+    /// Bytes of one grant.
+    pub(crate) quantum: u32,
+    /// Bytes that it may send before its next grant.
+    pub(crate) deficit: u64,
+    /// Bytes granted since it became active.
+    pub(crate) granted: u64,
 }
 
 impl ClassTable {

@@ -4,8 +4,7 @@ ghost use Rattle.q_drr.specs.Changes.{EmptyIsLawful, AddedIsLawful, RemovedIsLaw
 ghost use Rattle.q_drr.specs.Stretch.{EachSendsItsShare, GrantsAreCounted, TurnsAreCounted, GrantsAreEven, SharesAreFair};
 ghost use Rattle.q_drr.specs.Turns.{TakesAreTurns, LeastNeedIsMet, ChosenIsMet, TurnsGrantWhereShort, TakesGrantWhereShort};
 
-pub use crate::met::Met;
-pub use crate::take::take_by_turns;
+pub use crate::take::{Met, take_by_turns};
 
 /// Over any interval of turns each class that is active sends, in bytes, its grants times its quantum and the deficit that
 /// it had at first, less the deficit that it has at last.

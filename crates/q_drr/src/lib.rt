@@ -44,13 +44,9 @@
 #![tactic(auto)]
 
 mod active;
-mod class_state;
 mod class_table;
 pub mod laws;
-mod met;
 mod ring;
 mod take;
-mod turn;
 
-pub use active::Active;
-pub use turn::Turn;
+pub use active::{Active, Turn};

@@ -1,9 +1,16 @@
 ghost use Rattle.std.specs.Prelude.{◌≡◌, ◌<◌, ◌≤◌, All, length, IfSome};
 ghost use Rattle.q_drr.specs.Take.{met, served, head_at};
 
-use crate::active::Active;
-use crate::met::Met;
-use crate::turn::Turn;
+use crate::active::{Active, Turn};
+
+/// What a whole take met.
+#[derive(Clone, Copy, PartialEq, Eq, Debug)]
+pub struct Met {
+    /// The class whose head is sent, or whose child shows nothing.
+    pub class: u16,
+    /// The length of the head that it sends.
+    pub head: Option<u16>,
+}
 
 /// Gives turns until a class sends its head, or a class is in front that shows nothing: what a drr does at one take.
 /// `heads` has what each class shows, by its name.

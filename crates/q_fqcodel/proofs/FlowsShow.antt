@@ -7,7 +7,7 @@ use Rattle.std.proofs.lemmas.Option.{none-some, slice_get-get_or, get_or_from_sl
 use Rattle.q_packet.specs.Descriptor.{Descriptor}
 use Rattle.q_packet.specs.declared.stamped.Stamped.{Stamped}
 use Rattle.q_codel.specs.Codel.{CodelState, drops, marks, leaving, taken}
-use Rattle.q_codel.specs.declared.taken.Taken.{Taken}
+use Rattle.q_codel.specs.declared.codel.Taken.{Taken}
 use Rattle.q_codel.proofs.Promises.{last_packet_stays_holds}
 use Rattle.q_fqcodel.specs.Entry.{Entry}
 use Rattle.q_fqcodel.specs.FqState.{Flow, FqState, is_idle, queue_of, queues, packets_of}

@@ -15,7 +15,6 @@ mod oldest;
 
 use crate::course::Course;
 use crate::flow_queue::send_late_from;
-use crate::late::Late;
 use crate::pool::Pool;
 use crate::sent::Sent;
 use crate::settings::Settings;
@@ -53,6 +52,10 @@ impl Model for Flows {
         × (f.winners ≡ sizes f.pool.queues)
         × (f.parameters.mtu ≡ f.mtu) };
 }
+
+/// CoDel finds the packet in front late, so that it has to drop or to mark: nothing was sent.
+#[derive(Clone, Copy, Debug)]
+pub struct Late;
 
 impl Flows {
     /// Empty flows, as many as the settings say, and with their settings of CoDel.

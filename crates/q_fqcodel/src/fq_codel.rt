@@ -3,7 +3,7 @@ ghost use Rattle.std.specs.Option.{option_map_or};
 ghost use Rattle.q_packet.specs.Totals.{count, size};
 ghost use Rattle.q_packet.specs.Descriptor.{Descriptor};
 ghost use Rattle.q_codel.specs.declared.front.Front.{Front as Read};
-ghost use Rattle.q_codel.specs.declared.taken.Taken.{Taken};
+ghost use Rattle.q_codel.specs.declared.codel.Taken.{Taken};
 ghost use Rattle.q_codel.specs.Losses.{AreLost};
 ghost use Rattle.q_packet.specs.declared.stamped.Stamped.{Stamped};
 
@@ -13,8 +13,7 @@ use crate::active_lists::ActiveLists;
 use crate::dropped::Dropped;
 use crate::entry::Entry;
 use crate::flow_list::FlowList;
-use crate::flows::Flows;
-use crate::late::Late;
+use crate::flows::{Flows, Late};
 use crate::link::Link;
 use crate::sent::Sent;
 use crate::settings::Settings;

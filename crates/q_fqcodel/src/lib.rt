@@ -62,7 +62,6 @@ mod flow_list;
 mod flow_queue;
 mod flows;
 mod fq_codel;
-mod late;
 pub mod laws;
 mod link;
 mod links;
@@ -75,7 +74,7 @@ mod settings;
 mod winners;
 
 pub use dropped::Dropped;
+pub use flows::Late;
 pub use fq_codel::FqCodel;
-pub use late::Late;
 pub use sent::Sent;
 pub use settings::Settings;

@@ -7,7 +7,7 @@ use Rattle.std.proofs.lemmas.List.{map-set, length-map}
 use Rattle.q_packet.specs.Descriptor.{Descriptor}
 use Rattle.q_drr.specs.Schedule.{Class, Entry, Schedule, is_active}
 use Rattle.q_drr.specs.Changes.{HeadsFit}
-use Rattle.q_drr.specs.declared.met.Met.{Met}
+use Rattle.q_drr.specs.declared.take.Met.{Met}
 use Rattle.q_drr.specs.Take.{choice_of}
 use Rattle.q_drr.proofs.ServedLemmas.{served_lawful, chosen_is_met}
 use Rattle.q_drr.proofs.DifferLemmas.{ClassesDiffer, EntriesDiffer, entries_apart, differ_from_pairs}

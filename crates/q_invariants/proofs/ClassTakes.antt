@@ -9,7 +9,7 @@ use Rattle.q_packet.specs.Descriptor.{Descriptor}
 use Rattle.q_drr.specs.Schedule.{Class, Entry, Schedule, is_active}
 use Rattle.q_drr.specs.Take.{choice_of}
 use Rattle.q_drr.specs.Turns.{bytes_at}
-use Rattle.q_drr.specs.declared.met.Met.{Met}
+use Rattle.q_drr.specs.declared.take.Met.{Met}
 use Rattle.q_drr.proofs.ServedLemmas.{chosen_is_met}
 use Rattle.q_drr.proofs.DifferLemmas.{EntriesDiffer}
 use Rattle.q_model.specs.Node.{Forest, each}

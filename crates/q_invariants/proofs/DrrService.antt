@@ -11,7 +11,7 @@ use Rattle.q_packet.specs.Choice.{Choice}
 use Rattle.q_packet.specs.Descriptor.{Descriptor}
 use Rattle.q_drr.specs.Schedule.{Class, Entry, Schedule}
 use Rattle.q_drr.specs.Changes.{HeadsFit}
-use Rattle.q_drr.specs.declared.met.Met.{Met}
+use Rattle.q_drr.specs.declared.take.Met.{Met}
 use Rattle.q_drr.proofs.DifferLemmas.{EntriesDiffer}
 use Rattle.q_model.specs.Tally.{Note, Granted}
 use Rattle.q_model.specs.Beneath.{beneath}

@@ -7,7 +7,7 @@ use Rattle.std.proofs.lemmas.Int.{ints}
 use Rattle.std.proofs.lemmas.Option.{none-some, same_Some}
 use Rattle.std.proofs.lemmas.List.Sums.{sum_by-cons}
 use Rattle.q_packet.specs.Descriptor.{Descriptor}
-use Rattle.q_codel.specs.declared.taken.Taken.{Taken}
+use Rattle.q_codel.specs.declared.codel.Taken.{Taken}
 use Rattle.q_fqcodel.specs.Entry.{Entry}
 use Rattle.q_fqcodel.specs.FqState.{FqState}
 use Rattle.q_fqcodel.specs.Lawful.{times, IsLawful}

@@ -11,7 +11,7 @@ use Rattle.q_packet.specs.Choice.{Choice, choose}
 use Rattle.q_packet.specs.Descriptor.{Descriptor}
 use Rattle.q_drr.specs.Schedule.{Class, Entry, Schedule, IsEntry, IsLawful, quantum_of}
 use Rattle.q_drr.specs.Take.{choice_of, need, needs, prepared, served, met_in}
-use Rattle.q_drr.specs.declared.met.Met.{Met}
+use Rattle.q_drr.specs.declared.take.Met.{Met}
 use Rattle.q_drr.proofs.ServedLemmas.{chosen_is_met}
 use Rattle.q_drr.proofs.TakeLemmas.{Front, choice_ready, prepared_ready, prepared_empty, need_at, served_nothing, served_nobody, met_nobody}
 use Rattle.q_model.specs.declared.filter.Filter.{Filter}

@@ -7,7 +7,7 @@ use Rattle.q_packet.specs.Descriptor.{Descriptor}
 use Rattle.q_packet.specs.declared.ecn.Ecn.TheVariants.{Ce, NotEct}
 use Rattle.q_packet.specs.declared.stamped.Stamped.{Stamped}
 use Rattle.q_codel.specs.Codel.{drops, marks, leaving}
-use Rattle.q_codel.specs.declared.taken.Taken.{Taken}
+use Rattle.q_codel.specs.declared.codel.Taken.{Taken}
 use Rattle.q_fqcodel.specs.Cleared.{adjust}
 use Rattle.q_fqcodel.specs.Entry.{Entry}
 use Rattle.q_fqcodel.specs.FqState.{Flow, FqState, queues, is_idle, all_packets}

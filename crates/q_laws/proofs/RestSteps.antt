@@ -6,7 +6,7 @@ use Rattle.std.proofs.lemmas.List.Sums.{sum_by-append}
 use Rattle.std.proofs.lemmas.Option.{same_Some}
 use Rattle.q_packet.specs.Descriptor.{Descriptor}
 use Rattle.q_packet.specs.declared.cause.Cause.TheVariants.{Purged}
-use Rattle.q_codel.specs.declared.taken.Taken.{Taken}
+use Rattle.q_codel.specs.declared.codel.Taken.{Taken}
 use Rattle.q_fqcodel.specs.FqState.{FqSettings, Flow, FqState, retuned}
 use Rattle.q_fqcodel.specs.FqState as flows
 use Rattle.q_fqcodel.specs.Put.{flow_of, joined, shortened, appended, overflow, fattest, cut_back, after_put}

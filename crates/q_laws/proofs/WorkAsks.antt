@@ -8,11 +8,11 @@ use Rattle.std.proofs.lemmas.List.Quantifiers.{position-Some}
 use Rattle.std.proofs.lemmas.Option.{none-some, same_Some, get_or_from_slice_get}
 use Rattle.q_packet.specs.Descriptor.{Descriptor}
 use Rattle.q_packet.specs.declared.stamped.Stamped.{Stamped}
-use Rattle.q_codel.specs.declared.taken.Taken.{Taken}
+use Rattle.q_codel.specs.declared.codel.Taken.{Taken}
 use Rattle.q_drr.specs.Schedule.{Class, Entry, Schedule, IsEntry, IsLawful, has_class, is_active}
 use Rattle.q_drr.specs.Changes.{HeadsFit}
 use Rattle.q_drr.specs.Take.{choice_of, prepared, served}
-use Rattle.q_drr.specs.declared.met.Met.{Met}
+use Rattle.q_drr.specs.declared.take.Met.{Met}
 use Rattle.q_drr.proofs.ServedLemmas.{chosen_is_met, served_lawful}
 use Rattle.q_drr.proofs.TakeLemmas.{served_nobody}
 use Rattle.q_fqcodel.specs.FqState.{FqState, all_packets}

@@ -7,13 +7,13 @@ use Rattle.q_packet.specs.Descriptor.{Descriptor}
 use Rattle.q_packet.specs.declared.stamped.Stamped.{Stamped}
 use Rattle.q_packet.specs.declared.cause.Cause.TheVariants.{CoDel}
 use Rattle.q_codel.specs.declared.limit.Limit.{Limit}
-use Rattle.q_codel.specs.declared.taken.Taken.{Taken}
+use Rattle.q_codel.specs.declared.codel.Taken.{Taken}
 use Rattle.q_fqcodel.specs.FqState.{FqState}
 use Rattle.q_fqcodel.specs.Take.{selected, head_sent, sent_from, dropped_from, after_sending}
 use Rattle.q_bucket.specs.Level.{TokenBucket, allows, after_spend}
 use Rattle.q_drr.specs.Schedule.{Class, Entry, Schedule}
 use Rattle.q_drr.specs.Take.{choice_of, met, served}
-use Rattle.q_drr.specs.declared.met.Met.{Met}
+use Rattle.q_drr.specs.declared.take.Met.{Met}
 use Rattle.q_model.specs.Tally.{Note, Sent, Marked, Spent}
 use Rattle.q_model.specs.Node.{Discipline, Fifo, Prio, Tbf, Drr, FqCodel, Own, Shape, from_below}
 use Rattle.q_model.specs.Since.{at_hand_since, since_of}

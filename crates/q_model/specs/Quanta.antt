@@ -1,7 +1,7 @@
 -- What an fq_codel notes of its flows at a take: the quanta that each was given, and the bytes that the one in front hands out.
 -- RFC 8290, section 4.2.
 use Rattle.std.specs.Prelude.{List, [], ◌∷◌, ◌++◌, map, Option, Some, None}
-use Rattle.q_codel.specs.declared.taken.Taken.{Taken}
+use Rattle.q_codel.specs.declared.codel.Taken.{Taken}
 use Rattle.q_fqcodel.specs.Entry.{Entry}
 use Rattle.q_fqcodel.specs.FqState.{FqState}
 use Rattle.q_fqcodel.specs.QuantaGiven.{Grant, grants}

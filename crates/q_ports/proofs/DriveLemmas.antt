@@ -7,7 +7,7 @@ use Rattle.std.specs.Prelude.{sum_by}
 use Rattle.std.specs.List.{fold}
 use Rattle.q_packet.specs.Descriptor.{Descriptor}
 use Rattle.q_ports.specs.declared.sender.Sent.{Sent}
-use Rattle.q_ports.specs.declared.started.Started.{Started}
+use Rattle.q_ports.specs.declared.driving.Started.{Started}
 use Rattle.q_ports.specs.Driven.{AllOffered, AreBack, Drove, port_in, promised_load, promised_port}
 use Rattle.q_ports.specs.Offered.{Offer, Offered, given_up_in, offering, packet_in}
 use Rattle.q_ports.specs.Placed.{PortSeen, port_seen, ring_of_port}

@@ -4,9 +4,9 @@ use Rattle.std.specs.Prelude.{◌≡◌, ℕ, ◌<◌, ◌≤◌, ◌-◌, ◌^�
 use Rattle.std.specs.declared.alloc.Global.{Global}
 use Rattle.q_packet.specs.Descriptor.{Descriptor}
 use Rattle.q_model.specs.declared.totals.Totals.{Totals}
-use Rattle.q_ports.specs.declared.sender_room.SenderRoom.{SenderRoom}
+use Rattle.q_ports.specs.declared.driving.SenderRoom.{SenderRoom}
 use Rattle.q_ports.specs.declared.sender.Sent.{Sent}
-use Rattle.q_ports.specs.declared.started.Started.{Started}
+use Rattle.q_ports.specs.declared.driving.Started.{Started}
 use Rattle.q_ports.specs.Collected.{CollectedBySome}
 use Rattle.q_ports.specs.DriveTurns.{HasTurned}
 use Rattle.q_ports.specs.Offered.{Offered}

@@ -8,14 +8,11 @@ ghost use Rattle.q_ports.specs.Rings.{received_from, ring_id, AreBeginnings};
 
 use crate::booked::Booked;
 use crate::drain::Drain;
-use crate::driven::Driven;
 use crate::ended::Ended;
 use crate::gate::Gate;
 use crate::port::Port;
 use crate::sender::{Sends, Sent, keep, send};
-use crate::sender_room::SenderRoom;
-use crate::started::Started;
-use crate::turn_moments::TurnMoments;
+use crate::settled::Settled;
 use crate::unsettled::Unsettled;
 use q_packet::{Moment, Packet};
 use std::alloc::{AllocError, Global};
@@ -24,10 +21,17 @@ use std::snapshot::Snapshot;
 use std::sync::ledger::Ledger;
 use std::sync::{Mutex, Wait};
 use std::thread;
-use std::thread::{Scope, Threads};
+use std::thread::{PromisedHandle, Scope, Threads};
 
 /// The most packets that a turn of `drive` takes.
 const MOST: usize = 64;
+
+/// What [`drive`](crate::drive) did: the settled drain, and how many packets of the loads were given up, since no port took them.
+#[derive(Drop)]
+pub struct Driven<P: Ledger, B: Ledger> {
+    pub settled: Settled<P, B>,
+    pub given_up: u64,
+}
 
 /// Runs a sender for each port while the caller's thread takes turns of the drain, and then settles. May wait for the lock, for gauges and for the
 /// senders' threads, all of which are joined.
@@ -106,6 +110,13 @@ fn unsettled<P: Ledger, B: Ledger>(drain: Drain<P, B>, ports: Vec<Port>) -> Unse
         drain: Drain { intake, publisher },
         ports,
     }
+}
+
+/// Room for senders, and for what they hand back.
+#[derive(Drop)]
+pub(crate) struct SenderRoom {
+    pub(crate) started: Vec<Started>,
+    pub(crate) sent: Vec<Sent>,
 }
 
 // Room for so many senders and what they hand back, and for their ports.
@@ -197,6 +208,13 @@ fn promise(port: &Port, load: &Vec<Packet>, tries: u64) -> Sends
         load: Snapshot::of(load),
         tries,
     }
+}
+
+/// A sender: its thread, or what it hands back where there could be none.
+#[derive(Drop)]
+pub struct Started {
+    pub promise: Sends,
+    pub work: Result<PromisedHandle<Sent, Sends>, Sent>,
 }
 
 // Starts a sender in a thread of its own. Where there is none, it offers nothing.
@@ -305,6 +323,13 @@ fn join_all<R: Threads>(rt: &R, started: Vec<Started>, room: Vec<Sent>) -> Vec<S
         sent.push_reserved(join(rt, sender));
     }
     sent
+}
+
+/// The times of turns: the first, and how many nanoseconds come between two.
+#[derive(Clone, Copy)]
+pub(crate) struct TurnMoments {
+    pub(crate) start: Moment,
+    pub(crate) step: u64,
 }
 
 // Takes turns until so many senders have ended.

@@ -7,7 +7,6 @@ ghost use Rattle.q_ports.specs.Placed.{bytes_in, placed_by, placing, port_seen, 
 ghost use Rattle.rtrb.specs.Ring.{known_items, producer_capacity, received, sent, ConsumerLooked};
 
 use crate::batch::{free_places, keep_batch, numbered, with_packet, write_batch};
-use crate::full::Full;
 use crate::ring_rule::{PacketConsumer, PacketProducer};
 use q_device::Totals as Share;
 use q_packet::{KeptPacket, Packet, SOME_KEPT};
@@ -41,6 +40,10 @@ impl Model for Port {
 
     ghost invariant = { λ p. p.share ≡ totals_in (sent p.ring) };
 }
+
+/// The packet that a port did not place, as it was offered.
+#[derive(Clone, Copy, PartialEq, Eq, Debug)]
+pub struct Full(pub Packet);
 
 impl Port {
     /// A port of a ring in which nothing was placed.

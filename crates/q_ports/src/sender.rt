@@ -1,9 +1,8 @@
 ghost use Rattle.std.specs.Prelude.{◌≡◌, ℕ, ◌≤◌, true, false, OnOk, OnErr, IfErr};
 ghost use Rattle.q_ports.specs.Offered.{MayBeFull, Offered, OffersOne};
 
-use crate::full::Full;
 use crate::gate::Gate;
-use crate::port::Port;
+use crate::port::{Full, Port};
 use q_packet::Packet;
 use std::snapshot::Snapshot;
 use std::thread;

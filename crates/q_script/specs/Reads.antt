@@ -3,7 +3,7 @@
 use Rattle.std.specs.Prelude.{◌≡◌, ◌⊎◌, ◌<◌, ◌+◌, None, Some, true, false}
 use Rattle.std.specs.declared.io.ErrorKind.{ErrorKind}
 use Rattle.std.specs.declared.io.ErrorKind.TheVariants.{Interrupted}
-use Rattle.q_script.specs.declared.reads.Reads.{Reads}
+use Rattle.q_script.specs.declared.source.Reads.{Reads}
 
 abbrev pub no_reads : Reads
 no_reads = record { count = 0; interrupted = 0; ended = false; failure = None }

@@ -3,7 +3,6 @@ ghost use Rattle.std.specs.Io.{ReadsAtMost};
 ghost use Rattle.std.specs.Io.KnownBytes.{ReadConsumes};
 ghost use Rattle.q_script.specs.Reads.{MayRead, no_reads, after_bytes, after_end, after_interruption, after_failure};
 
-use crate::reads::Reads;
 use std::io::{ErrorKind, Read};
 
 /// A reader of which no read is made after one that failed or brought no byte. It keeps how its reads ended.
@@ -11,6 +10,19 @@ use std::io::{ErrorKind, Read};
 pub struct Source<'a, R> {
     reader: &'a mut R,
     reads: Reads,
+}
+
+/// How the reads of a [`Source`](crate::Source) ended.
+#[derive(Clone, Copy, PartialEq, Eq, Debug)]
+pub struct Reads {
+    /// How many reads were made, interrupted ones counted.
+    pub(crate) count: u32,
+    /// How many of them were interrupted.
+    pub(crate) interrupted: u32,
+    /// Whether the last one brought no byte: the end.
+    pub(crate) ended: bool,
+    /// The kind of the read that failed. An interrupted read is no failure.
+    pub(crate) failure: Option<ErrorKind>,
 }
 
 impl<'a, R: Read> Source<'a, R> {

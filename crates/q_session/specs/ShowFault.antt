@@ -4,8 +4,8 @@ use Rattle.std.specs.Prelude.{◌≡◌, ℕ, List, Option, Result, OnOk, Err}
 use Rattle.std.specs.Io.KnownBytes.{Appends, Keeps}
 use Rattle.std.specs.declared.io.ErrorKind.{ErrorKind}
 use Rattle.q_show.specs.Written.{AppendsFront}
-use Rattle.q_session.specs.declared.show_fault.ShowFault.{ShowFault}
-use Rattle.q_session.specs.declared.show_fault.ShowFault.TheVariants as fault
+use Rattle.q_session.specs.declared.show.ShowFault.{ShowFault}
+use Rattle.q_session.specs.declared.show.ShowFault.TheVariants as fault
 
 -- old and new are the bytes of the writer, before and after
 pub record IsShown (result : Result (Unit {0}) ShowFault) (old new : Option (List ℕ)) (text : List ℕ) : Type 0 where

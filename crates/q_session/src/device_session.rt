@@ -11,8 +11,7 @@ ghost use Rattle.q_session.specs.Session.{opened, seen, IsShort};
 ghost use Rattle.q_show.specs.Writes.{MayWrite, WriteFailed};
 ghost use Rattle.q_show.specs.Written.{AppendsFront, IsBuffered};
 
-use crate::line_note::LineNote;
-use crate::notes::Notes;
+use crate::notes::{LineNote, Notes};
 use crate::showing::put_show;
 use crate::text::{put_device, put_fault, put_lost, put_poll, put_refusal};
 use q_device::{Command, Device, Kind, Refusal, Settings};

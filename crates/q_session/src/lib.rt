@@ -28,22 +28,16 @@
 #![tactic(auto)]
 
 mod device_session;
-mod line_note;
 mod listed;
-mod noted_line;
 mod notes;
 mod running;
 mod show;
-mod show_fault;
 mod showing;
 mod text;
 
 pub use device_session::DeviceSession;
-pub use line_note::LineNote;
-pub use noted_line::NotedLine;
-pub use notes::Notes;
+pub use notes::{LineNote, NotedLine, Notes};
 pub use running::{run, run_between, run_session};
-pub use show::{show_classes, show_filters, show_qdiscs};
-pub use show_fault::ShowFault;
+pub use show::{ShowFault, show_classes, show_filters, show_qdiscs};
 pub use showing::put_show;
 pub use text::put_device;

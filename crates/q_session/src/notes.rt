@@ -1,10 +1,33 @@
 ghost use Rattle.std.specs.Prelude.{◌≡◌};
 
-use crate::line_note::LineNote;
-use crate::noted_line::NotedLine;
-use q_words::{cut_word, skip_blanks};
+use q_device::Refusal;
+use q_words::{LineFault, cut_word, skip_blanks};
 use std::alloc::{AllocError, Global};
 use std::marker::Model;
+
+/// What is noted of a line.
+#[derive(Clone, Copy, PartialEq, Eq, Debug)]
+pub enum LineNote {
+    /// It was not done, since it cannot be read.
+    Fault(LineFault),
+    /// It was not done: its command was refused, or the allocation for its packet failed.
+    Refusal(Refusal),
+    /// It was done, and gives a tbf a burst of fewer bytes than the device's mtu, which is this.
+    SmallBurst { mtu: u16 },
+    /// It was done, and names another device than a line before it.
+    OtherDevice,
+}
+
+/// A line that was not done, or of which something else is noted.
+#[derive(Debug, Drop)]
+pub struct NotedLine {
+    /// Its number, counted from 1.
+    pub number: u64,
+    /// Its bytes, without its newline.
+    pub text: Vec<u8>,
+    /// What is noted of it.
+    pub note: LineNote,
+}
 
 /// What is noted of the lines of a script, in their order: how many were not done, and, where lines are kept, each of these and each
 /// that does what its writer may not want. A contract sees that number alone: the lines are for people.

@@ -12,14 +12,26 @@ ghost use Rattle.q_show.specs.Writes.{MayWrite};
 ghost use Rattle.q_show.specs.Written.{AppendsFront};
 ghost use Rattle.q_tree.specs.TreeSeen.{numbers, tree_numbers};
 
-use crate::show_fault::ShowFault;
 use crate::showing::put_show;
 use q_line::{Object, Show};
 use q_script::Output;
 use q_show::{Target, WriteFault};
 use q_tree::Tree;
 use std::alloc::Global;
-use std::io::Write;
+use std::io::{ErrorKind, Write};
+use thiserror::Error;
+
+/// Why a show text was not written whole.
+#[derive(Clone, Copy, PartialEq, Eq, Debug, Error)]
+pub enum ShowFault {
+    /// A write failed in this way (`WriteZero`: it took no byte), or was interrupted once too often. The writer has a front of
+    /// the text, and not all of it.
+    #[error("the text cannot be written: {0}")]
+    Write(ErrorKind),
+    /// The allocation for the text failed. Nothing was written.
+    #[error("memory is refused")]
+    Memory,
+}
 
 /// Writes each qdisc from the root down, a line each (tc(8), `qdisc show`), and behind it its counters where they are asked for
 /// (`tc -s`).

@@ -13,9 +13,9 @@ use Rattle.q_model.specs.Tally.{Counts, totals}
 use Rattle.q_script.specs.Script.{lines_of}
 use Rattle.q_words.specs.declared.line_fault.LineFault.{LineFault}
 use Rattle.q_setup.specs.Naming.{names_chosen}
-use Rattle.q_setup.specs.declared.undone.Undone.{Undone}
-use Rattle.q_setup.specs.declared.why.Why.{Why}
-use Rattle.q_setup.specs.declared.why.Why.TheVariants as why
+use Rattle.q_setup.specs.declared.trial.Undone.{Undone}
+use Rattle.q_setup.specs.declared.trial.Why.{Why}
+use Rattle.q_setup.specs.declared.trial.Why.TheVariants as why
 
 -- what the lines so far have made of the device, how many they were, which of them it did not do, the commands of those that it
 -- did, and whether one of them names a number that a device chooses

@@ -35,10 +35,7 @@ mod report;
 mod seen;
 mod setting_up;
 mod trial;
-mod undone;
-mod why;
 
 pub use report::Report;
 pub use setting_up::set_up;
-pub use undone::Undone;
-pub use why::Why;
+pub use trial::{Undone, Why};

@@ -1,4 +1,4 @@
-use crate::undone::Undone;
+use crate::trial::Undone;
 use q_model::{Command, Refusal};
 
 /// What setting up a device came to.

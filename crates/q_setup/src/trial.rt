@@ -9,8 +9,6 @@ ghost use Rattle.q_setup.specs.Trying.{seen};
 
 use crate::adding::add;
 use crate::naming::names_chosen;
-use crate::undone::Undone;
-use crate::why::Why;
 use q_device::Device;
 use q_line::{Line, read_line};
 use q_model::{Command, Refusal, Settings};
@@ -31,6 +29,26 @@ pub(crate) struct Trial {
     pub(crate) commands: Vec<Command>,
     /// Whether a line names a number that a device chooses.
     pub(crate) names_chosen: bool,
+}
+
+/// A line of a set-up file that is not done.
+#[derive(Clone, Copy, PartialEq, Eq, Debug)]
+pub struct Undone {
+    /// Its number, from 1.
+    pub line: u64,
+    /// Why it is not done.
+    pub why: Why,
+}
+
+/// Why a line of a set-up file is not done.
+#[derive(Clone, Copy, PartialEq, Eq, Debug)]
+pub enum Why {
+    /// It is no line of the language.
+    Fault(LineFault),
+    /// A new device with the same settings, which has done the lines before it, refuses it.
+    Refusal(Refusal),
+    /// It is no line that changes a tree, as a packet, a poll or a show line.
+    NoCommand,
 }
 
 /// Tries the lines of a file on a new device with these settings, which records nothing.

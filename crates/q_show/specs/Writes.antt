@@ -3,7 +3,7 @@
 use Rattle.std.specs.Prelude.{◌≡◌, ◌⊎◌, ℕ, ◌+◌, ◌≤◌, None, Some}
 use Rattle.std.specs.declared.io.ErrorKind.{ErrorKind}
 use Rattle.std.specs.declared.io.ErrorKind.TheVariants.{Interrupted}
-use Rattle.q_show.specs.declared.writes.Writes.{Writes}
+use Rattle.q_show.specs.declared.target.Writes.{Writes}
 
 abbrev pub no_writes : Writes
 no_writes = record { taken = 0; interrupted = 0; failure = None }

@@ -26,12 +26,10 @@ mod showing;
 mod target;
 mod text;
 mod write_fault;
-mod writes;
 
 pub use address::put_address;
 pub use hexadecimal::Hexadecimal;
 pub use showing::{class_text, counters_text, filter_text, qdisc_text};
-pub use target::Target;
+pub use target::{Target, Writes};
 pub use text::Text;
 pub use write_fault::{WriteFault, write_whole};
-pub use writes::Writes;

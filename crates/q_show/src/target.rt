@@ -5,7 +5,6 @@ ghost use Rattle.q_show.specs.Writes.{MayWrite, WriteFailed, no_writes, after_by
 ghost use Rattle.q_show.specs.Written.{AppendsFront};
 
 use crate::write_fault::WriteFault;
-use crate::writes::Writes;
 use std::io::{ErrorKind, Write};
 
 /// How many writes of one text may be interrupted.
@@ -16,6 +15,17 @@ const MAX_INTERRUPTS: u32 = 16_777_216;
 pub struct Target<'a, W> {
     writer: &'a mut W,
     writes: Writes,
+}
+
+/// How the writes of a [`Target`](crate::Target) ended.
+#[derive(Clone, Copy, PartialEq, Eq, Debug)]
+pub struct Writes {
+    /// How many bytes of the latest text were taken.
+    pub(crate) taken: usize,
+    /// How many writes of the latest text were interrupted.
+    pub(crate) interrupted: u32,
+    /// The kind of the write that failed, `WriteZero` for one that took no byte. An interrupted write is no failure.
+    pub(crate) failure: Option<ErrorKind>,
 }
 
 impl<'a, W: Write> Target<'a, W> {

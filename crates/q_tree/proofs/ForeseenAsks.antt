@@ -10,7 +10,7 @@ use Rattle.q_packet.specs.declared.stamped.Stamped.{Stamped}
 use Rattle.q_bucket.specs.Level.{TokenBucket, allows}
 use Rattle.q_drr.specs.Schedule.{Entry, Schedule, IsLawful}
 use Rattle.q_drr.specs.Take.{met_in}
-use Rattle.q_drr.specs.declared.met.Met.{Met}
+use Rattle.q_drr.specs.declared.take.Met.{Met}
 use Rattle.q_drr.proofs.TakeLemmas.{Front, prepared_ready, prepared_empty, need_at}
 use Rattle.q_fqcodel.specs.FqState as fq
 use Rattle.q_fqcodel.specs.FqState.{FqState}

@@ -7,7 +7,7 @@ use Rattle.q_codel.specs.Losses.{SinkState}
 use Rattle.q_drr.specs.Schedule as drr
 use Rattle.q_drr.specs.Schedule.{Entry, Schedule, front_of}
 use Rattle.q_drr.specs.Take.{choice_of, prepared}
-use Rattle.q_drr.specs.declared.met.Met.{Met}
+use Rattle.q_drr.specs.declared.take.Met.{Met}
 use Rattle.q_drr.proofs.ServingLemmas.{serving_nobody}
 use Rattle.q_drr.proofs.TakeLemmas.{empty_front, met_nobody, served_nobody, prepared_empty}
 use Rattle.q_model.specs.Ask.{Asked, ask_drr, peeked_classes, service_of, place_met, gives_nothing, class_serves}

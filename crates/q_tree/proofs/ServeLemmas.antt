@@ -13,8 +13,8 @@ use Rattle.q_codel.proofs.SinkLemmas.{told_nothing}
 use Rattle.q_drr.specs.Schedule as drr
 use Rattle.q_drr.specs.Schedule.{Entry, Schedule, has_class, place_of, front_of, is_active, quantum_of, turned, turn_answer, IsEntry}
 use Rattle.q_drr.specs.Take.{choice_of, need, prepared}
-use Rattle.q_drr.specs.declared.met.Met.{Met}
-use Rattle.q_drr.specs.declared.turn.Turn.TheVariants.{Send, Granted}
+use Rattle.q_drr.specs.declared.take.Met.{Met}
+use Rattle.q_drr.specs.declared.active.Turn.TheVariants.{Send, Granted}
 use Rattle.q_drr.proofs.ServingLemmas.{IsServing, IsCome, serving_start, serving_front, serving_granted, serving_ends}
 use Rattle.q_drr.proofs.TakeLemmas.{Front, come_to, covers, falls_short, front_is, front_quantum, measure_falls, met_at, served_nothing, served_head}
 use Rattle.q_model.specs.declared.totals.Totals.{Totals}

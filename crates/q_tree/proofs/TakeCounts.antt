@@ -7,7 +7,7 @@ use Rattle.std.proofs.lemmas.List.Elements.{filter_map-append}
 use Rattle.q_packet.specs.Descriptor.{Descriptor}
 use Rattle.q_packet.specs.declared.cause.Cause.TheVariants.{CoDel}
 use Rattle.q_codel.specs.Losses as codel
-use Rattle.q_codel.specs.declared.taken.Taken.{Taken}
+use Rattle.q_codel.specs.declared.codel.Taken.{Taken}
 use Rattle.q_codel.specs.Losses.{IsTold, SinkState}
 use Rattle.q_fqcodel.specs.FqState.{FqState, packets_of, bytes_of, all_packets}
 use Rattle.q_fqcodel.specs.Take.{selected, sent_from, dropped_from, after_sending}

@@ -5,7 +5,7 @@ use Rattle.q_packet.specs.Key.{zero_key}
 use Rattle.q_packet.specs.declared.ecn.Ecn.{Ecn}
 use Rattle.q_packet.specs.declared.ecn.Ecn.TheVariants.{NotEct, Ect1, Ect0, Ce}
 use Rattle.q_packet.specs.declared.stamped.Stamped.{Stamped}
-use Rattle.q_codel.specs.declared.taken.Taken.{Taken}
+use Rattle.q_codel.specs.declared.codel.Taken.{Taken}
 use Rattle.q_codel.specs.Gap.{gap_of}
 use Rattle.q_codel.specs.Codel.{CodelState, at_first, rested, is_capable, drops, marks, taken, left, after}
 use Rattle.q_codel.proofs.Root.{gap_of_is}

@@ -1,7 +1,7 @@
 -- Worked examples of the definitions, by computation.
 use Rattle.std.proofs.Common.{◌≡◌, [], ◌∷◌, Some, None, refl}
 use Rattle.std.specs.Prelude.{◌-◌, ◌^◌}
-use Rattle.q_drr.specs.declared.turn.Turn.TheVariants.{Send, Granted}
+use Rattle.q_drr.specs.declared.active.Turn.TheVariants.{Send, Granted}
 use Rattle.q_drr.specs.Schedule.{Schedule, no_classes, place_of, name_at, added, woken, asleep, removed, with_quantum, turned, turn_answer, deficit_of, granted_of}
 use Rattle.q_drr.specs.Take.{grants_for, served, met, head_at}
 use Rattle.q_drr.specs.Stretch.{after_turns, grants, sent}

@@ -6,7 +6,7 @@ use Rattle.q_packet.specs.Key.{zero_key}
 use Rattle.q_packet.specs.Descriptor.{Descriptor}
 use Rattle.q_packet.specs.declared.ecn.Ecn.TheVariants.{NotEct}
 use Rattle.q_packet.specs.declared.stamped.Stamped.{Stamped}
-use Rattle.q_codel.specs.declared.taken.Taken.{Taken}
+use Rattle.q_codel.specs.declared.codel.Taken.{Taken}
 use Rattle.q_fqcodel.specs.Cleared.{adjust}
 use Rattle.q_fqcodel.specs.FqState.{FqSettings, Flow, FqState, all_packets, first_state, after_change}
 use Rattle.q_fqcodel.specs.Put.{is_lost_itself, after_put, lost_by_put}

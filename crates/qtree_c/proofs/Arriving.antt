@@ -10,7 +10,7 @@ use Rattle.q_device.specs.Bursts as bursts
 use Rattle.q_device.specs.Bursts.{arrival, arrived_by, fate_in}
 use Rattle.q_device.specs.DeviceSeen.{DeviceSeen}
 use Rattle.q_device.specs.Events.{after_event, reply_to}
-use Rattle.q_device.specs.declared.stopped.Stopped.TheVariants.{Memory, OutOfRange}
+use Rattle.q_device.specs.declared.bursts.Stopped.TheVariants.{Memory, OutOfRange}
 use Rattle.qtree_c.specs.Folds.{IsArrivals, fates_by}
 use Rattle.qtree_c.specs.Structs.{IsPacket, zero_packet}
 

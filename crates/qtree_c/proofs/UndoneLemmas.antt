@@ -2,7 +2,7 @@
 use Rattle.std.proofs.Common.{◌≡◌, ℕ, zero, suc, ◌+◌, ◌<◌, ◌≤◌, List, [], ◌∷◌, ◌++◌, refl, sym, ap, ap₂, subst, ◌∙◌, arith, Some, None}
 use Rattle.std.specs.Prelude.{drop, length, map, set, slice_get, take}
 use Rattle.std.proofs.lemmas.List.{length-map, take_all}
-use Rattle.q_setup.specs.declared.undone.Undone.{Undone}
+use Rattle.q_setup.specs.declared.trial.Undone.{Undone}
 use Rattle.qtree_c.specs.SettingUp.{told_undone, undone_of}
 use Rattle.qtree_c.specs.declared.c_undone.CUndone.{CUndone}
 use Rattle.q_device.proofs.PlaceLemmas.{filled-more, next-taken, some-left, none-left, map-more, length-taken, all-dropped}

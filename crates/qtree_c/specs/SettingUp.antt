@@ -9,9 +9,9 @@ use Rattle.q_model.specs.declared.event.Event.{Event}
 use Rattle.q_model.specs.declared.event.Event.TheVariants as event
 use Rattle.q_model.specs.Step.{counts_at}
 use Rattle.q_script.specs.Script.{lines_of}
-use Rattle.q_setup.specs.declared.undone.Undone.{Undone}
-use Rattle.q_setup.specs.declared.why.Why.{Why}
-use Rattle.q_setup.specs.declared.why.Why.TheVariants as why
+use Rattle.q_setup.specs.declared.trial.Undone.{Undone}
+use Rattle.q_setup.specs.declared.trial.Why.{Why}
+use Rattle.q_setup.specs.declared.trial.Why.TheVariants as why
 use Rattle.q_setup.specs.Done.{AreAccepted, after_commands}
 use Rattle.q_setup.specs.Effects.{additions, changes, deletions}
 use Rattle.q_setup.specs.SetUp.{HasAlready, IsSetUp, wanted}

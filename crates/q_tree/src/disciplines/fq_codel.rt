@@ -1,7 +1,7 @@
 //! fq_codel: how one is made, enqueues, dequeues, shows its packet, is ready, and changes (tc-fq_codel(8)).
 ghost use Rattle.std.specs.Prelude.{◌≡◌, ◌<◌, ◌≤◌, ◌+◌, IfOk, IsOk, List, None, OnErr, OnOk, Some, option_map, unwrap_or, if◌then◌else◌};
 ghost use Rattle.q_fqcodel.specs.FqState.{first_state, packets_of};
-ghost use Rattle.q_codel.specs.declared.taken.Taken.{Taken};
+ghost use Rattle.q_codel.specs.declared.codel.Taken.{Taken};
 ghost use Rattle.q_codel.specs.Losses.{AreLost};
 ghost use Rattle.q_fqcodel.specs.Take.{IsFrontLate, after_sending, dropped_from, head_sent, selected, sent_from};
 ghost use Rattle.q_packet.specs.declared.stamped.Stamped.{Stamped};

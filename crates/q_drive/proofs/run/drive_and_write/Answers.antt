@@ -7,7 +7,7 @@ use Rattle.q_drive.specs.Drive.{Drive}
 use Rattle.q_drive.specs.Driven.{HasDriven}
 use Rattle.q_drive.specs.Reported.{IsEnded, IsPartlyEnded, outcome_with}
 use Rattle.q_drive.specs.Texts.{ending_text}
-use Rattle.q_drive.specs.declared.driven.Driven.{Driven}
+use Rattle.q_drive.specs.declared.driving.Driven.{Driven}
 use Rattle.q_drive.proofs.run.drive_and_write.Goals as goal
 
 module _ {E : Type 0} (s : Drive) (driven : Option Driven) (show : Bool) (old new : Option (List ℕ)) (has : IfSome driven (HasDriven s)) (is : show ≡ s.show) where

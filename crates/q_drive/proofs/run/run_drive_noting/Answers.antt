@@ -3,11 +3,11 @@ use Rattle.std.specs.Result.{IsErrAnd}
 use Rattle.std.specs.declared.io.ErrorKind.{ErrorKind}
 use Rattle.q_script.specs.Ended.{Ended}
 use Rattle.q_script.specs.declared.outcome.Outcome.{Outcome}
-use Rattle.q_script.specs.declared.reads.Reads.{Reads}
+use Rattle.q_script.specs.declared.source.Reads.{Reads}
 use Rattle.q_script.specs.declared.run_fault.RunFault.{RunFault}
 use Rattle.q_script.specs.declared.run_fault.RunFault.TheVariants.{Write}
 use Rattle.q_session.specs.Session.{opened}
-use Rattle.q_show.specs.declared.writes.Writes.{Writes}
+use Rattle.q_show.specs.declared.target.Writes.{Writes}
 use Rattle.q_drive.specs.Reported.{IsDrivenOf}
 use Rattle.q_drive.proofs.Reporting.{ended-failed, ended-ok, told-ending, told-lines, told-whole}
 use Rattle.q_drive.proofs.run.run_drive_noting.Goals as goal

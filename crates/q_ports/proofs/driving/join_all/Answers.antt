@@ -4,7 +4,7 @@ use Rattle.std.proofs.lemmas.List.Elements.{All-rest}
 use Rattle.std.specs.Prelude.{All}
 use Rattle.std.specs.Vec.Iter.{into_iter_items}
 use Rattle.q_ports.specs.declared.sender.Sent.{Sent}
-use Rattle.q_ports.specs.declared.started.Started.{Started}
+use Rattle.q_ports.specs.declared.driving.Started.{Started}
 use Rattle.q_ports.specs.Driven.{promised_load, promised_port, AllOffered, HasKept}
 use Rattle.q_ports.proofs.DriveLemmas.{next-rest, offered-next}
 use Rattle.q_ports.proofs.driving.join_all.Goals as goal

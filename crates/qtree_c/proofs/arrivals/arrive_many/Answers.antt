@@ -2,8 +2,8 @@ use Rattle.std.proofs.Common.{◌∙◌, None, Some, Option, ap, subst}
 use Rattle.std.specs.Prelude.{take}
 use Rattle.q_device.specs.Answers.{fate_number}
 use Rattle.q_device.specs.Bursts as bursts
-use Rattle.q_device.specs.declared.stopped.Stopped.{Stopped}
-use Rattle.q_device.specs.declared.stopped.Stopped.TheVariants.{Memory, OutOfRange}
+use Rattle.q_device.specs.declared.bursts.Stopped.{Stopped}
+use Rattle.q_device.specs.declared.bursts.Stopped.TheVariants.{Memory, OutOfRange}
 use Rattle.qtree_c.proofs.Arriving.{all-arrived, bad-next, no_room-next}
 use Rattle.qtree_c.proofs.NotingLemmas.{noted-arrivals}
 use Rattle.qtree_c.proofs.arrivals.arrive_many.Goals as goal

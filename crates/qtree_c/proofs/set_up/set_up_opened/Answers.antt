@@ -1,7 +1,7 @@
 use Rattle.std.proofs.Common.{◌≡◌, ◌<◌, ◌∙◌, ℕ, List, rules, ap, ap₂, length, max, subst}
 use Rattle.q_model.specs.declared.command.Command.{Command}
 use Rattle.q_setup.specs.SetUp.{wanted}
-use Rattle.q_setup.specs.declared.undone.Undone.{Undone}
+use Rattle.q_setup.specs.declared.trial.Undone.{Undone}
 use Rattle.qtree_c.specs.Noting.{noting}
 use Rattle.qtree_c.specs.SettingUp.{commands_at, told_undone}
 use Rattle.qtree_c.specs.declared.c_report.CReport.{CReport}

@@ -1,5 +1,5 @@
 use Rattle.std.proofs.Common.{◌≡◌, ◌++◌, ◌∷◌, [], false, sym, ap, ◌∙◌, subst, arith}
-use Rattle.q_drr.specs.declared.class_state.ClassState.{ClassState}
+use Rattle.q_drr.specs.declared.class_table.ClassState.{ClassState}
 use Rattle.q_drr.specs.States.{named, names_in, has_state}
 use Rattle.q_drr.specs.Schedule.{has_class, added}
 use Rattle.q_drr.specs.Kept.{shown, IsSound, IsState}

@@ -1,5 +1,5 @@
 use Rattle.std.proofs.Common.{◌≡◌, refl, sym, ap, ◌∙◌, subst, arith}
-use Rattle.q_drr.specs.declared.class_state.ClassState.{ClassState}
+use Rattle.q_drr.specs.declared.class_table.ClassState.{ClassState}
 use Rattle.q_drr.specs.States.{named, names_in, kept_of, state_of}
 use Rattle.q_drr.specs.Schedule.{with_quantum}
 use Rattle.q_drr.specs.Kept.{shown, IsSound, IsState}

@@ -1,8 +1,8 @@
 use Rattle.std.proofs.Common.{◌≡◌, ◌+◌, ◌-◌, ◌<◌, ◌^◌, ◌++◌, ℕ, take, drop, set, Bool, leb, Some, refl, sym, ap, ◌∙◌, subst, arith}
 use Rattle.std.specs.Prelude.{slice_get, if◌then◌else◌}
 use Rattle.std.proofs.lemmas.Bool.{le-leb, lt-leb}
-use Rattle.q_drr.specs.declared.class_state.ClassState.{ClassState}
-use Rattle.q_drr.specs.declared.turn.Turn.TheVariants.{Send, Granted}
+use Rattle.q_drr.specs.declared.class_table.ClassState.{ClassState}
+use Rattle.q_drr.specs.declared.active.Turn.TheVariants.{Send, Granted}
 use Rattle.q_drr.specs.Links.{Circle}
 use Rattle.q_drr.specs.States.{named, names_in, name_in, kept_of, state_of}
 use Rattle.q_drr.specs.Schedule.{turned, turn_answer, counted}

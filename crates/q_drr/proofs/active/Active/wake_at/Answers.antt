@@ -1,6 +1,6 @@
 use Rattle.std.proofs.Common.{◌≡◌, ◌<◌, ℕ, [], ◌∷◌, ◌++◌, length, set, refl, sym, ap, ◌∙◌, subst, arith}
 use Rattle.std.proofs.lemmas.List.{length-map}
-use Rattle.q_drr.specs.declared.class_state.ClassState.{ClassState}
+use Rattle.q_drr.specs.declared.class_table.ClassState.{ClassState}
 use Rattle.q_drr.specs.Links.{Circle}
 use Rattle.q_drr.specs.States.{named, names_in, name_in, kept_of, state_of, class_in}
 use Rattle.q_drr.specs.Schedule.{woken, is_active}

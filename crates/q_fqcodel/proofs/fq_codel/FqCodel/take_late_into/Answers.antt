@@ -7,7 +7,7 @@ use Rattle.q_packet.specs.declared.cause.Cause.TheVariants.{CoDel}
 use Rattle.q_codel.specs.Codel as codel
 use Rattle.q_codel.specs.Codel.{is_late}
 use Rattle.q_codel.specs.Losses.{AreLost}
-use Rattle.q_codel.specs.declared.taken.Taken.{Taken}
+use Rattle.q_codel.specs.declared.codel.Taken.{Taken}
 use Rattle.q_fqcodel.specs.Cleared.{adjust}
 use Rattle.q_fqcodel.specs.Entry.{Entry}
 use Rattle.q_fqcodel.specs.FlowsState.{state_of}
