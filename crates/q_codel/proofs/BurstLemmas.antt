@@ -116,7 +116,9 @@ popping-more {A = A} told i bytes len before_places after_places before after af
       tells = ap (λ (ys : List A). set ys i t) inv.tells
           ∙ (subst (λ (k : ℕ). set (xs ++ drop k before_places) k t ≡ (xs ++ t ∷ []) ++ drop (suc k) before_places) counted (filled-more xs before_places t (omega (arith, counted, place)))
           ∙ ap₂ (λ (ys : List A) (k : ℕ). ys ++ drop k before_places)
-          (ap (λ (y : A). xs ++ y ∷ []) is_told ∙ sym (ap (λ (q : List Stamped). map (λ (x : Stamped). told x.packet) q) more ∙ map-more (λ (x : Stamped). told x.packet) (take i before.packets) s)) next);
+          (ap (λ (y : A). xs ++ y ∷ []) is_told ∙ sym
+          (ap (λ (q : List Stamped). map (λ (x : Stamped). told x.packet) q) more ∙ map-more (λ (x : Stamped). told x.packet)
+          (take i before.packets) s)) next);
       rest = rest
           ∙ (ap (λ (r : RingState). record r { packets = drop 1 r.packets }) inv.rest
           ∙ ap (λ (ps : List Stamped). record before { packets = ps }) (drop-drop 1 i before.packets));
@@ -197,7 +199,8 @@ pub kept-fits : (bytes : ℕ) (packets : List Stamped) (places : ℕ) → IsKept
 kept-fits bytes packets places k = omega (arith, one_more bytes packets 0 k.counted (omega arith))
 
 -- and without the first ones
-pub kept-rest : (bytes sum n : ℕ) (before after : RingState) → IsKept bytes before.packets before.places → after ≡ record before { packets = drop n before.packets } → sum ≡ size (take n before.packets)
+pub kept-rest : (bytes sum n : ℕ) (before after : RingState) → IsKept bytes before.packets before.places
+    → after ≡ record before { packets = drop n before.packets } → sum ≡ size (take n before.packets)
     → IsKept (bytes - sum) after.packets after.places
 kept-rest bytes sum n before after k is total =
     let whole : size before.packets ≡ size (take n before.packets) + size (drop n before.packets) =

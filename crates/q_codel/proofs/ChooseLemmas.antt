@@ -24,7 +24,9 @@ pub unmoved : (p : CodelParams) (u v : CodelVars) (now : ℕ) (head : Stamped) (
 unmoved p u v now head rest late noted = noted ∙ ap (λ (a : ℕ). record u { first_above_time = a }) (above_late (joined p u) now head rest late)
 
 -- a head that is not late goes, and dropping ends
-module _ (p : CodelParams) (u v : CodelVars) (now : ℕ) (head : Stamped) (rest : List Stamped) (counted : u.count < 2 ^ 32) (early : is_late (joined p u) now (head ∷ rest) ≡ false) (noted : v ≡ record u { first_above_time = above_after (joined p u) now (head ∷ rest) }) where
+module _ (p : CodelParams) (u v : CodelVars) (now : ℕ) (head : Stamped) (rest : List Stamped) (counted : u.count < 2 ^ 32)
+    (early : is_late (joined p u) now (head ∷ rest) ≡ false)
+    (noted : v ≡ record u { first_above_time = above_after (joined p u) now (head ∷ rest) }) where
   s : CodelState
   s = joined p u
 
@@ -88,8 +90,10 @@ chosen_behind p u v w x now head rest next behind resting late same plain begins
           ∙ ap (λ (y : CodelState). record y { first_above_time = above_after y now (next ∷ behind) }) begun_there
 
 -- what is chosen of a queue that is known by another name, and by a state that is
-pub chosen_in : (s : CodelState) (now : ℕ) (whole queue : List Stamped) (head : Stamped) (marked : Bool) (rest : List Stamped) (t : CodelState) → whole ≡ queue → Chooses s now queue head marked rest t → Chooses s now whole head marked rest t
+pub chosen_in : (s : CodelState) (now : ℕ) (whole queue : List Stamped) (head : Stamped) (marked : Bool) (rest : List Stamped) (t : CodelState)
+    → whole ≡ queue → Chooses s now queue head marked rest t → Chooses s now whole head marked rest t
 chosen_in s now whole queue head marked rest t is chosen = subst (λ (q : List Stamped). Chooses s now q head marked rest t) (sym is) chosen
 
-pub chosen_from : (p : CodelParams) (u v : CodelVars) (now : ℕ) (queue waiting : List Stamped) (marked : Bool) (t : CodelState) → v ≡ u → HasChosen (joined p v) now queue marked waiting t → HasChosen (joined p u) now queue marked waiting t
+pub chosen_from : (p : CodelParams) (u v : CodelVars) (now : ℕ) (queue waiting : List Stamped) (marked : Bool) (t : CodelState) → v ≡ u
+    → HasChosen (joined p v) now queue marked waiting t → HasChosen (joined p u) now queue marked waiting t
 chosen_from p u v now queue waiting marked t same chosen = subst (λ (w : CodelVars). HasChosen (joined p w) now queue marked waiting t) same chosen

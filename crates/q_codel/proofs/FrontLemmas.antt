@@ -59,6 +59,7 @@ chosen_at s now all head marked rest t waiting chosen is = record {
 }
 
 -- dropping goes on from the head of a queue that is late
-pub way_from : (s : CodelState) (now : ℕ) (queue : List Stamped) (head : Stamped) (rest : List Stamped) → queue ≡ head ∷ rest → s.count < 2 ^ 32 → is_late s now queue ≡ true → OnTheWay s now queue 0 s head rest
+pub way_from : (s : CodelState) (now : ℕ) (queue : List Stamped) (head : Stamped) (rest : List Stamped) → queue ≡ head ∷ rest → s.count < 2 ^ 32
+    → is_late s now queue ≡ true → OnTheWay s now queue 0 s head rest
 way_from s now queue head rest is counted late =
     subst (λ (q : List Stamped). OnTheWay s now q 0 s head rest) (sym is) (OnTheWay_start s now head rest counted (sym (ap (is_late s now) is) ∙ late))

@@ -44,7 +44,8 @@ OnTheWay_start s now first rest range late = record {
 }
 
 -- where a head is late, due and not markable, it goes
-pub stops_not : (s : CodelState) (now : ℕ) (all : List Stamped) (j : ℕ) (head : Stamped) (rest : List Stamped) → drop j all ≡ head ∷ rest → is_late s now (head ∷ rest) ≡ true → moment s j ≤ now → (s.ecn && is_capable head.packet.ecn) ≡ false → stops s now all j ≡ false
+pub stops_not : (s : CodelState) (now : ℕ) (all : List Stamped) (j : ℕ) (head : Stamped) (rest : List Stamped) → drop j all ≡ head ∷ rest
+    → is_late s now (head ∷ rest) ≡ true → moment s j ≤ now → (s.ecn && is_capable head.packet.ecn) ≡ false → stops s now all j ≡ false
 stops_not s now all j head rest place late due plain =
     ap (λ (q : List Stamped). not (is_late s now q) || nat_lt now (moment s j) || is_markable s q) place
     ∙ or_from (not (is_late s now (head ∷ rest)) || nat_lt now (moment s j)) (is_markable s (head ∷ rest))
@@ -52,7 +53,8 @@ stops_not s now all j head rest place late due plain =
     plain
 
 -- where a head is sent for whatever reason, it stops there
-pub drops_is : (s : CodelState) (now : ℕ) (all : List Stamped) (j : ℕ) → s.dropping ≡ true → j < length all → ((i : ℕ) → i < j → stops s now all i ≡ false) → stops s now all j ≡ true → drops s now all ≡ j
+pub drops_is : (s : CodelState) (now : ℕ) (all : List Stamped) (j : ℕ) → s.dropping ≡ true → j < length all
+    → ((i : ℕ) → i < j → stops s now all i ≡ false) → stops s now all j ≡ true → drops s now all ≡ j
 drops_is s now all j dropping within passed stop =
     cond-true s.dropping _ _ dropping ∙ least_is (stops s now all) (length all) j (omega arith) (λ _. stop) passed
 
@@ -60,14 +62,17 @@ drops_is s now all j dropping within passed stop =
 abbrev pub marks_at : CodelState → ℕ → List Stamped → ℕ → Bool
 marks_at s now queue j = is_late s now queue && nat_le (moment s j) now && is_markable s queue
 
-pub marks_is : (s : CodelState) (now : ℕ) (all : List Stamped) (j : ℕ) (head : Stamped) (rest : List Stamped) → s.dropping ≡ true → drops s now all ≡ j → drop j all ≡ head ∷ rest → marks s now all ≡ marks_at s now (head ∷ rest) j
+pub marks_is : (s : CodelState) (now : ℕ) (all : List Stamped) (j : ℕ) (head : Stamped) (rest : List Stamped) → s.dropping ≡ true
+    → drops s now all ≡ j → drop j all ≡ head ∷ rest → marks s now all ≡ marks_at s now (head ∷ rest) j
 marks_is s now all j head rest dropping count place =
     cond-true s.dropping _ _ dropping
     ∙ ap (λ (k : ℕ). marks_at s now (drop k all) k) count
     ∙ ap (λ (q : List Stamped). marks_at s now q j) place
 
 -- where k heads go, the next one is sent, and the control law leaves t: what is chosen
-pub Chooses_of : (s : CodelState) (now : ℕ) (all : List Stamped) (k : ℕ) (head : Stamped) (rest : List Stamped) (marked : Bool) (t : CodelState) → drops s now all ≡ k → drop k all ≡ head ∷ rest → marks s now all ≡ marked → control_after s now all ≡ t → Chooses s now all head marked rest (record t { first_above_time = above_after s now (head ∷ rest) })
+pub Chooses_of : (s : CodelState) (now : ℕ) (all : List Stamped) (k : ℕ) (head : Stamped) (rest : List Stamped) (marked : Bool) (t : CodelState)
+    → drops s now all ≡ k → drop k all ≡ head ∷ rest → marks s now all ≡ marked → control_after s now all ≡ t
+    → Chooses s now all head marked rest (record t { first_above_time = above_after s now (head ∷ rest) })
 Chooses_of s now all k head rest marked t count place mark control = record {
   head_is = drop_at all k head rest place ∙ ap (λ (i : ℕ). slice_get all i) (sym count);
   marked_is = sym mark;
@@ -77,7 +82,10 @@ Chooses_of s now all k head rest marked t count place mark control = record {
 }
 
 -- while dropping, head j is sent, marked or not, late or not
-pub Chooses_at : (s : CodelState) (now : ℕ) (all : List Stamped) (j : ℕ) (head : Stamped) (rest : List Stamped) (marked late : Bool) → s.dropping ≡ true → drops s now all ≡ j → drop j all ≡ head ∷ rest → marks_at s now (head ∷ rest) j ≡ marked → is_late s now (head ∷ rest) ≡ late → Chooses s now all head marked rest (record (gone_on s j marked late) { first_above_time = above_after s now (head ∷ rest) })
+pub Chooses_at : (s : CodelState) (now : ℕ) (all : List Stamped) (j : ℕ) (head : Stamped) (rest : List Stamped) (marked late : Bool)
+    → s.dropping ≡ true → drops s now all ≡ j → drop j all ≡ head ∷ rest → marks_at s now (head ∷ rest) j ≡ marked
+    → is_late s now (head ∷ rest) ≡ late
+    → Chooses s now all head marked rest (record (gone_on s j marked late) { first_above_time = above_after s now (head ∷ rest) })
 Chooses_at s now all j head rest marked late dropping count place mark is_so =
     Chooses_of s now all j head rest marked (gone_on s j marked late) count place same_mark
     (cond-true s.dropping _ _ dropping
@@ -91,7 +99,8 @@ Chooses_at s now all j head rest marked late dropping count place mark is_so =
 -- a late head leaves the time above the target as it is
 pub above_late : (s : CodelState) (now : ℕ) (head : Stamped) (rest : List Stamped) → is_late s now (head ∷ rest) ≡ true → above_after s now (head ∷ rest) ≡ s.first_above_time
 above_late s now head rest late =
-    let standing : (is_standing s now (head ∷ rest) && nat_lt 0 s.first_above_time) ≡ true = (and_parts (is_standing s now (head ∷ rest) && nat_lt 0 s.first_above_time) (nat_le s.first_above_time now) late).0 in
+    let standing : (is_standing s now (head ∷ rest) && nat_lt 0 s.first_above_time) ≡ true =
+    (and_parts (is_standing s now (head ∷ rest) && nat_lt 0 s.first_above_time) (nat_le s.first_above_time now) late).0 in
     let parts = and_parts (is_standing s now (head ∷ rest)) (nat_lt 0 s.first_above_time) standing in
     let since : 0 < s.first_above_time = ltb-true 0 s.first_above_time parts.1 in
     cond-true (is_standing s now (head ∷ rest)) _ 0 parts.0 ∙ cond-false (s.first_above_time == 0) (now + s.interval) s.first_above_time (ne_eqb s.first_above_time 0 (λ none. absurd (omega arith)))
@@ -117,7 +126,8 @@ pub record Ends (s : CodelState) (now : ℕ) (all : List Stamped) (j : ℕ) (hea
   pub count : drops s now all ≡ j
 
 -- the moment of head j is yet to come
-pub OnTheWay_waits : (s : CodelState) (now : ℕ) (all : List Stamped) (j : ℕ) (t : CodelState) (head : Stamped) (rest : List Stamped) → s.dropping ≡ true → OnTheWay s now all j t head rest → now < t.drop_next → Ends s now all j head false rest t
+pub OnTheWay_waits : (s : CodelState) (now : ℕ) (all : List Stamped) (j : ℕ) (t : CodelState) (head : Stamped) (rest : List Stamped)
+    → s.dropping ≡ true → OnTheWay s now all j t head rest → now < t.drop_next → Ends s now all j head false rest t
 OnTheWay_waits s now all j t head rest dropping way waits = record {
   chosen = subst (λ (u : CodelState). Chooses s now all head false rest u) (sym way.state)
       (subst (λ (a : ℕ). Chooses s now all head false rest (record s { count = count_after s j; drop_next = moment s j; first_above_time = a })) (above_late s now head rest way.late)
@@ -136,7 +146,9 @@ OnTheWay_waits s now all j t head rest dropping way waits = record {
       ∙ ap (λ (b : Bool). b && is_markable s (head ∷ rest)) (lt-leb (moment s j) now not_yet)
 
 -- head j is due and markable
-pub OnTheWay_marks : (s : CodelState) (now : ℕ) (all : List Stamped) (j : ℕ) (t : CodelState) (head : Stamped) (rest : List Stamped) → s.dropping ≡ true → OnTheWay s now all j t head rest → t.drop_next ≤ now → (s.ecn && is_capable head.packet.ecn) ≡ true → Ends s now all j head true rest (record s { count = count_after s (suc j); drop_next = moment s (suc j) })
+pub OnTheWay_marks : (s : CodelState) (now : ℕ) (all : List Stamped) (j : ℕ) (t : CodelState) (head : Stamped) (rest : List Stamped)
+    → s.dropping ≡ true → OnTheWay s now all j t head rest → t.drop_next ≤ now → (s.ecn && is_capable head.packet.ecn) ≡ true
+    → Ends s now all j head true rest (record s { count = count_after s (suc j); drop_next = moment s (suc j) })
 OnTheWay_marks s now all j t head rest dropping way is_due markable = record {
   chosen = subst (λ (a : ℕ). Chooses s now all head true rest (record s { count = count_after s (suc j); drop_next = moment s (suc j); first_above_time = a })) (above_late s now head rest way.late)
       (Chooses_at s now all j head rest true true dropping count way.place mark way.late);
@@ -158,7 +170,10 @@ OnTheWay_marks s now all j t head rest dropping way is_due markable = record {
       ∙ markable
 
 -- head j goes, and the next one is late too
-pub OnTheWay_more : (s : CodelState) (now : ℕ) (all : List Stamped) (j : ℕ) (t : CodelState) (head next : Stamped) (rest behind : List Stamped) → OnTheWay s now all j t head rest → t.drop_next ≤ now → (s.ecn && is_capable head.packet.ecn) ≡ false → rest ≡ next ∷ behind → is_late s now (next ∷ behind) ≡ true → OnTheWay s now all (suc j) (record s { count = count_after s (suc j); drop_next = moment s (suc j) }) next behind
+pub OnTheWay_more : (s : CodelState) (now : ℕ) (all : List Stamped) (j : ℕ) (t : CodelState) (head next : Stamped) (rest behind : List Stamped)
+    → OnTheWay s now all j t head rest → t.drop_next ≤ now → (s.ecn && is_capable head.packet.ecn) ≡ false → rest ≡ next ∷ behind
+    → is_late s now (next ∷ behind) ≡ true
+    → OnTheWay s now all (suc j) (record s { count = count_after s (suc j); drop_next = moment s (suc j) }) next behind
 OnTheWay_more s now all j t head next rest behind way is_due plain behind_is late = record {
   place = sym (drop_behind all j head rest way.place) ∙ behind_is;
   late = late;
@@ -169,9 +184,16 @@ OnTheWay_more s now all j t head next rest behind way is_due plain behind_is lat
   due = let e : t.drop_next ≡ moment s j = ap (λ (u : CodelState). u.drop_next) way.state in omega arith
 
 -- head j goes, and the next one is not late
-pub OnTheWay_ends : (s : CodelState) (now : ℕ) (all : List Stamped) (j : ℕ) (t : CodelState) (head next : Stamped) (rest behind : List Stamped) → s.dropping ≡ true → OnTheWay s now all j t head rest → t.drop_next ≤ now → (s.ecn && is_capable head.packet.ecn) ≡ false → rest ≡ next ∷ behind → is_late s now (next ∷ behind) ≡ false → Ends s now all (suc j) next false behind (record s { count = count_after s (suc j); drop_next = moment s j; dropping = false; first_above_time = above_after s now (next ∷ behind) })
+pub OnTheWay_ends : (s : CodelState) (now : ℕ) (all : List Stamped) (j : ℕ) (t : CodelState) (head next : Stamped) (rest behind : List Stamped)
+    → s.dropping ≡ true → OnTheWay s now all j t head rest → t.drop_next ≤ now → (s.ecn && is_capable head.packet.ecn) ≡ false → rest ≡ next ∷ behind
+    → is_late s now (next ∷ behind) ≡ false
+    → Ends s now all (suc j) next false behind
+    (record s { count = count_after s (suc j); drop_next = moment s j; dropping = false; first_above_time = above_after s now (next ∷ behind) })
 OnTheWay_ends s now all j t head next rest behind dropping way is_due plain behind_is early = record {
-  chosen = subst (λ (n : ℕ). Chooses s now all next false behind (record s { count = count_after s (suc j); drop_next = moment s n; dropping = false; first_above_time = above_after s now (next ∷ behind) })) before
+  chosen =
+      subst (λ (n : ℕ). Chooses s now all next false behind
+      (record s { count = count_after s (suc j); drop_next = moment s n; dropping = false; first_above_time = above_after s now (next ∷ behind) }))
+      before
       (Chooses_at s now all (suc j) next behind false false dropping count place unmarked early);
   count = count;
 } where
@@ -195,11 +217,15 @@ OnTheWay_ends s now all j t head next rest behind dropping way is_due plain behi
 
 -- The ways on from a late head, in what the code holds: the settings p and the state u, the next count m, the next gap g,
 -- and, where one more head was looked at, the state x after that.
-pub turn_waits : (s : CodelState) (now : ℕ) (all : List Stamped) (j : ℕ) (t : CodelState) (head : Stamped) (rest : List Stamped) (p : CodelParams) (u : CodelVars) → s.dropping ≡ true → OnTheWay s now all j t head rest → joined p u ≡ t → now < u.drop_next → Ends s now all j head false rest t
+pub turn_waits : (s : CodelState) (now : ℕ) (all : List Stamped) (j : ℕ) (t : CodelState) (head : Stamped) (rest : List Stamped) (p : CodelParams)
+    (u : CodelVars)
+    → s.dropping ≡ true → OnTheWay s now all j t head rest → joined p u ≡ t → now < u.drop_next → Ends s now all j head false rest t
 turn_waits s now all j t head rest p u dropping way same waits =
     OnTheWay_waits s now all j t head rest dropping way (subst (λ (x : CodelState). now < x.drop_next) same waits)
 
-module _ (s : CodelState) (now : ℕ) (all : List Stamped) (j : ℕ) (t : CodelState) (head : Stamped) (rest : List Stamped) (p : CodelParams) (u : CodelVars) (m : ℕ) (way : OnTheWay s now all j t head rest) (same : joined p u ≡ t) (due : u.drop_next ≤ now) (counted : m ≡ min (u.count + 1) (2 ^ 32 - 1)) where
+module _ (s : CodelState) (now : ℕ) (all : List Stamped) (j : ℕ) (t : CodelState) (head : Stamped) (rest : List Stamped) (p : CodelParams)
+    (u : CodelVars) (m : ℕ) (way : OnTheWay s now all j t head rest) (same : joined p u ≡ t) (due : u.drop_next ≤ now)
+    (counted : m ≡ min (u.count + 1) (2 ^ 32 - 1)) where
   held : joined p u ≡ record s { count = count_after s j; drop_next = moment s j }
   held = same ∙ way.state
 
@@ -222,23 +248,27 @@ module _ (s : CodelState) (now : ℕ) (all : List Stamped) (j : ℕ) (t : CodelS
       ∙ ap (λ (x : CodelState). record x { drop_next = x.drop_next + gap_of x.interval m; count = m }) held
       ∙ ap (λ (c : ℕ). record s { drop_next = moment s j + gap_of s.interval c; count = c }) next_count
 
-  pub turn_marks : (g : ℕ) → s.dropping ≡ true → (p.ecn && is_capable head.packet.ecn) ≡ true → g ≡ gap_of p.interval m → Ends s now all j head true rest (joined p (record u { drop_next = u.drop_next + g; count = m }))
+  pub turn_marks : (g : ℕ) → s.dropping ≡ true → (p.ecn && is_capable head.packet.ecn) ≡ true → g ≡ gap_of p.interval m
+      → Ends s now all j head true rest (joined p (record u { drop_next = u.drop_next + g; count = m }))
   turn_marks g dropping markable length =
       subst (λ (x : CodelState). Ends s now all j head true rest x) (sym (next_state g length))
       (OnTheWay_marks s now all j t head rest dropping way is_due (same_ecn true markable))
 
-  module _ (x : CodelVars) (next : Stamped) (behind : List Stamped) (plain : (p.ecn && is_capable head.packet.ecn) ≡ false) (behind_is : rest ≡ next ∷ behind) (noted : x ≡ record u { count = m; first_above_time = above_after (joined p u) now (next ∷ behind) }) where
+  module _ (x : CodelVars) (next : Stamped) (behind : List Stamped) (plain : (p.ecn && is_capable head.packet.ecn) ≡ false)
+      (behind_is : rest ≡ next ∷ behind) (noted : x ≡ record u { count = m; first_above_time = above_after (joined p u) now (next ∷ behind) }) where
     pub turn_ends : s.dropping ≡ true → is_late (joined p u) now (next ∷ behind) ≡ false → Ends s now all (suc j) next false behind (joined p (record x { dropping = false }))
     turn_ends dropping early =
         subst (λ (y : CodelState). Ends s now all (suc j) next false behind y) (sym last_state)
         (OnTheWay_ends s now all j t head next rest behind dropping way is_due (same_ecn false plain) behind_is (same_late next behind ∙ early)) where
-          last_state : joined p (record x { dropping = false }) ≡ record s { count = count_after s (suc j); drop_next = moment s j; dropping = false; first_above_time = above_after s now (next ∷ behind) }
+          last_state : joined p (record x { dropping = false }) ≡ record s
+              { count = count_after s (suc j); drop_next = moment s j; dropping = false; first_above_time = above_after s now (next ∷ behind) }
           last_state =
               ap (λ (y : CodelVars). joined p (record y { dropping = false })) noted
               ∙ ap (λ (y : CodelState). record y { count = m; dropping = false; first_above_time = above_after y now (next ∷ behind) }) held
               ∙ ap (λ (c : ℕ). record s { count = c; drop_next = moment s j; dropping = false; first_above_time = above_after s now (next ∷ behind) }) next_count
 
-    pub turn_goes_on : (g : ℕ) → g ≡ gap_of p.interval x.count → is_late (joined p u) now (next ∷ behind) ≡ true → OnTheWay s now all (suc j) (joined p (record x { drop_next = x.drop_next + g })) next behind
+    pub turn_goes_on : (g : ℕ) → g ≡ gap_of p.interval x.count → is_late (joined p u) now (next ∷ behind) ≡ true
+        → OnTheWay s now all (suc j) (joined p (record x { drop_next = x.drop_next + g })) next behind
     turn_goes_on g length late =
         subst (λ (y : CodelState). OnTheWay s now all (suc j) y next behind) (sym more_state)
         (OnTheWay_more s now all j t head next rest behind way is_due (same_ecn false plain) behind_is (same_late next behind ∙ late)) where

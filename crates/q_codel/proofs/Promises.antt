@@ -47,7 +47,9 @@ marked_late s now queue marked = elim (cases_Bool s.dropping) [
       (all_of (is_late s now (drop j queue)) (nat_le (moment s j) now) (is_markable s (drop j queue)) (sym (cond-true s.dropping _ _ dropping) ∙ marked)).0
   | inr resting ↦
       let is = and_parts (is_late s now queue) (is_markable s queue) (sym (cond-false s.dropping _ _ resting) ∙ marked) in
-      let stays : drops s now queue ≡ 0 = cond-false s.dropping _ _ resting ∙ cond-false _ _ _ (and_right (is_late s now queue) (not (is_markable s queue)) (not_from_true (is_markable s queue) is.1)) in
+      let stays : drops s now queue ≡ 0 =
+      cond-false s.dropping _ _ resting ∙ cond-false _ _ _
+      (and_right (is_late s now queue) (not (is_markable s queue)) (not_from_true (is_markable s queue) is.1)) in
       subst (λ (n : ℕ). is_late s now (drop n queue) ≡ true) (sym stays) is.0
 ]
 

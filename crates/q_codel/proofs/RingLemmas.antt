@@ -161,7 +161,13 @@ first_places cells first next ring none new done n x zero_is is =
       ap (λ (k : ℕ). standing new first k) empty ∙ sym (ap (λ (k : ℕ). standing cells first k) empty),
     ) where
       by_done : (b : Bool) → new ≡ (if b then take 4 cells ++ replicate (4 - n) x else cells) → (length new ≡ 0) ⊎ IsPower (length new)
-      by_done true e = inr (record { exponent = 2; small = omega arith; is = omega (arith, ap length e, length-append (take 4 cells) (replicate (4 - n) x), length-take 4 cells, length-replicate (4 - n) x) })
+      by_done true e =
+          inr (record {
+            exponent = 2;
+            small = omega arith;
+            is = omega
+                (arith, ap length e, length-append (take 4 cells) (replicate (4 - n) x), length-take 4 cells, length-replicate (4 - n) x);
+          })
       by_done false e = inl (ap length e ∙ none)
 
 power_twice : (n : ℕ) → IsPower n → n < 2 ^ 47 → IsPower (n + n)

@@ -10,7 +10,8 @@ pub square_above : (interval count : ℕ) → 1 ≤ count → interval * interva
 square_above interval count counted =
     let more = mul-le-mul_left ((interval + 1) * (interval + 1)) counted in omega arith
 
-pub IsGap_at_end : (interval count d : ℕ) → 1 ≤ count → d ≤ interval → nat_lt (interval * interval) (d * d * count) ≡ false → (d < interval → nat_lt (interval * interval) ((d + 1) * (d + 1) * count) ≡ true) → IsGap interval count d
+pub IsGap_at_end : (interval count d : ℕ) → 1 ≤ count → d ≤ interval → nat_lt (interval * interval) (d * d * count) ≡ false
+    → (d < interval → nat_lt (interval * interval) ((d + 1) * (d + 1) * count) ≡ true) → IsGap interval count d
 IsGap_at_end interval count d counted within fits next = record {
   holds = ltb-false (interval * interval) (d * d * count) fits;
   next_fails = elim (cases_lt d interval) [

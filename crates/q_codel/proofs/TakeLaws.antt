@@ -44,7 +44,8 @@ late_within s now (x ∷ queue) zero late = omega arith
 late_within s now (x ∷ queue) (suc i) late = let h = late_within s now queue i late in omega arith
 
 -- while dropping, a take does not cease at a head that is due
-goes_past : (s : CodelState) (now : ℕ) (queue : List Stamped) (i : ℕ) → s.dropping ≡ true → i ≤ drops s now queue → is_late s now (drop i queue) ≡ true → moment s i ≤ now → is_markable s (drop i queue) ≡ false → i < drops s now queue
+goes_past : (s : CodelState) (now : ℕ) (queue : List Stamped) (i : ℕ) → s.dropping ≡ true → i ≤ drops s now queue
+    → is_late s now (drop i queue) ≡ true → moment s i ≤ now → is_markable s (drop i queue) ≡ false → i < drops s now queue
 goes_past s now queue i dropping reached late due plain = elim (cases_lt i (drops s now queue)) [
   | inl below ↦ below
   | inr above ↦
@@ -85,7 +86,9 @@ pub one_mtu_left_holds : OneMtuLeft
 one_mtu_left_holds s now queue small = record {
   begins_anew = cond-false (is_standing s now behind) _ 0 standing;
   ends = λ dropping.
-      let marked : marks s now queue ≡ false = cond-true s.dropping _ _ dropping ∙ and_left _ (is_markable s behind) (and_left (is_late s now behind) (nat_le (moment s (drops s now queue)) now) early) in
+      let marked : marks s now queue ≡ false =
+      cond-true s.dropping _ _ dropping ∙ and_left _ (is_markable s behind)
+      (and_left (is_late s now behind) (nat_le (moment s (drops s now queue)) now) early) in
       let control : control_after s now queue ≡ gone_on s (drops s now queue) false false =
       cond-true s.dropping _ _ dropping ∙ ap (λ (m : Bool). gone_on s (drops s now queue) m (is_late s now behind)) marked ∙ ap (λ (l : Bool). gone_on s (drops s now queue) false l) early in
       ap (λ (t : CodelState). t.dropping) control;

@@ -138,7 +138,8 @@ arriving-burst {A = A} answer i k now packets before after ends d d' d'' inv wit
 pub arriving-part : {A : Type 0} (answer : Fate → A) (i k now : ℕ) (packets : List StoredPacket) (before after part : List A) (d d' d'' : DeviceSeen)
     → IsArriving answer i now packets before after d d' → i ≤ length packets → d'' ≡ with_memory d''.memory (arrived_by now (take k (between i (length packets) packets)) d')
     → fates_by now (take k (between i (length packets) packets)) d' ≡ replicate k Kept → part ≡ replicate k (answer Kept) ++ drop k (between i (length after) after)
-    → All IsStored (take k (between i (length packets) packets)) → KeepsPlaces d' d'' → (k ≡ 0 → d'' ≡ d') → IsArriving answer (i + k) now packets before (put_mid i (length after - i) after part) d d''
+    → All IsStored (take k (between i (length packets) packets)) → KeepsPlaces d' d'' → (k ≡ 0 → d'' ≡ d')
+    → IsArriving answer (i + k) now packets before (put_mid i (length after - i) after part) d d''
 arriving-part {A = A} answer i k now packets before after part d d' d'' inv within arrived fates written in_range places none =
     let rest : between i (length packets) packets ≡ drop i packets = between_to_end packets i (length packets) (omega arith) in
     let left : between i (length after) after ≡ drop i after = between_to_end after i (length after) (omega arith) in

@@ -39,7 +39,8 @@ pub buckets-bounded : (settings : DeviceSettings) → IsInRange settings → Buc
 buckets-bounded settings range before during major rate burst first last all_before all_during stays is at =
     let start : DeviceState (List Note) = device_after settings before in
     let m : TbfMoves start.clock (device_after settings (before ++ during)).clock first last =
-    moves (Stays major rate burst) (Moves major rate burst) (still major rate burst) (one major rate burst) (more major rate burst) settings before during range all_before all_during stays first last is at in
+    moves (Stays major rate burst) (Moves major rate burst) (still major rate burst) (one major rate burst) (more major rate burst) settings before
+    during range all_before all_during stays first last is at in
     let here : IsTbf major rate burst start = subst (λ (es : List Event). IsTbf major rate burst (device_after settings es)) (append-nil before) (stays [] during refl) in
     let same : here.tbf ≡ first = same_Some here.tbf first (sym here.there ∙ is) in
     let as_rate : first.bucket.rate ≡ rate = ap (λ (t : TbfAt). t.bucket.rate) (sym same) ∙ here.same_rate in

@@ -61,14 +61,17 @@ holds-from r (event.Command k moment ∷ events) kept all still =
     )
   where
     -- a refused command leaves the device
-    by : (d : DeviceState (List Note)) (answer : Result Edit Refusal) → (answered history answer (max d.clock moment) d).reply ≢ reply.Done (Ok (record {})) → most_in (answered history answer (max d.clock moment) d).device ≤ most_in d
+    by : (d : DeviceState (List Note)) (answer : Result Edit Refusal)
+        → (answered history answer (max d.clock moment) d).reply ≢ reply.Done (Ok (record {}))
+        → most_in (answered history answer (max d.clock moment) d).device ≤ most_in d
     by d (Ok edit) refused = absurd (refused refl)
     by d (Err refusal) refused = omega arith
 
 pub no-more-is-held : (settings : DeviceSettings) → IsInRange settings → NoMoreIsHeld settings
 no-more-is-held settings range before during all_before all_during still =
     let first : Replay (List Note) = replay history settings before in
-    let goes : device_after settings (before ++ during) ≡ (replay_from history first during).device = ap (λ (r : Replay (List Note)). r.device) (replay-twice (nothing_yet history settings) before during) in
+    let goes : device_after settings (before ++ during) ≡ (replay_from history first during).device =
+    ap (λ (r : Replay (List Note)). r.device) (replay-twice (nothing_yet history settings) before during) in
     let kept : IsKept (device_after settings (before ++ during)) = replay-kept settings (before ++ during) range (All-append IsEvent before during all_before all_during) in
     let after : DeviceState (List Note) = device_after settings (before ++ during) in
     let less = holds-from first during (replay-kept settings before range all_before) all_during still in

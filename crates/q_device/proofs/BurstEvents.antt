@@ -62,7 +62,8 @@ pub record ArriveHere (now : ℕ) (cs : List StoredPacket) (a b : Inside) : Type
   pub places : (path : List ℕ) → places_at path a.tree.tree.root ≤ places_at path b.tree.tree.root
 
 -- one packet
-module _ (now at : ℕ) (c : StoredPacket) (a : Inside) (n : ℕ) (k : IsKeptDevice a) (is : at ≡ max a.tree.clock now) (low : now ≤ 2 ^ 62) (spare : n + 1 ≡ a.spare) (fields : HasPacketFields (descriptor c))
+module _ (now at : ℕ) (c : StoredPacket) (a : Inside) (n : ℕ) (k : IsKeptDevice a) (is : at ≡ max a.tree.clock now) (low : now ≤ 2 ^ 62)
+    (spare : n + 1 ≡ a.spare) (fields : HasPacketFields (descriptor c))
     (alone : IsKeptAlone kept at (descriptor c) a.tree) where
   abbrev pub once : Inside
   once = record a { tree = (arrive kept (descriptor c) at a.tree).device; spare = n }
@@ -85,7 +86,9 @@ module _ (now at : ℕ) (c : StoredPacket) (a : Inside) (n : ℕ) (k : IsKeptDev
       lost = sym (losses-step (numbers a.tree) a.tree refl (event.Arrive (descriptor c) now)) ∙ ap (λ t. (arrive kept (descriptor c) t a.tree).losses) (sym is) ∙ alone.losses
 
   pub once-kept : IsKeptDevice once
-  once-kept = event-kept a k (event.Arrive (descriptor c) now) once happened (fields, low) (omega (arith, spare)) (omega (arith, k.packets, spare)) (omega (arith, k.bytes, spare, fields.len.1)) (omega (arith, k.room, spare))
+  once-kept =
+      event-kept a k (event.Arrive (descriptor c) now) once happened (fields, low) (omega (arith, spare)) (omega (arith, k.packets, spare))
+      (omega (arith, k.bytes, spare, fields.len.1)) (omega (arith, k.room, spare))
 
   pub once-seen : device_seen once ≡ with_memory (device_seen once).memory (after_event (arrival now c) (device_seen a))
   unfolding after_event
@@ -130,7 +133,8 @@ pub record PollHere (now : ℕ) (ps : List Descriptor) (a b : Inside) : Type 0 w
   pub given : AreGivenAt now ps (device_seen a)
 
 -- one poll
-module _ (now at : ℕ) (p : Descriptor) (a : Inside) (k : IsKeptDevice a) (is : at ≡ max a.tree.clock now) (low : now ≤ 2 ^ 62) (none-recorded : a.settings.recorder ≤ length a.recorded.items) (alone : IsGivenAlone kept at p a.tree) where
+module _ (now at : ℕ) (p : Descriptor) (a : Inside) (k : IsKeptDevice a) (is : at ≡ max a.tree.clock now) (low : now ≤ 2 ^ 62)
+    (none-recorded : a.settings.recorder ≤ length a.recorded.items) (alone : IsGivenAlone kept at p a.tree) where
   abbrev pub gave : Inside
   gave = record a { tree = (poll kept at a.tree).device }
 
@@ -156,7 +160,8 @@ module _ (now at : ℕ) (p : Descriptor) (a : Inside) (k : IsKeptDevice a) (is :
       ap given_in (sym (reply-step (numbers a.tree) a.tree refl (event.Poll now)) ∙ ap (λ t. (poll kept t a.tree).reply) (sym is)
       ∙ ap (λ (g : Option Descriptor). reply.Polled (polled_of g (is_empty (shape (take_packet kept at a.tree.tree).root)))) alone.packet)
 
-pub poll-here : (now at : ℕ) (ps : List Descriptor) (a : Inside) → IsKeptDevice a → at ≡ max a.tree.clock now → now ≤ 2 ^ 62 → a.settings.recorder ≤ length a.recorded.items → AreGiven kept at ps a.tree
+pub poll-here : (now at : ℕ) (ps : List Descriptor) (a : Inside) → IsKeptDevice a → at ≡ max a.tree.clock now → now ≤ 2 ^ 62
+    → a.settings.recorder ≤ length a.recorded.items → AreGiven kept at ps a.tree
     → PollHere now ps a (record a { tree = polled_each kept at (length ps) a.tree })
 poll-here now at [] a k is low none-recorded alone = record { keeps = k; seen = refl; given = tt }
 poll-here now at (p ∷ ps) a k is low none-recorded alone =
@@ -178,7 +183,8 @@ some-budget n r s m false is lt = (omega (arith, ltb-false r s is), lt)
 -- where there is a budget the recorder is full
 pub budget-of : (n : ℕ) (d : DeviceSeen) → n < budget_at d
     → (d.settings.recorder ≤ length d.recorded)
-    × (n < min (min (d.memory.losses - length d.waiting - length (beneath d.device.tree.root)) (2 ^ 64 - 1 - d.device.tree.top.arrived.packets)) ((2 ^ 64 - 1 - d.device.tree.top.arrived.bytes) / longest))
+    × (n < min (min (d.memory.losses - length d.waiting - length (beneath d.device.tree.root)) (2 ^ 64 - 1 - d.device.tree.top.arrived.packets))
+    ((2 ^ 64 - 1 - d.device.tree.top.arrived.bytes) / longest))
 budget-of n d lt =
     some-budget n (length d.recorded) d.settings.recorder
     (min (min (d.memory.losses - length d.waiting - length (beneath d.device.tree.root)) (2 ^ 64 - 1 - d.device.tree.top.arrived.packets)) ((2 ^ 64 - 1 - d.device.tree.top.arrived.bytes) / longest))

@@ -58,7 +58,8 @@ grants-short settings range events e major minor k class next all event is at mo
     let on : device_after settings (events ++ e ∷ []) ≡ (step history (device_after settings events) e).device =
     ap (λ (r : Replay (List Note)). r.device) (replay_from-append history (nothing_yet history settings) events e) in
     let short = class-short major minor k (device_after settings events) e class next (replay-kept settings events range all) event is (ap (class_in major minor) (sym on) ∙ at) more in
-    subst (λ (d : DeviceState (List Note)). IsSomeAnd (length_shown d.clock class.child) (λ len. deficit_of minor class.schedule.active + k * quantum_of minor class.schedule.classes < len)) (sym on) short
+    subst (λ (d : DeviceState (List Note)). IsSomeAnd (length_shown d.clock class.child)
+    (λ len. deficit_of minor class.schedule.active + k * quantum_of minor class.schedule.classes < len)) (sym on) short
 
 pub classes-wake : (settings : DeviceSettings) → IsInRange settings → ClassesWakeWithAQuantum settings
 classes-wake settings range events e major minor class next all event is at empty queued =
@@ -191,7 +192,9 @@ pairs-share settings range before during major i j quantum_i quantum_j first_i l
     let ej : deficit_of j last_j.schedule.active < quantum_j + settings.mtu = (let b = deficits-bounded settings range (before ++ during) major j last_j all at_j in omega (arith, b, rj)) in
     let low : grants_to i p.notes ≤ grants_to j p.notes + 1 = omega (arith, even, one-at-most (stands_first i j first_i.schedule.active)) in
     let high : grants_to j p.notes ≤ grants_to i p.notes + 1 = omega (arith, even, one-at-most (stands_first i j last_i.schedule.active)) in
-    let fair_j = fair_numbers (bytes_sent k.given) (bytes_sent m.given) (grants_to j p.notes) (grants_to i p.notes) quantum_j quantum_i (deficit_of j first_j.schedule.active) (deficit_of i first_i.schedule.active)
+    let fair_j =
+    fair_numbers (bytes_sent k.given) (bytes_sent m.given) (grants_to j p.notes) (grants_to i p.notes) quantum_j quantum_i
+    (deficit_of j first_j.schedule.active) (deficit_of i first_i.schedule.active)
     (deficit_of j last_j.schedule.active) (deficit_of i last_i.schedule.active) settings.mtu share_j share_i high dj ei pi in
     let sum : settings.mtu * (quantum_j + quantum_i) ≡ settings.mtu * (quantum_i + quantum_j) = ap (λ q. settings.mtu * q) (omega arith) in
     record {
@@ -204,7 +207,9 @@ pairs-share settings range before during major i j quantum_i quantum_j first_i l
       same_order = λ e. omega (arith, even, ap one_if e);
       overtaken = λ e f. omega (arith, even, ap one_if e, ap one_if f);
       overtakes = λ e f. omega (arith, even, ap one_if e, ap one_if f);
-      no_more = fair_numbers (bytes_sent m.given) (bytes_sent k.given) (grants_to i p.notes) (grants_to j p.notes) quantum_i quantum_j (deficit_of i first_i.schedule.active) (deficit_of j first_j.schedule.active)
+      no_more =
+          fair_numbers (bytes_sent m.given) (bytes_sent k.given) (grants_to i p.notes) (grants_to j p.notes) quantum_i quantum_j
+          (deficit_of i first_i.schedule.active) (deficit_of j first_j.schedule.active)
           (deficit_of i last_i.schedule.active) (deficit_of j last_j.schedule.active) settings.mtu share_i share_j low di ej pj;
       no_less = omega (arith, fair_j, mul_comm quantum_j quantum_i, sum);
     }

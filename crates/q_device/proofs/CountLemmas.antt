@@ -96,7 +96,8 @@ none-sent c notes none =
     omega (arith, m.sent_packets, nothing)
 
 -- and one is sent after them, or none
-one-sent : (c : Counts) (rises : List Note) (o : Option Descriptor) → filter_map sent_in rises ≡ [] → (noted totals c (rises ++ map Sent (option_to_list o))).sent.packets ≡ c.sent.packets + (if is_some o then 1 else 0)
+one-sent : (c : Counts) (rises : List Note) (o : Option Descriptor) → filter_map sent_in rises ≡ []
+    → (noted totals c (rises ++ map Sent (option_to_list o))).sent.packets ≡ c.sent.packets + (if is_some o then 1 else 0)
 one-sent c rises o none =
     let m = all-more c (rises ++ map Sent (option_to_list o)) in
     let nothing : sent one rises ≡ 0 = sym (weigh-sent one rises) ∙ ap (weigh one) none ∙ weigh-nil one in
@@ -117,7 +118,9 @@ sent-arrived : (o : Option Descriptor) → filter_map arrival_in (map Sent (opti
 sent-arrived None = refl
 sent-arrived (Some p) = refl
 
-pub step-lost : (d : DeviceState Counts) (e : Event) → (step totals d e).device.tree.top.refused.packets + (step totals d e).device.tree.top.dropped.packets ≡ d.tree.top.refused.packets + d.tree.top.dropped.packets + length (step totals d e).losses
+pub step-lost : (d : DeviceState Counts) (e : Event)
+    → (step totals d e).device.tree.top.refused.packets + (step totals d e).device.tree.top.dropped.packets ≡ d.tree.top.refused.packets
+    + d.tree.top.dropped.packets + length (step totals d e).losses
 step-lost d (event.Arrive p moment) = noted-lost d.tree.top (Arrived p ∷ (put_work (max d.clock moment) p d.tree.device (shape d.tree.root)).rises)
 step-lost d (event.Poll moment) =
     let a = asked (max d.clock moment) d.tree in
@@ -127,7 +130,9 @@ step-lost d (event.Poll moment) =
 step-lost d (event.Command c moment) = by (plan d.tree.device (max d.clock moment) c (shape d.tree.root))
   where
     by : (answer : Result Edit Refusal)
-        → (answered totals answer (max d.clock moment) d).device.tree.top.refused.packets + (answered totals answer (max d.clock moment) d).device.tree.top.dropped.packets ≡ d.tree.top.refused.packets + d.tree.top.dropped.packets + length (answered totals answer (max d.clock moment) d).losses
+        → (answered totals answer (max d.clock moment) d).device.tree.top.refused.packets
+        + (answered totals answer (max d.clock moment) d).device.tree.top.dropped.packets ≡ d.tree.top.refused.packets
+        + d.tree.top.dropped.packets + length (answered totals answer (max d.clock moment) d).losses
     by (Ok edit) = noted-lost d.tree.top (lost_by edit (shape d.tree.root))
     by (Err refusal) = omega arith
 

@@ -64,24 +64,38 @@ pub record Happened (a : Inside) (e : Event) (b : Inside) : Type 0 where
 
 module _ (a : Inside) (e : Event) (b : Inside) (h : Happened a e b) where
   pub event-seen : device_seen b ≡ record (with_event e (device_seen a)) { memory = (device_seen b).memory }
-  event-seen = λ i. record { settings = h.settings i; device = h.device i; waiting = h.waiting i; handed_out = h.handed_out i; recorded = h.recorded i; events = h.events i; memory = (device_seen b).memory }
+  event-seen =
+      λ i. record {
+        settings = h.settings i;
+        device = h.device i;
+        waiting = h.waiting i;
+        handed_out = h.handed_out i;
+        recorded = h.recorded i;
+        events = h.events i;
+        memory = (device_seen b).memory;
+      }
 
   pub event-rises : HasNotFallen (device_seen a).device.tree.top (device_seen b).device.tree.top
   event-rises = subst (λ (d : DeviceSeen). HasNotFallen (device_seen a).device.tree.top d.device.tree.top) (sym event-seen) (step-rises (numbers a.tree) e)
 
 -- a poll, at the moment at which it counts
-pub polled-device : (a b : Inside) (now at : ℕ) → at ≡ max a.tree.clock now → b.tree ≡ record { clock = at; tree = take_packet kept at a.tree.tree } → numbers b.tree ≡ (step totals (numbers a.tree) (event.Poll now)).device
+pub polled-device : (a b : Inside) (now at : ℕ) → at ≡ max a.tree.clock now → b.tree ≡ record { clock = at; tree = take_packet kept at a.tree.tree }
+    → numbers b.tree ≡ (step totals (numbers a.tree) (event.Poll now)).device
 polled-device a b now at is tree =
     ap numbers tree ∙ ap (λ t. numbers (record { clock = t; tree = take_packet kept t a.tree.tree })) is ∙ numbers-step (numbers a.tree) a.tree refl (event.Poll now)
 
 -- it is counted by itself where it sends none
-pub polled-others : (a : Inside) (now at others : ℕ) (sent : Bool) → at ≡ max a.tree.clock now → sent ≡ is_some (given at a.tree.tree) → others ≡ (if sent then a.others else min (a.others + 1) most_events) → others ≡ others_after (event.Poll now) (numbers a.tree) a.others
+pub polled-others : (a : Inside) (now at others : ℕ) (sent : Bool) → at ≡ max a.tree.clock now → sent ≡ is_some (given at a.tree.tree)
+    → others ≡ (if sent then a.others else min (a.others + 1) most_events) → others ≡ others_after (event.Poll now) (numbers a.tree) a.others
 polled-others a now at others sent is sends counted =
     counted
-    ∙ ap (λ b. if b then a.others else min (a.others + 1) most_events) (sends ∙ ap (λ t. is_some (given t a.tree.tree)) is ∙ ap (λ (o : Option Descriptor). is_some o) (sym (given-numbers (max a.tree.clock now) a.tree.tree)))
+    ∙ ap (λ b. if b then a.others else min (a.others + 1) most_events)
+    (sends ∙ ap (λ t. is_some (given t a.tree.tree)) is ∙ ap (λ (o : Option Descriptor). is_some o)
+    (sym (given-numbers (max a.tree.clock now) a.tree.tree)))
 
 pub polled : (a b : Inside) (now at : ℕ) → at ≡ max a.tree.clock now → b.settings ≡ a.settings → b.tree ≡ record { clock = at; tree = take_packet kept at a.tree.tree }
-    → b.losses.waiting ≡ a.losses.waiting ++ losses_in (noted_by_take at a.tree.tree) → b.handed_out ≡ a.handed_out → b.recorded.items ≡ with_recorded a.settings.recorder (event.Poll at) a.recorded.items
+    → b.losses.waiting ≡ a.losses.waiting ++ losses_in (noted_by_take at a.tree.tree) → b.handed_out ≡ a.handed_out
+    → b.recorded.items ≡ with_recorded a.settings.recorder (event.Poll at) a.recorded.items
     → vec_capacity b.recorded ≡ vec_capacity a.recorded → events_of b ≡ min (events_of a + 1) most_events → Happened a (event.Poll now) b
 polled a b now at is settings tree waiting handed_out recorded capacity events =
     let d = numbers a.tree in
@@ -100,11 +114,15 @@ abbrev at_clock : ℕ → TreeState Counts → DeviceState Counts
 at_clock clock tree = record { clock = clock; tree = tree }
 
 -- an arrival, by what it made of the numbers of the tree
-pub arrived-device : (a b : Inside) (p : Descriptor) (now at : ℕ) → at ≡ max a.tree.clock now → numbers b.tree ≡ record { clock = at; tree = put totals at p (tree_numbers a.tree.tree) } → numbers b.tree ≡ (step totals (numbers a.tree) (event.Arrive p now)).device
+pub arrived-device : (a b : Inside) (p : Descriptor) (now at : ℕ) → at ≡ max a.tree.clock now
+    → numbers b.tree ≡ record { clock = at; tree = put totals at p (tree_numbers a.tree.tree) }
+    → numbers b.tree ≡ (step totals (numbers a.tree) (event.Arrive p now)).device
 arrived-device a b p now at is tree = tree ∙ ap (λ t. at_clock t (put totals t p (tree_numbers a.tree.tree))) is
 
-pub arrived : (a b : Inside) (p : Descriptor) (now at : ℕ) → at ≡ max a.tree.clock now → b.settings ≡ a.settings → numbers b.tree ≡ record { clock = at; tree = put totals at p (tree_numbers a.tree.tree) }
-    → b.losses.waiting ≡ a.losses.waiting ++ losses_in (noted_by_put at p a.tree.tree) → b.handed_out ≡ a.handed_out → b.recorded.items ≡ with_recorded a.settings.recorder (event.Arrive p at) a.recorded.items
+pub arrived : (a b : Inside) (p : Descriptor) (now at : ℕ) → at ≡ max a.tree.clock now → b.settings ≡ a.settings
+    → numbers b.tree ≡ record { clock = at; tree = put totals at p (tree_numbers a.tree.tree) }
+    → b.losses.waiting ≡ a.losses.waiting ++ losses_in (noted_by_put at p a.tree.tree) → b.handed_out ≡ a.handed_out
+    → b.recorded.items ≡ with_recorded a.settings.recorder (event.Arrive p at) a.recorded.items
     → vec_capacity b.recorded ≡ vec_capacity a.recorded → events_of b ≡ min (events_of a + 1) most_events → Happened a (event.Arrive p now) b
 arrived a b p now at is settings tree waiting handed_out recorded capacity events =
     let e = event.Arrive p now in
@@ -182,11 +200,13 @@ pub told-nothing : (p : Result Edit Refusal) (root : Shape) (refusal : Refusal) 
 told-nothing (Ok edit) root refusal = refl
 told-nothing (Err first) root refusal = refl
 
-pub commanded-device : (a b : Inside) (c : Command) (now at : ℕ) → at ≡ max a.tree.clock now → IsDone at (plan_of c at a.tree) a.tree b.tree → numbers b.tree ≡ (step totals (numbers a.tree) (event.Command c now)).device
+pub commanded-device : (a b : Inside) (c : Command) (now at : ℕ) → at ≡ max a.tree.clock now → IsDone at (plan_of c at a.tree) a.tree b.tree
+    → numbers b.tree ≡ (step totals (numbers a.tree) (event.Command c now)).device
 commanded-device a b c now at is done_is = done-device a.tree now at is c b.tree done_is
 
 pub commanded : (a b : Inside) (c : Command) (now at : ℕ) → at ≡ max a.tree.clock now → b.settings ≡ a.settings → IsDone at (plan_of c at a.tree) a.tree b.tree
-    → b.losses.waiting ≡ a.losses.waiting ++ told (plan_of c at a.tree) (shape a.tree.tree.root) (Ok tt) → b.handed_out ≡ a.handed_out → b.recorded.items ≡ with_recorded a.settings.recorder (event.Command c at) a.recorded.items
+    → b.losses.waiting ≡ a.losses.waiting ++ told (plan_of c at a.tree) (shape a.tree.tree.root) (Ok tt) → b.handed_out ≡ a.handed_out
+    → b.recorded.items ≡ with_recorded a.settings.recorder (event.Command c at) a.recorded.items
     → vec_capacity b.recorded ≡ vec_capacity a.recorded → events_of b ≡ min (events_of a + 1) most_events → Happened a (event.Command c now) b
 commanded a b c now at is settings done_is waiting handed_out recorded capacity events = record {
   settings = settings;

@@ -49,7 +49,8 @@ pub flows-share : (settings : DeviceSettings) → IsInRange settings → FlowsGi
 flows-share settings range before during major flow quantum first last all_before all_during stays is at =
     let start : DeviceState (List Note) = device_after settings before in
     let m : FlowMoves flow first last =
-    moves (Stays major flow quantum) (Moves major flow quantum) (still major flow quantum) (one major flow quantum) (more major flow quantum) settings before during range all_before all_during stays first last is at in
+    moves (Stays major flow quantum) (Moves major flow quantum) (still major flow quantum) (one major flow quantum) (more major flow quantum)
+    settings before during range all_before all_during stays first last is at in
     let here = at-start (IsBackloggedFlow major flow quantum) settings before during stays in
     let q : first.state.settings.quantum ≡ quantum = quantum-in major flow quantum start first here is in
     let z = backlogged-credits major flow start first (replay-kept settings before range all_before) is (busy-in major flow quantum start first here is) in
@@ -91,7 +92,8 @@ module _ (major i j quantum : ℕ) where
 pub flows-even : (settings : DeviceSettings) → IsInRange settings → FlowsAreGrantedEvenly settings
 flows-even settings range before during major i j quantum first last all_before all_during stays_i stays_j is at =
     let m : FlowPairMoves i j first last =
-    moves (BothStay major i j quantum) (BothMove major i j quantum) (pair-still major i j quantum) (pair-one major i j quantum) (pair-more major i j quantum) settings before during range all_before all_during
+    moves (BothStay major i j quantum) (BothMove major i j quantum) (pair-still major i j quantum) (pair-one major i j quantum)
+    (pair-more major i j quantum) settings before during range all_before all_during
     (λ seen later e. (stays_i seen later e, stays_j seen later e)) first last is at in
     let even = m.even in
     record {

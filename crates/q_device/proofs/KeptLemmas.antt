@@ -33,7 +33,8 @@ use Rattle.q_device.proofs.LawfulLemmas.{losses-told, seen-lawful, seen-arrived,
 use Rattle.q_device.proofs.RecorderLemmas.{grows}
 use Rattle.q_device.proofs.ReplayedLemmas.{opened-replay, replay-with, replay-more, replay-reaped}
 
-opened-seen : (a : Inside) → numbers a.tree ≡ new_device totals a.settings → a.losses.waiting ≡ [] → a.handed_out ≡ 0 → a.recorded.items ≡ [] → events_of a ≡ 0 → device_seen a ≡ opened a.settings (device_seen a).memory
+opened-seen : (a : Inside) → numbers a.tree ≡ new_device totals a.settings → a.losses.waiting ≡ [] → a.handed_out ≡ 0 → a.recorded.items ≡ []
+    → events_of a ≡ 0 → device_seen a ≡ opened a.settings (device_seen a).memory
 opened-seen a device waiting handed_out recorded events = λ i. record {
   settings = a.settings;
   device = device i;
@@ -94,10 +95,13 @@ module _ (a : Inside) (k : IsKeptDevice a) where
   kept-sent e is = seen-sent k.happened (device_seen a) k.replayed k.settings k.events e is
 
   -- one event more is counted
-  pub events-after : (e : Event) (b : Inside) → IsEvent e → numbers b.tree ≡ (step totals (numbers a.tree) e).device → b.others ≡ others_after e (numbers a.tree) a.others → events_of b ≡ min (events_of a + 1) most_events
+  pub events-after : (e : Event) (b : Inside) → IsEvent e → numbers b.tree ≡ (step totals (numbers a.tree) e).device
+      → b.others ≡ others_after e (numbers a.tree) a.others → events_of b ≡ min (events_of a + 1) most_events
   events-after e b is device others =
-      let arrived : b.tree.tree.top.counts.arrived.packets ≡ (arrived_after e a.tree.tree.top.counts.arrived).packets = ap (λ (x : DeviceState Counts). x.tree.top.arrived.packets) device ∙ ap (λ (t : Totals). t.packets) (kept-arrived e is) in
-      let sent : b.tree.tree.top.counts.sent.packets ≡ a.tree.tree.top.counts.sent.packets + sent_by e (numbers a.tree) = ap (λ (x : DeviceState Counts). x.tree.top.sent.packets) device ∙ kept-sent e is in
+      let arrived : b.tree.tree.top.counts.arrived.packets ≡ (arrived_after e a.tree.tree.top.counts.arrived).packets =
+      ap (λ (x : DeviceState Counts). x.tree.top.arrived.packets) device ∙ ap (λ (t : Totals). t.packets) (kept-arrived e is) in
+      let sent : b.tree.tree.top.counts.sent.packets ≡ a.tree.tree.top.counts.sent.packets + sent_by e (numbers a.tree) =
+      ap (λ (x : DeviceState Counts). x.tree.top.sent.packets) device ∙ kept-sent e is in
       (λ i. min (arrived i + sent i + others i) most_events) ∙ one-more e a.tree.tree.top.counts.arrived a.tree.tree.top.counts.sent.packets a.others
     where
       given-more : (b : Bool) (t s n : ℕ) → min (t + (s + (if b then 1 else 0)) + (if b then n else min (n + 1) most_events)) most_events ≡ min (min (t + s + n) most_events + 1) most_events
@@ -153,7 +157,19 @@ module _ (a : Inside) (k : IsKeptDevice a) where
   -- where more packets may arrive with nothing asked
   pub spared-kept : (n : ℕ) → length (beneath a.tree.tree.root) + length a.losses.waiting + n ≤ a.losses.places → a.tree.tree.top.counts.arrived.packets + n < 2 ^ 64
       → a.tree.tree.top.counts.arrived.bytes + n * longest < 2 ^ 64 → (1 ≤ n → a.settings.recorder ≤ length a.recorded.items) → IsKeptDevice (record a { spare = n })
-  spared-kept n room packets bytes full = record { happened = k.happened; events = k.events; settings = k.settings; replayed = k.replayed; room = room; recorder = k.recorder; full = full; packets = packets; bytes = bytes }
+  spared-kept n room packets bytes full =
+      record {
+        happened = k.happened;
+        events = k.events;
+        settings = k.settings;
+        replayed = k.replayed;
+        room = room;
+        recorder = k.recorder;
+        full =
+            full;
+        packets = packets;
+        bytes = bytes;
+      }
 
   -- the device can count a packet more, where one may arrive with nothing asked
   pub spared-counts : (p : Descriptor) → HasPacketFields p → 1 ≤ a.spare → CanCount a.tree.tree.top.counts.arrived p
@@ -168,12 +184,15 @@ module _ (a : Inside) (k : IsKeptDevice a) where
       waits (x ∷ rest) e = omega arith
 
   -- the oldest loss handed out
-  pub reaped-kept : (l : Loss) (losses : LossList) → Some l ≡ slice_get a.losses.waiting 0 → losses ≡ record a.losses { waiting = drop 1 a.losses.waiting } → IsKeptDevice (record a { losses = losses; handed_out = a.handed_out + 1 })
+  pub reaped-kept : (l : Loss) (losses : LossList) → Some l ≡ slice_get a.losses.waiting 0
+      → losses ≡ record a.losses { waiting = drop 1 a.losses.waiting } → IsKeptDevice (record a { losses = losses; handed_out = a.handed_out + 1 })
   reaped-kept l losses first is = subst (λ (x : LossList). IsKeptDevice (record a { losses = x; handed_out = a.handed_out + 1 })) (sym is) (record {
     happened = k.happened;
     events = k.events;
     settings = k.settings;
-    replayed = subst (λ n. IsReplayOf k.happened (record (device_seen a) { waiting = drop 1 a.losses.waiting; handed_out = a.handed_out + n })) (one a.losses.waiting first) (replay-reaped k.happened (device_seen a) k.replayed);
+    replayed =
+        subst (λ n. IsReplayOf k.happened (record (device_seen a) { waiting = drop 1 a.losses.waiting; handed_out = a.handed_out + n }))
+        (one a.losses.waiting first) (replay-reaped k.happened (device_seen a) k.replayed);
     room = omega (arith, k.room, length-drop 1 a.losses.waiting);
     recorder = k.recorder;
     full = k.full;
@@ -192,7 +211,13 @@ module _ (a : Inside) (k : IsKeptDevice a) where
     happened = k.happened;
     events = k.events;
     settings = k.settings;
-    replayed = subst (IsReplayOf k.happened) (λ i. record (device_seen b) { device = sym same i; waiting = ap (λ (l : LossList). l.waiting) (sym is) i; events = ap (λ (d : DeviceState Counts). min (d.tree.top.arrived.packets + d.tree.top.sent.packets + a.others) most_events) (sym same) i })
+    replayed =
+        subst (IsReplayOf k.happened) (λ i. record (device_seen b) {
+          device = sym same i;
+          waiting = ap (λ (l : LossList). l.waiting) (sym is) i;
+          events = ap
+              (λ (d : DeviceState Counts). min (d.tree.top.arrived.packets + d.tree.top.sent.packets + a.others) most_events) (sym same) i;
+        })
         (replay-with k.happened (device_seen a) (device_seen b).memory k.replayed);
     room = omega (arith, fits, waits-same x a.tree same, ap (λ (l : LossList). length l.waiting) is);
     recorder = k.recorder;

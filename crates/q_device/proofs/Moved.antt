@@ -100,14 +100,18 @@ module _ (t : ℕ) where
       next : Moves t a.shown (with_band o (outlook t a.peeked))
       next = next-moves t o (outlook t a.peeked) a.shown m all.0.moved
 
-      by : (x : Option Descriptor) → a.shown ≡ x → (Moves t None (with_band o (outlook t a.peeked)) → Moves t (first_of below) (with_bands (with_band o (outlook t a.peeked)) (map (outlook t) (peeked_to (ready below) below))))
+      by : (x : Option Descriptor) → a.shown ≡ x
+          → (Moves t None (with_band o (outlook t a.peeked)) → Moves t (first_of below)
+          (with_bands (with_band o (outlook t a.peeked)) (map (outlook t) (peeked_to (ready below) below))))
           → P a.shown (ready (a ∷ below))
       by None e later =
           subst (λ k. P a.shown k) (sym (ready-later a below (ap is_some e)))
           (subst (λ (x : Option Descriptor). P x (suc (ready below))) (sym e) (later (subst (λ (x : Option Descriptor). Moves t x (with_band o (outlook t a.peeked))) e next)))
       by (Some q) e later =
           subst (λ k. P a.shown k) (sym (ready-here a below (ap is_some e)))
-          (subst (λ (x : Option Descriptor). P x 0) (sym e) (rest-move q (with_band o (outlook t a.peeked)) (subst (λ (x : Option Descriptor). Moves t x (with_band o (outlook t a.peeked))) e next) below all.1))
+          (subst (λ (x : Option Descriptor). P x 0) (sym e)
+          (rest-move q (with_band o (outlook t a.peeked))
+          (subst (λ (x : Option Descriptor). Moves t x (with_band o (outlook t a.peeked))) e next) below all.1))
 
 -- ---- a tbf that waits: its child shows nothing, or a packet that the bucket does not allow
 

@@ -111,7 +111,8 @@ module _ (t : ℕ) where
 
       -- the class that is met shows nothing
       module _ (e : Entry) (rest : List Entry) (first : (prepared heads s).active ≡ e ∷ rest) where
-        child : (i : ℕ) → class_at e.class s ≡ Some i → (o : Option Asked) → slice_get below i ≡ o → Moves t None (option_map_or (paid e.deficit) (option_map (λ (a : Asked). outlook t a.peeked) o) no_packet)
+        child : (i : ℕ) → class_at e.class s ≡ Some i → (o : Option Asked) → slice_get below i ≡ o
+            → Moves t None (option_map_or (paid e.deficit) (option_map (λ (a : Asked). outlook t a.peeked) o) no_packet)
         child i at None there = none-moves t
         child i at (Some a) there =
             let h = moved-at below all i a there in
@@ -138,11 +139,14 @@ module _ (t : ℕ) where
 
       of-front : (es : List Entry) → (prepared heads s).active ≡ es → Moves t None (of_class left ps (slice_get left.active 0))
       of-front [] idle =
-          subst (λ (es : List Entry). Moves t None (of_class left ps (slice_get es 0))) (sym (ap (λ (x : Schedule). x.active) (sym (served_nobody heads s (prepared heads s) idle refl)) ∙ idle)) (none-moves t)
+          subst (λ (es : List Entry). Moves t None (of_class left ps (slice_get es 0)))
+          (sym (ap (λ (x : Schedule). x.active) (sym (served_nobody heads s (prepared heads s) idle refl)) ∙ idle)) (none-moves t)
       of-front (e ∷ rest) first = front-moves e rest first
 
       nothing-moves : Moves t None (outlook t (gives_nothing (drr s) below (service_of s below)).peeked)
-      nothing-moves = subst (Moves t None) (sym (asked-outlook t (drr left) ((service_of s below).rises ++ (service_of s below).grants) (service_of s below).below)) (of-front (prepared heads s).active refl)
+      nothing-moves =
+          subst (Moves t None) (sym (asked-outlook t (drr left) ((service_of s below).rises ++ (service_of s below).grants)
+          (service_of s below).below)) (of-front (prepared heads s).active refl)
 
     -- ---- every discipline
 
@@ -161,7 +165,13 @@ module _ (t : ℕ) where
       asked-moves None (Tbf b limit) (a ∷ below) h all = tbf-moves b limit h.discipline.level a below all.0
       asked-moves None (Drr s) below h all =
           let same : length s.classes ≡ length below =
-          omega (arith, exact-length (λ n. is_active n s.active) s.classes (map beneath (befores below)) h.discipline.exact, length-map (befores below) beneath, length-map below (λ (a : Asked). a.before)) in
+          omega (
+            arith,
+            exact-length (λ n. is_active n s.active) s.classes (map beneath (befores below)) h.discipline.exact,
+            length-map
+                (befores below) beneath,
+            length-map below (λ (a : Asked). a.before),
+          ) in
           drr-moves s below (λ silent. nothing-moves s below same all silent)
       asked-moves None (FqCodel s) below h all = by (option_map (λ (x : Taken). x.packet) (sent_from t (selected s))) refl
         where
@@ -174,6 +184,7 @@ module _ (t : ℕ) where
           after : FqState
           after = after_sending t (selected s)
 
-          by : (x : Option Descriptor) → option_map (λ (x : Taken). x.packet) (sent_from t (selected s)) ≡ x → Moves t x (outlook t (worked (node t handle filters since (FqCodel after) x) notes (befores below)))
+          by : (x : Option Descriptor) → option_map (λ (x : Taken). x.packet) (sent_from t (selected s)) ≡ x
+              → Moves t x (outlook t (worked (node t handle filters since (FqCodel after) x) notes (befores below)))
           by None e = subst (λ n. Moves t None (of_flows t n)) (sym (take_leaves_none t s h.discipline.lists h.discipline.settings.quantum_low e)) (none-moves t)
           by (Some p) e = hand-moves t p

@@ -29,7 +29,8 @@ module _ (mtu t : ℕ) (least : 1 ≤ mtu) (low : t ≤ 2 ^ 62) where
   shape-moves : (n : Shape) → IsLawfulRoot mtu t n → Moves t (ask t n).shown (outlook t (ask t n).peeked)
   shape-moves n lawful = own-moves n.own n.below lawful (forest-moved n.below lawful.1)
 
-pub take-moves : {M : Type 0} (tally : Tally M) (t : ℕ) (s : TreeState M) → 1 ≤ s.device.mtu → t ≤ 2 ^ 62 → IsLawfulRoot s.device.mtu t (shape s.root) → given t s ≡ None → Moves t None (outlook t (take_packet tally t s).root)
+pub take-moves : {M : Type 0} (tally : Tally M) (t : ℕ) (s : TreeState M) → 1 ≤ s.device.mtu → t ≤ 2 ^ 62 → IsLawfulRoot s.device.mtu t (shape s.root)
+    → given t s ≡ None → Moves t None (outlook t (take_packet tally t s).root)
 take-moves tally t s least low lawful silent =
     subst (Moves t None) (sym (left tally t t s least low (omega arith) lawful silent (outlook_own t)))
     (subst (λ (o : Option Descriptor). Moves t o (outlook t (ask t (shape s.root)).peeked)) silent (shape-moves s.device.mtu t least low (shape s.root) lawful))

@@ -27,6 +27,7 @@ module _ {M N : Type 0} (t : Tally M) (u : Tally N) (f : M → N) (same : (m : M
       at (Some n) = sym (node-stands n)
 
       by : (o : Option (List ℕ))
-          → option_and_then (λ (n : Node M). oldest n) (option_and_then (λ path. node_at path s.root) o) ≡ option_and_then (λ (n : Node N). oldest n) (option_and_then (λ path. node_at path (with_memory f s.root)) o)
+          → option_and_then (λ (n : Node M). oldest n) (option_and_then (λ path. node_at path s.root) o)
+          ≡ option_and_then (λ (n : Node N). oldest n) (option_and_then (λ path. node_at path (with_memory f s.root)) o)
       by None = refl
       by (Some path) = at (node_at path s.root) ∙ ap (option_and_then (λ (n : Node N). oldest n)) (sym (node_at-stands t u f same path s.root))

@@ -63,7 +63,8 @@ answer-burst (p ∷ ps) m now d h =
     let more : suc (length ps + m) ≡ suc (length ps) + m = omega arith in
     answer-burst ps m now (after_poll now d) h.1 ∙ (sym (answer-more (length ps + m) now d (after_poll now d) p h.0 refl) ∙ ap (λ (k : ℕ). answer_by k now d) more)
 
-pub polling-begins : {A : Type 0} (told : Descriptor → A) (i n now : ℕ) (before after : List A) (d d' : DeviceSeen) → IsPolledFirst told now i before after d d' → i ≤ n → IsPolling told i n now before after d d'
+pub polling-begins : {A : Type 0} (told : Descriptor → A) (i n now : ℕ) (before after : List A) (d d' : DeviceSeen)
+    → IsPolledFirst told now i before after d d' → i ≤ n → IsPolling told i n now before after d d'
 polling-begins told i n now before after d d' first within =
     let ps : List Descriptor = first.packets in
     let whole : length ps + (n - i) ≡ n = omega (arith, first.counted, within) in
@@ -122,7 +123,8 @@ polling-ends told i n now before after d d' inv end len =
     (ap (λ (k : ℕ). given_by k now d') (sym none)) (ap (λ (k : ℕ). polled_by k now d') none) (ap (λ (k : ℕ). answer_by k now d') none)
 
 -- the next one gave none
-pub polling-stops : {A : Type 0} (told : Descriptor → A) (i n now : ℕ) (code : Given) (before after : List A) (d d' d'' : DeviceSeen) → IsPolling told i n now before after d d' → i < n → length before ≡ n
+pub polling-stops : {A : Type 0} (told : Descriptor → A) (i n now : ℕ) (code : Given) (before after : List A) (d d' d'' : DeviceSeen)
+    → IsPolling told i n now before after d d' → i < n → length before ≡ n
     → given_at now d' ≡ None → d'' ≡ after_poll now d' → code ≡ given_as (reply_to (Poll now) d') → IsPolls told now code i before after d d''
 polling-stops told i n now code before after d d' d'' inv lt len gives is answer =
     let left : n - i ≡ suc (n - (i + 1)) = omega (arith, lt) in

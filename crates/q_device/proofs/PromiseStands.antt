@@ -50,7 +50,9 @@ from-stands (i ∷ path) n (Tbf b limit) = by n.own.handle
     child link (Some c) = below-stands link path c
 
     by : (o : Option ℕ)
-        → option_and_then (λ h. option_and_then (way_below (record { handle = h; rate = b.rate; burst = b.burst }) path) (slice_get (children (counted n)) i)) o ≡ option_and_then (λ h. option_and_then (way_below (record { handle = h; rate = b.rate; burst = b.burst }) path) (slice_get (children n) i)) o
+        → option_and_then (λ h. option_and_then (way_below (record { handle = h; rate = b.rate; burst = b.burst }) path)
+        (slice_get (children (counted n)) i)) o ≡ option_and_then
+        (λ h. option_and_then (way_below (record { handle = h; rate = b.rate; burst = b.burst }) path) (slice_get (children n) i)) o
     by None = refl
     by (Some h) =
         let link : Link = record { handle = h; rate = b.rate; burst = b.burst } in
@@ -83,6 +85,7 @@ module _ (mtu : ℕ) where
   no-way None e = refl
   no-way (Some w) e = absurd (none-some w.link e)
 
-  pub some-way : (o : Option Way) (link : Option Link) (shares : List Share) → Some link ≡ option_map (λ (w : Way). w.link) o → Some shares ≡ option_map shares_of o → promise_on mtu link shares ≡ promised o
+  pub some-way : (o : Option Way) (link : Option Link) (shares : List Share) → Some link ≡ option_map (λ (w : Way). w.link) o
+      → Some shares ≡ option_map shares_of o → promise_on mtu link shares ≡ promised o
   some-way None link shares e f = absurd (none-some link (sym e))
   some-way (Some w) link shares e f = ap₂ (promise_on mtu) (same_Some link w.link e) (same_Some shares (shares_of w) f)

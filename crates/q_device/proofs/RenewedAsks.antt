@@ -160,7 +160,8 @@ module _ (now t : ℕ) (order : now ≤ t) where
   passed-renew (o ∷ os) (a ∷ below) all (suc k) = (all.0.peeked, passed-renew os below all.1 k)
 
   -- some classes were asked
-  looked-renew : (test : Class → Bool) (classes : List Class) (os : List Outlook) (below : List Asked) → length classes ≡ length below → AreRenewed os below → AllRenew t os (map (outlook t) (peeked_by test classes below))
+  looked-renew : (test : Class → Bool) (classes : List Class) (os : List Outlook) (below : List Asked) → length classes ≡ length below
+      → AreRenewed os below → AllRenew t os (map (outlook t) (peeked_by test classes below))
   looked-renew test [] [] [] same all = tt
   looked-renew test (c ∷ classes) [] [] same all = absurd (omega (arith, same))
   looked-renew test classes [] (a ∷ below) same all = absurd all
@@ -229,7 +230,8 @@ module _ (now t : ℕ) (order : now ≤ t) where
     asked-at (o ∷ os) (a ∷ below) all zero = all.0
     asked-at (o ∷ os) (a ∷ below) all (suc i) = asked-at os below all.1 i
 
-    module _ (s : Schedule) (os : List Outlook) (below : List Asked) (lawful : IsLawful s) (same : length s.classes ≡ length below) (all : AreRenewed os below) (silent : (ask_drr (drr s) below s).shown ≡ None) where
+    module _ (s : Schedule) (os : List Outlook) (below : List Asked) (lawful : IsLawful s) (same : length s.classes ≡ length below)
+        (all : AreRenewed os below) (silent : (ask_drr (drr s) below s).shown ≡ None) where
       abbrev heads : ℕ → Option ℕ
       heads = head_of s below
 
@@ -269,7 +271,8 @@ module _ (now t : ℕ) (order : now ≤ t) where
             let fits = k.fits in
             absurd (omega (arith, size)))
 
-        at-front : (o : Option Outlook) (a : Option Asked) → Both o a → head_of s below e.class ≡ option_and_then length_of a → Follows now t e.deficit (option_and_then (λ (x : Asked). x.shown) a) (ask_drr (drr s) below s).shown
+        at-front : (o : Option Outlook) (a : Option Asked) → Both o a → head_of s below e.class ≡ option_and_then length_of a
+            → Follows now t e.deficit (option_and_then (λ (x : Asked). x.shown) a) (ask_drr (drr s) below s).shown
             → (s ≡ left) ⊎ Renews t (option_map_or (paid e.deficit) o no_packet) (of_class left ps (slice_get left.active 0))
         at-front None None both head f = inl (shows-nothing head)
         at-front None (Some a) both head f = absurd both
@@ -286,7 +289,8 @@ module _ (now t : ℕ) (order : now ≤ t) where
       of-front : (es : List Entry) → s.active ≡ es → Renews t (of_class s os (slice_get s.active 0)) (of_class left ps (slice_get left.active 0))
       of-front [] idle = unmoved (served_nobody heads s s idle (prepared_empty heads s lawful idle))
       of-front (e ∷ rest) is =
-          elim (at-front e rest is (option_and_then (slice_get os) (class_at e.class s)) (class_answer s below e.class) (place (class_at e.class s)) refl (follows (drr s) s below lawful e rest is now t)) [
+          elim (at-front e rest is (option_and_then (slice_get os) (class_at e.class s)) (class_answer s below e.class) (place (class_at e.class s))
+          refl (follows (drr s) s below lawful e rest is now t)) [
             | inl as_it_was ↦ unmoved as_it_was
             | inr moved ↦ subst (λ (es : List Entry). Renews t (of_class s os (slice_get es 0)) (of_class left ps (slice_get left.active 0))) (sym is) moved
           ]
@@ -315,7 +319,9 @@ module _ (now t : ℕ) (order : now ≤ t) where
         notes : List Note
         notes = (ask_fq_codel t (node t handle filters since (FqCodel s) None) below s).peeked.memory
 
-        by : (x : Option Descriptor) → Foresees now t (of_flows now (fq.packets_of s.flows)) x → Renews t (of_flows now (fq.packets_of s.flows)) (outlook t (worked (node t handle filters since (FqCodel after) x) notes (befores below)))
+        by : (x : Option Descriptor) → Foresees now t (of_flows now (fq.packets_of s.flows)) x
+            → Renews t (of_flows now (fq.packets_of s.flows))
+            (outlook t (worked (node t handle filters since (FqCodel after) x) notes (befores below)))
         by None f = flows-renew (fq.packets_of s.flows) (fq.packets_of after.flows) (flows-left s)
         by (Some p) f = held-renews now t (of_flows now (fq.packets_of s.flows)) p f
 
@@ -339,6 +345,12 @@ module _ (now t : ℕ) (order : now ≤ t) where
       asked-renews None (Tbf b limit) (o ∷ os) (a ∷ below) h all f = tbf-renews b limit h.discipline.level o a below all.0 f
       asked-renews None (Drr s) os below h all f =
           let same : length s.classes ≡ length below =
-          omega (arith, exact-length (λ n. is_active n s.active) s.classes (map beneath (befores below)) h.discipline.exact, length-map (befores below) beneath, length-map below (λ (a : Asked). a.before)) in
+          omega (
+            arith,
+            exact-length (λ n. is_active n s.active) s.classes (map beneath (befores below)) h.discipline.exact,
+            length-map
+                (befores below) beneath,
+            length-map below (λ (a : Asked). a.before),
+          ) in
           drr-renews (of_class s os (slice_get s.active 0)) s below f (λ silent. nothing-renews s os below h.discipline.schedule same all silent)
       asked-renews None (FqCodel s) os below h all f = fq-renews s below f

@@ -129,7 +129,12 @@ module _ (t : ℕ) (a b p q : Outlook) (ra : Renews t a p) (rb : Renews t b q) w
       let late = rb.formed.from y' cy in
       let past = covers-in y y' b.at f (rb.at y' cy) in
       let ends = covers-in x' z p.at g st.there.at in
-      let again = ra.known y' late (record { at = record { at = x; is = e; past = omega arith }; ahead = comes-before z (Some y') a.until (record { at = y'; is = refl; past = omega arith }) opened.ahead }) in
+      let again =
+      ra.known y' late (record {
+        at = record { at = x; is = e; past = omega arith };
+        ahead = comes-before z (Some y') a.until
+            (record { at = y'; is = refl; past = omega arith }) opened.ahead;
+      }) in
       let low = covers-in x' y' p.at g again.there.at in
       absurd (omega arith))
       (λ x' y' g h more. record { there = record { at = st.there.at; ahead = st.there.ahead }; len = st.len })
@@ -180,7 +185,8 @@ module _ (deficit : ℕ) (o : Outlook) where
       by None e = short (λ n f. absurd (none-some n (sym e ∙ f)))
       by (Some len) e = elim (cases_Bool (nat_le len deficit)) [
         | inl fits ↦ subst P (sym (cond-true (nat_le len deficit) (record o { least = 0 }) (at_best o.at 0) fits)) (pays len e (leb-true len deficit fits))
-        | inr over ↦ subst P (sym (cond-false (nat_le len deficit) (record o { least = 0 }) (at_best o.at 0) over)) (short (λ n f. let is = same-some len n o.len e f in omega (arith, leb-false len deficit over)))
+        | inr over ↦ subst P (sym (cond-false (nat_le len deficit) (record o { least = 0 }) (at_best o.at 0) over))
+            (short (λ n f. let is = same-some len n o.len e f in omega (arith, leb-false len deficit over)))
       ]
 
   pub paid-at : (paid deficit o).at ≡ o.at

@@ -28,7 +28,8 @@ module _ (mtu now t : ℕ) (least : 1 ≤ mtu) (low : t ≤ 2 ^ 62) (order : now
       let n : Shape = record { own = own; memory = tt; below = x } in
       let os : List Outlook = each (outlook_own now) x in
       let below : List Asked = each (ask_own t) x in
-      let sees : Foresees now t (outlook_own now own os) (ask_own t own below).shown = subst (λ (a : Asked). Foresees now t (outlook now n) a.shown) (asked-shape t n) (foreseen mtu now t least low order n lawful) in
+      let sees : Foresees now t (outlook_own now own os) (ask_own t own below).shown =
+      subst (λ (a : Asked). Foresees now t (outlook now n) a.shown) (asked-shape t n) (foreseen mtu now t least low order n lawful) in
       record {
         foreseen = sees;
         before = subst (Renews t (outlook_own now own os)) (sym (ap (outlook t) (before-is t own below) ∙ asked-outlook t own [] (befores below)))
@@ -53,7 +54,9 @@ module _ {M : Type 0} (tally : Tally M) (now t : ℕ) (s : TreeState M) (least :
   sees =
       subst (λ (a : Asked). Foresees now t (outlook now s.root) a.shown) (sym (asked-shape t s.root ∙ ap (ask_own t s.root.own) refl))
       (subst (λ os. Foresees now t (outlook_own now s.root.own os) (ask_own t s.root.own (each (ask_own t) s.root.below)).shown) (each-each_memory (outlook_own now) (λ m. tt) s.root.below)
-      (subst (λ (a : Asked). Foresees now t (outlook now root) a.shown) (asked-shape t root ∙ ap (ask_own t s.root.own) (each-each_memory (ask_own t) (λ m. tt) s.root.below)) (foreseen s.device.mtu now t least low order root lawful)))
+      (subst (λ (a : Asked). Foresees now t (outlook now root) a.shown)
+      (asked-shape t root ∙ ap (ask_own t s.root.own) (each-each_memory (ask_own t) (λ m. tt) s.root.below))
+      (foreseen s.device.mtu now t least low order root lawful)))
 
   module _ (silent : given t s ≡ None) where
     abbrev after : TreeState M

@@ -25,7 +25,8 @@ module _ {M N : Type 0} (t : Tally M) (u : Tally N) (f : M → N) (same : (m : M
   node_at-stands [] n = refl
   node_at-stands (i ∷ path) n = ap (option_and_then (node_at path)) (child-with_memory f n i) ∙ by (slice_get (children n) i) (λ c. node_at-stands path c)
     where
-      by : (o : Option (Node M)) → ((c : Node M) → node_at path (with_memory f c) ≡ option_map (with_memory f) (node_at path c)) → option_and_then (node_at path) (option_map (with_memory f) o) ≡ option_map (with_memory f) (option_and_then (node_at path) o)
+      by : (o : Option (Node M)) → ((c : Node M) → node_at path (with_memory f c) ≡ option_map (with_memory f) (node_at path c))
+          → option_and_then (node_at path) (option_map (with_memory f) o) ≡ option_map (with_memory f) (option_and_then (node_at path) o)
       by None below = refl
       by (Some c) below = below c
 
@@ -40,12 +41,16 @@ module _ {M N : Type 0} (t : Tally M) (u : Tally N) (f : M → N) (same : (m : M
       ap (λ o. option_and_then (λ path. option_and_then (λ parent. option_map (λ i. path ++ i ∷ []) (class_place class.minor parent)) (node_at path (with_memory f n))) o) (path-stands class.major n)
       ∙ by (path_of class.major n)
     where
-      child : (path : List ℕ) (o : Option (Node M)) → option_and_then (λ parent. option_map (λ i. path ++ i ∷ []) (class_place class.minor parent)) (option_map (with_memory f) o) ≡ option_and_then (λ parent. option_map (λ i. path ++ i ∷ []) (class_place class.minor parent)) o
+      child : (path : List ℕ) (o : Option (Node M))
+          → option_and_then (λ parent. option_map (λ i. path ++ i ∷ []) (class_place class.minor parent)) (option_map (with_memory f) o)
+          ≡ option_and_then (λ parent. option_map (λ i. path ++ i ∷ []) (class_place class.minor parent)) o
       child path None = refl
       child path (Some parent) = ap (option_map (λ i. path ++ i ∷ [])) (place-stands class.minor parent)
 
       by : (o : Option (List ℕ))
-          → option_and_then (λ path. option_and_then (λ parent. option_map (λ i. path ++ i ∷ []) (class_place class.minor parent)) (node_at path (with_memory f n))) o ≡ option_and_then (λ path. option_and_then (λ parent. option_map (λ i. path ++ i ∷ []) (class_place class.minor parent)) (node_at path n)) o
+          → option_and_then (λ path. option_and_then (λ parent. option_map (λ i. path ++ i ∷ []) (class_place class.minor parent))
+          (node_at path (with_memory f n))) o ≡ option_and_then
+          (λ path. option_and_then (λ parent. option_map (λ i. path ++ i ∷ []) (class_place class.minor parent)) (node_at path n)) o
       by None = refl
       by (Some path) = ap (option_and_then (λ parent. option_map (λ i. path ++ i ∷ []) (class_place class.minor parent))) (node_at-stands path n) ∙ child path (node_at path n)
 

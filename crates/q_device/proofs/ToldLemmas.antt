@@ -79,7 +79,8 @@ record TellsStep (e : Event) (notes : List Note) (s : Step (List Note)) : Type 0
   sent : filter_map sent_in notes ≡ filter_map given_in (s.reply ∷ [])
   lost : losses_in notes ≡ s.losses
 
-tells-more : (events : List Event) (r : Replay (List Note)) (e : Event) (notes : List Note) (s : Step (List Note)) → s.device.tree.top ≡ r.device.tree.top ++ notes → TellsAll events r → TellsStep e notes s → TellsAll (events ++ e ∷ []) (with_step r s)
+tells-more : (events : List Event) (r : Replay (List Note)) (e : Event) (notes : List Note) (s : Step (List Note))
+    → s.device.tree.top ≡ r.device.tree.top ++ notes → TellsAll events r → TellsStep e notes s → TellsAll (events ++ e ∷ []) (with_step r s)
 tells-more events r e notes s top h more = record {
   arrived = ap (filter_map arrival_in) top ∙ filter_map-append arrival_in r.device.tree.top notes ∙ ap₂ (λ a b. a ++ b) h.arrived more.arrived ∙ sym (filter_map-append brought events (e ∷ []));
   sent = ap (filter_map sent_in) top ∙ filter_map-append sent_in r.device.tree.top notes ∙ ap₂ (λ a b. a ++ b) h.sent more.sent ∙ sym (filter_map-append given_in r.replies (s.reply ∷ []));
@@ -87,7 +88,8 @@ tells-more events r e notes s top h more = record {
 }
 
 -- each kind of event
-polled-tells : (rises : List Note) (o : Option Descriptor) (empty : Bool) → AreLosses rises → (s : Step (List Note)) (moment : ℕ) → s.reply ≡ reply.Polled (polled_of o empty) → s.losses ≡ losses_in rises
+polled-tells : (rises : List Note) (o : Option Descriptor) (empty : Bool) → AreLosses rises → (s : Step (List Note)) (moment : ℕ)
+    → s.reply ≡ reply.Polled (polled_of o empty) → s.losses ≡ losses_in rises
     → TellsStep (event.Poll moment) (rises ++ map Sent (option_to_list o)) s
 polled-tells rises None empty h s moment answer losses = record {
   arrived = ap (filter_map arrival_in) (append-nil rises) ∙ h.none_arrived;
@@ -120,7 +122,8 @@ step-tells events r (event.Poll moment) kept range h =
     let d = r.device in
     let a = asked now d.tree in
     let quiet = ask-quiet d.clock now d.tree kept (omega arith) (not-after d.clock moment (2 ^ 62) kept.moment range) in
-    tells-more events r (event.Poll moment) (a.rises ++ map Sent (option_to_list a.shown)) (step history d (event.Poll moment)) (noted-history d.tree.top (a.rises ++ map Sent (option_to_list a.shown))) h
+    tells-more events r (event.Poll moment) (a.rises ++ map Sent (option_to_list a.shown)) (step history d (event.Poll moment))
+    (noted-history d.tree.top (a.rises ++ map Sent (option_to_list a.shown))) h
     (polled-tells a.rises a.shown (is_empty (shape (take_packet history now d.tree).root)) (quiet-are a.rises quiet) (step history d (event.Poll moment)) moment refl refl)
 step-tells events r (event.Command c moment) kept range h = by (plan d.tree.device now c (shape d.tree.root))
   where
@@ -133,14 +136,19 @@ step-tells events r (event.Command c moment) kept range h = by (plan d.tree.devi
     by : (answer : Result Edit Refusal) → TellsAll (events ++ event.Command c moment ∷ []) (with_step r (answered history answer (max r.device.clock moment) r.device))
     by (Ok edit) =
         let none = losses-are Purged (packets_removed edit (shape r.device.tree.root)) in
-        tells-more events r (event.Command c moment) (lost_by edit (shape r.device.tree.root)) (answered history (Ok edit) (max r.device.clock moment) r.device) (noted-history r.device.tree.top (lost_by edit (shape r.device.tree.root))) h (record {
+        tells-more events r (event.Command c moment) (lost_by edit (shape r.device.tree.root))
+        (answered history (Ok edit) (max r.device.clock moment) r.device)
+        (noted-history r.device.tree.top (lost_by edit (shape r.device.tree.root))) h (record {
           arrived = none.none_arrived;
           sent = none.none_sent;
           lost = refl;
         })
-    by (Err refusal) = tells-more events r (event.Command c moment) [] (answered history (Err refusal) (max r.device.clock moment) r.device) (sym (append-nil r.device.tree.top)) h (record { arrived = refl; sent = refl; lost = refl })
+    by (Err refusal) =
+        tells-more events r (event.Command c moment) [] (answered history (Err refusal) (max r.device.clock moment) r.device)
+        (sym (append-nil r.device.tree.top)) h (record { arrived = refl; sent = refl; lost = refl })
 
-replay_from-tells : (before : List Event) (r : Replay (List Note)) (events : List Event) → IsKept r.device → All IsEvent events → TellsAll before r → TellsAll (before ++ events) (replay_from history r events)
+replay_from-tells : (before : List Event) (r : Replay (List Note)) (events : List Event) → IsKept r.device → All IsEvent events → TellsAll before r
+    → TellsAll (before ++ events) (replay_from history r events)
 replay_from-tells before r [] kept all h = subst (λ es. TellsAll es r) (sym (append-nil before)) h
 replay_from-tells before r (e ∷ events) kept all h =
     let first = All-head IsEvent e events all in

@@ -109,7 +109,8 @@ module _ (settings : DeviceSettings) (range : IsInRange settings) (d : DeviceSta
         replies = All-push (λ (y : Reply). y ≡ empty_handed d) r.replies (step totals x e).reply h.replies answer;
       }
     where
-      nothing : (t : ℕ) (x : DeviceState Counts) → ((y : ℕ) → Covers y (ready x) → Covers y (ready d)) → Foresees x.clock t (outlook x.clock x.tree.root) (given t x.tree) → is_before (Some t) (ready d) ≡ true
+      nothing : (t : ℕ) (x : DeviceState Counts) → ((y : ℕ) → Covers y (ready x) → Covers y (ready d))
+          → Foresees x.clock t (outlook x.clock x.tree.root) (given t x.tree) → is_before (Some t) (ready d) ≡ true
           → (o : Option Descriptor) → given t x.tree ≡ o → given t x.tree ≡ None
       nothing t x no_sooner known early None e = e
       nothing t x no_sooner known early (Some p) e =
@@ -118,7 +119,9 @@ module _ (settings : DeviceSettings) (range : IsInRange settings) (d : DeviceSta
 
   polls-along : (moments : List ℕ) → All (IsTooEarly d) moments → (r : Replay Counts) → IsAlong r → IsAlong (replay_from totals r (map event.Poll moments))
   polls-along [] all r h = h
-  polls-along (m ∷ moments) all r h = polls-along moments (All-tail (IsTooEarly d) m moments all) (with_step r (step totals r.device (event.Poll m))) (step-along r h m (All-head (IsTooEarly d) m moments all))
+  polls-along (m ∷ moments) all r h =
+      polls-along moments (All-tail (IsTooEarly d) m moments all) (with_step r (step totals r.device (event.Poll m)))
+      (step-along r h m (All-head (IsTooEarly d) m moments all))
 
 pub early-polls : (d : DeviceSeen) → IsReplayed d → IsInRange d.settings → EarlyPollsGiveNothing d
 early-polls d r range moments all =
@@ -155,5 +158,6 @@ empty-polls d r range m within silent =
     let t : ℕ = counts_at m x in
     let lawful : IsLawfulTree totals x.clock x.tree = seen-lawful r.happened d r.replayed range r.events in
     let low : t ≤ 2 ^ 62 = not-after x.clock m (2 ^ 62) lawful.moment within in
-    let moves : Moves t None (outlook t (take_packet totals t x.tree).root) = take-moves totals t x.tree lawful.least_mtu low (lawful-shape totals x.clock t x.tree lawful (not-before x.clock m)) silent in
+    let moves : Moves t None (outlook t (take_packet totals t x.tree).root) =
+    take-moves totals t x.tree lawful.least_mtu low (lawful-shape totals x.clock t x.tree lawful (not-before x.clock m)) silent in
     still-ahead t (outlook t (take_packet totals t x.tree).root).at (moves.hidden refl)

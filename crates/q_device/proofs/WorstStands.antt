@@ -23,12 +23,15 @@ limit-stands {M} f (i ∷ path) n =
     ap (λ (o : Option Limit). if i == 0 && is_prio n.own.discipline then o else None)
     (ap (option_and_then (limit_along path)) (child-with_memory f n i) ∙ by (slice_get (children n) i) (λ c. limit-stands f path c))
   where
-    by : (o : Option (Node M)) → ((c : Node M) → limit_along path (with_memory f c) ≡ limit_along path c) → option_and_then (limit_along path) (option_map (with_memory f) o) ≡ option_and_then (limit_along path) o
+    by : (o : Option (Node M)) → ((c : Node M) → limit_along path (with_memory f c) ≡ limit_along path c)
+        → option_and_then (limit_along path) (option_map (with_memory f) o) ≡ option_and_then (limit_along path) o
     by None rest = refl
     by (Some c) rest = rest c
 
 below-stands : (link : Option Link) (path : List ℕ) (n : Node Kept) → lane_below link path (counted n) ≡ lane_below link path n
-below-stands link path n = ap₂ (λ (b : Bool) (o : Option Limit). if b then None else option_map (λ (limit : Limit). record { link = link; limit = limit }) o) (tbf-stands n) (limit-stands (λ (k : Kept). k.counts) path n)
+below-stands link path n =
+    ap₂ (λ (b : Bool) (o : Option Limit). if b then None else option_map (λ (limit : Limit). record { link = link; limit = limit }) o) (tbf-stands n)
+    (limit-stands (λ (k : Kept). k.counts) path n)
 
 from-stands : (path : List ℕ) (n : Node Kept) (k : Discipline) → lane_from path (counted n) k ≡ lane_from path n k
 from-stands [] n (Tbf b limit) = refl
@@ -39,7 +42,9 @@ from-stands (i ∷ path) n (Tbf b limit) = by n.own.handle
     child link (Some c) = below-stands link path c
 
     by : (o : Option ℕ)
-        → option_and_then (λ h. option_and_then (lane_below (Some (record { handle = h; rate = b.rate; burst = b.burst })) path) (slice_get (children (counted n)) i)) o ≡ option_and_then (λ h. option_and_then (lane_below (Some (record { handle = h; rate = b.rate; burst = b.burst })) path) (slice_get (children n) i)) o
+        → option_and_then (λ h. option_and_then (lane_below (Some (record { handle = h; rate = b.rate; burst = b.burst })) path)
+        (slice_get (children (counted n)) i)) o ≡ option_and_then
+        (λ h. option_and_then (lane_below (Some (record { handle = h; rate = b.rate; burst = b.burst })) path) (slice_get (children n) i)) o
     by None = refl
     by (Some h) =
         let link : Option Link = Some (record { handle = h; rate = b.rate; burst = b.burst }) in
@@ -65,7 +70,8 @@ lane-stands p n = ap (option_and_then (λ path. lane_from path (counted n) n.own
 
 limit_in-stands : (class : ClassId) (n : Node Kept) → limit_in class (counted n) ≡ limit_in class n
 limit_in-stands class n =
-    ap (option_and_then (λ path. option_and_then (λ (child : Node Counts). limit_of child.own.discipline) (node_at path (counted n)))) (class-stands kept totals (λ (k : Kept). k.counts) (λ k. refl) class n)
+    ap (option_and_then (λ path. option_and_then (λ (child : Node Counts). limit_of child.own.discipline) (node_at path (counted n))))
+    (class-stands kept totals (λ (k : Kept). k.counts) (λ k. refl) class n)
     ∙ by (class_path class n)
   where
     child : (o : Option (Node Kept)) → option_and_then (λ (c : Node Counts). limit_of c.own.discipline) (option_map counted o) ≡ option_and_then (λ (c : Node Kept). limit_of c.own.discipline) o
@@ -73,7 +79,8 @@ limit_in-stands class n =
     child (Some c) = refl
 
     by : (o : Option (List ℕ))
-        → option_and_then (λ path. option_and_then (λ (c : Node Counts). limit_of c.own.discipline) (node_at path (counted n))) o ≡ option_and_then (λ path. option_and_then (λ (c : Node Kept). limit_of c.own.discipline) (node_at path n)) o
+        → option_and_then (λ path. option_and_then (λ (c : Node Counts). limit_of c.own.discipline) (node_at path (counted n))) o
+        ≡ option_and_then (λ path. option_and_then (λ (c : Node Kept). limit_of c.own.discipline) (node_at path n)) o
     by None = refl
     by (Some path) =
         ap (option_and_then (λ (c : Node Counts). limit_of c.own.discipline)) (node_at-stands kept totals (λ (k : Kept). k.counts) (λ k. refl) path n) ∙ child (node_at path n)

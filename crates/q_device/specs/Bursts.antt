@@ -39,7 +39,8 @@ abbrev pub budget_at : DeviceSeen → ℕ
 budget_at d =
     if nat_lt (length d.recorded) d.settings.recorder
     then 0
-    else min (min (d.memory.losses - length d.waiting - length (beneath d.device.tree.root)) (2 ^ 64 - 1 - d.device.tree.top.arrived.packets)) ((2 ^ 64 - 1 - d.device.tree.top.arrived.bytes) / longest)
+    else min (min (d.memory.losses - length d.waiting - length (beneath d.device.tree.root)) (2 ^ 64 - 1 - d.device.tree.top.arrived.packets))
+    ((2 ^ 64 - 1 - d.device.tree.top.arrived.bytes) / longest)
 
 -- what a reply says of a packet that arrived
 abbrev pub fate_in : Reply → Fate

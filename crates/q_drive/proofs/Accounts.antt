@@ -54,7 +54,8 @@ offer_all v (o ∷ os) (suc n) p count given_up e h =
     let all = offer_all (offering v o) os n p (count + 1) (given_up + given_up_in o) rest two in
     record { all = omega (arith, all.all, sum_by-cons given_up_in o os); bytes = all.bytes }
 
-offered-sent : (tries : ℕ) (ran : Bool) (before after : PortSeen) (load : List Descriptor) (given_up n : ℕ) (p : Descriptor) → before.placed ≡ [] → load ≡ replicate n p → Offered tries ran before load after given_up → IsSent n p.len after.placed given_up
+offered-sent : (tries : ℕ) (ran : Bool) (before after : PortSeen) (load : List Descriptor) (given_up n : ℕ) (p : Descriptor) → before.placed ≡ []
+    → load ≡ replicate n p → Offered tries ran before load after given_up → IsSent n p.len after.placed given_up
 offered-sent tries ran before after load given_up n p none is o =
     let start : IsSent 0 p.len before.placed 0 = rw none (record { all = refl; bytes = sym (zero-mul p.len) }) in
     let all = offer_all before o.offers n p 0 0 (o.all ∙ is) start in
@@ -105,7 +106,8 @@ pub record IsAccounted (s : Drive) (share : Totals) (given_up : ℕ) : Type 0 wh
   pub bytes : share.bytes ≡ share.packets * s.len
 
 pub accounted : {start step tries : ℕ} {drain : DrainSeen} (s : Drive) (ports : List PortSeen) (loads : List (List Descriptor)) (share : Totals) (given_up : ℕ)
-    → IsInRange s → length ports ≡ s.senders → map placed_by ports ≡ replicate s.senders [] → AreLoads s s.senders loads → HasDriven start step tries drain ports loads share given_up → IsAccounted s share given_up
+    → IsInRange s → length ports ≡ s.senders → map placed_by ports ≡ replicate s.senders [] → AreLoads s s.senders loads
+    → HasDriven start step tries drain ports loads share given_up → IsAccounted s share given_up
 accounted {start} {step} {tries} {drain} s ports loads share given_up range long none asked d =
     let sent = all-sent s.count s.len d.after (λ k x lt.
     let few : k < length ports = omega (arith, lt, d.drove.count) in

@@ -17,7 +17,8 @@ use Rattle.q_tree.specs.ReadyAt.{is_before}
 use Rattle.q_drive.specs.Drained.{IsPolledWhenReady, polled, polls_left}
 
 -- what a poll leaves, with its memory
-pub polled_is : (at : ℕ) (d after : DeviceSeen) → after ≡ record (with_event (event.Poll at) d) { memory = after.memory } → after.memory ≡ polled_memory after.device.clock d.memory → after ≡ polled at d
+pub polled_is : (at : ℕ) (d after : DeviceSeen) → after ≡ record (with_event (event.Poll at) d) { memory = after.memory }
+    → after.memory ≡ polled_memory after.device.clock d.memory → after ≡ polled at d
 polled_is at d after is memory =
     let clock = ap (λ (x : DeviceSeen). x.device.clock) is in
     is ∙ ap (λ (m : Memory). record (with_event (event.Poll at) d) { memory = m }) (memory ∙ ap (λ (t : ℕ). polled_memory t d.memory) clock)

@@ -50,7 +50,8 @@ both s script driven told old mid new first last is has ending h =
     )
 
 -- the senders' text was not written whole
-ending_failed : (s : Drive) (script : List ℕ) (driven : Option Driven) (told : Outcome) (old mid new : Option (List ℕ)) (first last : SessionSeen) → first ≡ opened s.device → IfSome driven (HasDriven s)
+ending_failed : (s : Drive) (script : List ℕ) (driven : Option Driven) (told : Outcome) (old mid new : Option (List ℕ)) (first last : SessionSeen)
+    → first ≡ opened s.device → IfSome driven (HasDriven s)
     → AppendsFront mid new (ending_text s.show driven) → IsRun effect_of missed script first last told old mid → IsPartlyDriven s script old new
 ending_failed s script driven told old mid new first last is has ending h =
     let r = subst (λ x. IsRun effect_of missed script x last told old mid) is h in
@@ -73,10 +74,14 @@ lines_failed s script old new first is h =
       text = front-longer old new (set_up s script r.0).text (ending_text s.show None) r.1;
     }
 
-pub told-whole : (had : Option (List ℕ)) (s : Drive) (driven : Option Driven) (told : Outcome) (old mid new : Option (List ℕ)) (first last : SessionSeen) → first ≡ opened s.device → IfSome driven (HasDriven s)
-    → Appends mid new (ending_text s.show driven) → IfSome had (λ all. IsRun effect_of missed all first last told old mid) → IfSome had (λ all. IsDrivenOf s all (outcome_with driven told) (missed last) old new)
+pub told-whole : (had : Option (List ℕ)) (s : Drive) (driven : Option Driven) (told : Outcome) (old mid new : Option (List ℕ))
+    (first last : SessionSeen)
+    → first ≡ opened s.device → IfSome driven (HasDriven s)
+    → Appends mid new (ending_text s.show driven) → IfSome had (λ all. IsRun effect_of missed all first last told old mid)
+    → IfSome had (λ all. IsDrivenOf s all (outcome_with driven told) (missed last) old new)
 told-whole had s driven told old mid new first last is has ending =
-    known (λ all. IsRun effect_of missed all first last told old mid) (λ all. IsDrivenOf s all (outcome_with driven told) (missed last) old new) (λ all. both s all driven told old mid new first last is has ending) had
+    known (λ all. IsRun effect_of missed all first last told old mid) (λ all. IsDrivenOf s all (outcome_with driven told) (missed last) old new)
+    (λ all. both s all driven told old mid new first last is has ending) had
 
 -- without the number of lines
 pub told-report : (had old new : Option (List ℕ)) (s : Drive) (lines : ℕ) (result : Result Outcome RunFault)
@@ -84,7 +89,9 @@ pub told-report : (had old new : Option (List ℕ)) (s : Drive) (lines : ℕ) (r
 told-report had old new s lines (Ok told) h = known (λ all. IsDrivenOf s all told lines old new) (λ all. IsDriven s all told old new) (λ all r. r.0) had h
 told-report had old new s lines (Err fault) h = tt
 
-pub told-ending : (had : Option (List ℕ)) (s : Drive) (driven : Option Driven) (told : Outcome) (old mid new : Option (List ℕ)) (first last : SessionSeen) → first ≡ opened s.device → IfSome driven (HasDriven s)
+pub told-ending : (had : Option (List ℕ)) (s : Drive) (driven : Option Driven) (told : Outcome) (old mid new : Option (List ℕ))
+    (first last : SessionSeen)
+    → first ≡ opened s.device → IfSome driven (HasDriven s)
     → AppendsFront mid new (ending_text s.show driven) → IfSome had (λ all. IsRun effect_of missed all first last told old mid) → IfSome had (λ all. IsPartlyDriven s all old new)
 told-ending had s driven told old mid new first last is has ending =
     known (λ all. IsRun effect_of missed all first last told old mid) (λ all. IsPartlyDriven s all old new) (λ all. ending_failed s all driven told old mid new first last is has ending) had

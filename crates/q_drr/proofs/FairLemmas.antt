@@ -39,7 +39,8 @@ deficit_bounded max_len classes n (e ∷ es) h there = elim (cases_Bool (eqb n e
       (deficit_bounded max_len classes n es (All-tail (IsEntry max_len classes) e es h) (sym (ap (λ t. t || is_active n es) other) ∙ there))
 ]
 
-active_quantum : (max_len : ℕ) (classes : List Class) (n : ℕ) (es : List Entry) → All (λ (c : Class). 1 ≤ c.quantum) classes → All (IsEntry max_len classes) es → is_active n es ≡ true → 1 ≤ quantum_of n classes
+active_quantum : (max_len : ℕ) (classes : List Class) (n : ℕ) (es : List Entry) → All (λ (c : Class). 1 ≤ c.quantum) classes
+    → All (IsEntry max_len classes) es → is_active n es ≡ true → 1 ≤ quantum_of n classes
 active_quantum max_len classes n [] quanta h there = absurd (false≢true there)
 active_quantum max_len classes n (e ∷ es) quanta h there = elim (cases_Bool (eqb n e.class)) [
   | inl same ↦

@@ -148,7 +148,9 @@ circle_grown links joined closed marked first ns n h j i k below absent =
     let whole : IsPath (next_of marked) (before_of marked) first ns n =
     path_same (next_of joined) (before_of joined) (next_of marked) (before_of marked) first ns n
     (λ m q. k.next m ∙ if_false _ _ _ _ (i.next m) (eqb_swap n m (differ_by_member n m (first ∷ ns) q absent)))
-    (λ m q. k.before m ∙ if_false _ _ _ _ (i.before m) (eqb_swap first m (differ_by_member first m (n ∷ ns) q (or_from (eqb first n) (is_among first ns) (eqb_swap n first parts.0) differ.0)))) there in
+    (λ m q. k.before m ∙ if_false _ _ _ _ (i.before m)
+    (eqb_swap first m (differ_by_member first m (n ∷ ns) q (or_from (eqb first n) (is_among first ns) (eqb_swap n first parts.0) differ.0))))
+    there in
     record {
       room = omega (arith, h.room, j.len, i.len, k.len);
       differ = numbers_differ_from ((first ∷ ns) ++ n ∷ []) (differ_push n (first ∷ ns) differ absent);
@@ -264,7 +266,9 @@ removed_front links n first moved [] (r ∷ rs) (suc k) old h w same other m ms 
 removed_front links n first moved (x ∷ xs) rest (suc k) old h w same other m ms e =
     let front_is : old ≡ x = cc in
     let head : x ≡ m = cc in
-    let apart : eqb x n ≡ false = differ_by_member x n (xs ++ n ∷ rest) (is_among-append n xs (n ∷ rest) ∙ or_right (is_among n xs) _ (among_itself n rest)) (numbers_apart (x ∷ xs ++ n ∷ rest) h.differ).0 in
+    let apart : eqb x n ≡ false =
+    differ_by_member x n (xs ++ n ∷ rest) (is_among-append n xs (n ∷ rest) ∙ or_right (is_among n xs) _ (among_itself n rest))
+    (numbers_apart (x ∷ xs ++ n ∷ rest) h.differ).0 in
     other (λ q. false≢true (sym apart ∙ eq-eqb x n (sym front_is ∙ q))) ∙ front_is ∙ head
 
 pub circle_removed : (links new : List Link) (count front moved n : ℕ) → IsCircle links (walk (next_of links) count front)
@@ -318,4 +322,6 @@ circle_resized false links new n len ns shorter room long e h = subst (λ ls. Is
 circle_resized true links new n len ns shorter room long e h =
     let joined : new ≡ links ++ replicate (n - len) no_link = e ∙ ap (λ ls. ls ++ replicate (n - len) no_link) (take_all n links (omega arith)) in
     subst (λ ls. IsCircle ls ns) (sym joined)
-    (circle_roomier links (replicate (n - len) no_link) ns (omega (arith, length-append links (replicate (n - len) no_link), length-replicate (n - len) no_link, long, room)) (All-replicate (λ l. l ≡ no_link) (n - len) no_link refl) h)
+    (circle_roomier links (replicate (n - len) no_link) ns
+    (omega (arith, length-append links (replicate (n - len) no_link), length-replicate (n - len) no_link, long, room))
+    (All-replicate (λ l. l ≡ no_link) (n - len) no_link refl) h)

@@ -125,7 +125,8 @@ differ_with new (c ∷ states) d = (
   differ_with new states d.1,
 )
 
-known_by : (old new : List NamedState) (order : List ℕ) → ((n : ℕ) → is_among n order ≡ true → has_state n new ≡ has_state n old) → All (λ n. has_state n old ≡ true) order → All (λ n. has_state n new ≡ true) order
+known_by : (old new : List NamedState) (order : List ℕ) → ((n : ℕ) → is_among n order ≡ true → has_state n new ≡ has_state n old)
+    → All (λ n. has_state n old ≡ true) order → All (λ n. has_state n new ≡ true) order
 known_by old new [] same known = All-nil (λ n. has_state n new ≡ true)
 known_by old new (n ∷ order) same known =
     All-cons (λ n. has_state n new ≡ true) n order
@@ -260,7 +261,8 @@ asleep_stays max_len turns states order n absent = ap (shown max_len turns state
 pub awake_stays : (s : Schedule) (n : ℕ) → is_active n s.active ≡ true → s ≡ woken n s
 awake_stays s n there = sym (ap (λ (t : Bool). if t then s else record s { active = s.active ++ record { class = n; deficit = quantum_of n s.classes; granted = 0 } ∷ [] }) there)
 
-pub kept_push : (max_len : ℕ) (states : List NamedState) (order : List ℕ) (n : ℕ) → has_state n states ≡ true → is_among n order ≡ false → IsKept max_len states order → IsKept max_len states (order ++ n ∷ [])
+pub kept_push : (max_len : ℕ) (states : List NamedState) (order : List ℕ) (n : ℕ) → has_state n states ≡ true → is_among n order ≡ false
+    → IsKept max_len states order → IsKept max_len states (order ++ n ∷ [])
 kept_push max_len states order n there absent h =
     kept_order max_len states order (order ++ n ∷ []) (All-push (λ m. has_state m states ≡ true) order n h.known there) (differ_push n order (numbers_apart order h.order_differs) absent) h
 
@@ -270,7 +272,9 @@ differ_turned (n ∷ ns) d = differ_rotated n ns d
 
 pub kept_rotated : (max_len : ℕ) (states : List NamedState) (order : List ℕ) → IsKept max_len states order → IsKept max_len states (drop 1 order ++ take 1 order)
 kept_rotated max_len states order h =
-    kept_order max_len states order (drop 1 order ++ take 1 order) (All-append (λ m. has_state m states ≡ true) (drop 1 order) (take 1 order) (All-drop (λ m. has_state m states ≡ true) 1 order h.known) (All-take (λ m. has_state m states ≡ true) 1 order h.known))
+    kept_order max_len states order (drop 1 order ++ take 1 order)
+    (All-append (λ m. has_state m states ≡ true) (drop 1 order) (take 1 order) (All-drop (λ m. has_state m states ≡ true) 1 order h.known)
+    (All-take (λ m. has_state m states ≡ true) 1 order h.known))
     (differ_turned order (numbers_apart order h.order_differs)) h
 
 -- `remove`
@@ -346,7 +350,8 @@ added_shown max_len turns states order new known =
     same_schedule max_len turns turns _ _ _ _ (map-append class_in states (new ∷ []))
     (entries_by states (states ++ new ∷ []) order (λ n there. state_of_added n new states (each_at (λ m. has_state m states ≡ true) n order known there))) refl
 
-pub kept_added : (max_len : ℕ) (states : List NamedState) (order : List ℕ) (new : NamedState) → has_state new.name states ≡ false → IsState max_len new → IsKept max_len states order → IsKept max_len (states ++ new ∷ []) order
+pub kept_added : (max_len : ℕ) (states : List NamedState) (order : List ℕ) (new : NamedState) → has_state new.name states ≡ false
+    → IsState max_len new → IsKept max_len states order → IsKept max_len (states ++ new ∷ []) order
 kept_added max_len states order new absent p h = record {
   positive = h.positive;
   each = All-push (IsState max_len) states new h.each p;
@@ -357,7 +362,8 @@ kept_added max_len states order new absent p h = record {
 }
 
 -- `set_quantum`
-head_class : (n q : ℕ) (new c : NamedState) → new.name ≡ n → new.quantum ≡ q → class_in (if eqb new.name c.name then new else c) ≡ (if eqb n c.name then record (class_in c) { quantum = q } else class_in c)
+head_class : (n q : ℕ) (new c : NamedState) → new.name ≡ n → new.quantum ≡ q
+    → class_in (if eqb new.name c.name then new else c) ≡ (if eqb n c.name then record (class_in c) { quantum = q } else class_in c)
 head_class n q new c name quantum = elim (cases_Bool (eqb new.name c.name)) [
   | inl e ↦ ap (λ (t : Bool). class_in (if t then new else c)) e ∙ one_class new c q (eqb-true new.name c.name e) quantum
       ∙ sym (ap (λ (t : Bool). if t then record (class_in c) { quantum = q } else class_in c) (ap (λ m. eqb m c.name) (sym name) ∙ e))

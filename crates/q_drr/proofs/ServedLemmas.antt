@@ -180,11 +180,13 @@ module _ (heads : ℕ → Option ℕ) (s : Schedule) (n : ℕ) (f : Front n s) (
           shown = (front_shows heads s n len f head, tt);
           after = served_head heads s s n len f head covers (prepared_ready heads s n f law ready);
           granted = λ i d below.
-              let none : grant_in (get_or s.active i d).class len s.active ≡ 0 = ap (grant_in (get_or s.active i d).class len) f.is ∙ grant_covered len (get_or s.active i d).class f.first f.rest covers in
+              let none : grant_in (get_or s.active i d).class len s.active ≡ 0 =
+              ap (grant_in (get_or s.active i d).class len) f.is ∙ grant_covered len (get_or s.active i d).class f.first f.rest covers in
               omega (arith, none, none_granted i choice);
           bytes = λ i d below.
               let at : bytes_in (get_or s.active i d).class len s.active ≡ bytes_at (Some (record { rounds = 0; place = 0 })) i (heads (get_or s.active i d).class) =
-              subst (λ es. i < length es → bytes_in (get_or es i d).class len es ≡ bytes_at (Some (record { rounds = 0; place = 0 })) i (heads (get_or es i d).class)) (sym f.is) (front_bytes i d) below in
+              subst (λ es. i < length es → bytes_in (get_or es i d).class len es ≡ bytes_at (Some (record { rounds = 0; place = 0 })) i
+              (heads (get_or es i d).class)) (sym f.is) (front_bytes i d) below in
               omega (arith, at, ap (λ o. bytes_at o i (heads (get_or s.active i d).class)) choice);
         }
 
@@ -223,9 +225,12 @@ module _ (heads : ℕ → Option ℕ) (s : Schedule) (n : ℕ) (f : Front n s) (
         subst (λ es. j < length es → grants (get_or es j d).class lens (turned len s) ≡ grants_at (choice_of heads (turned len s)) j) (turned_granted s n len f short) (h.granted j d) below
         ∙ ap (λ o. grants_at o j) after
 
-    bytes_then : (j : ℕ) (d : Entry) → j < length rotated → sent (get_or rotated j d).class lens (turned len s) ≡ bytes_at (Some (last_one still_needed (length f.rest) rest_choice)) j (heads (get_or rotated j d).class)
+    bytes_then : (j : ℕ) (d : Entry) → j < length rotated
+        → sent (get_or rotated j d).class lens (turned len s) ≡ bytes_at (Some (last_one still_needed (length f.rest) rest_choice)) j
+        (heads (get_or rotated j d).class)
     bytes_then j d below =
-        subst (λ es. j < length es → sent (get_or es j d).class lens (turned len s) ≡ bytes_at (choice_of heads (turned len s)) j (heads (get_or es j d).class)) (turned_granted s n len f short) (h.bytes j d) below
+        subst (λ es. j < length es → sent (get_or es j d).class lens (turned len s)
+        ≡ bytes_at (choice_of heads (turned len s)) j (heads (get_or es j d).class)) (turned_granted s n len f short) (h.bytes j d) below
         ∙ ap (λ o. bytes_at o j (heads (get_or rotated j d).class)) after
 
     long : length rotated ≡ length f.rest + 1
@@ -238,7 +243,8 @@ module _ (heads : ℕ → Option ℕ) (s : Schedule) (n : ℕ) (f : Front n s) (
     same_place j d below = get_or_append_left f.rest (moved ∷ []) d j below
 
     granted_now : (i : ℕ) (d : Entry) → i < length (f.first ∷ f.rest)
-        → grant_in (get_or (f.first ∷ f.rest) i d).class len (f.first ∷ f.rest) + grants (get_or (f.first ∷ f.rest) i d).class lens (turned len s) ≡ grants_at (Some (sooner (suc still_needed) rest_choice)) i
+        → grant_in (get_or (f.first ∷ f.rest) i d).class len (f.first ∷ f.rest) + grants (get_or (f.first ∷ f.rest) i d).class lens (turned len s)
+        ≡ grants_at (Some (sooner (suc still_needed) rest_choice)) i
     granted_now zero d below =
         let here = grant_here len f.first.class f.first f.rest refl short in
         let later : grants f.first.class lens (turned len s) ≡ grants_at (Some (last_one still_needed (length f.rest) rest_choice)) (length f.rest) =
@@ -271,10 +277,12 @@ module _ (heads : ℕ → Option ℕ) (s : Schedule) (n : ℕ) (f : Front n s) (
       shown = (front_shows heads s n len f head, h.shown);
       after = h.after ∙ ap (λ v. sent_in heads v.active v) (prepared_granted heads s n len f head one short);
       granted = λ i d below.
-          subst (λ es. i < length es → grant_in (get_or es i d).class len es + grants (get_or es i d).class lens (turned len s) ≡ grants_at (Some (sooner (suc still_needed) rest_choice)) i) (sym f.is) (granted_now i d) below
+          subst (λ es. i < length es → grant_in (get_or es i d).class len es + grants (get_or es i d).class lens (turned len s)
+          ≡ grants_at (Some (sooner (suc still_needed) rest_choice)) i) (sym f.is) (granted_now i d) below
           ∙ ap (λ o. grants_at o i) (sym before);
       bytes = λ i d below.
-          subst (λ es. i < length es → bytes_in (get_or es i d).class len es + sent (get_or es i d).class lens (turned len s) ≡ bytes_at (Some (sooner (suc still_needed) rest_choice)) i (heads (get_or es i d).class)) (sym f.is) (bytes_now i d) below
+          subst (λ es. i < length es → bytes_in (get_or es i d).class len es + sent (get_or es i d).class lens (turned len s)
+          ≡ bytes_at (Some (sooner (suc still_needed) rest_choice)) i (heads (get_or es i d).class)) (sym f.is) (bytes_now i d) below
           ∙ ap (λ o. bytes_at o i (heads (get_or s.active i d).class)) (sym before);
     }
 
@@ -292,7 +300,8 @@ head_cases heads n = cases (heads n) refl where
   cases None e = inl e
   cases (Some len) e = inr (len, e)
 
-take_turns : (bound : ℕ) (heads : ℕ → Option ℕ) (s : Schedule) → sum_by (need (λ m. quantum_of m s.classes) heads) s.active < bound → IsLawful s → HeadsFit heads s.max_len → (lens : List ℕ) × AreTurnsBy heads s lens
+take_turns : (bound : ℕ) (heads : ℕ → Option ℕ) (s : Schedule) → sum_by (need (λ m. quantum_of m s.classes) heads) s.active < bound → IsLawful s
+    → HeadsFit heads s.max_len → (lens : List ℕ) × AreTurnsBy heads s lens
 take_turns zero heads s below law fits = absurd (omega arith)
 take_turns (suc bound) heads s below law fits = elim (front_cases s) [
   | inl none ↦ ([], ends_empty heads s law none)

@@ -125,7 +125,8 @@ some_choice quantum heads [] some = absurd (omega arith)
 some_choice quantum heads (e ∷ es) some = (sooner (need quantum heads e) (choose (needs quantum heads es)), refl)
 
 -- where the class in front shows nothing, or a head that its deficit covers
-pub serving_ends : (heads : ℕ → Option ℕ) (first s : Schedule) (turns n : ℕ) → IsServing heads first s turns → (f : Front n s) → (h : Option ℕ) → heads n ≡ h → ((len : ℕ) → h ≡ Some len → len ≤ f.first.deficit)
+pub serving_ends : (heads : ℕ → Option ℕ) (first s : Schedule) (turns n : ℕ) → IsServing heads first s turns → (f : Front n s) → (h : Option ℕ)
+    → heads n ≡ h → ((len : ℕ) → h ≡ Some len → len ≤ f.first.deficit)
     → IsCome heads first turns
 serving_ends heads first s turns n v f h e covered =
     let quantum : ℕ → ℕ = λ m. quantum_of m first.classes in

@@ -108,7 +108,9 @@ module _ (max_len turns : ℕ) (states : List NamedState) (circle : Circle) (h :
   pub sound_rotated : IsSound max_len turns states (record circle { order = drop 1 circle.order ++ take 1 circle.order })
   sound_rotated = record {
     kept = subst (IsKept max_len states) (sym (names_rotated states circle.order)) (kept_rotated max_len states (names_in states circle.order) h.kept);
-    placed = All-append (λ p. p < length states) (drop 1 circle.order) (take 1 circle.order) (All-drop (λ p. p < length states) 1 circle.order h.placed) (All-take (λ p. p < length states) 1 circle.order h.placed);
+    placed =
+        All-append (λ p. p < length states) (drop 1 circle.order) (take 1 circle.order) (All-drop (λ p. p < length states) 1 circle.order h.placed)
+        (All-take (λ p. p < length states) 1 circle.order h.placed);
     room = h.room;
     counted_turns = h.counted_turns;
   }
@@ -164,19 +166,22 @@ module _ (max_len turns : ℕ) (states : List NamedState) (circle : Circle) (h :
       let s = stands_front place front in
       let n : ℕ = name_in states place in
       shown_put place n (counted (turns + 1)) k circle.order s
-      ∙ sent_front max_len turns len states (names_in states circle.order) n (named n k) (front_named place front) (numbers_apart (names_in states circle.order) h.kept.order_differs) differ s.there covers refl quantum deficit granted
+      ∙ sent_front max_len turns len states (names_in states circle.order) n (named n k) (front_named place front)
+      (numbers_apart (names_in states circle.order) h.kept.order_differs) differ s.there covers refl quantum deficit granted
 
   pub shown_granted : (place len : ℕ) (k : ClassState) → slice_get circle.order 0 ≡ Some place → let n = name_in states place in
       (state_of n states).deficit < len → k.quantum ≡ (state_of n states).quantum → k.deficit ≡ (state_of n states).deficit + (state_of n states).quantum
       → k.granted ≡ counted ((state_of n states).granted + (state_of n states).quantum)
-      → shown max_len (counted (turns + 1)) (set states place (named (name_in states place) k)) (names_in (set states place (named (name_in states place) k)) (drop 1 circle.order ++ take 1 circle.order))
+      → shown max_len (counted (turns + 1)) (set states place (named (name_in states place) k))
+      (names_in (set states place (named (name_in states place) k)) (drop 1 circle.order ++ take 1 circle.order))
       ≡ turned len (shown max_len turns states (names_in states circle.order))
   shown_granted place len k front short quantum deficit granted =
       let s = stands_front place front in
       let n : ℕ = name_in states place in
       shown_put place n (counted (turns + 1)) k (drop 1 circle.order ++ take 1 circle.order) s
       ∙ ap (shown max_len (counted (turns + 1)) (with_state (named n k) states)) (names_rotated states circle.order)
-      ∙ granted_front max_len turns len states (names_in states circle.order) n (named n k) (front_named place front) (numbers_apart (names_in states circle.order) h.kept.order_differs) differ s.there short refl quantum deficit granted
+      ∙ granted_front max_len turns len states (names_in states circle.order) n (named n k) (front_named place front)
+      (numbers_apart (names_in states circle.order) h.kept.order_differs) differ s.there short refl quantum deficit granted
 
   -- `front`, and the place of the class that it names
   pub front_shown : (s : Schedule) → shown max_len turns states (names_in states circle.order) ≡ s → option_map (name_in states) (slice_get circle.order 0) ≡ front_of s
@@ -198,7 +203,8 @@ module _ (max_len turns : ℕ) (states : List NamedState) (circle : Circle) (h :
           sym (ap (λ v. place_of (name_in states place) v.classes) (sym view) ∙ place_in (name_in states place) states ∙ place_found states (name_in states place) place (stands_front place front))
 
   -- `set_quantum`
-  pub shown_requantized : (place n q : ℕ) (k : ClassState) → Stands place n states → k.quantum ≡ q → k.deficit ≡ min (state_of n states).deficit (q + max_len - 1) → k.granted ≡ (state_of n states).granted
+  pub shown_requantized : (place n q : ℕ) (k : ClassState) → Stands place n states → k.quantum ≡ q
+      → k.deficit ≡ min (state_of n states).deficit (q + max_len - 1) → k.granted ≡ (state_of n states).granted
       → shown max_len turns (set states place (named (name_in states place) k)) (names_in (set states place (named (name_in states place) k)) circle.order)
       ≡ with_quantum n q (shown max_len turns states (names_in states circle.order))
   shown_requantized place n q k s quantum deficit granted =
@@ -211,19 +217,25 @@ module _ (max_len turns : ℕ) (states : List NamedState) (circle : Circle) (h :
   left : (place n : ℕ) → Stands place n states → names_in (remove states place) (map (moved_down place) (without place circle.order)) ≡ without n (names_in states circle.order)
   left place n s = names_down states place (without place circle.order) s.within (not_among_without place circle.order) ∙ others place n s
 
-  pub sound_removed : (place n : ℕ) → Stands place n states → IsSound max_len turns (remove states place) (record { order = map (moved_down place) (without place circle.order); room = circle.room - 1 })
+  pub sound_removed : (place n : ℕ) → Stands place n states
+      → IsSound max_len turns (remove states place) (record { order = map (moved_down place) (without place circle.order); room = circle.room - 1 })
   sound_removed place n s =
       let len : length (remove states place) ≡ length states - 1 = omega (arith, length-remove states place s.within) in
       record {
-        kept = subst (IsKept max_len (remove states place)) (sym (left place n s)) (subst (λ t. IsKept max_len t (without n (names_in states circle.order))) (sym (remove_is place n s)) (kept_removed max_len states (names_in states circle.order) n h.kept));
+        kept =
+            subst (IsKept max_len (remove states place)) (sym (left place n s))
+            (subst (λ t. IsKept max_len t (without n (names_in states circle.order))) (sym (remove_is place n s))
+            (kept_removed max_len states (names_in states circle.order) n h.kept));
         placed = subst (λ l. All (λ p. p < l) (map (moved_down place) (without place circle.order))) (sym len)
-            (all_down place (length states) (without place circle.order) s.within (not_among_without place circle.order) (All-filter (λ m. not (place == m)) (λ p. p < length states) circle.order h.placed));
+            (all_down place (length states) (without place circle.order) s.within (not_among_without place circle.order)
+            (All-filter (λ m. not (place == m)) (λ p. p < length states) circle.order h.placed));
         room = omega (arith, len, h.room);
         counted_turns = h.counted_turns;
       }
 
   pub shown_removed : (place n : ℕ) → Stands place n states
-      → shown max_len turns (remove states place) (names_in (remove states place) (map (moved_down place) (without place circle.order))) ≡ removed n (shown max_len turns states (names_in states circle.order))
+      → shown max_len turns (remove states place) (names_in (remove states place) (map (moved_down place) (without place circle.order)))
+      ≡ removed n (shown max_len turns states (names_in states circle.order))
   shown_removed place n s =
       ap (shown max_len turns (remove states place)) (left place n s) ∙ ap (λ t. shown max_len turns t (without n (names_in states circle.order))) (remove_is place n s)
       ∙ removed_shown max_len turns states (names_in states circle.order) n
@@ -231,7 +243,9 @@ module _ (max_len turns : ℕ) (states : List NamedState) (circle : Circle) (h :
   -- `add`
   pub sound_added : (n : ℕ) (k : ClassState) → has_state n states ≡ false → IsState max_len (named n k) → length states < circle.room → IsSound max_len turns (states ++ named n k ∷ []) circle
   sound_added n k absent p more = record {
-    kept = subst (IsKept max_len (states ++ named n k ∷ [])) (sym (names_added states (named n k) circle.order h.placed)) (kept_added max_len states (names_in states circle.order) (named n k) absent p h.kept);
+    kept =
+        subst (IsKept max_len (states ++ named n k ∷ [])) (sym (names_added states (named n k) circle.order h.placed))
+        (kept_added max_len states (names_in states circle.order) (named n k) absent p h.kept);
     placed = All-weaker (λ p. p < length states) (λ p. p < length (states ++ named n k ∷ [])) (λ p lt. omega (arith, lt, length_push states (named n k))) circle.order h.placed;
     room = omega (arith, more, length_push states (named n k));
     counted_turns = h.counted_turns;
@@ -240,4 +254,5 @@ module _ (max_len turns : ℕ) (states : List NamedState) (circle : Circle) (h :
   pub shown_added : (n : ℕ) (k : ClassState)
       → shown max_len turns (states ++ named n k ∷ []) (names_in (states ++ named n k ∷ []) circle.order) ≡ added n k.quantum (shown max_len turns states (names_in states circle.order))
   shown_added n k =
-      ap (shown max_len turns (states ++ named n k ∷ [])) (names_added states (named n k) circle.order h.placed) ∙ added_shown max_len turns states (names_in states circle.order) (named n k) h.kept.known
+      ap (shown max_len turns (states ++ named n k ∷ [])) (names_added states (named n k) circle.order h.placed)
+      ∙ added_shown max_len turns states (names_in states circle.order) (named n k) h.kept.known

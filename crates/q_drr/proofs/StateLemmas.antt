@@ -158,7 +158,8 @@ no_place n states absent =
     position_or_len_is (λ (c : NamedState). n == c.name) states (length states) no_state (omega arith)
     (λ k lt. ne_eqb n (name_in states k) (λ e. absent_at n states absent k lt (sym e)))
     (λ lt. absurd (omega arith)) in
-    ap (λ i. cond (nat_lt i (length states)) (Some i) None) first ∙ cond-false (nat_lt (length states) (length states)) (Some (length states)) None (le-ltb (length states) (length states) (omega arith))
+    ap (λ i. cond (nat_lt i (length states)) (Some i) None) first ∙ cond-false (nat_lt (length states) (length states)) (Some (length states)) None
+    (le-ltb (length states) (length states) (omega arith))
 
 pub has_place : (n : ℕ) (states : List NamedState) → is_some (place_of_state n states) ≡ has_state n states
 has_place n states = elim (cases_Bool (has_state n states)) [

@@ -148,10 +148,12 @@ prepared_empty heads s law none =
     (ap (λ c. counted (s.turns + turns_until c (length s.active))) choice ∙ omega (arith, law.counted_turns))
 
 -- and where its class is granted, what comes is what would have come
-pub turned_granted : (s : Schedule) (n len : ℕ) (f : Front n s) → f.first.deficit < len → active_after len s.classes s.active ≡ f.rest ++ after_grants (quantum_of f.first.class s.classes) 1 f.first ∷ []
+pub turned_granted : (s : Schedule) (n len : ℕ) (f : Front n s) → f.first.deficit < len
+    → active_after len s.classes s.active ≡ f.rest ++ after_grants (quantum_of f.first.class s.classes) 1 f.first ∷ []
 turned_granted s n len f short =
     ap (active_after len s.classes) f.is
-    ∙ ap (λ (t : Bool). if t then record f.first { deficit = f.first.deficit - len } ∷ f.rest else f.rest ++ after_grants (quantum_of f.first.class s.classes) 1 f.first ∷ []) (lt-leb len f.first.deficit short)
+    ∙ ap (λ (t : Bool). if t then record f.first { deficit = f.first.deficit - len } ∷ f.rest else f.rest
+    ++ after_grants (quantum_of f.first.class s.classes) 1 f.first ∷ []) (lt-leb len f.first.deficit short)
 
 pub need_falls : (heads : ℕ → Option ℕ) (s : Schedule) (n len : ℕ) (f : Front n s) → heads n ≡ Some len → 1 ≤ quantum_of n s.classes → f.first.deficit < len
     → need (λ m. quantum_of m s.classes) heads f.first ≡ suc (need (λ m. quantum_of m s.classes) heads (after_grants (quantum_of f.first.class s.classes) 1 f.first))
@@ -183,7 +185,9 @@ choice_before heads s n len f head one short =
     ap (λ es. choose (needs quantum heads es)) f.is ∙ ap (λ m. Some (sooner m (choose (needs quantum heads f.rest)))) (need_falls heads s n len f head one short)
 
 pub choice_after : (heads : ℕ → Option ℕ) (s : Schedule) (n len : ℕ) (f : Front n s) → f.first.deficit < len
-    → choice_of heads (turned len s) ≡ Some (last_one (need (λ m. quantum_of m s.classes) heads (once (λ m. quantum_of m s.classes) f.first)) (length f.rest) (choose (needs (λ m. quantum_of m s.classes) heads f.rest)))
+    → choice_of heads (turned len s) ≡ Some
+    (last_one (need (λ m. quantum_of m s.classes) heads (once (λ m. quantum_of m s.classes) f.first)) (length f.rest)
+    (choose (needs (λ m. quantum_of m s.classes) heads f.rest)))
 choice_after heads s n len f short =
     let quantum : ℕ → ℕ = λ m. quantum_of m s.classes in
     ap (λ es. choose (needs quantum heads es)) (turned_granted s n len f short) ∙ choice_end quantum heads f.rest (once quantum f.first)
@@ -255,7 +259,8 @@ nothing_shown None no_value = refl
 nothing_shown (Some x) no_value = absurd (no_value x refl)
 
 -- the ends of a take
-pub need_at : (heads : ℕ → Option ℕ) (s : Schedule) (n : ℕ) (f : Front n s) (h : Option ℕ) → heads n ≡ h → ((len : ℕ) → h ≡ Some len → len ≤ f.first.deficit) → need (λ m. quantum_of m s.classes) heads f.first ≡ 0
+pub need_at : (heads : ℕ → Option ℕ) (s : Schedule) (n : ℕ) (f : Front n s) (h : Option ℕ) → heads n ≡ h
+    → ((len : ℕ) → h ≡ Some len → len ≤ f.first.deficit) → need (λ m. quantum_of m s.classes) heads f.first ≡ 0
 unfolding grants_for
 need_at heads s n f None e covered = ap (grants_for (quantum_of f.first.class s.classes) f.first.deficit) (ap heads f.class ∙ e)
 need_at heads s n f (Some len) e covered =
@@ -265,7 +270,8 @@ pub come_to : (heads : ℕ → Option ℕ) (old s : Schedule) (n : ℕ) (f : Fro
     → IsLawful s → prepared heads s ≡ prepared heads old → prepared heads old ≡ s
 come_to heads old s n f h e covered law same = sym same ∙ prepared_ready heads s n f law (need_at heads s n f h e covered)
 
-pub met_at : (heads : ℕ → Option ℕ) (old s : Schedule) (n : ℕ) (f : Front n s) (h : Option ℕ) → heads n ≡ h → prepared heads old ≡ s → ◌≡◌ {A = Option Met} (Some (record { class = n; head = h })) (met heads old)
+pub met_at : (heads : ℕ → Option ℕ) (old s : Schedule) (n : ℕ) (f : Front n s) (h : Option ℕ) → heads n ≡ h → prepared heads old ≡ s
+    → ◌≡◌ {A = Option Met} (Some (record { class = n; head = h })) (met heads old)
 met_at heads old s n f h e ready = sym (
     ap (λ v. met_in heads v.active) ready ∙ ap (met_in heads) f.is
     ∙ ap (λ m. Some (record { class = m; head = heads m })) f.class ∙ ap (λ x. Some (record { class = n; head = x })) e
@@ -280,7 +286,8 @@ pub served_head : (heads : ℕ → Option ℕ) (old s : Schedule) (n len : ℕ) 
 served_head heads old s n len f e long ready =
     let list : active_after len s.classes s.active ≡ record f.first { deficit = f.first.deficit - len } ∷ f.rest =
     ap (active_after len s.classes) f.is
-    ∙ ap (λ (t : Bool). if t then record f.first { deficit = f.first.deficit - len } ∷ f.rest else f.rest ++ after_grants (quantum_of f.first.class s.classes) 1 f.first ∷ []) (le-leb len f.first.deficit long) in
+    ∙ ap (λ (t : Bool). if t then record f.first { deficit = f.first.deficit - len } ∷ f.rest else f.rest
+    ++ after_grants (quantum_of f.first.class s.classes) 1 f.first ∷ []) (le-leb len f.first.deficit long) in
     ap (λ es. record s { active = es; turns = counted (s.turns + 1) }) list
     ∙ sym (ap (λ v. sent_in heads v.active v) ready ∙ ap (λ es. sent_in heads es s) f.is ∙ ap (λ h. sent_by h f.first f.rest s) (ap heads f.class ∙ e))
 
@@ -297,11 +304,14 @@ met_nobody heads old s none ready = sym (ap (λ v. met_in heads v.active) ready 
 pub served_nobody : (heads : ℕ → Option ℕ) (old s : Schedule) → s.active ≡ [] → prepared heads old ≡ s → s ≡ served heads old
 served_nobody heads old s none ready = sym (ap (λ v. sent_in heads v.active v) ready ∙ ap (λ es. sent_in heads es s) none)
 
-pub named_after : (bound len : ℕ) (s : Schedule) (n : ℕ) (f : Front n s) → f.first.deficit < len → All (λ (e : Entry). e.class < bound) s.active → All (λ (e : Entry). e.class < bound) (turned len s).active
+pub named_after : (bound len : ℕ) (s : Schedule) (n : ℕ) (f : Front n s) → f.first.deficit < len → All (λ (e : Entry). e.class < bound) s.active
+    → All (λ (e : Entry). e.class < bound) (turned len s).active
 named_after bound len s n f short named =
     let P : Entry → Type 0 = λ e. e.class < bound in
     let all : All P (f.first ∷ f.rest) = subst (All P) f.is named in
-    subst (All P) (sym (turned_granted s n len f short)) (All-push P f.rest (after_grants (quantum_of f.first.class s.classes) 1 f.first) (All-tail P f.first f.rest all) (All-head P f.first f.rest all))
+    subst (All P) (sym (turned_granted s n len f short))
+    (All-push P f.rest (after_grants (quantum_of f.first.class s.classes) 1 f.first) (All-tail P f.first f.rest all)
+    (All-head P f.first f.rest all))
 
 pub front_named : (bound : ℕ) (s : Schedule) (n : ℕ) (f : Front n s) → All (λ (e : Entry). e.class < bound) s.active → n < bound
 front_named bound s n f named =

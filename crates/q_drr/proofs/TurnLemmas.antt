@@ -16,9 +16,11 @@ pub sent_shown : (max_len turns len : ℕ) (states : List NamedState) (n : ℕ) 
     → len ≤ (state_of n states).deficit → new.name ≡ n → new.quantum ≡ (state_of n states).quantum → new.deficit ≡ (state_of n states).deficit - len → new.granted ≡ (state_of n states).granted
     → shown max_len (counted (turns + 1)) (with_state new states) (n ∷ order) ≡ turned len (shown max_len turns states (n ∷ order))
 sent_shown max_len turns len states n order new differ there absent covers name quantum deficit granted =
-    let e : map (entry_in (with_state new states)) (n ∷ order) ≡ record { class = n; deficit = (state_of n states).deficit - len; granted = (state_of n states).granted } ∷ map (entry_in states) order =
+    let e : map (entry_in (with_state new states)) (n ∷ order) ≡ record
+    { class = n; deficit = (state_of n states).deficit - len; granted = (state_of n states).granted } ∷ map (entry_in states) order =
     ap (λ x. x ∷ map (entry_in (with_state new states)) order) (entry_put new states n name there ∙ same_entry n _ _ _ _ deficit granted)
-    ∙ ap (λ xs. record { class = n; deficit = (state_of n states).deficit - len; granted = (state_of n states).granted } ∷ xs) (entries_with new states order (ap (λ m. is_among m order) name ∙ absent)) in
+    ∙ ap (λ xs. record { class = n; deficit = (state_of n states).deficit - len; granted = (state_of n states).granted } ∷ xs)
+    (entries_with new states order (ap (λ m. is_among m order) name ∙ absent)) in
     same_schedule max_len _ _ _ _ _ _ (classes_with new states differ (quantum ∙ ap (λ m. (state_of m states).quantum) (sym name)))
     (e ∙ sym (ap (λ (t : Bool). if t then record (entry_in states n) { deficit = (state_of n states).deficit - len } ∷ map (entry_in states) order
     else map (entry_in states) order ++ after_grants (quantum_of n (map class_in states)) 1 (entry_in states n) ∷ []) (le-leb len (state_of n states).deficit covers))) refl
@@ -46,7 +48,8 @@ pub front_deficit : (max_len turns : ℕ) (states : List NamedState) (order : Li
 front_deficit max_len turns states [] n len front = cc
 front_deficit max_len turns states (m ∷ order) n len front = let e : m ≡ n = cc in ap (λ k. if nat_le len (state_of k states).deficit then Send else Granted) e
 
-pub sent_front : (max_len turns len : ℕ) (states : List NamedState) (order : List ℕ) (n : ℕ) (new : NamedState) → slice_get order 0 ≡ Some n → AllDiffer order → StatesDiffer states → has_state n states ≡ true
+pub sent_front : (max_len turns len : ℕ) (states : List NamedState) (order : List ℕ) (n : ℕ) (new : NamedState) → slice_get order 0 ≡ Some n
+    → AllDiffer order → StatesDiffer states → has_state n states ≡ true
     → len ≤ (state_of n states).deficit → new.name ≡ n → new.quantum ≡ (state_of n states).quantum → new.deficit ≡ (state_of n states).deficit - len → new.granted ≡ (state_of n states).granted
     → shown max_len (counted (turns + 1)) (with_state new states) order ≡ turned len (shown max_len turns states order)
 sent_front max_len turns len states [] n new front apart differ there covers name quantum deficit granted = cc
@@ -55,7 +58,8 @@ sent_front max_len turns len states (m ∷ order) n new front apart differ there
     subst (λ k. shown max_len (counted (turns + 1)) (with_state new states) (k ∷ order) ≡ turned len (shown max_len turns states (k ∷ order))) e
     (sent_shown max_len turns len states n order new differ there (ap (λ k. is_among k order) e ∙ apart.0) covers name quantum deficit granted)
 
-pub granted_front : (max_len turns len : ℕ) (states : List NamedState) (order : List ℕ) (n : ℕ) (new : NamedState) → slice_get order 0 ≡ Some n → AllDiffer order → StatesDiffer states → has_state n states ≡ true
+pub granted_front : (max_len turns len : ℕ) (states : List NamedState) (order : List ℕ) (n : ℕ) (new : NamedState) → slice_get order 0 ≡ Some n
+    → AllDiffer order → StatesDiffer states → has_state n states ≡ true
     → (state_of n states).deficit < len → new.name ≡ n → new.quantum ≡ (state_of n states).quantum → new.deficit ≡ (state_of n states).deficit + (state_of n states).quantum
     → new.granted ≡ counted ((state_of n states).granted + (state_of n states).quantum)
     → shown max_len (counted (turns + 1)) (with_state new states) (drop 1 order ++ take 1 order) ≡ turned len (shown max_len turns states order)

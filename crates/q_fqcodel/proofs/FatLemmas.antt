@@ -19,7 +19,8 @@ some_above m k [] w h = absurd (omega arith)
 some_above m zero (f ∷ fs) w h = and_left _ _ (lt-leb (size f.queue) m h)
 some_above m (suc k) (f ∷ fs) w h = and_right _ _ (some_above m k fs (omega arith) h)
 
-pub fattest_is : (flows : List Flow) (n m : ℕ) → n < length flows → m ≡ size (queue_of flows n) → ((k : ℕ) → k < length flows → size (queue_of flows k) ≤ m) → ((k : ℕ) → k < n → size (queue_of flows k) < m) → n ≡ fattest flows
+pub fattest_is : (flows : List Flow) (n m : ℕ) → n < length flows → m ≡ size (queue_of flows n)
+    → ((k : ℕ) → k < length flows → size (queue_of flows k) ≤ m) → ((k : ℕ) → k < n → size (queue_of flows k) < m) → n ≡ fattest flows
 unfolding fattest
 fattest_is flows n m within most all before =
     sym (least_is (λ n. list_all (λ (f : Flow). nat_le (size f.queue) (size (queue_of flows n))) flows) (length flows) n
@@ -41,7 +42,8 @@ busy_flow (f ∷ fs) h =
     (cases_lt 0 (count f.queue))
 
 -- where there is a packet at all, and each has a byte at least, the fat flow has one
-pub fat_some : (flows : List Flow) (n m : ℕ) → m ≡ size (queue_of flows n) → ((k : ℕ) → k < length flows → size (queue_of flows k) ≤ m) → ((k : ℕ) → k < length flows → count (queue_of flows k) ≤ size (queue_of flows k))
+pub fat_some : (flows : List Flow) (n m : ℕ) → m ≡ size (queue_of flows n) → ((k : ℕ) → k < length flows → size (queue_of flows k) ≤ m)
+    → ((k : ℕ) → k < length flows → count (queue_of flows k) ≤ size (queue_of flows k))
     → 0 < packets_of flows → 0 < count (queue_of flows n)
 fat_some flows n m most all counted some =
     let w = busy_flow flows some in
@@ -55,10 +57,18 @@ largest f [] = (0, omega arith, λ k h. elim k as (λ (k : ℕ). k < 1 → size 
 largest f (g ∷ gs) =
     let w = largest g gs in
     ⊎_elim
-    (λ (more : size f.queue < size (queue_of (g ∷ gs) w.0)).
-    (suc w.0, omega (arith, w.1), λ k. elim k as (λ (k : ℕ). k < length (f ∷ g ∷ gs) → size (queue_of (f ∷ g ∷ gs) k) ≤ size (queue_of (g ∷ gs) w.0)) [ zero ↦ λ h. omega arith | suc k ↦ λ h. w.2 k (omega arith) ]))
-    (λ (fewer : size (queue_of (g ∷ gs) w.0) ≤ size f.queue).
-    (0, omega arith, λ k. elim k as (λ (k : ℕ). k < length (f ∷ g ∷ gs) → size (queue_of (f ∷ g ∷ gs) k) ≤ size f.queue) [ zero ↦ λ h. omega arith | suc k ↦ λ h. omega (arith, w.2 k (omega arith), fewer) ]))
+    (λ (more : size f.queue < size (queue_of (g ∷ gs) w.0)). (
+      suc w.0,
+      omega (arith, w.1),
+      λ k. elim k as (λ (k : ℕ). k < length (f ∷ g ∷ gs) → size (queue_of (f ∷ g ∷ gs) k) ≤ size (queue_of (g ∷ gs) w.0))
+          [ zero ↦ λ h. omega arith | suc k ↦ λ h. w.2 k (omega arith) ],
+    ))
+    (λ (fewer : size (queue_of (g ∷ gs) w.0) ≤ size f.queue). (
+      0,
+      omega arith,
+      λ k. elim k as (λ (k : ℕ). k < length (f ∷ g ∷ gs) → size (queue_of (f ∷ g ∷ gs) k) ≤ size f.queue)
+          [ zero ↦ λ h. omega arith | suc k ↦ λ h. omega (arith, w.2 k (omega arith), fewer) ],
+    ))
     (cases_lt (size f.queue) (size (queue_of (g ∷ gs) w.0)))
 
 all_below : (m k : ℕ) (fs : List Flow) → list_all (λ (f : Flow). nat_le (size f.queue) m) fs ≡ true → k < length fs → size (queue_of fs k) ≤ m

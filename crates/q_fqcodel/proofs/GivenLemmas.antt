@@ -109,7 +109,8 @@ quanta_more z j k q = let m : (j + k) * q ≡ j * q + k * q = add-mul j k q in o
 
 -- ---- a whole selection, of lists that hold flow n at most once
 
-module _ (q n : ℕ) (idle : ℕ → Bool) (new_flows old_flows : List Entry) (p : ℕ) (once : times n (new_flows ++ old_flows) ≤ 1) (e : Entry) (listed : In e (new_flows ++ old_flows)) (own : e.flow ≡ n) where
+module _ (q n : ℕ) (idle : ℕ → Bool) (new_flows old_flows : List Entry) (p : ℕ) (once : times n (new_flows ++ old_flows) ≤ 1) (e : Entry)
+    (listed : In e (new_flows ++ old_flows)) (own : e.flow ≡ n) where
   over : List Entry
   over = take p new_flows
 
@@ -204,7 +205,8 @@ grants_are_some s =
 -- ---- by the place in the old list
 
 -- what the flow at a place needs, as the choice has it
-pub need_at : (q : ℕ) (idle : ℕ → Bool) (es : List Entry) (i : ℕ) (e : Entry) → slice_get es i ≡ Some e → idle e.flow ≡ false → slice_index_or (map (λ (e : Entry). cond (idle e.flow) None (Some (need q e))) es) i None ≡ Some (need q e)
+pub need_at : (q : ℕ) (idle : ℕ → Bool) (es : List Entry) (i : ℕ) (e : Entry) → slice_get es i ≡ Some e → idle e.flow ≡ false
+    → slice_index_or (map (λ (e : Entry). cond (idle e.flow) None (Some (need q e))) es) i None ≡ Some (need q e)
 need_at q idle [] i e h busy = absurd cc
 need_at q idle (x ∷ xs) zero e h busy =
     let same : x ≡ e = cc in

@@ -40,7 +40,8 @@ twice : {F : Type 0} (r : F → F) → ((x : F) → r (r x) ≡ r x) → (o : Op
 twice r same None = refl
 twice r same (Some x) = ap (λ (y : _). Some y) (same x)
 
-clear_get : {F : Type 0} (r : F → F) → ((x : F) → r (r x) ≡ r x) → (ns : List ℕ) (n : ℕ) (xs : List F) → (slice_get (clear r ns xs) n ≡ slice_get xs n) ⊎ (slice_get (clear r ns xs) n ≡ option_map r (slice_get xs n))
+clear_get : {F : Type 0} (r : F → F) → ((x : F) → r (r x) ≡ r x) → (ns : List ℕ) (n : ℕ) (xs : List F)
+    → (slice_get (clear r ns xs) n ≡ slice_get xs n) ⊎ (slice_get (clear r ns xs) n ≡ option_map r (slice_get xs n))
 unfolding clear
 clear_get r same [] n xs = inl refl
 clear_get {F} r same (m ∷ ns) n xs =
@@ -151,7 +152,8 @@ bytes_at [] k h = omega arith
 bytes_at (f ∷ fs) zero h = count_size f.queue (All-head HasBytes f fs h)
 bytes_at (f ∷ fs) (suc k) h = bytes_at fs k (All-tail HasBytes f fs h)
 
-bytes_joined : (p : Stamped) (n k : ℕ) (flows : List Flow) → n < length flows → All HasBytes flows → 1 ≤ p.packet.len → count (queue_of (adjust (joined p) n flows) k) ≤ size (queue_of (adjust (joined p) n flows) k)
+bytes_joined : (p : Stamped) (n k : ℕ) (flows : List Flow) → n < length flows → All HasBytes flows → 1 ≤ p.packet.len
+    → count (queue_of (adjust (joined p) n flows) k) ≤ size (queue_of (adjust (joined p) n flows) k)
 bytes_joined p n k flows within all byte =
     ⊎_elim
     (λ (own : k ≡ n).
@@ -161,7 +163,9 @@ bytes_joined p n k flows within all byte =
     (cases_eq k n)
 
 -- past the limit the fat flow has to have a packet to lose
-pub lawful_after_put : (s : FqState) (packet : Descriptor) (now : ℕ) → IsLawful s → IsInRange s.settings → (s.settings.limit < packets_of (appended s packet now).flows → 0 < count (queue_of (appended s packet now).flows (fattest (appended s packet now).flows)))
+pub lawful_after_put : (s : FqState) (packet : Descriptor) (now : ℕ) → IsLawful s → IsInRange s.settings
+    → (s.settings.limit < packets_of (appended s packet now).flows → 0 < count
+    (queue_of (appended s packet now).flows (fattest (appended s packet now).flows)))
     → IsLawful (after_put s packet now)
 unfolding appended
 lawful_after_put s packet now lawful range fat =

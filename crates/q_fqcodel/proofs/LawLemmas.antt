@@ -131,7 +131,8 @@ module _ (w : Stamped → ℕ) where
       ap (sum_by w) (all_packets_by_queues (clear rested_flow gone s.flows) ∙ ap (flat_map (λ (q : List Stamped). q)) (queues-clear gone s.flows) ∙ sym (all_packets_by_queues s.flows))
 
   take_keeps : (s : FqState) (now : ℕ)
-      → sum_by w (all_packets (after_sending now (selected s)).flows) + sum_by w (dropped_from now (selected s)) + sum_by w (option_to_list (head_sent now (selected s))) ≡ sum_by w (all_packets s.flows)
+      → sum_by w (all_packets (after_sending now (selected s)).flows) + sum_by w (dropped_from now (selected s))
+      + sum_by w (option_to_list (head_sent now (selected s))) ≡ sum_by w (all_packets s.flows)
   unfolding after_sending total
   take_keeps s now = sends_keep (selected s) (selected s).new_flows (selected s).old_flows now refl refl ∙ total-selected s
 
@@ -142,7 +143,10 @@ pub take_keeps_all : TakeKeepsAll
 take_keeps_all w s now = take_keeps w s now
 
 -- what a take gives, by the head of a flow
-given_head : (f : Flow) (now : ℕ) (o : Option Stamped) (given : Taken) (head : Stamped) → option_map (λ (h : Stamped). record { packet = leaving (marks f.codel now f.queue) h.packet; marked = marks f.codel now f.queue }) o ≡ Some given → o ≡ Some head
+given_head : (f : Flow) (now : ℕ) (o : Option Stamped) (given : Taken) (head : Stamped)
+    → option_map (λ (h : Stamped). record { packet = leaving (marks f.codel now f.queue) h.packet; marked = marks f.codel now f.queue }) o
+    ≡ Some given
+    → o ≡ Some head
     → given.packet ≡ leaving given.marked head.packet
 given_head f now None given head g h = cc
 given_head f now (Some x) given head g h =

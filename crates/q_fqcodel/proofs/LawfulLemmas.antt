@@ -55,7 +55,10 @@ front_within s e rest lawful front =
     (cases_lt e.flow s.settings.flows)
 
 -- other lists of the same flows, each as often as before
-lawful_relisted : (s : FqState) (new_flows old_flows : List Entry) → IsLawful s → ((n : ℕ) → times n (new_flows ++ old_flows) ≡ times n (s.new_flows ++ s.old_flows)) → length new_flows + length old_flows ≤ length s.new_flows + length s.old_flows → IsLawful (record s { new_flows = new_flows; old_flows = old_flows })
+lawful_relisted : (s : FqState) (new_flows old_flows : List Entry) → IsLawful s
+    → ((n : ℕ) → times n (new_flows ++ old_flows) ≡ times n (s.new_flows ++ s.old_flows))
+    → length new_flows + length old_flows ≤ length s.new_flows + length s.old_flows
+    → IsLawful (record s { new_flows = new_flows; old_flows = old_flows })
 lawful_relisted s new_flows old_flows lawful even short =
     IsLawful_from s (record s { new_flows = new_flows; old_flows = old_flows }) lawful refl refl (λ n. omega (arith, even n)) (λ n h. (h, omega (arith, even n))) short (omega arith)
 
@@ -107,7 +110,8 @@ lawful_shrunk s g fewer n lawful =
     (omega arith) (packets_shrunk g fewer n s.flows)
 
 -- the credits of the front change
-pub lawful_written : (s : FqState) (e m : Entry) (rest new_flows old_flows : List Entry) → IsLawful s → s.new_flows ++ s.old_flows ≡ e ∷ rest → m.flow ≡ e.flow → new_flows ++ old_flows ≡ m ∷ rest → IsLawful (record s { new_flows = new_flows; old_flows = old_flows })
+pub lawful_written : (s : FqState) (e m : Entry) (rest new_flows old_flows : List Entry) → IsLawful s → s.new_flows ++ s.old_flows ≡ e ∷ rest
+    → m.flow ≡ e.flow → new_flows ++ old_flows ≡ m ∷ rest → IsLawful (record s { new_flows = new_flows; old_flows = old_flows })
 lawful_written s e m rest new_flows old_flows lawful front same written =
     lawful_relisted s new_flows old_flows lawful
     (λ n. omega (arith, ap (times n) written, times-cons n m rest, ap (times n) front, times-cons n e rest, one_same n e m same))

@@ -78,7 +78,8 @@ listed_last n [] e own = ap (λ (m : ℕ). (m == n) || false) own ∙ ap (λ (b 
 listed_last n (x ∷ es) e own = or_yes (x.flow == n) (is_listed n (es ++ e ∷ [])) (listed_last n es e own)
 
 -- a flow of a chain is there, at the chain's place
-pub listed_there : (at : ℕ → Option Link) (place : Place) (t n k m : ℕ) → IsChain listing (IsAt place) at t n k → is_listed m (chain listing at n k) ≡ true → (x : Link) × (at m ≡ Some x) × (x.place ≡ place)
+pub listed_there : (at : ℕ → Option Link) (place : Place) (t n k m : ℕ) → IsChain listing (IsAt place) at t n k
+    → is_listed m (chain listing at n k) ≡ true → (x : Link) × (at m ≡ Some x) × (x.place ≡ place)
 unfolding IsChain
 listed_there at place t zero k m a h = absurd (false≢true (ap (is_listed m) (sym (chain_none listing at k)) ∙ h))
 listed_there at place t (suc n) k m a h =
@@ -118,7 +119,8 @@ leading : (place : Place) → Leads listing (IsAt place) led_on
 leading place = record { next = λ k x. refl; item = λ j k x. refl; mine = λ k x o. o }
 
 -- no flow is behind it, whatever its link says is
-module _ (links : List Link) (place : Place) (ends : Ends) (flow : ℕ) (credits : ℤ) (next : ℕ) (within : flow < length links) (free : link_at links flow ≡ None) (named : place ≢ Unlisted) (line : IsLine links place ends) where
+module _ (links : List Link) (place : Place) (ends : Ends) (flow : ℕ) (credits : ℤ) (next : ℕ) (within : flow < length links)
+    (free : link_at links flow ≡ None) (named : place ≢ Unlisted) (line : IsLine links place ends) where
   abbrev new : Link
   new = record { credits = credits; next = next; place = place }
 
@@ -234,7 +236,8 @@ module _ (links : List Link) (place : Place) (ends : Ends) (flow : ℕ) (credits
 
     pub next_keeps : KeepsLines place links both
     next_keeps = lines_kept place links both
-        (λ j x e ne. next_appended.same j (λ same. ne (tail_place x (sym at_tail.1 ∙ ap (link_at links) (sym same) ∙ e))) (λ same. let p : Some x ≡ None = sym e ∙ ap (link_at links) same ∙ free in absurd cc))
+        (λ j x e ne. next_appended.same j (λ same. ne (tail_place x (sym at_tail.1 ∙ ap (link_at links) (sym same) ∙ e)))
+        (λ same. let p : Some x ≡ None = sym e ∙ ap (link_at links) same ∙ free in absurd cc))
         (λ j x e ne. next_appended.same j
         (λ same. ne (led_place x (sym e ∙ ap (link_at both) same ∙ tail_led)))
         (λ same. ne (own_place x (sym e ∙ ap (link_at both) same ∙ next_appended.stored))))

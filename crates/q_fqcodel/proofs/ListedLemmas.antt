@@ -70,5 +70,6 @@ times_sent n now s = by (front s) refl
     by (Some e) f =
         let m : Entry = paid (sent_from now s) e in
         let rest : List Entry = drop 1 (s.new_flows ++ s.old_flows) in
-        let written : (after_sending now s).new_flows ++ (after_sending now s).old_flows ≡ m ∷ rest = ap (λ (t : FqState). t.new_flows ++ t.old_flows) (after_sending_written s e now f) ∙ lists_written s m e f in
+        let written : (after_sending now s).new_flows ++ (after_sending now s).old_flows ≡ m ∷ rest =
+        ap (λ (t : FqState). t.new_flows ++ t.old_flows) (after_sending_written s e now f) ∙ lists_written s m e f in
         omega (arith, ap (times n) written, times-cons n m rest, one_same n e m (flow-paid (sent_from now s) e), ap (times n) (front_is s e f), times-cons n e rest)

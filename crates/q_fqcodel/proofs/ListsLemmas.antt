@@ -36,7 +36,8 @@ none_new n h = eqb-true n 0 (not-false (n == 0) h)
 pub written_new : (new_flows old_flows : List Entry) (e : Entry) → not (length new_flows == 0) ≡ true → old_flows ≡ (if length new_flows == 0 then set old_flows 0 e else old_flows)
 written_new new_flows old_flows e h = sym (cond-false (length new_flows == 0) (set old_flows 0 e) old_flows (not-true (length new_flows == 0) h))
 
-pub written_old : (new_flows old_flows : List Entry) (e : Entry) → not (length new_flows == 0) ≡ false → (new_flows ≡ set new_flows 0 e) × (set old_flows 0 e ≡ (if length new_flows == 0 then set old_flows 0 e else old_flows))
+pub written_old : (new_flows old_flows : List Entry) (e : Entry) → not (length new_flows == 0) ≡ false
+    → (new_flows ≡ set new_flows 0 e) × (set old_flows 0 e ≡ (if length new_flows == 0 then set old_flows 0 e else old_flows))
 written_old new_flows old_flows e h =
     let none : new_flows ≡ [] = nil_from_length new_flows (none_new (length new_flows) h) in (
       none ∙ sym (ap (λ (l : List Entry). set l 0 e) none),

@@ -29,7 +29,9 @@ lost_is : (s : FqState) (packet : Descriptor) (now : ℕ) → (let a = appended 
 unfolding shed
 lost_is s packet now = refl
 
-itself_is : (s : FqState) (packet : Descriptor) (now : ℕ) → (let a = appended s packet now in is_lost_itself s packet now ≡ ((fattest a.flows == flow_of s packet) && nat_le (count (queue_of a.flows (flow_of s packet))) (overflow a)))
+itself_is : (s : FqState) (packet : Descriptor) (now : ℕ)
+    → (let a = appended s packet now in is_lost_itself s packet now ≡
+    ((fattest a.flows == flow_of s packet) && nat_le (count (queue_of a.flows (flow_of s packet))) (overflow a)))
 unfolding is_lost_itself
 itself_is s packet now = refl
 

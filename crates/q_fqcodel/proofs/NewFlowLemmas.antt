@@ -38,7 +38,8 @@ record Ready (P : ℕ → Type 0) (n : ℕ) (new_flows : List Entry) : Type 0 wh
   others : Each P behind
   still : (first.flow ≡ n) ⊎ HasCredits n behind
 
-ready_of : (P : ℕ → Type 0) (q n : ℕ) (idle : ℕ → Bool) → idle n ≡ false → (new_flows : List Entry) → Each P new_flows → HasCredits n new_flows → Ready P n (drop (first_ready q idle new_flows) new_flows)
+ready_of : (P : ℕ → Type 0) (q n : ℕ) (idle : ℕ → Bool) → idle n ≡ false → (new_flows : List Entry) → Each P new_flows → HasCredits n new_flows
+    → Ready P n (drop (first_ready q idle new_flows) new_flows)
 ready_of P q n idle busy [] each has = absurd has
 ready_of P q n idle busy (e ∷ es) each has =
     ⊎_elim
@@ -55,7 +56,9 @@ ready_of P q n idle busy (e ∷ es) each has =
 selected-new_flows : (s : FqState) (e : Entry) (es : List Entry) → drop (first_ready s.settings.quantum (is_idle s.flows) s.new_flows) s.new_flows ≡ e ∷ es → (selected s).new_flows ≡ e ∷ es
 unfolding selected arranged with_rest
 selected-new_flows s e es h =
-    ap (λ (l : List Entry). (with_rest s.settings.quantum (is_idle s.flows) l (s.old_flows ++ map (moved s.settings.quantum) (take (first_ready s.settings.quantum (is_idle s.flows) s.new_flows) s.new_flows))).new_flows) h
+    ap (λ (l : List Entry). (with_rest s.settings.quantum (is_idle s.flows) l
+    (s.old_flows ++ map (moved s.settings.quantum) (take (first_ready s.settings.quantum (is_idle s.flows) s.new_flows) s.new_flows))).new_flows)
+    h
 
 selected-queues : (s : FqState) → queues (selected s).flows ≡ queues s.flows
 unfolding selected
@@ -73,7 +76,8 @@ served_step n m P rest good more =
     (cases_eq m n)
 
 -- as long as n has not sent, it stays new
-stays_new : (n now : ℕ) (s : FqState) (e : Entry) (es : List Entry) → (selected s).new_flows ≡ e ∷ es → is_idle s.flows n ≡ false → n ≢ e.flow → is_idle (after_sending now (selected s)).flows n ≡ false
+stays_new : (n now : ℕ) (s : FqState) (e : Entry) (es : List Entry) → (selected s).new_flows ≡ e ∷ es → is_idle s.flows n ≡ false → n ≢ e.flow
+    → is_idle (after_sending now (selected s)).flows n ≡ false
 stays_new n now s e es at busy other =
     ap (λ (x : FqState). is_idle x.flows n) (after_new_flows (selected s) e es now at)
     ∙ ap (λ (l : List Stamped). nat_eq (count l) 0) (other_queue (flow_after now) e.flow n (selected s).flows other)
@@ -116,14 +120,17 @@ credits_last : (n : ℕ) (es : List Entry) (e : Entry) → e.flow ≡ n → pos 
 credits_last n [] e own high = inl (own, high)
 credits_last n (x ∷ xs) e own high = inr (credits_last n xs e own high)
 
-becomes_new' : (s : FqState) (packet : Descriptor) (now : ℕ) → 1 ≤ s.settings.quantum → flow_of s packet < length s.flows → is_listed (flow_of s packet) (s.new_flows ++ s.old_flows) ≡ false → IsNew (flow_of s packet) (appended s packet now)
+becomes_new' : (s : FqState) (packet : Descriptor) (now : ℕ) → 1 ≤ s.settings.quantum → flow_of s packet < length s.flows
+    → is_listed (flow_of s packet) (s.new_flows ++ s.old_flows) ≡ false → IsNew (flow_of s packet) (appended s packet now)
 unfolding appended
 becomes_new' s packet now positive within absent =
     let n : ℕ = flow_of s packet in
     let e : Entry = record { flow = n; credits = pos s.settings.quantum } in
     let p : Stamped = record { packet = packet; at = now } in
     record {
-      listed = subst (HasCredits n) (sym (cond-false (is_listed n (s.new_flows ++ s.old_flows)) s.new_flows (s.new_flows ++ e ∷ []) absent)) (credits_last n s.new_flows e refl (omega (arith, ints, positive)));
+      listed =
+          subst (HasCredits n) (sym (cond-false (is_listed n (s.new_flows ++ s.old_flows)) s.new_flows (s.new_flows ++ e ∷ []) absent))
+          (credits_last n s.new_flows e refl (omega (arith, ints, positive)));
       busy = let some = own_some p n s.flows within in ne_eqb (count (queue_of (adjust (joined p) n s.flows) n)) 0 (λ none. absurd (omega (arith, some, none)));
     }
 

@@ -68,7 +68,8 @@ first_spare : (at : ℕ → Option Node) (n key : ℕ) → IsSpare at (suc n) ke
 unfolding IsSpare
 first_spare at n key a = a
 
-module _ (at at2 : ℕ → Option Node) (n key : ℕ) (x : Node) (there : at key ≡ Some x) (seen : beside (chain spares at n x.next) at key ≡ Some x) (rest : IsSpare at n x.next) (same : (j : ℕ) → j ≢ key → at2 j ≡ at j) where
+module _ (at at2 : ℕ → Option Node) (n key : ℕ) (x : Node) (there : at key ≡ Some x) (seen : beside (chain spares at n x.next) at key ≡ Some x)
+    (rest : IsSpare at n x.next) (same : (j : ℕ) → j ≢ key → at2 j ≡ at j) where
   abbrev behind : List ℕ
   behind = chain spares at n x.next
 
@@ -91,7 +92,8 @@ module _ (at at2 : ℕ → Option Node) (n key : ℕ) (x : Node) (there : at key
       ∙ sym (beside_other key behind at j ne)
       ∙ sym (ap (λ (l : List ℕ). beside l at j) (chain_more spares at n key x there))
 
-module _ (at at2 : ℕ → Option Node) (n head key : ℕ) (x y : Node) (rest : IsSpare at n head) (seen : beside (chain spares at n head) at key ≡ Some x) (now : at2 key ≡ Some y) (same : (j : ℕ) → j ≢ key → at2 j ≡ at j) where
+module _ (at at2 : ℕ → Option Node) (n head key : ℕ) (x y : Node) (rest : IsSpare at n head) (seen : beside (chain spares at n head) at key ≡ Some x)
+    (now : at2 key ≡ Some y) (same : (j : ℕ) → j ≢ key → at2 j ≡ at j) where
   before : (chain spares at2 n head ≡ chain spares at n head) × IsSpare at2 n head
   before = spares_kept at at2 key x same n head rest seen
 

@@ -48,7 +48,8 @@ module _ (at at2 : ℕ → Option Node) (nodes : ℕ) (lists : List FlowList) (b
   written = queues_set at at2 lists n l2 (λ m ne. others.same m (get_or lists m no_list) ne (pool.each m))
 
   -- the pool with one packet more, or one fewer
-  pub pool_after : (nodes2 bytes2 : ℕ) → nodes2 + (get_or lists n no_list).count ≡ nodes + l2.count → bytes2 + (get_or lists n no_list).bytes ≡ bytes + l2.bytes → nodes2 ≤ 2 ^ 32 → IsPool at2 nodes2 (set lists n l2) bytes2
+  pub pool_after : (nodes2 bytes2 : ℕ) → nodes2 + (get_or lists n no_list).count ≡ nodes + l2.count
+      → bytes2 + (get_or lists n no_list).bytes ≡ bytes + l2.bytes → nodes2 ≤ 2 ^ 32 → IsPool at2 nodes2 (set lists n l2) bytes2
   pool_after nodes2 bytes2 counts sums few = record {
     each = λ m. ⊎_elim
         (λ (e : m ≡ n). at_n m e)
@@ -103,7 +104,9 @@ module _ (at : ℕ → Option Node) (w : ℕ) where
       shift : (n : ℕ) → IsList at w (suc k + n) (get_or ls n no_list)
       shift n = let e : k + suc n ≡ suc k + n = omega arith in rw e at (each (suc n))
 
-  sums_from : (k : ℕ) (lists : List FlowList) → ((n : ℕ) → IsList at w (k + n) (get_or lists n no_list)) → (bytes_in (queues_in at lists) ≡ sum_by (λ (l : FlowList). l.bytes) lists) × (sum_by (λ (l : FlowList). l.bytes) lists ≤ 65535 * sum_by (λ (l : FlowList). l.count) lists)
+  sums_from : (k : ℕ) (lists : List FlowList) → ((n : ℕ) → IsList at w (k + n) (get_or lists n no_list))
+      → (bytes_in (queues_in at lists) ≡ sum_by (λ (l : FlowList). l.bytes) lists)
+      × (sum_by (λ (l : FlowList). l.bytes) lists ≤ 65535 * sum_by (λ (l : FlowList). l.count) lists)
   unfolding bytes_in queues_in
   sums_from k [] each = (refl, omega arith)
   sums_from k (l ∷ ls) each =
@@ -196,6 +199,8 @@ pool_first at count n none = record {
 }
 
 -- what stands at each key is all that the queues depend on
-pub queues_alike : (at at2 : ℕ → Option Node) (lists : List FlowList) → ((j : ℕ) → at2 j ≡ at j) → ((n : ℕ) → IsList at (length lists) n (get_or lists n no_list)) → queues_in at2 lists ≡ queues_in at lists
+pub queues_alike : (at at2 : ℕ → Option Node) (lists : List FlowList) → ((j : ℕ) → at2 j ≡ at j)
+    → ((n : ℕ) → IsList at (length lists) n (get_or lists n no_list)) → queues_in at2 lists ≡ queues_in at lists
 queues_alike at at2 lists same each =
-    queues_same at at2 lists (λ m. kept_items packets (IsNode (length lists) m) at at2 (get_or lists m no_list).tail (get_or lists m no_list).count (get_or lists m no_list).head (each m).linked (λ _ j _ _. same j))
+    queues_same at at2 lists (λ m. kept_items packets (IsNode (length lists) m) at at2 (get_or lists m no_list).tail (get_or lists m no_list).count
+    (get_or lists m no_list).head (each m).linked (λ _ j _ _. same j))

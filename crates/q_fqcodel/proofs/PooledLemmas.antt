@@ -18,7 +18,8 @@ length-flows_from (q ∷ qs) [] e = refl
 length-flows_from (q ∷ qs) (c ∷ cs) e = ap suc (length-flows_from qs cs (omega (arith, e)))
 
 -- the flow with this index
-pub flow_there : (n : ℕ) (qs : List (List Stamped)) (cs : List CodelState) (d : CodelState) → length qs ≡ length cs → n < length cs → slice_get (flows_from qs cs) n ≡ Some (record { queue = get_or qs n []; codel = get_or cs n d })
+pub flow_there : (n : ℕ) (qs : List (List Stamped)) (cs : List CodelState) (d : CodelState) → length qs ≡ length cs → n < length cs
+    → slice_get (flows_from qs cs) n ≡ Some (record { queue = get_or qs n []; codel = get_or cs n d })
 unfolding flows_from
 flow_there n qs [] d e within = absurd (omega arith)
 flow_there n [] (c ∷ cs) d e within = absurd (omega arith)
@@ -90,7 +91,8 @@ unfolding bytes_of bytes_in
 bytes_pooled qs cs e = total_is (λ (q : List Stamped). size q) qs cs e
 
 -- the flow that a read of its CoDel state finds
-pub flow_read : (n : ℕ) (qs : List (List Stamped)) (cs : List CodelState) (codel : CodelState) (fs : List Flow) → length qs ≡ length cs → n < length cs → codel ≡ get_or cs n codel → flows_from qs cs ≡ fs
+pub flow_read : (n : ℕ) (qs : List (List Stamped)) (cs : List CodelState) (codel : CodelState) (fs : List Flow) → length qs ≡ length cs
+    → n < length cs → codel ≡ get_or cs n codel → flows_from qs cs ≡ fs
     → slice_get fs n ≡ Some (record { queue = get_or qs n []; codel = codel })
 flow_read n qs cs codel fs e within read same =
     ap (λ (l : List Flow). slice_get l n) (sym same)
@@ -122,7 +124,8 @@ sizes_first zero = refl
 sizes_first (suc n) = ap (λ (l : List ℕ). 0 ∷ l) (sizes_first n)
 
 -- one queue was written, and its flow's bytes were told
-pub sizes_renewed : (qs new : List (List Stamped)) (n : ℕ) (q : List Stamped) (ws : List ℕ) (bytes : ℕ) → new ≡ set qs n q → n < length qs → ws ≡ set (sizes qs) n bytes → bytes ≡ size (get_or new n []) → ws ≡ sizes new
+pub sizes_renewed : (qs new : List (List Stamped)) (n : ℕ) (q : List Stamped) (ws : List ℕ) (bytes : ℕ) → new ≡ set qs n q → n < length qs
+    → ws ≡ set (sizes qs) n bytes → bytes ≡ size (get_or new n []) → ws ≡ sizes new
 sizes_renewed qs new n q ws bytes written within told is =
     let read : get_or new n [] ≡ q = ap (λ (l : List (List Stamped)). get_or l n []) written ∙ get_or-set_same qs n q [] within in
     told

@@ -139,7 +139,8 @@ busy_shed p n m k fat flows busy =
     busy_put p n m flows (busy_shrunk (shortened k) (λ f. omega (arith, length-drop k f.queue)) fat m (adjust (joined p) n flows) busy)
 
 -- the flow is listed, or goes to the end of the new list
-pub enlisted_cases : (n q : ℕ) (new_flows new_flows' old_flows : List Entry) → new_flows' ≡ cond (is_listed n (new_flows ++ old_flows)) new_flows (new_flows ++ record { flow = n; credits = pos q } ∷ [])
+pub enlisted_cases : (n q : ℕ) (new_flows new_flows' old_flows : List Entry)
+    → new_flows' ≡ cond (is_listed n (new_flows ++ old_flows)) new_flows (new_flows ++ record { flow = n; credits = pos q } ∷ [])
     → ((new_flows' ≡ new_flows) × (1 ≤ times n (new_flows ++ old_flows))) ⊎ ((new_flows' ≡ new_flows ++ record { flow = n; credits = pos q } ∷ []) × (times n (new_flows ++ old_flows) ≡ 0))
 enlisted_cases n q new_flows new_flows' old_flows e =
     ⊎_elim
@@ -200,7 +201,8 @@ own_queue p (suc n) (f ∷ fs) h = own_queue p n fs (omega arith)
 pub own_some : (p : Stamped) (n : ℕ) (flows : List Flow) → n < length flows → 1 ≤ count (queue_of (adjust (joined p) n flows) n)
 own_some p n flows h = omega (arith, ap count (own_queue p n flows h), length-append (queue_of flows n) (p ∷ []))
 
-pub lost_itself : (s a : FqState) (packet : Descriptor) (now n : ℕ) → a ≡ appended s packet now → n ≡ flow_of s packet → is_lost_itself s packet now ≡ ((fattest a.flows == n) && nat_le (count (queue_of a.flows n)) (overflow a))
+pub lost_itself : (s a : FqState) (packet : Descriptor) (now n : ℕ) → a ≡ appended s packet now → n ≡ flow_of s packet
+    → is_lost_itself s packet now ≡ ((fattest a.flows == n) && nat_le (count (queue_of a.flows n)) (overflow a))
 unfolding is_lost_itself
 lost_itself s a packet now n same at =
     ap₂ (λ (x : FqState) (m : ℕ). (fattest x.flows == m) && nat_le (count (queue_of x.flows m)) (overflow x)) (sym same) (sym at)
@@ -241,14 +243,23 @@ module _ (s t : FqState) (n : ℕ) (lawful : IsLawful s) (settings : t.settings.
         in_range = λ m h. omega (arith, same m, lawful.in_range m (omega (arith, h, settings)));
         within = omega (arith, ap length new_flows, ap length old_flows, lawful.within, settings);
         once = λ m. omega (arith, same m, lawful.once m);
-        busy = λ m h. ⊎_elim (λ (own : m ≡ n). omega (arith, same m, ap (λ (k : ℕ). times k (s.new_flows ++ s.old_flows)) own, listed)) (λ (was : is_idle s.flows m ≡ false). omega (arith, same m, lawful.busy m was)) (busy m h);
+        busy =
+            λ m h. ⊎_elim (λ (own : m ≡ n). omega (arith, same m, ap (λ (k : ℕ). times k (s.new_flows ++ s.old_flows)) own, listed))
+            (λ (was : is_idle s.flows m ≡ false). omega (arith, same m, lawful.busy m was)) (busy m h);
         few = few;
       }
 
   lawful_enlisted : (e : Entry) → e.flow ≡ n → t.new_flows ≡ s.new_flows ++ e ∷ [] → t.old_flows ≡ s.old_flows → times n (s.new_flows ++ s.old_flows) ≡ 0 → IsLawful t
   lawful_enlisted e own new_flows old_flows absent =
       let more : (m : ℕ) → times m (t.new_flows ++ t.old_flows) ≡ times m (s.new_flows ++ s.old_flows) + one m e = λ m.
-      omega (arith, ap₂ (λ (l k : List Entry). times m (l ++ k)) new_flows old_flows, times-append m (s.new_flows ++ e ∷ []) s.old_flows, times-append m s.new_flows (e ∷ []), times-cons m e [], times-append m s.new_flows s.old_flows) in
+      omega (
+        arith,
+        ap₂ (λ (l k : List Entry). times m (l ++ k)) new_flows old_flows,
+        times-append m (s.new_flows ++ e ∷ []) s.old_flows,
+        times-append m s.new_flows (e ∷ []),
+        times-cons m e [],
+        times-append m s.new_flows s.old_flows,
+      ) in
       record {
         each_flow = flows ∙ lawful.each_flow ∙ sym settings;
         in_range = λ m h. omega (arith, more m, lawful.in_range m (omega (arith, h, settings)), one_other m e (λ same. absurd (omega (arith, same, own, h, settings, within))));
@@ -266,11 +277,14 @@ module _ (s t : FqState) (n : ℕ) (lawful : IsLawful s) (settings : t.settings.
         few = few;
       }
 
-  pub lawful_put : (q : ℕ) → t.new_flows ≡ cond (is_listed n (s.new_flows ++ s.old_flows)) s.new_flows (s.new_flows ++ record { flow = n; credits = pos q } ∷ []) → t.old_flows ≡ s.old_flows → IsLawful t
+  pub lawful_put : (q : ℕ)
+      → t.new_flows ≡ cond (is_listed n (s.new_flows ++ s.old_flows)) s.new_flows (s.new_flows ++ record { flow = n; credits = pos q } ∷ [])
+      → t.old_flows ≡ s.old_flows → IsLawful t
   lawful_put q new_flows old_flows =
       ⊎_elim
       (λ (w : (t.new_flows ≡ s.new_flows) × (1 ≤ times n (s.new_flows ++ s.old_flows))). lawful_listed w.0 old_flows w.1)
-      (λ (w : (t.new_flows ≡ s.new_flows ++ record { flow = n; credits = pos q } ∷ []) × (times n (s.new_flows ++ s.old_flows) ≡ 0)). lawful_enlisted (record { flow = n; credits = pos q }) refl w.0 old_flows w.1)
+      (λ (w : (t.new_flows ≡ s.new_flows ++ record { flow = n; credits = pos q } ∷ []) × (times n (s.new_flows ++ s.old_flows) ≡ 0)). lawful_enlisted
+      (record { flow = n; credits = pos q }) refl w.0 old_flows w.1)
       (enlisted_cases n q s.new_flows t.new_flows s.old_flows new_flows)
 
 -- ---- where one packet more stays within the limit

@@ -179,7 +179,12 @@ abbrev pub written : Entry → List Entry → List Entry → List Entry
 written m new_flows old_flows = if length new_flows == 0 then set old_flows 0 m else old_flows
 
 with_sent_written : (now : ℕ) (s : FqState) (e : Entry) (new_flows old_flows : List Entry) → slice_get (new_flows ++ old_flows) 0 ≡ Some e
-    → with_sent now s new_flows old_flows ≡ record s { flows = adjust (flow_after now) e.flow s.flows; new_flows = set new_flows 0 (paid (sent_from now s) e); old_flows = written (paid (sent_from now s) e) new_flows old_flows }
+    → with_sent now s new_flows old_flows ≡ record s {
+      flows = adjust (flow_after now) e.flow s.flows;
+      new_flows = set new_flows 0 (paid (sent_from now s) e);
+      old_flows = written
+          (paid (sent_from now s) e) new_flows old_flows;
+    }
 unfolding with_sent
 with_sent_written now s e [] [] h = absurd cc
 with_sent_written now s e [] (x ∷ xs) h =
@@ -190,11 +195,16 @@ with_sent_written now s e (x ∷ xs) old_flows h =
     (sym (cond-false (length (x ∷ xs) == 0) (set old_flows 0 (paid (sent_from now s) e)) old_flows (ne_eqb (length (x ∷ xs)) 0 (omega arith))))
 
 pub after_sending_written : (s : FqState) (e : Entry) (now : ℕ) → front s ≡ Some e
-    → after_sending now s ≡ record s { flows = adjust (flow_after now) e.flow s.flows; new_flows = set s.new_flows 0 (paid (sent_from now s) e); old_flows = written (paid (sent_from now s) e) s.new_flows s.old_flows }
+    → after_sending now s ≡ record s {
+      flows = adjust (flow_after now) e.flow s.flows;
+      new_flows = set s.new_flows 0 (paid (sent_from now s) e);
+      old_flows = written (paid (sent_from now s) e) s.new_flows s.old_flows;
+    }
 unfolding after_sending front
 after_sending_written s e now h = with_sent_written now s e s.new_flows s.old_flows h
 
-written_lists : (m e : Entry) (new_flows old_flows : List Entry) → slice_get (new_flows ++ old_flows) 0 ≡ Some e → set new_flows 0 m ++ written m new_flows old_flows ≡ m ∷ drop 1 (new_flows ++ old_flows)
+written_lists : (m e : Entry) (new_flows old_flows : List Entry) → slice_get (new_flows ++ old_flows) 0 ≡ Some e
+    → set new_flows 0 m ++ written m new_flows old_flows ≡ m ∷ drop 1 (new_flows ++ old_flows)
 written_lists m e [] [] h = absurd cc
 written_lists m e [] (x ∷ xs) h = refl
 written_lists m e (x ∷ xs) old_flows h = ap (λ (l : List Entry). m ∷ (xs ++ l)) (cond-false (length (x ∷ xs) == 0) (set old_flows 0 m) old_flows (ne_eqb (length (x ∷ xs)) 0 (omega arith)))

@@ -77,7 +77,9 @@ pub flows_from-retuned : (target interval : ℕ) (ecn : Bool) (qs : List (List S
 unfolding flows_from retuned
 flows_from-retuned target interval ecn [] cs = refl
 flows_from-retuned target interval ecn (q ∷ qs) [] = refl
-flows_from-retuned target interval ecn (q ∷ qs) (c ∷ cs) = ap (λ (l : List Flow). record { queue = q; codel = record c { target = target; interval = interval; ecn = ecn } } ∷ l) (flows_from-retuned target interval ecn qs cs)
+flows_from-retuned target interval ecn (q ∷ qs) (c ∷ cs) =
+    ap (λ (l : List Flow). record { queue = q; codel = record c { target = target; interval = interval; ecn = ecn } } ∷ l)
+    (flows_from-retuned target interval ecn qs cs)
 
 pub flows_first : (codel : CodelState) (n : ℕ) → flows_from (replicate n []) (replicate n codel) ≡ replicate n (record { queue = []; codel = codel })
 unfolding flows_from

@@ -117,7 +117,12 @@ module _ (s : FqState) (lawful : IsLawful s) (e : Entry) (rest : List Entry) (fr
       }
 
   pub new_moves : pos 0 <ℤ e.credits → is_idle s.flows e.flow ≡ true → LeadsOn s (record s { flows = adjust rested_flow e.flow s.flows; new_flows = rest; old_flows = s.old_flows ++ e ∷ [] })
-  new_moves high empty = record { lawful = lawful_rested (record s { new_flows = rest; old_flows = s.old_flows ++ e ∷ [] }) e.flow (lawful_moved s e e rest lawful front refl); on = new_moves_on high empty }
+  new_moves high empty =
+      record {
+        lawful = lawful_rested (record s { new_flows = rest; old_flows = s.old_flows ++ e ∷ [] }) e.flow
+            (lawful_moved s e e rest lawful front refl);
+        on = new_moves_on high empty;
+      }
 
   pub new_ready : pos 0 <ℤ e.credits → is_idle s.flows e.flow ≡ false → selected s ≡ s
   unfolding arranged_in with_lists

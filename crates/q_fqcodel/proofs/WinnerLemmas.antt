@@ -167,7 +167,8 @@ bytes_none ranks n even leaves =
 
 -- ---- the leaf of a flow is written, and the ranks above it are right
 
-module _ (ranks now : List ℕ) (flow bytes v leaf : ℕ) (tree : IsTournament ranks) (within : flow < length ranks / 2) (small : flow < 65536) (low : bytes < 2 ^ 48 - 1) (is : v ≡ rank flow bytes) (place : leaf ≡ length ranks / 2 + flow)
+module _ (ranks now : List ℕ) (flow bytes v leaf : ℕ) (tree : IsTournament ranks) (within : flow < length ranks / 2) (small : flow < 65536)
+    (low : bytes < 2 ^ 48 - 1) (is : v ≡ rank flow bytes) (place : leaf ≡ length ranks / 2 + flow)
     (len : length now ≡ length (set ranks leaf v)) (leaves : drop (length (set ranks leaf v) / 2) now ≡ drop (length (set ranks leaf v) / 2) (set ranks leaf v)) where
   abbrev lot : ℕ
   lot = length ranks / 2

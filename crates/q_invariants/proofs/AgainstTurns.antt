@@ -79,7 +79,8 @@ module _ (i j : ℕ) (apart : i ≢ j) where
         elim (cases_Bool (eqb j e.class)) [
           | inl here ↦
               let b : bytes_in j len (e ∷ es) ≡ len = bytes ∙ ap (λ (t : Bool). if t then len else 0) here in
-              let after : left_before i j quantum (active_after len classes (e ∷ es)) ≡ e.deficit - len = left ∙ ap (λ (t : Bool). left_of t (deficit_of j (less ∷ es)) quantum) (first-is here) ∙ deficit_here j less es here in
+              let after : left_before i j quantum (active_after len classes (e ∷ es)) ≡ e.deficit - len =
+              left ∙ ap (λ (t : Bool). left_of t (deficit_of j (less ∷ es)) quantum) (first-is here) ∙ deficit_here j less es here in
               let before : left_before i j quantum (e ∷ es) ≡ e.deficit = ap (λ (t : Bool). left_of t (deficit_of j (e ∷ es)) quantum) (first-is here) ∙ deficit_here j e es here in
               omega (arith, b, after, before, covers)
           | inr there ↦
@@ -102,14 +103,17 @@ module _ (i j : ℕ) (apart : i ≢ j) where
               let far : eqb i e.class ≡ false = ne_eqb i e.class (λ w. apart (w ∙ sym same)) in
               let absent : is_active j es ≡ false = ap (λ m. is_active m es) same ∙ d.0 in
               let there : is_active i es ≡ true = sym (ap (λ t. t || is_active i es) far) ∙ there_i in
-              let after : left_before i j quantum (es ++ last ∷ []) ≡ deficit_of j (es ++ last ∷ []) - quantum = ap (λ (t : Bool). left_of t (deficit_of j (es ++ last ∷ [])) quantum) (push-behind i j last es there absent) in
+              let after : left_before i j quantum (es ++ last ∷ []) ≡ deficit_of j (es ++ last ∷ []) - quantum =
+              ap (λ (t : Bool). left_of t (deficit_of j (es ++ last ∷ [])) quantum) (push-behind i j last es there absent) in
               let more : deficit_of j (es ++ last ∷ []) ≡ e.deficit + 1 * quantum_of e.class classes = deficit_last j last es absent here in
               let before : left_before i j quantum (e ∷ es) ≡ e.deficit = ap (λ (t : Bool). left_of t (deficit_of j (e ∷ es)) quantum) (first-is here) ∙ deficit_here j e es here in
               let own : quantum ≡ quantum_of e.class classes = ap (λ m. quantum_of m classes) same in
               omega (arith, none, left, after, more, before, own)
           | inr there ↦ elim (cases_Bool (eqb i e.class)) [
             | inl here ↦
-                let one : grant_in i len (e ∷ es) ≡ 1 = ap (λ (t : Bool). if eqb i e.class then (if t then 0 else 1) else 0) (lt-leb len e.deficit short) ∙ ap (λ (t : Bool). if t then 1 else 0) here in
+                let one : grant_in i len (e ∷ es) ≡ 1 =
+                ap (λ (t : Bool). if eqb i e.class then (if t then 0 else 1) else 0) (lt-leb len e.deficit short)
+                ∙ ap (λ (t : Bool). if t then 1 else 0) here in
                 let product : grant_in i len (e ∷ es) * quantum ≡ quantum = ap (λ g. g * quantum) one ∙ omega arith in
                 let same : deficit_of j (es ++ last ∷ []) ≡ deficit_of j (e ∷ es) = deficit-other j last es there ∙ sym (deficit_behind j e es there) in
                 let before : left_before i j quantum (e ∷ es) ≡ deficit_of j (e ∷ es) - quantum = ap (λ (t : Bool). left_of t (deficit_of j (e ∷ es)) quantum) (second-is there here) in

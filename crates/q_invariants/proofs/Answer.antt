@@ -218,10 +218,17 @@ is-answer mtu now own own_peeked own_taken below peeked taken rises mine shown h
 
 -- one that shows what it has at hand
 pub is-shown : (mtu now : ℕ) (below : List Asked) (s : Showing) → IsAsked mtu now s.own s.own s.own_taken below s.peeked s.taken s.notes s.packet → IsAnswer mtu now (showing below s)
-is-shown mtu now below s h = subst (λ (notes : List Note). IsAnswer mtu now (answer_of s.own s.own s.own_taken below s.peeked s.taken s.notes notes (notes ++ map Sent (option_to_list s.packet)) s.packet)) (append-nil s.notes)
+is-shown mtu now below s h =
+    subst (λ (notes : List Note). IsAnswer mtu now
+    (answer_of s.own s.own s.own_taken below s.peeked s.taken s.notes notes (notes ++ map Sent (option_to_list s.packet)) s.packet))
+    (append-nil s.notes)
     (is-answer mtu now s.own s.own s.own_taken below s.peeked s.taken s.notes [] s.packet h silent-nil)
 
 -- one that dequeues it
 pub is-dequeued : (mtu now : ℕ) (own : Own) (below : List Asked) (d : Dequeue)
-    → IsAsked mtu now own (record d.after { held = d.packet; since = since_of d.packet d.since }) (record d.after { held = None; since = 0 }) below d.children d.children d.rises d.packet → IsSilent d.mine → IsAnswer mtu now (dequeued own below d)
-is-dequeued mtu now own below d h silent = is-answer mtu now own (record d.after { held = d.packet; since = since_of d.packet d.since }) (record d.after { held = None; since = 0 }) below d.children d.children d.rises d.mine d.packet h silent
+    → IsAsked mtu now own (record d.after { held = d.packet; since = since_of d.packet d.since }) (record d.after { held = None; since = 0 }) below
+    d.children d.children d.rises d.packet
+    → IsSilent d.mine → IsAnswer mtu now (dequeued own below d)
+is-dequeued mtu now own below d h silent =
+    is-answer mtu now own (record d.after { held = d.packet; since = since_of d.packet d.since }) (record d.after { held = None; since = 0 }) below
+    d.children d.children d.rises d.mine d.packet h silent

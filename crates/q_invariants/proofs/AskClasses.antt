@@ -85,7 +85,8 @@ are-looked mtu now test (c ∷ classes) (a ∷ below) same all =
       stays = λ none. omega (arith, first.stays (omega (arith, none)), rest.stays (omega (arith, none)));
     }
 
-pub exact-looked : (mtu now : ℕ) (test : Class → Bool) (active : ℕ → Bool) (classes : List Class) (below : List Asked) → AreAnswers mtu now below → AreExact active classes (map beneath (befores below))
+pub exact-looked : (mtu now : ℕ) (test : Class → Bool) (active : ℕ → Bool) (classes : List Class) (below : List Asked) → AreAnswers mtu now below
+    → AreExact active classes (map beneath (befores below))
     → AreExact active classes (map beneath (peeked_by test classes below))
 exact-looked mtu now test active [] [] all h = tt
 exact-looked mtu now test active [] (a ∷ below) all h = absurd h
@@ -97,7 +98,9 @@ exact-looked mtu now test active (c ∷ classes) (a ∷ below) all h =
 pub record IsTakenAt (mtu now : ℕ) (test : Class → Bool) (classes : List Class) (below : List Asked) (i : ℕ) (a : Asked) : Type 0 where
   pub lawful : AreLawful mtu now (set (peeked_by test classes below) i a.taken)
   pub told : AreTold (befores below) (set (peeked_by test classes below) i a.taken)
-  pub weighs : (w : Descriptor → ℕ) → in_children w (set (peeked_by test classes below) i a.taken) + weigh w (beneath a.peeked) ≡ in_children w (peeked_by test classes below) + weigh w (beneath a.taken)
+  pub weighs : (w : Descriptor → ℕ)
+      → in_children w (set (peeked_by test classes below) i a.taken) + weigh w (beneath a.peeked) ≡ in_children w (peeked_by test classes below)
+      + weigh w (beneath a.taken)
   pub holds : (w : Descriptor → ℕ) → held_in_children w (set (peeked_by test classes below) i a.taken) + weigh w (held_beneath a.peeked)
       ≡ held_in_children w (peeked_by test classes below) + weigh w (held_beneath a.taken)
 

@@ -63,7 +63,14 @@ module _ (mtu now : ℕ) (least_mtu : 1 ≤ mtu) (handle : Option ℕ) (filters 
     service = service_of s below
 
     same : length s.classes ≡ length below
-    same = omega (arith, exact-length (λ n. is_active n s.active) s.classes (map beneath (befores below)) h.discipline.exact, length-map (befores below) beneath, length-map below (λ (a : Asked). a.before))
+    same =
+        omega (
+          arith,
+          exact-length (λ n. is_active n s.active) s.classes (map beneath (befores below)) h.discipline.exact,
+          length-map (befores below)
+              beneath,
+          length-map below (λ (a : Asked). a.before),
+        )
 
     classes_apart : ClassesDiffer s.classes
     classes_apart = differ_from_pairs (λ (c : Class). c.name) s.classes h.discipline.schedule.classes_differ
@@ -122,7 +129,8 @@ module _ (mtu now : ℕ) (least_mtu : 1 ≤ mtu) (handle : Option ℕ) (filters 
         }) (notes-silent (choice_of heads s) s.active)
 
     -- the schedule once the class that is met has given its packet
-    given-answers : (i : ℕ) (a : Asked) (p : Descriptor) (t : Schedule) (m : IsMetAt s entries i) → slice_get below i ≡ Some a → a.shown ≡ Some p → t ≡ settled_schedule (is_empty a.taken) m.class service.schedule
+    given-answers : (i : ℕ) (a : Asked) (p : Descriptor) (t : Schedule) (m : IsMetAt s entries i) → slice_get below i ≡ Some a → a.shown ≡ Some p
+        → t ≡ settled_schedule (is_empty a.taken) m.class service.schedule
         → IsAnswer mtu now (dequeued (drr_node s None since) below (record {
           after = drr_node t None since;
           children = set service.below i a.taken;
@@ -198,7 +206,8 @@ module _ (mtu now : ℕ) (least_mtu : 1 ≤ mtu) (handle : Option ℕ) (filters 
     child-answers i (Some a) m at = serves-answers i a a.shown m at refl
 
     place-answers : (o : Option ℕ) → place_met s below ≡ o
-        → IsAnswer mtu now (option_map_or (λ i. option_map_or (class_serves (drr_node s None since) below service i) (slice_get below i) (gives_nothing (drr_node s None since) below service)) o (gives_nothing (drr_node s None since) below service))
+        → IsAnswer mtu now (option_map_or (λ i. option_map_or (class_serves (drr_node s None since) below service i) (slice_get below i)
+        (gives_nothing (drr_node s None since) below service)) o (gives_nothing (drr_node s None since) below service))
     place-answers None e = nothing-answers
     place-answers (Some i) e =
         child-answers i (slice_get below i)

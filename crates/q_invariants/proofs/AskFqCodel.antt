@@ -110,7 +110,8 @@ module _ (mtu now : ℕ) (low : now ≤ 2 ^ 62) (handle : Option ℕ) (filters :
   abbrev fq_codel : FqState → Option Descriptor → ℕ → Own
   fq_codel s held at = record { handle = handle; discipline = FqCodel s; held = held; since = at; filters = filters }
 
-  pub fq_codel-answers : (s : FqState) (below : List Asked) → IsLawfulOwn mtu now (fq_codel s None since) (map beneath (befores below)) → AreAnswers mtu now below → IsAnswer mtu now (ask_fq_codel now (fq_codel s None since) below s)
+  pub fq_codel-answers : (s : FqState) (below : List Asked) → IsLawfulOwn mtu now (fq_codel s None since) (map beneath (befores below))
+      → AreAnswers mtu now below → IsAnswer mtu now (ask_fq_codel now (fq_codel s None since) below s)
   fq_codel-answers s below h all =
       let after : FqState = after_sending now (selected s) in
       let sent : Option Taken = sent_from now (selected s) in
@@ -119,15 +120,21 @@ module _ (mtu now : ℕ) (low : now ≤ 2 ^ 62) (handle : Option ℕ) (filters :
       let gone : List Descriptor = packets_of (dropped_from now (selected s)) in
       let before_is : (w : Descriptor → ℕ) → weigh w (waiting (fq_codel s None since) (befores below)) ≡ weigh w [] + weigh w (packets_of (all_packets s.flows)) + in_children w (befores below) =
       λ w. weigh-waiting w (fq_codel s None since) (befores below) in
-      let peeked_is : (w : Descriptor → ℕ) → weigh w (waiting (fq_codel after packet (since_of packet at)) (befores below)) ≡ weigh w (option_to_list packet) + weigh w (packets_of (all_packets after.flows)) + in_children w (befores below) =
+      let peeked_is : (w : Descriptor → ℕ)
+      → weigh w (waiting (fq_codel after packet (since_of packet at)) (befores below)) ≡ weigh w (option_to_list packet)
+      + weigh w (packets_of (all_packets after.flows)) + in_children w (befores below) =
       λ w. weigh-waiting w (fq_codel after packet (since_of packet at)) (befores below) in
       let taken_is : (w : Descriptor → ℕ) → weigh w (waiting (fq_codel after None 0) (befores below)) ≡ weigh w [] + weigh w (packets_of (all_packets after.flows)) + in_children w (befores below) =
       λ w. weigh-waiting w (fq_codel after None 0) (befores below) in
       let losses : (w : Descriptor → ℕ) → lost w (losses_of CoDel gone ++ marks_of sent) ≡ weigh w gone =
       λ w. omega (arith, lost-append w (losses_of CoDel gone) (marks_of sent), lost-losses w CoDel gone, lost-marks w sent) in
-      let peeks : (w : Descriptor → ℕ) → weigh w (waiting (fq_codel s None since) (befores below)) ≡ lost w (losses_of CoDel gone ++ marks_of sent) + weigh w (waiting (fq_codel after packet (since_of packet at)) (befores below)) =
+      let peeks : (w : Descriptor → ℕ)
+      → weigh w (waiting (fq_codel s None since) (befores below)) ≡ lost w (losses_of CoDel gone ++ marks_of sent)
+      + weigh w (waiting (fq_codel after packet (since_of packet at)) (befores below)) =
       λ w. omega (arith, take-weighs w now s, before_is w, peeked_is w, losses w, weigh-nil w) in
-      let gives : (w : Descriptor → ℕ) → weigh w (waiting (fq_codel after packet (since_of packet at)) (befores below)) ≡ weigh w (option_to_list packet) + weigh w (waiting (fq_codel after None 0) (befores below)) =
+      let gives : (w : Descriptor → ℕ)
+      → weigh w (waiting (fq_codel after packet (since_of packet at)) (befores below)) ≡ weigh w (option_to_list packet)
+      + weigh w (waiting (fq_codel after None 0) (befores below)) =
       λ w. omega (arith, peeked_is w, taken_is w, weigh-nil w) in
       let lawful = take-lawful mtu now s (map beneath (befores below)) low h.discipline in
       is-dequeued mtu now (fq_codel s None since) below (record {
@@ -182,12 +189,20 @@ module _ (mtu now : ℕ) (low : now ≤ 2 ^ 62) (handle : Option ℕ) (filters :
     where
       stays : (o : Option Descriptor) → option_map (λ (t : Taken). t.packet) (sent_from now (selected s)) ≡ o
           → lost one (losses_of CoDel (packets_of (dropped_from now (selected s))) ++ marks_of (sent_from now (selected s))) ≡ weigh one (packets_of (dropped_from now (selected s)))
-          → weigh one (waiting (fq_codel s None since) (befores below)) ≡ lost one (losses_of CoDel (packets_of (dropped_from now (selected s))) ++ marks_of (sent_from now (selected s))) + weigh one (waiting (fq_codel (after_sending now (selected s)) (option_map (λ (t : Taken). t.packet) (sent_from now (selected s))) 0) (befores below))
-          → weigh one (waiting (fq_codel (after_sending now (selected s)) (option_map (λ (t : Taken). t.packet) (sent_from now (selected s))) 0) (befores below)) ≡ weigh one (option_to_list (option_map (λ (t : Taken). t.packet) (sent_from now (selected s)))) + weigh one (packets_of (all_packets (after_sending now (selected s)).flows)) + in_children one (befores below)
-          → weigh one (waiting (fq_codel (after_sending now (selected s)) (option_map (λ (t : Taken). t.packet) (sent_from now (selected s))) 0) (befores below)) ≡ 0 → weigh one (waiting (fq_codel s None since) (befores below)) ≡ 0
+          → weigh one (waiting (fq_codel s None since) (befores below)) ≡ lost one
+          (losses_of CoDel (packets_of (dropped_from now (selected s))) ++ marks_of (sent_from now (selected s)))
+          + weigh one (waiting (fq_codel (after_sending now (selected s)) (option_map (λ (t : Taken). t.packet) (sent_from now (selected s))) 0)
+          (befores below))
+          → weigh one (waiting (fq_codel (after_sending now (selected s)) (option_map (λ (t : Taken). t.packet) (sent_from now (selected s))) 0)
+          (befores below)) ≡ weigh one (option_to_list (option_map (λ (t : Taken). t.packet) (sent_from now (selected s))))
+          + weigh one (packets_of (all_packets (after_sending now (selected s)).flows)) + in_children one (befores below)
+          → weigh one (waiting (fq_codel (after_sending now (selected s)) (option_map (λ (t : Taken). t.packet) (sent_from now (selected s))) 0)
+          (befores below)) ≡ 0
+          → weigh one (waiting (fq_codel s None since) (befores below)) ≡ 0
       stays None e losses peeks peeked none =
           let nothing : weigh one (packets_of (dropped_from now (selected s))) ≡ 0 = ap (λ (q : List Stamped). weigh one (packets_of q)) (nothing-dropped now (selected s) e) ∙ weigh-nil one in
           omega (arith, losses, peeks, none, nothing)
       stays (Some p) e losses peeks peeked none =
-          let some : weigh one (option_to_list (option_map (λ (t : Taken). t.packet) (sent_from now (selected s)))) ≡ 1 = ap (λ (o : Option Descriptor). weigh one (option_to_list o)) e ∙ weigh-one one p in
+          let some : weigh one (option_to_list (option_map (λ (t : Taken). t.packet) (sent_from now (selected s)))) ≡ 1 =
+          ap (λ (o : Option Descriptor). weigh one (option_to_list o)) e ∙ weigh-one one p in
           absurd (omega (arith, some, peeked, none))

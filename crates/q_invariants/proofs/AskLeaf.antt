@@ -45,10 +45,13 @@ asked_at_hand mtu now own after below packet handle all lawful lawful_taken give
   stays = λ none. none;
 }
 
-pub holding-answers : (mtu now : ℕ) (own : Own) (below : List Asked) (p : Descriptor) → own.held ≡ Some p → IsLawfulOwn mtu now own (map beneath (befores below)) → AreAnswers mtu now below → IsAnswer mtu now (holding own below p)
+pub holding-answers : (mtu now : ℕ) (own : Own) (below : List Asked) (p : Descriptor) → own.held ≡ Some p
+    → IsLawfulOwn mtu now own (map beneath (befores below)) → AreAnswers mtu now below → IsAnswer mtu now (holding own below p)
 holding-answers mtu now own below p e h all =
     let rest : List Descriptor = packets_in own.discipline ++ flat_map (λ packets. packets) (map beneath (befores below)) in
-    let lengths : All (HasLength mtu) (p ∷ rest) = subst (λ (o : Option Descriptor). All (HasLength mtu) (option_to_list o ++ packets_in own.discipline ++ flat_map (λ packets. packets) (map beneath (befores below)))) e h.lengths in
+    let lengths : All (HasLength mtu) (p ∷ rest) =
+    subst (λ (o : Option Descriptor). All (HasLength mtu)
+    (option_to_list o ++ packets_in own.discipline ++ flat_map (λ packets. packets) (map beneath (befores below)))) e h.lengths in
     is-shown mtu now below (record {
       own = own;
       own_taken = record own { held = None; since = 0 };
@@ -64,8 +67,22 @@ holding-answers mtu now own below p e h all =
       in_order = h.in_order;
       named = h.named;
     })
-    (λ w. omega (arith, weigh-waiting w own (befores below), weigh-waiting w (record own { held = None; since = 0 }) (befores below), ap (λ (o : Option Descriptor). weigh w (option_to_list o)) e, weigh-nil w))
-    (λ w. omega (arith, weigh-holds w own (befores below), weigh-holds w (record own { held = None; since = 0 }) (befores below), ap (λ (o : Option Descriptor). weigh w (option_to_list o)) e, weigh-nil w)))
+    (λ w. omega (
+      arith,
+      weigh-waiting w own (befores below),
+      weigh-waiting w (record own { held = None; since = 0 }) (befores below),
+      ap
+          (λ (o : Option Descriptor). weigh w (option_to_list o)) e,
+      weigh-nil w,
+    ))
+    (λ w. omega (
+      arith,
+      weigh-holds w own (befores below),
+      weigh-holds w (record own { held = None; since = 0 }) (befores below),
+      ap
+          (λ (o : Option Descriptor). weigh w (option_to_list o)) e,
+      weigh-nil w,
+    )))
 
 -- the head and the rest of a queue
 pub weigh-head : (w : Descriptor → ℕ) (queue : List Stamped) → weigh w (packets_of queue) ≡ weigh w (option_to_list (slice_get (packets_of queue) 0)) + weigh w (packets_of (drop 1 queue))

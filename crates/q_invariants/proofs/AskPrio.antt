@@ -68,7 +68,8 @@ none-passed mtu now = record {
 }
 
 -- the child whose packet is given, before those that are not asked
-one-given : (mtu now : ℕ) (a : Asked) (below : List Asked) → IsAnswer mtu now a → AreAnswers mtu now below → ArePassed mtu now (a ∷ below) (a.peeked ∷ befores below) (a.taken ∷ befores below) (a.rises ++ []) a.shown
+one-given : (mtu now : ℕ) (a : Asked) (below : List Asked) → IsAnswer mtu now a → AreAnswers mtu now below
+    → ArePassed mtu now (a ∷ below) (a.peeked ∷ befores below) (a.taken ∷ befores below) (a.rises ++ []) a.shown
 one-given mtu now a below h all = record {
   all_peeked = (h.lawful_peeked, befores-lawful mtu now below all);
   all_taken = (h.lawful_taken, befores-lawful mtu now below all);

@@ -77,7 +77,9 @@ prio-taken (suc k) (a ∷ below) = (inr (inl refl), prio-taken k below)
 -- ---- a tbf
 
 module _ (now : ℕ) (own : Own) (b : TokenBucket) (limit : ℕ) (a : Asked) where
-  child-staged : (o : Option Descriptor) → AreStaged own (a ∷ []) (option_map_or (λ (p : Descriptor). if allows b now p.len then spends own (a ∷ []) b limit now a p else waits own (a ∷ []) a) o (waits own (a ∷ []) a))
+  child-staged : (o : Option Descriptor)
+      → AreStaged own (a ∷ []) (option_map_or
+      (λ (p : Descriptor). if allows b now p.len then spends own (a ∷ []) b limit now a p else waits own (a ∷ []) a) o (waits own (a ∷ []) a))
   child-staged None = dequeued-staged own (a ∷ []) (record { after = own; children = a.peeked ∷ []; rises = a.rises; mine = []; packet = None; since = 0 }) refl (inr (inl refl), tt)
   child-staged (Some p) = by (allows b now p.len)
     where
@@ -145,7 +147,9 @@ module _ (own : Own) (below : List Asked) (s : Schedule) (same : length s.classe
       child i None e = nothing-staged
       child i (Some a) e = serves-staged i a a.shown e
 
-      by : (o : Option ℕ) → AreStaged own below (option_map_or (λ i. option_map_or (class_serves own below (service_of s below) i) (slice_get below i) (gives_nothing own below (service_of s below))) o (gives_nothing own below (service_of s below)))
+      by : (o : Option ℕ)
+          → AreStaged own below (option_map_or (λ i. option_map_or (class_serves own below (service_of s below) i) (slice_get below i)
+          (gives_nothing own below (service_of s below))) o (gives_nothing own below (service_of s below)))
       by None = nothing-staged
       by (Some i) = child i (slice_get below i) refl
 
@@ -183,8 +187,22 @@ own-staged now own below many = by own.held own.discipline many
         let k : ℕ = position_or_len (λ (a : Asked). is_some a.shown) below in
         record {
           before = record { children = befores below; is = refl; stages = unasked below; handle = refl };
-          peeked = record { children = passed k below ++ map (λ (a : Asked). a.peeked) (drop k (take (suc k) below)) ++ befores (drop (suc k) below); is = refl; stages = prio-peeked k below; handle = refl };
-          taken = record { children = passed k below ++ map (λ (a : Asked). a.taken) (drop k (take (suc k) below)) ++ befores (drop (suc k) below); is = refl; stages = prio-taken k below; handle = refl };
+          peeked =
+              record {
+                children = passed k below ++ map (λ (a : Asked). a.peeked) (drop k (take (suc k) below))
+                    ++ befores (drop (suc k) below);
+                is = refl;
+                stages = prio-peeked k below;
+                handle = refl;
+              };
+          taken =
+              record {
+                children = passed k below ++ map (λ (a : Asked). a.taken) (drop k (take (suc k) below))
+                    ++ befores (drop (suc k) below);
+                is = refl;
+                stages = prio-taken k below;
+                handle = refl;
+              };
         }
     discipline (Tbf b limit) h = tbf-staged now own below b limit h
     discipline (Drr s) h = drr-staged own below s h

@@ -103,14 +103,34 @@ module _ (mtu now : ℕ) (handle : Option ℕ) (filters : List Filter) (since : 
         told_peeked = (all.0.told_taken, tt);
         told_taken = (all.0.told_taken, tt);
         quiet = all.0.quiet;
-        peeks = λ w. omega (arith, all.0.peeks w, all.0.gives w, shown w, weigh-nil w, weigh-waiting w (tbf b None since) (a.before ∷ []), weigh-waiting w (tbf after (Some p) (since_shown a)) (a.taken ∷ []));
+        peeks =
+            λ w. omega (
+              arith,
+              all.0.peeks w,
+              all.0.gives w,
+              shown w,
+              weigh-nil w,
+              weigh-waiting w (tbf b None since) (a.before ∷ []),
+              weigh-waiting
+                  w (tbf after (Some p) (since_shown a)) (a.taken ∷ []),
+            );
         gives = λ w. omega (arith, weigh-nil w, weigh-waiting w (tbf after None 0) (a.taken ∷ []), weigh-waiting w (tbf after (Some p) (since_shown a)) (a.taken ∷ []));
-        marks = λ w. omega (arith, all.0.marks w, all.0.marks_given w, shown w, weigh-nil w, weigh-holds w (tbf b None since) (a.before ∷ []), weigh-holds w (tbf after (Some p) (since_shown a)) (a.taken ∷ []));
+        marks =
+            λ w. omega (
+              arith,
+              all.0.marks w,
+              all.0.marks_given w,
+              shown w,
+              weigh-nil w,
+              weigh-holds w (tbf b None since) (a.before ∷ []),
+              weigh-holds w (tbf after (Some p) (since_shown a)) (a.taken ∷ []),
+            );
         marks_given = λ w. omega (arith, weigh-nil w, weigh-holds w (tbf after None 0) (a.taken ∷ []), weigh-holds w (tbf after (Some p) (since_shown a)) (a.taken ∷ []));
         stays = λ none. absurd (omega (arith, none, weigh-one one p, weigh-waiting one (tbf after (Some p) (since_shown a)) (a.taken ∷ [])));
       }) (spent-note p.len)
 
-  waits-answers : (b : TokenBucket) (a : Asked) → IsLawfulOwn mtu now (tbf b None since) (map beneath (befores (a ∷ []))) → AreAnswers mtu now (a ∷ []) → IsAnswer mtu now (waits (tbf b None since) (a ∷ []) a)
+  waits-answers : (b : TokenBucket) (a : Asked) → IsLawfulOwn mtu now (tbf b None since) (map beneath (befores (a ∷ [])))
+      → AreAnswers mtu now (a ∷ []) → IsAnswer mtu now (waits (tbf b None since) (a ∷ []) a)
   waits-answers b a h all =
       let after = tbf-lawful b b None 0 a.before a.peeked h.discipline.level h.discipline.last refl (λ w. omega (arith, all.0.peeks w, weigh-nil w)) h in
       is-dequeued mtu now (tbf b None since) (a ∷ []) (record {
@@ -147,11 +167,13 @@ module _ (mtu now : ℕ) (handle : Option ℕ) (filters : List Filter) (since : 
   may-answer b a p false e h all = waits-answers b a h all
 
   child-answers : (b : TokenBucket) (a : Asked) (o : Option Descriptor) → a.shown ≡ o → IsLawfulOwn mtu now (tbf b None since) (map beneath (befores (a ∷ []))) → AreAnswers mtu now (a ∷ [])
-      → IsAnswer mtu now (option_map_or (λ (p : Descriptor). if allows b now p.len then spends (tbf b None since) (a ∷ []) b limit now a p else waits (tbf b None since) (a ∷ []) a) o (waits (tbf b None since) (a ∷ []) a))
+      → IsAnswer mtu now (option_map_or (λ (p : Descriptor). if allows b now p.len then spends (tbf b None since) (a ∷ []) b limit now a p else waits
+      (tbf b None since) (a ∷ []) a) o (waits (tbf b None since) (a ∷ []) a))
   child-answers b a None e h all = waits-answers b a h all
   child-answers b a (Some p) e h all = may-answer b a p (allows b now p.len) e h all
 
-  pub tbf-answers : (b : TokenBucket) (below : List Asked) → IsLawfulOwn mtu now (tbf b None since) (map beneath (befores below)) → AreAnswers mtu now below → IsAnswer mtu now (ask_tbf now (tbf b None since) below b limit)
+  pub tbf-answers : (b : TokenBucket) (below : List Asked) → IsLawfulOwn mtu now (tbf b None since) (map beneath (befores below))
+      → AreAnswers mtu now below → IsAnswer mtu now (ask_tbf now (tbf b None since) below b limit)
   tbf-answers b [] h all = absurd (let none : 0 ≡ 1 = h.discipline.one in omega (arith, none))
   tbf-answers b (a ∷ []) h all = child-answers b a a.shown refl h all
   tbf-answers b (a ∷ c ∷ below) h all = absurd (let many : length (map beneath (befores (a ∷ c ∷ below))) ≡ 1 = h.discipline.one in omega (arith, many))

@@ -31,7 +31,9 @@ use Rattle.q_invariants.proofs.AskFqCodel.{fq_codel-answers}
 use Rattle.q_invariants.proofs.EditLater.{root-later}
 
 -- every node is before as it was
-before-child : (now : ℕ) (own : Own) (below : List Asked) (b : TokenBucket) (limit : ℕ) (a : Asked) (o : Option Descriptor) → (option_map_or (λ (p : Descriptor). if allows b now p.len then spends own below b limit now a p else waits own below a) o (waits own below a)).before ≡ worked own [] (befores below)
+before-child : (now : ℕ) (own : Own) (below : List Asked) (b : TokenBucket) (limit : ℕ) (a : Asked) (o : Option Descriptor)
+    → (option_map_or (λ (p : Descriptor). if allows b now p.len then spends own below b limit now a p else waits own below a) o
+    (waits own below a)).before ≡ worked own [] (befores below)
 before-child now own below b limit a None = refl
 before-child now own below b limit a (Some p) = by (allows b now p.len)
   where
@@ -42,14 +44,19 @@ before-child now own below b limit a (Some p) = by (allows b now p.len)
 before-tbf : (now : ℕ) (own : Own) (below : List Asked) (b : TokenBucket) (limit : ℕ) → (ask_tbf now own below b limit).before ≡ worked own [] (befores below)
 before-tbf now own below b limit = by (slice_get below 0)
   where
-    by : (o : Option Asked) → (option_map_or (ask_child now own below b limit) o (dequeued own below (record { after = own; children = []; rises = []; mine = []; packet = None; since = 0 }))).before ≡ worked own [] (befores below)
+    by : (o : Option Asked)
+        → (option_map_or (ask_child now own below b limit) o
+        (dequeued own below (record { after = own; children = []; rises = []; mine = []; packet = None; since = 0 }))).before
+        ≡ worked own [] (befores below)
     by None = refl
     by (Some a) = before-child now own below b limit a a.shown
 
 before-drr : (own : Own) (below : List Asked) (s : Schedule) → (ask_drr own below s).before ≡ worked own [] (befores below)
 before-drr own below s = by (place_met s below)
   where
-    serves : (i : ℕ) (a : Asked) (o : Option Descriptor) → (option_map_or (class_gives own below (service_of s below) i a) o (gives_nothing own below (service_of s below))).before ≡ worked own [] (befores below)
+    serves : (i : ℕ) (a : Asked) (o : Option Descriptor)
+        → (option_map_or (class_gives own below (service_of s below) i a) o (gives_nothing own below (service_of s below))).before
+        ≡ worked own [] (befores below)
     serves i a None = refl
     serves i a (Some p) = refl
 
@@ -57,7 +64,9 @@ before-drr own below s = by (place_met s below)
     child i None = refl
     child i (Some a) = serves i a a.shown
 
-    by : (o : Option ℕ) → (option_map_or (λ i. option_map_or (class_serves own below (service_of s below) i) (slice_get below i) (gives_nothing own below (service_of s below))) o (gives_nothing own below (service_of s below))).before ≡ worked own [] (befores below)
+    by : (o : Option ℕ)
+        → (option_map_or (λ i. option_map_or (class_serves own below (service_of s below) i) (slice_get below i)
+        (gives_nothing own below (service_of s below))) o (gives_nothing own below (service_of s below))).before ≡ worked own [] (befores below)
     by None = refl
     by (Some i) = child i (slice_get below i)
 
@@ -176,10 +185,14 @@ module _ (clock now : ℕ) (s : TreeState (List Note)) (h : IsKeptTree clock s) 
   told w t = root-memory (λ m. tt) s.root w (root-memory (λ u. []) (shape s.root) w (subst (λ (n : Worked). IsRootTold n w) (before-root now (shape s.root)) t))
 
   waiting-before : beneath asked_root.before ≡ beneath s.root
-  waiting-before = ap beneath (before-root now (shape s.root)) ∙ ap (beneath_own s.root.own) (each-each_memory beneath_own (λ u. []) (each_memory (λ m. tt) s.root.below) ∙ each-each_memory beneath_own (λ m. tt) s.root.below)
+  waiting-before =
+      ap beneath (before-root now (shape s.root)) ∙ ap (beneath_own s.root.own)
+      (each-each_memory beneath_own (λ u. []) (each_memory (λ m. tt) s.root.below) ∙ each-each_memory beneath_own (λ m. tt) s.root.below)
 
   holds-before : held_beneath asked_root.before ≡ held_beneath s.root
-  holds-before = ap held_beneath (before-root now (shape s.root)) ∙ ap (held_own s.root.own) (each-each_memory held_own (λ u. []) (each_memory (λ m. tt) s.root.below) ∙ each-each_memory held_own (λ m. tt) s.root.below)
+  holds-before =
+      ap held_beneath (before-root now (shape s.root)) ∙ ap (held_own s.root.own)
+      (each-each_memory held_own (λ u. []) (each_memory (λ m. tt) s.root.below) ∙ each-each_memory held_own (λ m. tt) s.root.below)
 
   -- what a peek leaves
   pub peek-kept : IsKeptTree now (peek_packet history now s)

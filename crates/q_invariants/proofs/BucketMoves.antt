@@ -111,7 +111,8 @@ module _ (clock now : ℕ) (b : TokenBucket) (limit : ℕ) (n : Node (List Note)
       (ap (λ (o : Own). o.held) (sym own) ∙ st.held)
       (unpaid c (same-bucket b c limit most (sym (by st.discipline) ∙ ap (λ (o : Own). o.discipline) own ∙ now_is)))
     where
-      by : (put.worked.own.discipline ≡ n.own.discipline) ⊎ (put.worked.own.discipline ≡ queued_in p now n.own.discipline) ⊎ ((i : ℕ) × (emptied : Bool) × (put.worked.own.discipline ≡ settled_in i emptied n.own.discipline))
+      by : (put.worked.own.discipline ≡ n.own.discipline) ⊎ (put.worked.own.discipline ≡ queued_in p now n.own.discipline) ⊎
+          ((i : ℕ) × (emptied : Bool) × (put.worked.own.discipline ≡ settled_in i emptied n.own.discipline))
           → put.worked.own.discipline ≡ Tbf b limit
       by (inl e) = e ∙ is
       by (inr (inl e)) = e ∙ ap (queued_in p now) is
@@ -147,7 +148,9 @@ module _ (clock now : ℕ) (b : TokenBucket) (limit : ℕ) (n : Node (List Note)
           quiet-step c after (losses_of Purged edit.purged) (ap (λ (k : Node (List Note)). k.memory) r.is ∙ noted-history n.memory (losses_of Purged edit.purged)) spent sent
           (ap (λ (k : Node (List Note)). k.own.held) r.is ∙ r.form.held) (changed c form)
       by (inr (inr a)) =
-          let d : after.own.discipline ≡ Tbf b limit = ap (λ (k : Node (List Note)). k.own.discipline) a.is ∙ ap (settled_in a.place (is_empty (edited_at history (losses_of Purged edit.purged) edit.f a.path a.child))) is in
+          let d : after.own.discipline ≡ Tbf b limit =
+          ap (λ (k : Node (List Note)). k.own.discipline) a.is ∙ ap
+          (settled_in a.place (is_empty (edited_at history (losses_of Purged edit.purged) edit.f a.path a.child))) is in
           quiet-step c after (losses_of Purged edit.purged) (ap (λ (k : Node (List Note)). k.memory) a.is ∙ noted-history n.memory (losses_of Purged edit.purged)) spent sent
           (ap (λ (k : Node (List Note)). k.own.held) a.is) (unpaid c (same-bucket b c limit most (sym d ∙ now_is)))
 

@@ -164,7 +164,9 @@ module _ (now : ℕ) (own : Own) (below : List Asked) (b : TokenBucket) (limit :
       at (x ∷ xs) h a e = subst (λ (y : Asked). AreRisen y.rises) (same_Some x a e) h.0
 
       by : (o : Option Asked) → ((a : Asked) → o ≡ Some a → AreRisen a.rises)
-          → IsStageOf (option_map_or (ask_child now own below b limit) o (dequeued own below (record { after = own; children = []; rises = []; mine = []; packet = None; since = 0 }))) w → IsTbfStage now b w own.held
+          → IsStageOf (option_map_or (ask_child now own below b limit) o
+          (dequeued own below (record { after = own; children = []; rises = []; mine = []; packet = None; since = 0 }))) w
+          → IsTbfStage now b w own.held
       by None h st = dequeued-stage (record { after = own; children = []; rises = []; mine = []; packet = None; since = 0 }) b limit 0 is tt refl refl (inl (refl, refl)) refl w st
       by (Some a) h st = child-stage a (h a refl) a.shown w st
 

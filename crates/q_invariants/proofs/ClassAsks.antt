@@ -157,7 +157,9 @@ module _ (now : ℕ) (x : Forest (Unit {0})) (s : Schedule) (differ : EntriesDif
         child i (Some a) placed there st = serves-stage i a a.shown placed there refl w st
 
         by : (o : Option ℕ) → place_met s asked ≡ o
-            → IsStageOf (option_map_or (λ i. option_map_or (class_serves own asked (service_of s asked) i) (slice_get asked i) (gives_nothing own asked (service_of s asked))) o (gives_nothing own asked (service_of s asked))) w → DrrStage w
+            → IsStageOf (option_map_or (λ i. option_map_or (class_serves own asked (service_of s asked) i) (slice_get asked i)
+            (gives_nothing own asked (service_of s asked))) o (gives_nothing own asked (service_of s asked))) w
+            → DrrStage w
         by None placed st = nothing-stage (ap (λ (o : Option ℕ). option_and_then length_of (option_and_then (slice_get asked) o)) placed) w st
         by (Some i) placed st = child i (slice_get asked i) placed refl st
 
@@ -218,7 +220,8 @@ module _ (mtu now : ℕ) (least : 1 ≤ mtu) (low : now ≤ 2 ^ 62) (n : Node (L
       left (inr gave) =
           let u : Schedule = settled_class gave.place (is_empty gave.answer.taken) (served shows s) in
           ap (λ (y : Schedule). deficit_of c y.active) gave.schedule
-          ∙ (same-settled gave.place (is_empty gave.answer.taken) (served shows s)).deficit c (active-served c shows s ∙ stays.before) (ap (λ (y : Schedule). is_active c y.active) (sym gave.schedule) ∙ stays.after)
+          ∙ (same-settled gave.place (is_empty gave.answer.taken) (served shows s)).deficit c (active-served c shows s ∙ stays.before)
+          (ap (λ (y : Schedule). is_active c y.active) (sym gave.schedule) ∙ stays.after)
           (ap (quantum_of c) (class-settled gave.place (is_empty gave.answer.taken) (served shows s)))
 
   served-even : (t : Schedule) (w : Worked) (ws : List Worked) (h : Served now (shape n).below s apart t w ws) (i j : ℕ) → i ≢ j → Stays i s t → Stays j s t
@@ -320,7 +323,8 @@ module _ (mtu now : ℕ) (least : 1 ≤ mtu) (low : now ≤ 2 ^ 62) (n : Node (L
       let schedule : st.schedule ≡ t = sym (same-schedule st.schedule t (sym st.is ∙ ap (λ (k : Node (List Note)). k.own.discipline) asked.is ∙ now_is)) in
       subst (λ (y : Schedule). DrrStep now s y n after) schedule (by st.schedule st.children st.below_is st.how)
     where
-      child-of : (ws : List Worked) (t : Schedule) → side_by_side ws ≡ asked.worked.below → t.classes ≡ s.classes → (c : ℕ) (k m : Node (List Note)) → child_for c s.classes (children n) ≡ Some k → child_for c t.classes (children after) ≡ Some m
+      child-of : (ws : List Worked) (t : Schedule) → side_by_side ws ≡ asked.worked.below → t.classes ≡ s.classes → (c : ℕ) (k m : Node (List Note))
+          → child_for c s.classes (children n) ≡ Some k → child_for c t.classes (children after) ≡ Some m
           → (v : Worked) × (child_for c s.classes ws ≡ Some v) × (m.memory ≡ k.memory ++ v.memory)
       child-of ws t below_is classes c k m before later =
           let b = booked-child (IsAskOf now) s.classes n.below asked.worked.below c m (asked-related mtu now (shape n) asked.worked lawful asked.stage).2
@@ -334,7 +338,8 @@ module _ (mtu now : ℕ) (least : 1 ≤ mtu) (low : now ≤ 2 ^ 62) (n : Node (L
       memory : after.memory ≡ n.memory ++ asked.worked.memory
       memory = ap (λ (k : Node (List Note)). k.memory) (sym asked.is) ∙ noted-history n.memory asked.worked.memory
 
-      by : (t : Schedule) (ws : List Worked) → side_by_side ws ≡ asked.worked.below → AsWas now (shape n).below s apart t asked.worked ws ⊎ Served now (shape n).below s apart t asked.worked ws → DrrStep now s t n after
+      by : (t : Schedule) (ws : List Worked) → side_by_side ws ≡ asked.worked.below
+          → AsWas now (shape n).below s apart t asked.worked ws ⊎ Served now (shape n).below s apart t asked.worked ws → DrrStep now s t n after
       by t ws below_is (inl h) =
           quiet-step now s t n after asked.worked.memory memory h.granted (same-all s t (ap (λ (y : Schedule). y.active) h.same))
           (λ c k m before later.

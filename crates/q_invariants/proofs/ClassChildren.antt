@@ -162,7 +162,9 @@ module _ {X : Type 0} (c : ℕ) where
   pub child-quantum : (n q : ℕ) (classes : List Class) (xs : List X) → child_for c (map (quantum_set n q) classes) xs ≡ child_for c classes xs
   child-quantum n q [] xs = refl
   child-quantum n q (k ∷ classes) [] = refl
-  child-quantum n q (k ∷ classes) (x ∷ xs) = ap (λ m. if c == m then Some x else child_for c (map (quantum_set n q) classes) xs) (same-name k) ∙ ap (λ o. if c == k.name then Some x else o) (child-quantum n q classes xs)
+  child-quantum n q (k ∷ classes) (x ∷ xs) =
+      ap (λ m. if c == m then Some x else child_for c (map (quantum_set n q) classes) xs) (same-name k)
+      ∙ ap (λ o. if c == k.name then Some x else o) (child-quantum n q classes xs)
     where
       same-name : (k : Class) → (quantum_set n q k).name ≡ k.name
       same-name k = elim (n == k.name) as (λ (t : Bool). (if t then record k { quantum = q } else k).name ≡ k.name) [ true ↦ refl | false ↦ refl ]

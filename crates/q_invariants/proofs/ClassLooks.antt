@@ -27,9 +27,13 @@ pub looked-at : (test : Class → Bool) (classes : List Class) (below : List Ask
 looked-at test [] below c v e = absurd (none-some v e)
 looked-at test (k ∷ classes) [] c v e = absurd (none-some v e)
 looked-at test (k ∷ classes) (a ∷ below) c v e = elim (cases_Bool (eqb c k.name)) [
-  | inl here ↦ by here (test k) (same_Some (if test k then a.peeked else a.before) v (sym (here-is c k classes (if test k then a.peeked else a.before) (map (λ pair. if test pair.0 then pair.1.peeked else pair.1.before) (zip classes below)) here) ∙ e))
+  | inl here ↦ by here (test k) (same_Some (if test k then a.peeked else a.before) v
+      (sym (here-is c k classes (if test k then a.peeked else a.before)
+      (map (λ pair. if test pair.0 then pair.1.peeked else pair.1.before) (zip classes below)) here) ∙ e))
   | inr there ↦
-      let rest = looked-at test classes below c v (sym (there-is c k classes (if test k then a.peeked else a.before) (map (λ pair. if test pair.0 then pair.1.peeked else pair.1.before) (zip classes below)) there) ∙ e) in
+      let rest =
+      looked-at test classes below c v (sym (there-is c k classes (if test k then a.peeked else a.before)
+      (map (λ pair. if test pair.0 then pair.1.peeked else pair.1.before) (zip classes below)) there) ∙ e) in
       record { answer = rest.answer; there = there-is c k classes a below there ∙ rest.there; which = rest.which }
 ]
   where

@@ -63,7 +63,8 @@ class-node major minor d x e = option_and_then_some (λ (n : Node (List Note)). 
     by n (FqCodel s) is there at = absurd (none-some x at)
 
 -- its drr is lawful
-pub drr-lawful : (major : ℕ) (d : DeviceState (List Note)) (n : Node (List Note)) (s : Schedule) → IsKept d → qdisc major d ≡ Some n → n.own.discipline ≡ Drr s → IsLawfulDrr d.tree.device.mtu s (map beneath (children n))
+pub drr-lawful : (major : ℕ) (d : DeviceState (List Note)) (n : Node (List Note)) (s : Schedule) → IsKept d → qdisc major d ≡ Some n
+    → n.own.discipline ≡ Drr s → IsLawfulDrr d.tree.device.mtu s (map beneath (children n))
 drr-lawful major d n s kept there is =
     let f = found major d n there in
     let law = (lawful-of d.tree.device.mtu d.clock n d.tree.root kept.lawful f.there).0.discipline in
@@ -77,7 +78,8 @@ backlogged-active major minor d x kept at queued =
 
 -- ---- one event
 
-pub drr-step : (major : ℕ) (d : DeviceState (List Note)) (e : Event) (n after : Node (List Note)) (s t : Schedule) → IsKept d → IsEvent e → qdisc major d ≡ Some n → qdisc major (step history d e).device ≡ Some after
+pub drr-step : (major : ℕ) (d : DeviceState (List Note)) (e : Event) (n after : Node (List Note)) (s t : Schedule) → IsKept d → IsEvent e
+    → qdisc major d ≡ Some n → qdisc major (step history d e).device ≡ Some after
     → n.own.discipline ≡ Drr s → after.own.discipline ≡ Drr t → DrrStep (step history d e).device.clock s t n after
 drr-step major d e n after s t kept range there later is now_is = by e kept_after (clock-rises d e) now_is (becomes major d e n after kept range there later)
   where
@@ -95,10 +97,12 @@ drr-step major d e n after s t kept range there later is now_is = by e kept_afte
         let f = found major d n there in
         lawful-with_memory d.tree.device.mtu now (λ m. tt) n (lawful-of d.tree.device.mtu now n d.tree.root (root-later d.clock now rises d.tree.device.mtu d.tree.root kept.lawful) f.there)
 
-    by : (e : Event) → IsKept (step history d e).device → d.clock ≤ (step history d e).device.clock → after.own.discipline ≡ Drr t → Becomes (step history d e).device.clock e n after → DrrStep (step history d e).device.clock s t n after
+    by : (e : Event) → IsKept (step history d e).device → d.clock ≤ (step history d e).device.clock → after.own.discipline ≡ Drr t
+        → Becomes (step history d e).device.clock e n after → DrrStep (step history d e).device.clock s t n after
     by (event.Arrive p moment) kept_then rises now_is h = put-step (step history d (event.Arrive p moment)).device.clock n s is p after t now_is h
     by (event.Poll moment) kept_then rises now_is h =
-        asked-step d.tree.device.mtu (step history d (event.Poll moment)).device.clock kept.least_mtu kept_then.moment n s is law.schedule law.longest (here (step history d (event.Poll moment)).device.clock rises) after t now_is h
+        asked-step d.tree.device.mtu (step history d (event.Poll moment)).device.clock kept.least_mtu kept_then.moment n s is law.schedule
+        law.longest (here (step history d (event.Poll moment)).device.clock rises) after t now_is h
     by (event.Command c moment) kept_then rises now_is (inl same) = same-step (step history d (event.Command c moment)).device.clock n s is after t now_is same
     by (event.Command c moment) kept_then rises now_is (inr edit) =
         edited-step (step history d (event.Command c moment)).device.clock n s is law.schedule (differ_from_pairs (λ (c : Class). c.name) s.classes law.schedule.classes_differ) after t now_is edit
@@ -112,7 +116,8 @@ pub record ClassMoves (minor : ℕ) (x y : ClassAt) : Type 0 where
   pub gives : y.child.memory ≡ x.child.memory ++ given
   pub books : bytes_sent given + deficit_of minor y.schedule.active ≡ grants_to minor notes * quantum_of minor x.schedule.classes + deficit_of minor x.schedule.active
 
-pub class-moves : (major minor : ℕ) (d : DeviceState (List Note)) (e : Event) (x y : ClassAt) → IsKept d → IsEvent e → class_in major minor d ≡ Some x → class_in major minor (step history d e).device ≡ Some y
+pub class-moves : (major minor : ℕ) (d : DeviceState (List Note)) (e : Event) (x y : ClassAt) → IsKept d → IsEvent e → class_in major minor d ≡ Some x
+    → class_in major minor (step history d e).device ≡ Some y
     → is_empty x.child ≡ false → is_empty y.child ≡ false → quantum_of minor y.schedule.classes ≡ quantum_of minor x.schedule.classes → ClassMoves minor x y
 class-moves major minor d e x y kept range is at queued queued_then quantum =
     let a = class-node major minor d x is in
@@ -136,7 +141,8 @@ more-class-moves minor x y z quantum a b =
     let q : ℕ = quantum_of minor x.schedule.classes in
     let grants = sum_by-append (granted_by minor) a.notes b.notes in
     let sent = sum_by-append sent_by a.given b.given in
-    let product : grants_to minor (a.notes ++ b.notes) * q ≡ grants_to minor a.notes * q + grants_to minor b.notes * q = ap (λ k. k * q) grants ∙ add-mul (grants_to minor a.notes) (grants_to minor b.notes) q in
+    let product : grants_to minor (a.notes ++ b.notes) * q ≡ grants_to minor a.notes * q + grants_to minor b.notes * q =
+    ap (λ k. k * q) grants ∙ add-mul (grants_to minor a.notes) (grants_to minor b.notes) q in
     let same = ap (λ k. grants_to minor b.notes * k) quantum in
     record {
       notes = a.notes ++ b.notes;
@@ -213,7 +219,8 @@ against-moves major i j d e x y z w apart kept range is_x is_y is_z is_w queued_
     let quantum_then : quantum_of j y.schedule.classes ≡ quantum_of j x.schedule.classes =
     ap (λ (u : Schedule). quantum_of j u.classes) (sym same_then) ∙ quantum ∙ ap (λ (u : Schedule). quantum_of j u.classes) same in
     let child : child_for j x.schedule.classes (children a.node) ≡ Some z.child = child-so x.schedule z.schedule a.node f.node z.child same (same_Some f.node a.node (sym f.there ∙ a.there)) f.child in
-    let child_then : child_for j y.schedule.classes (children b.node) ≡ Some w.child = child-so y.schedule w.schedule b.node g.node w.child same_then (same_Some g.node b.node (sym g.there ∙ b.there)) g.child in
+    let child_then : child_for j y.schedule.classes (children b.node) ≡ Some w.child =
+    child-so y.schedule w.schedule b.node g.node w.child same_then (same_Some g.node b.node (sym g.there ∙ b.there)) g.child in
     record {
       notes = s.notes;
       is = sym b.noted ∙ s.is ∙ ap (λ ns. ns ++ s.notes) a.noted;
@@ -237,7 +244,8 @@ deficit-below max_len classes c (e ∷ es) least h = elim (cases_Bool (eqb c e.c
   | inr there ↦ subst (λ k. k < quantum_of c classes + max_len) (sym (deficit_behind c e es there)) (deficit-below max_len classes c es least (All-tail (IsEntry max_len classes) e es h))
 ]
 
-pub deficit-bounded : (major minor : ℕ) (d : DeviceState (List Note)) (x : ClassAt) → IsKept d → class_in major minor d ≡ Some x → deficit_of minor x.schedule.active < quantum_of minor x.schedule.classes + d.tree.device.mtu
+pub deficit-bounded : (major minor : ℕ) (d : DeviceState (List Note)) (x : ClassAt) → IsKept d → class_in major minor d ≡ Some x
+    → deficit_of minor x.schedule.active < quantum_of minor x.schedule.classes + d.tree.device.mtu
 deficit-bounded major minor d x kept is =
     let a = class-node major minor d x is in
     let law = drr-lawful major d a.node x.schedule kept a.there a.discipline in
@@ -251,7 +259,8 @@ same-noted major i j d x z a b =
 
 -- ---- just before a grant
 
-pub class-short : (major minor k : ℕ) (d : DeviceState (List Note)) (e : Event) (x y : ClassAt) → IsKept d → IsEvent e → class_in major minor d ≡ Some x → class_in major minor (step history d e).device ≡ Some y
+pub class-short : (major minor k : ℕ) (d : DeviceState (List Note)) (e : Event) (x y : ClassAt) → IsKept d → IsEvent e
+    → class_in major minor d ≡ Some x → class_in major minor (step history d e).device ≡ Some y
     → grants_to minor y.noted ≡ grants_to minor x.noted + suc k
     → IsSomeAnd (length_of (ask (step history d e).device.clock (shape x.child))) (λ len. deficit_of minor x.schedule.active + k * quantum_of minor x.schedule.classes < len)
 class-short major minor k d e x y kept range is at more =
@@ -264,7 +273,8 @@ class-short major minor k d e x y kept range is at more =
 
 -- ---- where a class wakes
 
-pub class-wakes : (major minor : ℕ) (d : DeviceState (List Note)) (e : Event) (x y : ClassAt) → IsKept d → IsEvent e → class_in major minor d ≡ Some x → class_in major minor (step history d e).device ≡ Some y
+pub class-wakes : (major minor : ℕ) (d : DeviceState (List Note)) (e : Event) (x y : ClassAt) → IsKept d → IsEvent e → class_in major minor d ≡ Some x
+    → class_in major minor (step history d e).device ≡ Some y
     → is_empty x.child ≡ true → is_empty y.child ≡ false → deficit_of minor y.schedule.active ≡ quantum_of minor y.schedule.classes
 class-wakes major minor d e x y kept range is at empty queued =
     let next : DeviceState (List Note) = (step history d e).device in

@@ -118,7 +118,8 @@ module _ (now : ℕ) (n : Node (List Note)) (s : Schedule) (is : n.own.disciplin
       (λ c k m before later. inl (gave c k m (turned.1) before (subst (λ (x : Node (List Note)). child_for c t.classes (children x) ≡ Some m) (sym put.is) later)))
     where
       -- the schedule, with the same classes
-      by : (put.worked.own.discipline ≡ n.own.discipline) ⊎ (put.worked.own.discipline ≡ queued_in p now n.own.discipline) ⊎ ((i : ℕ) × (emptied : Bool) × (put.worked.own.discipline ≡ settled_in i emptied n.own.discipline))
+      by : (put.worked.own.discipline ≡ n.own.discipline) ⊎ (put.worked.own.discipline ≡ queued_in p now n.own.discipline) ⊎
+          ((i : ℕ) × (emptied : Bool) × (put.worked.own.discipline ≡ settled_in i emptied n.own.discipline))
           → put.worked.own.discipline ≡ after.own.discipline → SameTurns s t × (t.classes ≡ s.classes)
       by (inl e) own =
           let same : t ≡ s = same-schedule s t (sym (sym own ∙ e ∙ is) ∙ now_is) in
@@ -135,9 +136,12 @@ module _ (now : ℕ) (n : Node (List Note)) (s : Schedule) (is : n.own.disciplin
       related (inl e) = subst (λ (x : Worked). AllRelated (IsPutOf now p put.refusal) (forget n.below) x.below) (sym e) (quiet-related now p put.refusal (shape n)).2
       related (inr e) = subst (λ (x : Worked). AllRelated (IsPutOf now p put.refusal) (forget n.below) x.below) (sym e.1) (along-related now p put.refusal e.0 (shape n)).2
 
-      gave : (c : ℕ) (k m : Node (List Note)) → t.classes ≡ s.classes → child_for c s.classes (children n) ≡ Some k → child_for c t.classes (children (booked history n put.worked)) ≡ Some m → GaveNothing k m
+      gave : (c : ℕ) (k m : Node (List Note)) → t.classes ≡ s.classes → child_for c s.classes (children n) ≡ Some k
+          → child_for c t.classes (children (booked history n put.worked)) ≡ Some m → GaveNothing k m
       gave c k m classes before later =
-          let b = booked-child (IsPutOf now p put.refusal) s.classes n.below put.worked.below c m (related put.way) (ap (λ cs. child_for c cs (children (booked history n put.worked))) (sym classes) ∙ later) in
+          let b =
+          booked-child (IsPutOf now p put.refusal) s.classes n.below put.worked.below c m (related put.way)
+          (ap (λ cs. child_for c cs (children (booked history n put.worked))) (sym classes) ∙ later) in
           let same : b.child ≡ k = same_Some b.child k (sym b.there ∙ before) in
           let sent = (put-stage now p put.refusal (shape b.child) b.worked b.by).notes sent_by past-sent (λ q. refl) in
           (b.worked.memory, ap (λ (x : Node (List Note)). x.memory) (sym b.is) ∙ noted-history b.child.memory b.worked.memory ∙ ap (λ (x : Node (List Note)). x.memory ++ b.worked.memory) same, sent)
@@ -149,7 +153,8 @@ module _ (now : ℕ) (n : Node (List Note)) (s : Schedule) (is : n.own.disciplin
       let turned : t ≡ s = same-schedule s t (sym is ∙ ap (λ (k : Node (List Note)). k.own.discipline) (sym same) ∙ now_is) in
       quiet-step now s t n after [] (ap (λ (k : Node (List Note)). k.memory) same ∙ sym (append-nil n.memory)) (λ c. refl) (same-all s t (ap (λ (x : Schedule). x.active) turned))
       (λ c k m before later.
-      inl (same-gave k m (same_Some m k (sym later ∙ ap (λ (x : Schedule). child_for c x.classes (children after)) turned ∙ ap (λ (x : Node (List Note)). child_for c s.classes (children x)) same ∙ before))))
+      inl (same-gave k m (same_Some m k (sym later ∙ ap (λ (x : Schedule). child_for c x.classes (children after)) turned ∙ ap
+      (λ (x : Node (List Note)). child_for c s.classes (children x)) same ∙ before))))
 
   module _ (law : IsLawful s) (differ : ClassesDiffer s.classes) where
     -- the classes and children as a command leaves them
@@ -169,7 +174,9 @@ module _ (now : ℕ) (n : Node (List Note)) (s : Schedule) (is : n.own.disciplin
         same_Some m k (sym later ∙ ap (λ (x : Schedule). child_for c x.classes ks) h.0 ∙ ap (child_for c (s.classes ++ record { name = l; quantum = q } ∷ [])) h.1
         ∙ child-added c s.classes (children n) (record { name = l; quantum = q }) leaf k before)
     form-gave (Removed_one l i) t ks h c k m before later =
-        same_Some m k (sym (child-removed c l s.classes (children n) i m differ h.2 (sym (ap (λ (x : Schedule). child_for c x.classes ks) h.0 ∙ ap (child_for c (others (λ (k : Class). k.name) l s.classes)) h.1) ∙ later)) ∙ before)
+        same_Some m k (sym (child-removed c l s.classes (children n) i m differ h.2
+        (sym (ap (λ (x : Schedule). child_for c x.classes ks) h.0 ∙ ap (child_for c (others (λ (k : Class). k.name) l s.classes)) h.1) ∙ later))
+        ∙ before)
 
     -- a child that was edited, or beneath which something was
     child-edited : (notes : List Note) (f : Node (List Note) → Node (List Note)) → bytes_sent notes ≡ 0
@@ -219,10 +226,13 @@ module _ (now : ℕ) (n : Node (List Note)) (s : Schedule) (is : n.own.disciplin
             (λ c k m before later.
             at-child c k m before
             (child-set c s.classes (children n) a.place child m
-            (sym (ap (λ (x : Node (List Note)). child_for c t.classes (children x)) a.is ∙ ap (child_for c t.classes) (nodes-side (set (children n) a.place child)) ∙ ap (λ cs. child_for c cs (set (children n) a.place child)) classes) ∙ later)).which)
+            (sym (ap (λ (x : Node (List Note)). child_for c t.classes (children x)) a.is
+            ∙ ap (child_for c t.classes) (nodes-side (set (children n) a.place child)) ∙ ap
+            (λ cs. child_for c cs (set (children n) a.place child)) classes) ∙ later)).which)
           where
             at-child : (c : ℕ) (k m : Node (List Note)) → child_for c s.classes (children n) ≡ Some k
-                → ((place_in c s.classes ≡ Some a.place) × (m ≡ edited_at history (losses_of Purged edit.purged) edit.f a.path a.child)) ⊎ ((child_for c s.classes (children n) ≡ Some m) × (place_in c s.classes ≡ Some a.place → ⊥))
+                → ((place_in c s.classes ≡ Some a.place) × (m ≡ edited_at history (losses_of Purged edit.purged) edit.f a.path a.child)) ⊎
+                ((child_for c s.classes (children n) ≡ Some m) × (place_in c s.classes ≡ Some a.place → ⊥))
                 → GaveNothing k m ⊎ IsNew m
             at-child c k m before (inr left) = inl (same-gave k m (same_Some m k (sym left.0 ∙ before)))
             at-child c k m before (inl changed) =

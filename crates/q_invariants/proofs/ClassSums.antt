@@ -58,7 +58,8 @@ module _ (g : Asked → ℕ) where
       let here : (if n == c.name then g a else 0) ≡ 0 = ap (λ b. if b then g a else 0) parts.0 in
       omega (arith, here, picked-none n classes below parts.1)
 
-  picked-one : (n : ℕ) (classes : List Class) (below : List Asked) → ClassesDiffer classes → length classes ≡ length below → picked g (λ c. n == c.name) classes below ≡ option_map_or g (answer_in classes below n) 0
+  picked-one : (n : ℕ) (classes : List Class) (below : List Asked) → ClassesDiffer classes → length classes ≡ length below
+      → picked g (λ c. n == c.name) classes below ≡ option_map_or g (answer_in classes below n) 0
   picked-one n [] below differ same = refl
   picked-one n (c ∷ classes) [] differ same = absurd (omega (arith, same))
   picked-one n (c ∷ classes) (a ∷ below) differ same = ⊎_elim
@@ -107,4 +108,10 @@ module _ (g : Asked → ℕ) where
       → picked g (is_among entries) classes below ≡ total (λ (e : Entry). option_map_or g (answer_in classes below e.class) 0) entries
   picked-entries [] classes below differ apart same = picked-nothing classes below
   picked-entries (e ∷ entries) classes below differ apart same =
-      omega (arith, picked-more e.class (is_among entries) classes below (λ c h. not_among e.class entries c differ.0 h), picked-one e.class classes below apart same, picked-entries entries classes below differ.1 apart same)
+      omega (
+        arith,
+        picked-more e.class (is_among entries) classes below (λ c h. not_among e.class entries c differ.0 h),
+        picked-one e.class classes
+            below apart same,
+        picked-entries entries classes below differ.1 apart same,
+      )

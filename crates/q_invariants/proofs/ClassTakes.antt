@@ -97,7 +97,8 @@ module _ (now : ℕ) (x : Forest (Unit {0})) (s : Schedule) (differ : EntriesDif
     no-choice : choice_of heads s ≡ None → place_met s below ≡ None
     no-choice e =
         ap (option_and_then (λ (m : Met). class_at m.class s))
-        (chosen_is_met s heads ∙ ap (λ (o : Option Choice). option_map (λ (e : Entry). record { class = e.class; head = heads e.class }) (option_and_then (λ (c : Choice). slice_get s.active c.place) o)) e)
+        (chosen_is_met s heads ∙ ap (λ (o : Option Choice). option_map (λ (e : Entry). record { class = e.class; head = heads e.class })
+        (option_and_then (λ (c : Choice). slice_get s.active c.place) o)) e)
 
     no-entry : (ch : Choice) → choice_of heads s ≡ Some ch → slice_get s.active ch.place ≡ None → place_met s below ≡ None
     no-entry ch e at =
@@ -130,7 +131,9 @@ module _ (now : ℕ) (x : Forest (Unit {0})) (s : Schedule) (differ : EntriesDif
             → bytes_sent v.memory ≡ bytes_at (Some ch) at.place (heads c)
         other ch m there class apart (inl taken) = absurd (apart (same-class s.classes c m.class i taken.0 class))
         other ch m there class apart (inr left) =
-            let far : (at.place == ch.place) ≡ false = ne_eqb at.place ch.place (λ e. apart (sym at.name ∙ ap (λ (y : Entry). y.class) (same_Some at.entry m (sym at.there ∙ ap (slice_get s.active) e ∙ there)))) in
+            let far : (at.place == ch.place) ≡ false =
+            ne_eqb at.place ch.place (λ e. apart (sym at.name ∙ ap (λ (y : Entry). y.class)
+            (same_Some at.entry m (sym at.there ∙ ap (slice_get s.active) e ∙ there)))) in
             service-gives c v left.0 ∙ sym (bytes-other c ch at.place (heads c) far)
 
         entry : (ch : Choice) (o : Option Entry) → choice_of heads s ≡ Some ch → slice_get s.active ch.place ≡ o → bytes_sent v.memory ≡ bytes_at (Some ch) at.place (heads c)

@@ -126,12 +126,14 @@ module _ (part : Totals → ℕ) (w : Descriptor → ℕ) (more : (t : Totals) (
   -- each counter, by what an arrival, a packet sent, a loss and a mark add to it
   abbrev arrivals : Measure
   arrivals =
-      measure (λ c. c.arrived) (arrival w) (λ c p. more c.arrived p) (λ c p. same (part c.arrived)) (λ c p cause. unlost (λ x. x.arrived) (λ x t. refl) (λ x t. refl) c p (is_refusal cause)) (λ c p. same (part c.arrived))
+      measure (λ c. c.arrived) (arrival w) (λ c p. more c.arrived p) (λ c p. same (part c.arrived))
+      (λ c p cause. unlost (λ x. x.arrived) (λ x t. refl) (λ x t. refl) c p (is_refusal cause)) (λ c p. same (part c.arrived))
       (λ n k. refl) (λ k. refl) (λ n k. refl) (λ n k. refl)
 
   abbrev sendings : Measure
   sendings =
-      measure (λ c. c.sent) (sending w) (λ c p. same (part c.sent)) (λ c p. more c.sent p) (λ c p cause. unlost (λ x. x.sent) (λ x t. refl) (λ x t. refl) c p (is_refusal cause)) (λ c p. same (part c.sent))
+      measure (λ c. c.sent) (sending w) (λ c p. same (part c.sent)) (λ c p. more c.sent p)
+      (λ c p cause. unlost (λ x. x.sent) (λ x t. refl) (λ x t. refl) c p (is_refusal cause)) (λ c p. same (part c.sent))
       (λ n k. refl) (λ k. refl) (λ n k. refl) (λ n k. refl)
 
   abbrev refusals : Measure
@@ -146,7 +148,8 @@ module _ (part : Totals → ℕ) (w : Descriptor → ℕ) (more : (t : Totals) (
 
   abbrev marks : Measure
   marks =
-      measure (λ c. c.marked) (mark w) (λ c p. same (part c.marked)) (λ c p. same (part c.marked)) (λ c p cause. unlost (λ x. x.marked) (λ x t. refl) (λ x t. refl) c p (is_refusal cause)) (λ c p. more c.marked p)
+      measure (λ c. c.marked) (mark w) (λ c p. same (part c.marked)) (λ c p. same (part c.marked))
+      (λ c p cause. unlost (λ x. x.marked) (λ x t. refl) (λ x t. refl) c p (is_refusal cause)) (λ c p. more c.marked p)
       (λ n k. refl) (λ k. refl) (λ n k. refl) (λ n k. refl)
 
 pub all-more : (c : Counts) (notes : List Note) → IsMore c (fold counted c notes) notes

@@ -48,7 +48,9 @@ grants-silent k es = by (k == 0)
 
 pub notes-silent : (o : Option Choice) (es : List Entry) → IsSilent (granted_notes o es)
 notes-silent None es = silent-nil
-notes-silent (Some c) es = silent-append (grant_notes (suc c.rounds) (take c.place es)) (grant_notes c.rounds (drop c.place es)) (grants-silent (suc c.rounds) (take c.place es)) (grants-silent c.rounds (drop c.place es))
+notes-silent (Some c) es =
+    silent-append (grant_notes (suc c.rounds) (take c.place es)) (grant_notes c.rounds (drop c.place es))
+    (grants-silent (suc c.rounds) (take c.place es)) (grants-silent c.rounds (drop c.place es))
 
 -- what the children that are asked have to tell
 abbrev pub told_by : Option Asked → List Note
@@ -65,12 +67,16 @@ marked-told : (w : Descriptor → ℕ) (o : Option Asked) → marked w (told_by 
 marked-told w None = marked-nil w
 marked-told w (Some a) = refl
 
-pub lost-all : (w : Descriptor → ℕ) (classes : List Class) (below : List Asked) (entries : List Entry) → lost w (told_of classes below entries) ≡ total (λ (e : Entry). option_map_or (λ (a : Asked). lost w a.rises) (answer_in classes below e.class) 0) entries
+pub lost-all : (w : Descriptor → ℕ) (classes : List Class) (below : List Asked) (entries : List Entry)
+    → lost w (told_of classes below entries) ≡ total
+    (λ (e : Entry). option_map_or (λ (a : Asked). lost w a.rises) (answer_in classes below e.class) 0) entries
 lost-all w classes below [] = lost-nil w
 lost-all w classes below (e ∷ entries) =
     omega (arith, lost-append w (told_by (answer_in classes below e.class)) (told_of classes below entries), lost-told w (answer_in classes below e.class), lost-all w classes below entries)
 
-pub marked-all : (w : Descriptor → ℕ) (classes : List Class) (below : List Asked) (entries : List Entry) → marked w (told_of classes below entries) ≡ total (λ (e : Entry). option_map_or (λ (a : Asked). marked w a.rises) (answer_in classes below e.class) 0) entries
+pub marked-all : (w : Descriptor → ℕ) (classes : List Class) (below : List Asked) (entries : List Entry)
+    → marked w (told_of classes below entries) ≡ total
+    (λ (e : Entry). option_map_or (λ (a : Asked). marked w a.rises) (answer_in classes below e.class) 0) entries
 marked-all w classes below [] = marked-nil w
 marked-all w classes below (e ∷ entries) =
     omega (arith, marked-append w (told_by (answer_in classes below e.class)) (told_of classes below entries), marked-told w (answer_in classes below e.class), marked-all w classes below entries)
@@ -148,7 +154,9 @@ asked-at s c e i at place =
     by false class passes = any-at (λ (x : Entry). x.class == class.name) s.active c.place e at passes
 
 pub met-asked : (s : Schedule) (heads : ℕ → Option ℕ) (o : Option Choice) (i : ℕ)
-    → option_and_then (λ (m : Met). class_at m.class s) (option_map (λ (e : Entry). record { class = e.class; head = heads e.class }) (option_and_then (λ (c : Choice). slice_get s.active c.place) o)) ≡ Some i
+    → option_and_then (λ (m : Met). class_at m.class s)
+    (option_map (λ (e : Entry). record { class = e.class; head = heads e.class })
+    (option_and_then (λ (c : Choice). slice_get s.active c.place) o)) ≡ Some i
     → IsMetAt s (asked_entries o s.active) i
 met-asked s heads None i h = cc
 met-asked s heads (Some c) i h = by (slice_get s.active c.place) refl h

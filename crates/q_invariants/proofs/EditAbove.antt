@@ -82,7 +82,15 @@ module _ (mtu clock i : ℕ) (below : List (List Descriptor)) (old new : List De
 
   fewer_beneath : (own : Own) (emptied : Bool) (w : Descriptor → ℕ) → weigh w (beneath_own (settled i emptied own) (set below i new)) ≤ weigh w (beneath_own own below)
   fewer_beneath own emptied w =
-      omega (arith, weigh-beneath w (settled i emptied own) (set below i new), weigh-beneath w own below, ap (weigh w) (settled-packets i emptied own.discipline), weigh-joined-set w below i old new there, fewer w)
+      omega (
+        arith,
+        weigh-beneath w (settled i emptied own) (set below i new),
+        weigh-beneath w own below,
+        ap (weigh w)
+            (settled-packets i emptied own.discipline),
+        weigh-joined-set w below i old new there,
+        fewer w,
+      )
 
   own_above : (own : Own) → IsLawfulOwn mtu clock own below → IsLawfulOwn mtu clock (settled i (length new == 0) own) (set below i new)
   own_above own h =
@@ -93,8 +101,11 @@ module _ (mtu clock i : ℕ) (below : List (List Descriptor)) (old new : List De
         held = λ e. settled_holds i emptied own.discipline (h.held e);
         filters = h.filters;
         in_order = h.in_order;
-        named = All-weaker (λ (f : Filter). is_some (class_in (length below) f.minor own.discipline) ≡ true) (λ (f : Filter). is_some (class_in (length (set below i new)) f.minor (settled_in i emptied own.discipline)) ≡ true)
-            (λ f e. ap is_some (ap (λ k. class_in k f.minor (settled_in i emptied own.discipline)) (length-set below i new) ∙ settled_class_in i emptied (length below) f.minor own.discipline) ∙ e) own.filters h.named;
+        named =
+            All-weaker (λ (f : Filter). is_some (class_in (length below) f.minor own.discipline) ≡ true)
+            (λ (f : Filter). is_some (class_in (length (set below i new)) f.minor (settled_in i emptied own.discipline)) ≡ true)
+            (λ f e. ap is_some (ap (λ k. class_in k f.minor (settled_in i emptied own.discipline)) (length-set below i new)
+            ∙ settled_class_in i emptied (length below) f.minor own.discipline) ∙ e) own.filters h.named;
       }
 
 -- ---- a node above an edited one
@@ -134,7 +145,12 @@ module _ (mtu clock : ℕ) (fresh : Option ℕ) (purged : List Descriptor) (posi
       record {
         conserved = conserved;
         held = held;
-        lawful = (own_lawful, lawful-side mtu clock (set (children n) i new) (are-lawful mtu clock (set (children n) i new) (All-set (IsLawfulRoot mtu clock) (children n) i new h.lawful (lawful-nodes mtu clock n.below lawful.1))));
+        lawful = (
+          own_lawful,
+          lawful-side mtu clock (set (children n) i new)
+              (are-lawful mtu clock (set (children n) i new)
+              (All-set (IsLawfulRoot mtu clock) (children n) i new h.lawful (lawful-nodes mtu clock n.below lawful.1))),
+        );
         counted = (
           counted_purged n.memory (beneath n) (held_beneath n) (beneath after) (held_beneath after) purged counted.0 conserved held,
           counted-side (set (children n) i new) (All-set IsCountedRoot (children n) i new h.counted (counted-nodes n.below counted.1)),

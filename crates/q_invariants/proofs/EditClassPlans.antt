@@ -72,7 +72,8 @@ deleted_class parent class root edit e =
     }
 
 module _ (d : Device) (now : ℕ) (root : Node (List Note)) (once : (h : ℕ) → times h root ≤ 1) (positive : 1 ≤ d.mtu) where
-  pub planned_class_add : (parent : ℕ) (class : ClassId) (quantum : Option ℕ) (edit : Edit) → IsMinor class.minor → IfSome quantum IsQuantum → class_add d parent class quantum (shape root) ≡ Ok edit → Planned d.mtu now root edit
+  pub planned_class_add : (parent : ℕ) (class : ClassId) (quantum : Option ℕ) (edit : Edit) → IsMinor class.minor → IfSome quantum IsQuantum
+      → class_add d parent class quantum (shape root) ≡ Ok edit → Planned d.mtu now root edit
   planned_class_add parent class quantum edit minor range e =
       let at : AtNode (λ path n. of_schedule (class_added d class quantum path n) n.own.discipline) root edit = drr_there (Some parent) class (class_added d class quantum) root edit e in
       let old : Node (List Note) = at.node in
@@ -85,9 +86,11 @@ module _ (d : Device) (now : ℕ) (root : Node (List Note)) (once : (h : ℕ) �
       let leaf : Shape = implicit_pfifo d in
       subst (Planned d.mtu now root) done.1
       (planned_remake d.mtu now root at.path (record old.own { discipline = Drr (added class.minor q on.schedule) }) (front_and_new (length (children sh)) 1 leaf) old once at.node_is
-      (λ lawful counted. remakes_class_added d.mtu now leaf (new_leaf d.mtu now None (Packets d.txqueuelen)) old lawful counted on.schedule class.minor q on.is absent minor (given_quantum quantum d.mtu range positive)))
+      (λ lawful counted. remakes_class_added d.mtu now leaf (new_leaf d.mtu now None (Packets d.txqueuelen)) old lawful counted on.schedule
+      class.minor q on.is absent minor (given_quantum quantum d.mtu range positive)))
 
-  pub planned_class_change : (parent : Option ℕ) (class : ClassId) (quantum : Option ℕ) (edit : Edit) → IfSome quantum IsQuantum → class_change parent class quantum (shape root) ≡ Ok edit → Planned d.mtu now root edit
+  pub planned_class_change : (parent : Option ℕ) (class : ClassId) (quantum : Option ℕ) (edit : Edit) → IfSome quantum IsQuantum
+      → class_change parent class quantum (shape root) ≡ Ok edit → Planned d.mtu now root edit
   planned_class_change parent class quantum edit range e =
       let at : AtNode (λ path n. of_schedule (class_changed class quantum path n) n.own.discipline) root edit = drr_there parent class (class_changed class quantum) root edit e in
       let old : Node (List Note) = at.node in

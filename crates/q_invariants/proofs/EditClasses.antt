@@ -137,7 +137,8 @@ module _ (n q : ℕ) where
   same_class max_len e =
       elim (n == e.class) as (λ (t : Bool). (if t then record e { deficit = min e.deficit (q + max_len - 1) } else e).class ≡ e.class) [ true ↦ refl | false ↦ refl ]
 
-  exact_mapped : (old new : ℕ → Bool) → ((m : ℕ) → new m ≡ old m) → (classes : List Class) (below : List (List Descriptor)) → AreExact old classes below → AreExact new (map (quantum_set n q) classes) below
+  exact_mapped : (old new : ℕ → Bool) → ((m : ℕ) → new m ≡ old m) → (classes : List Class) (below : List (List Descriptor))
+      → AreExact old classes below → AreExact new (map (quantum_set n q) classes) below
   exact_mapped old new same [] [] h = tt
   exact_mapped old new same [] (ps ∷ below) h = absurd h
   exact_mapped old new same (c ∷ classes) [] h = absurd h

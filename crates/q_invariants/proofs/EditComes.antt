@@ -44,7 +44,8 @@ module _ (notes : List Note) (f : Node (List Note) → Node (List Note)) where
         same a = record { before = n; there = a; handle = handle; by = inl refl }
 
         through : (c : Node (List Note)) → slice_get (children root) i ≡ Some c → IsOf n (above history notes i (edited_at history notes f path c) root)
-            → ((root n : Node (List Note)) → ((old : Node (List Note)) → node_at path root ≡ Some old → IsOf old root → Ends h old) → IsOf n (edited_at history notes f path root) → HasHandle h n → ComesBy h (λ k. IsOf k root) n)
+            → ((root n : Node (List Note)) → ((old : Node (List Note)) → node_at path root ≡ Some old → IsOf old root → Ends h old)
+            → IsOf n (edited_at history notes f path root) → HasHandle h n → ComesBy h (λ k. IsOf k root) n)
             → ComesBy h (λ k. IsOf k root) n
         through c e (inl is) rec = record {
           before = root;
@@ -62,7 +63,8 @@ module _ (notes : List Note) (f : Node (List Note) → Node (List Note)) where
 
         by : (o : Option (Node (List Note))) → slice_get (children root) i ≡ o
             → IsOf n (option_map_or (λ child. above history notes i (edited_at history notes f path child) root) o root)
-            → ((root n : Node (List Note)) → ((old : Node (List Note)) → node_at path root ≡ Some old → IsOf old root → Ends h old) → IsOf n (edited_at history notes f path root) → HasHandle h n → ComesBy h (λ k. IsOf k root) n)
+            → ((root n : Node (List Note)) → ((old : Node (List Note)) → node_at path root ≡ Some old → IsOf old root → Ends h old)
+            → IsOf n (edited_at history notes f path root) → HasHandle h n → ComesBy h (λ k. IsOf k root) n)
             → ComesBy h (λ k. IsOf k root) n
         by None e a rec = same a
         by (Some c) e a rec = through c e a rec

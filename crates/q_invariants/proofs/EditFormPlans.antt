@@ -41,7 +41,9 @@ use Rattle.q_invariants.proofs.EditForms.{Stay, Retuned_one, Added_one, Removed_
 module _ (now : ℕ) (root : Node (List Note)) where
   formed : (path : List ℕ) (own : Own) (below : List Child) (old : Node (List Note)) → node_at path root ≡ Some old
       → (HasSoMany old.own.discipline (length (children old)) → IsRemade now old own (kids history (children old) below)) → FormOf now root (Remake path own below)
-  formed path own below old at h = λ other e. subst (λ (n : Node (List Note)). HasSoMany n.own.discipline (length (children n)) → IsRemade now n own (kids history (children n) below)) (same_Some old other (sym at ∙ e)) h
+  formed path own below old at h =
+      λ other e. subst (λ (n : Node (List Note)). HasSoMany n.own.discipline (length (children n))
+      → IsRemade now n own (kids history (children n) below)) (same_Some old other (sym at ∙ e)) h
 
   all-kept : (path : List ℕ) (own : Own) (old : Node (List Note)) → node_at path root ≡ Some old → own.handle ≡ old.own.handle → own.held ≡ old.own.held
       → IsForm now old.own.discipline (children old) own.discipline (children old) → FormOf now root (Remake path own (all_kept (shape old)))
@@ -105,7 +107,9 @@ module _ (now : ℕ) (root : Node (List Note)) where
       (λ many. subst (IsRemade now old own) (sym same) (record {
         handle = refl;
         held = refl;
-        form = subst (λ (x : Discipline). IsForm now x (children old) (Drr (added class.minor q s)) (children old ++ leaf ∷ [])) (sym on.is) (Added_one class.minor q leaf, (refl, refl, eq-eqb 0 0 refl));
+        form =
+            subst (λ (x : Discipline). IsForm now x (children old) (Drr (added class.minor q s)) (children old ++ leaf ∷ [])) (sym on.is)
+            (Added_one class.minor q leaf, (refl, refl, eq-eqb 0 0 refl));
         keeps = λ h. keeps-more h d old.below;
       })))
 
@@ -191,9 +195,13 @@ module _ (now : ℕ) (root : Node (List Note)) where
               (subst (λ (ss : List Shape). Within n (side_by_side (kids history (children old) (map (leaf_of_tbf bytes) ss)))) (children-shape old) w));
         })
       where
-        one : (h : ℕ) (n : Node (List Note)) → HasHandle h n → (cs : List (Node (List Note))) → length cs ≡ 1 → Within n (side_by_side (kids history cs (map (leaf_of_tbf bytes) (map shape cs)))) → Within n (side_by_side cs)
+        one : (h : ℕ) (n : Node (List Note)) → HasHandle h n → (cs : List (Node (List Note))) → length cs ≡ 1
+            → Within n (side_by_side (kids history cs (map (leaf_of_tbf bytes) (map shape cs)))) → Within n (side_by_side cs)
         one h n e [] size w = absurd (omega (arith, size))
-        one h n e (c ∷ []) size w = by (leaf-kept bytes h (c ∷ []) n c refl e (subst (λ (xs : List (Node (List Note))). Within n (side_by_side xs)) (append-nil (child_of history (c ∷ []) (leaf_of_tbf bytes (shape c)))) w))
+        one h n e (c ∷ []) size w =
+            by (leaf-kept bytes h (c ∷ []) n c refl e
+            (subst (λ (xs : List (Node (List Note))). Within n (side_by_side xs))
+            (append-nil (child_of history (c ∷ []) (leaf_of_tbf bytes (shape c)))) w))
           where
             by : IsOf n c → Within n (side_by_side (c ∷ []))
             by (inl is) = inl is

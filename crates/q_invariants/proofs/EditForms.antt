@@ -131,7 +131,9 @@ module _ (bytes : ℕ) where
           here (inr (inr b)) = absurd b
 
       changed : c.own.handle ≡ None → Within n (side_by_side (map (with_own (record c.own { discipline = relimited bytes c.own.discipline })) (option_to_list (slice_get cs 0)))) → IsOf n c
-      changed bare a = here (subst (λ (o : Option (Node (List Note))). Within n (side_by_side (map (with_own (record c.own { discipline = relimited bytes c.own.discipline })) (option_to_list o)))) at a)
+      changed bare a =
+          here (subst (λ (o : Option (Node (List Note))). Within n
+          (side_by_side (map (with_own (record c.own { discipline = relimited bytes c.own.discipline })) (option_to_list o)))) at a)
         where
           here : Within n (side_by_side (with_own (record c.own { discipline = relimited bytes c.own.discipline }) c ∷ [])) → IsOf n c
           here (inl is) = absurd (none-some h (sym bare ∙ ap (λ (m : Node (List Note)). m.own.handle) is ∙ e))
@@ -140,5 +142,11 @@ module _ (bytes : ℕ) where
 
       by : (o : Option ℕ) → c.own.handle ≡ o
           → Within n (side_by_side (child_of history cs (if is_some c.own.handle then Kept 0 else Retuned 0 (record c.own { discipline = relimited bytes c.own.discipline })))) → IsOf n c
-      by None is a = changed is (subst (λ (t : Bool). Within n (side_by_side (child_of history cs (if t then Kept 0 else Retuned 0 (record c.own { discipline = relimited bytes c.own.discipline }))))) (ap is_some is) a)
-      by (Some k) is a = kept (subst (λ (t : Bool). Within n (side_by_side (child_of history cs (if t then Kept 0 else Retuned 0 (record c.own { discipline = relimited bytes c.own.discipline }))))) (ap is_some is) a)
+      by None is a =
+          changed is (subst (λ (t : Bool). Within n
+          (side_by_side (child_of history cs (if t then Kept 0 else Retuned 0 (record c.own { discipline = relimited bytes c.own.discipline })))))
+          (ap is_some is) a)
+      by (Some k) is a =
+          kept (subst (λ (t : Bool). Within n (side_by_side
+          (child_of history cs (if t then Kept 0 else Retuned 0 (record c.own { discipline = relimited bytes c.own.discipline })))))
+          (ap is_some is) a)

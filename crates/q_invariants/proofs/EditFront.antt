@@ -112,7 +112,8 @@ class_there bands minor priomap least most =
 pub remakes_bands : (mtu now : ℕ) (leaf : Shape) (new : IsNew mtu now None leaf) (old : Node (List Note)) (lawful : IsLawfulRoot mtu now old) (counted : IsCountedRoot old)
     (priomap : List ℕ) (s : PrioSettings) → old.own.discipline ≡ Prio priomap → IsPrio s → list_any (λ (f : Filter). nat_lt s.bands f.minor) old.own.filters ≡ false
     → let n : ℕ = length (children (shape old)) in
-    Remakes mtu now (gone_from (front_and_new (min n s.bands) (s.bands - n) leaf) old) old (record old.own { discipline = Prio s.priomap }) (kids history (children old) (front_and_new (min n s.bands) (s.bands - n) leaf))
+    Remakes mtu now (gone_from (front_and_new (min n s.bands) (s.bands - n) leaf) old) old (record old.own { discipline = Prio s.priomap })
+    (kids history (children old) (front_and_new (min n s.bands) (s.bands - n) leaf))
 remakes_bands mtu now leaf new old lawful counted priomap s is range busy =
     let n : ℕ = length (children (shape old)) in
     let m : ℕ = min n s.bands in

@@ -157,10 +157,13 @@ new_made d now handle (kind.Tbf rate burst limit) positive small r =
       level = record { rate_from = r.bits.0; rate_to = r.bits.1; burst_from = r.bytes.0; burst_to = r.bytes.1; within_burst = omega arith };
       last = omega arith;
       one = refl;
-      short = All-cons (λ packets. All (λ (p : Descriptor). p.len ≤ burst) packets) [] [] (All-nil (λ (p : Descriptor). p.len ≤ burst)) (All-nil (λ packets. All (λ (p : Descriptor). p.len ≤ burst) packets));
+      short =
+          All-cons (λ packets. All (λ (p : Descriptor). p.len ≤ burst) packets) [] [] (All-nil (λ (p : Descriptor). p.len ≤ burst))
+          (All-nil (λ packets. All (λ (p : Descriptor). p.len ≤ burst) packets));
     })
 new_made d now handle kind.Drr positive small r =
-    new_node d.mtu now handle (Drr (no_classes d.mtu)) [] refl tt tt (λ h. refl) (record { schedule = empty_lawful d.mtu; longest = refl; minors = All-nil (λ (c : Class). IsMinor c.name); exact = tt })
+    new_node d.mtu now handle (Drr (no_classes d.mtu)) [] refl tt tt (λ h. refl)
+    (record { schedule = empty_lawful d.mtu; longest = refl; minors = All-nil (λ (c : Class). IsMinor c.name); exact = tt })
 new_made d now handle (kind.FqCodel options) positive small r =
     let s : FqSettings = with_options options (default_settings d) in
     let default : settings.IsInRange (default_settings d) = record {

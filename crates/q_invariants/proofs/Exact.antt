@@ -29,7 +29,8 @@ exact-length active [] (ps ∷ below) h = absurd h
 exact-length active (c ∷ classes) [] h = absurd h
 exact-length active (c ∷ classes) (ps ∷ below) h = ap suc (exact-length active classes below h.1)
 
-pub class-there : (active : ℕ → Bool) (classes : List Class) (below : List (List Descriptor)) (i : ℕ) (x : List Descriptor) → AreExact active classes below → slice_get below i ≡ Some x → (c : Class) × (slice_get classes i ≡ Some c)
+pub class-there : (active : ℕ → Bool) (classes : List Class) (below : List (List Descriptor)) (i : ℕ) (x : List Descriptor)
+    → AreExact active classes below → slice_get below i ≡ Some x → (c : Class) × (slice_get classes i ≡ Some c)
 class-there active [] [] i x h e = cc
 class-there active [] (y ∷ below) i x h e = absurd h
 class-there active (c ∷ classes) [] i x h e = cc

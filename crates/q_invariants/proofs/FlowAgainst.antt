@@ -37,7 +37,8 @@ gave-other j e None other = refl
 gave-other j e (Some t) other = ap (λ (b : Bool). 0 + (if b then t.packet.len else 0)) (ne_eqb j e.flow (λ same. other (sym same))) ∙ omega arith
 
 -- and of itself, which it pays
-pub gave-own : (j mtu : ℕ) (e : Entry) (o : Option Taken) → e.flow ≡ j → pos 0 <ℤ e.credits → IfSome o (λ t. t.packet.len ≤ mtu) → bytes_given j (flow_gave (Some e) o) + reach mtu (paid o e).credits ≤ reach mtu e.credits
+pub gave-own : (j mtu : ℕ) (e : Entry) (o : Option Taken) → e.flow ≡ j → pos 0 <ℤ e.credits → IfSome o (λ t. t.packet.len ≤ mtu)
+    → bytes_given j (flow_gave (Some e) o) + reach mtu (paid o e).credits ≤ reach mtu e.credits
 gave-own j mtu e None own high short = omega (arith, ap (λ (x : Entry). reach mtu x.credits) (paid-none e))
 gave-own j mtu e (Some t) own high short =
     let gave : bytes_given j (flow_gave (Some e) (Some t)) ≡ t.packet.len = ap (λ (b : Bool). 0 + (if b then t.packet.len else 0)) (eq-eqb j e.flow (sym own)) ∙ omega arith in
@@ -144,7 +145,8 @@ module _ (i j mtu : ℕ) (apart : i ≢ j) where
 
     most-selected : may (selected s) ≤ reach_in i j s.settings.quantum mtu (lists_of (selected s)) + (s.settings.quantum - 1)
     most-selected =
-        subst (λ n. in_lists i j n mtu false (selected s).new_flows (selected s).old_flows ≤ reach_in i j s.settings.quantum mtu (lists_of (selected s)) + (s.settings.quantum - 1)) (sym (selected-quantum s))
+        subst (λ n. in_lists i j n mtu false (selected s).new_flows (selected s).old_flows
+        ≤ reach_in i j s.settings.quantum mtu (lists_of (selected s)) + (s.settings.quantum - 1)) (sym (selected-quantum s))
         (lists-bound i j s.settings.quantum mtu positive false (selected s).new_flows (selected s).old_flows)
 
     -- and whatever it grants to flow i
@@ -223,7 +225,8 @@ pub record FlowBounded (i j mtu quantum : ℕ) (x y : FqAt) : Type 0 where
 pub no-flow-against : (i j mtu quantum : ℕ) (x : FqAt) → FlowAgainst i j mtu quantum x x
 no-flow-against i j mtu quantum x = record { notes = []; is = sym (append-nil x.noted); within = omega arith }
 
-pub flow-against : (major i j quantum : ℕ) (d : DeviceState (List Note)) (e : Event) (x y : FqAt) → i ≢ j → IsKept d → IsEvent e → fq_in major d ≡ Some x → fq_in major (step history d e).device ≡ Some y
+pub flow-against : (major i j quantum : ℕ) (d : DeviceState (List Note)) (e : Event) (x y : FqAt) → i ≢ j → IsKept d → IsEvent e
+    → fq_in major d ≡ Some x → fq_in major (step history d e).device ≡ Some y
     → is_idle x.state.flows i ≡ false → x.state.settings.quantum ≡ quantum → y.state.settings.quantum ≡ quantum → FlowAgainst i j d.tree.device.mtu quantum x y
 flow-against major i j quantum d e x y apart kept range is at busy before after =
     let law = fq-lawful major d x kept (fq-node major d x is) in
@@ -243,7 +246,8 @@ flow-against major i j quantum d e x y apart kept range is at busy before after 
         subst (λ n. a + in_lists i j n mtu false t.new_flows t.old_flows ≤ in_lists i j q mtu false s.new_flows s.old_flows + g * (2 * q - 1)) after
         (subst (λ n. a + in_lists i j r mtu false t.new_flows t.old_flows ≤ in_lists i j n mtu false s.new_flows s.old_flows + g * (2 * n - 1)) before h)
 
-pub flow-bounded : (major i j quantum : ℕ) (d : DeviceState (List Note)) (e : Event) (x y : FqAt) → i ≢ j → IsKept d → IsEvent e → fq_in major d ≡ Some x → fq_in major (step history d e).device ≡ Some y
+pub flow-bounded : (major i j quantum : ℕ) (d : DeviceState (List Note)) (e : Event) (x y : FqAt) → i ≢ j → IsKept d → IsEvent e
+    → fq_in major d ≡ Some x → fq_in major (step history d e).device ≡ Some y
     → is_idle x.state.flows i ≡ false → x.state.settings.quantum ≡ quantum → y.state.settings.quantum ≡ quantum → FlowBounded i j d.tree.device.mtu quantum x y
 flow-bounded major i j quantum d e x y apart kept range is at busy before after =
     let law = fq-lawful major d x kept (fq-node major d x is) in
@@ -259,7 +263,8 @@ flow-bounded major i j quantum d e x y apart kept range is at busy before after 
           (subst (λ n. n + (d.tree.device.mtu - 1) ≤ most) (sym before) least) (subst (λ n. reach_in i j n d.tree.device.mtu (lists_of x.state) ≤ most) (sym before) bound));
     }
   where
-    with-quantum : (p r q mtu a : ℕ) (t : FqState) (most : ℕ) → p ≡ q → r ≡ q → a + in_lists i j r mtu false t.new_flows t.old_flows ≤ most + (p - 1) → a + in_lists i j q mtu false t.new_flows t.old_flows ≤ most + (q - 1)
+    with-quantum : (p r q mtu a : ℕ) (t : FqState) (most : ℕ) → p ≡ q → r ≡ q → a + in_lists i j r mtu false t.new_flows t.old_flows ≤ most + (p - 1)
+        → a + in_lists i j q mtu false t.new_flows t.old_flows ≤ most + (q - 1)
     with-quantum p r q mtu a t most before after h =
         subst (λ n. a + in_lists i j n mtu false t.new_flows t.old_flows ≤ most + (q - 1)) after (subst (λ n. a + in_lists i j r mtu false t.new_flows t.old_flows ≤ most + (n - 1)) before h)
 

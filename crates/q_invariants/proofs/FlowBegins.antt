@@ -43,7 +43,8 @@ put-begins n s p now none some = by (is_listed (flow_of s p) (lists_of s)) some
     new : Entry
     new = record { flow = flow_of s p; credits = pos s.settings.quantum }
 
-    by : (t : Bool) → 1 ≤ times n ((if t then s.new_flows else s.new_flows ++ new ∷ []) ++ s.old_flows) → credits_of n (if t then s.new_flows else s.new_flows ++ new ∷ []) ≡ Some (pos s.settings.quantum)
+    by : (t : Bool) → 1 ≤ times n ((if t then s.new_flows else s.new_flows ++ new ∷ []) ++ s.old_flows)
+        → credits_of n (if t then s.new_flows else s.new_flows ++ new ∷ []) ≡ Some (pos s.settings.quantum)
     by true listed = absurd (omega (arith, none, listed))
     by false listed = elim (cases_Bool (new.flow == n)) [
       | inl own ↦ credits-last n new s.new_flows (omega (arith, none, times-append n s.new_flows s.old_flows)) own

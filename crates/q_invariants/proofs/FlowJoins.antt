@@ -194,7 +194,10 @@ module _ (j k mtu : ℕ) (apart : j ≢ k) where
       by (at-front s lawful positive busy z high s.new_flows refl waits)
       (λ t fewer later few full still. chooses-within n t z (omega (arith, h, fewer)) later few full high still)
     where
-      by : ((t : FqState) × Goes s t) ⊎ Stops s → ((t : FqState) → turns t < turns s → IsLawful t → 1 ≤ t.settings.quantum → is_idle t.flows j ≡ false → credits_of j t.new_flows ≡ Some z → Chosen t z) → Chosen s z
+      by : ((t : FqState) × Goes s t) ⊎ Stops s
+          → ((t : FqState) → turns t < turns s → IsLawful t → 1 ≤ t.settings.quantum → is_idle t.flows j ≡ false → credits_of j t.new_flows ≡ Some z
+          → Chosen t z)
+          → Chosen s z
       by (inr stop) rest = record {
         first = stop.first;
         rest = stop.rest;
@@ -222,7 +225,8 @@ module _ (j k mtu : ℕ) (apart : j ≢ k) where
     pub credits : credits_of j new ≡ Some z
     pub less : bytes_given k notes + before new ≤ before s.new_flows
 
-  module _ (now : ℕ) (s : FqState) (law : IsLawful s) (positive : 1 ≤ s.settings.quantum) (busy : is_idle s.flows j ≡ false) (z : ℤ) (high : pos 0 <ℤ z) (waits : credits_of j s.new_flows ≡ Some z) where
+  module _ (now : ℕ) (s : FqState) (law : IsLawful s) (positive : 1 ≤ s.settings.quantum) (busy : is_idle s.flows j ≡ false) (z : ℤ)
+      (high : pos 0 <ℤ z) (waits : credits_of j s.new_flows ≡ Some z) where
     -- what gave nothing paid nothing
     paid-nothing : (e : Entry) (o : Option Taken) → e.flow ≡ j → bytes_given j (flow_gave (Some e) o) ≡ 0 → (paid o e).credits ≡ e.credits
     paid-nothing e None own none = ap (λ (x : Entry). x.credits) (paid-none e)
@@ -356,7 +360,8 @@ more-flow-waits j k mtu apart z x y w a b = record {
       record { credits = second.credits; less = let one = first.less in let two = second.less in omega (arith, one, two, sum_by-append (given_by k) a.notes b.notes) };
 }
 
-pub flow-waits : (major j k : ℕ) (apart : j ≢ k) (z : ℤ) → pos 0 <ℤ z → (d : DeviceState (List Note)) (e : Event) (x y : FqAt) → IsKept d → IsEvent e → fq_in major d ≡ Some x → fq_in major (step history d e).device ≡ Some y
+pub flow-waits : (major j k : ℕ) (apart : j ≢ k) (z : ℤ) → pos 0 <ℤ z → (d : DeviceState (List Note)) (e : Event) (x y : FqAt) → IsKept d → IsEvent e
+    → fq_in major d ≡ Some x → fq_in major (step history d e).device ≡ Some y
     → is_idle x.state.flows j ≡ false → FlowWaits j k d.tree.device.mtu apart z x y
 flow-waits major j k apart z high d e x y kept range is at busy =
     let law = fq-lawful major d x kept (fq-node major d x is) in
@@ -374,7 +379,8 @@ pub record FlowJoins (j k mtu : ℕ) (apart : j ≢ k) (x y : FqAt) : Type 0 whe
   pub is : y.noted ≡ x.noted ++ notes
   pub joins : Joins j k mtu apart x.state y.state notes
 
-pub flow-joins : (major j k mtu : ℕ) (apart : j ≢ k) (d : DeviceState (List Note)) (e : Event) (x y : FqAt) → IsKept d → IsEvent e → fq_in major d ≡ Some x → fq_in major (step history d e).device ≡ Some y
+pub flow-joins : (major j k mtu : ℕ) (apart : j ≢ k) (d : DeviceState (List Note)) (e : Event) (x y : FqAt) → IsKept d → IsEvent e
+    → fq_in major d ≡ Some x → fq_in major (step history d e).device ≡ Some y
     → is_listed j (lists_of x.state) ≡ false → is_listed j (lists_of y.state) ≡ true → FlowJoins j k mtu apart x y
 flow-joins major j k mtu apart d e x y kept range is at before after =
     let s = fq-step major d e x y kept range is at in

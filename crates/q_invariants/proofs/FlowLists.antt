@@ -58,7 +58,8 @@ module _ (n : ℕ) where
     | inr apart ↦ credits-behind e ((xs ++ x ∷ []) ++ ys) apart ∙ credits-joined x xs ys other ∙ sym (credits-behind e (xs ++ ys) apart)
   ]
 
-  pub credits-put : (s : FqState) (p : Descriptor) (now : ℕ) (z : ℤ) → credits_of n (s.new_flows ++ s.old_flows) ≡ Some z → credits_of n ((after_put s p now).new_flows ++ (after_put s p now).old_flows) ≡ Some z
+  pub credits-put : (s : FqState) (p : Descriptor) (now : ℕ) (z : ℤ) → credits_of n (s.new_flows ++ s.old_flows) ≡ Some z
+      → credits_of n ((after_put s p now).new_flows ++ (after_put s p now).old_flows) ≡ Some z
   unfolding appended cut_back
   credits-put s p now z h = by (is_listed (flow_of s p) (s.new_flows ++ s.old_flows)) refl
     where
@@ -80,7 +81,8 @@ module _ (n : ℕ) where
     where
       lists : (m e : Entry) → front s ≡ Some e → m ≡ paid (sent_from now s) e → (after_sending now s).new_flows ++ (after_sending now s).old_flows ≡ m ∷ drop 1 (s.new_flows ++ s.old_flows)
       lists m e f is =
-          ap (λ (t : FqState). t.new_flows ++ t.old_flows) (after_sending_written s e now f) ∙ lists_written s (paid (sent_from now s) e) e f ∙ ap (λ (x : Entry). x ∷ drop 1 (s.new_flows ++ s.old_flows)) (sym is)
+          ap (λ (t : FqState). t.new_flows ++ t.old_flows) (after_sending_written s e now f) ∙ lists_written s (paid (sent_from now s) e) e f
+          ∙ ap (λ (x : Entry). x ∷ drop 1 (s.new_flows ++ s.old_flows)) (sym is)
 
       behind : (e : Entry) (o : Option Taken) → (e.flow == n) ≡ false → bytes_given n (flow_gave (Some e) o) ≡ 0
       behind e None other = refl
@@ -89,7 +91,8 @@ module _ (n : ℕ) where
       own-sent : (e : Entry) (o : Option Taken) → (e.flow == n) ≡ true → ((paid o e).credits +ℤ pos (bytes_given n (flow_gave (Some e) o))) ≡ e.credits
       own-sent e None own = ap (λ (x : Entry). x.credits +ℤ pos 0) (paid-none e) ∙ omega (arith, ints)
       own-sent e (Some t) own =
-          let gave : bytes_given n (flow_gave (Some e) (Some t)) ≡ t.packet.len = ap (λ (b : Bool). 0 + (if b then t.packet.len else 0)) (eq-eqb n e.flow (sym (eqb-true e.flow n own))) ∙ omega arith in
+          let gave : bytes_given n (flow_gave (Some e) (Some t)) ≡ t.packet.len =
+          ap (λ (b : Bool). 0 + (if b then t.packet.len else 0)) (eq-eqb n e.flow (sym (eqb-true e.flow n own))) ∙ omega arith in
           let credits = ap (λ (x : Entry). x.credits) (paid_is (Some t) t e refl) in
           ap (λ k. (paid (Some t) e).credits +ℤ pos k) gave ∙ omega (arith, ints, credits)
 
@@ -113,7 +116,9 @@ module _ (n : ℕ) where
             | inr other ↦ (
               z,
               record {
-                is = ap (credits_of n) (lists m e f here) ∙ credits-behind m (drop 1 (s.new_flows ++ s.old_flows)) (ap (λ k. k == n) (flow-paid o e) ∙ other) ∙ sym (credits-behind e (drop 1 (s.new_flows ++ s.old_flows)) other) ∙ whole;
+                is =
+                    ap (credits_of n) (lists m e f here) ∙ credits-behind m (drop 1 (s.new_flows ++ s.old_flows))
+                    (ap (λ k. k == n) (flow-paid o e) ∙ other) ∙ sym (credits-behind e (drop 1 (s.new_flows ++ s.old_flows)) other) ∙ whole;
                 pays = ap (λ k. z +ℤ pos k) (gave ∙ behind e o other) ∙ omega (arith, ints);
               },
             )
@@ -122,7 +127,8 @@ module _ (n : ℕ) where
   -- ---- what is noted of quanta
 
   noted-quanta : (s : FqState) (es : List Entry)
-      → flow_grants_to n (map (λ (g : Grant). FlowGranted g.flow g.quanta) (filter (λ (g : Grant). nat_lt 0 g.quanta) (map (λ (e : Entry). record { flow = e.flow; quanta = quanta_given s e.flow }) es)))
+      → flow_grants_to n (map (λ (g : Grant). FlowGranted g.flow g.quanta)
+      (filter (λ (g : Grant). nat_lt 0 g.quanta) (map (λ (e : Entry). record { flow = e.flow; quanta = quanta_given s e.flow }) es)))
       ≡ times n es * quanta_given s n
   noted-quanta s [] = omega arith
   noted-quanta s (e ∷ es) =
@@ -156,7 +162,8 @@ module _ (n : ℕ) where
             ap (λ (b : Bool). if b then quanta_given s e.flow else 0) (eq-eqb n e.flow (sym same)) ∙ ap (quanta_given s) same ∙ sym (ap (λ k. k * quanta_given s n) first ∙ omega arith)
         | inr other ↦
             let first : one n e ≡ 0 = cond-false (e.flow == n) 1 0 other in
-            ap (λ (b : Bool). if b then quanta_given s e.flow else 0) (ne_eqb n e.flow (λ same. false≢true (sym other ∙ eq-eqb e.flow n (sym same)))) ∙ sym (ap (λ k. k * quanta_given s n) first ∙ omega arith)
+            ap (λ (b : Bool). if b then quanta_given s e.flow else 0) (ne_eqb n e.flow (λ same. false≢true (sym other ∙ eq-eqb e.flow n (sym same))))
+            ∙ sym (ap (λ k. k * quanta_given s n) first ∙ omega arith)
       ]
 
   pub quanta-noted : (s : FqState) → IsLawful s → 1 ≤ times n (s.new_flows ++ s.old_flows) → flow_grants_to n (flows_granted s) ≡ quanta_given s n

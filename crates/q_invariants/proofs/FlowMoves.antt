@@ -131,7 +131,8 @@ sent_has_length major now d x kept is = by (sent_from now (selected x.state)) re
         All-head (HasLength d.tree.device.mtu) t.packet [] (lengths-among d.tree.device.mtu queued (t.packet ∷ []) fewer lengths)
 
 -- a flow with packets is listed
-pub backlogged-credits : (major n : ℕ) (d : DeviceState (List Note)) (x : FqAt) → IsKept d → fq_in major d ≡ Some x → is_idle x.state.flows n ≡ false → (z : ℤ) × (credits_of n (lists_of x.state) ≡ Some z)
+pub backlogged-credits : (major n : ℕ) (d : DeviceState (List Note)) (x : FqAt) → IsKept d → fq_in major d ≡ Some x → is_idle x.state.flows n ≡ false
+    → (z : ℤ) × (credits_of n (lists_of x.state) ≡ Some z)
 backlogged-credits major n d x kept is busy =
     listed-credits n (lists_of x.state) ((fq-lawful major d x kept (fq-node major d x is)).lists.busy n busy)
 
@@ -178,7 +179,8 @@ more-flow-moves n x y z same a b = record {
         let q : ℕ = x.state.settings.quantum in
         let gave = sum_by-append (given_by n) a.notes b.notes in
         let grants = sum_by-append (flow_granted_by n) a.notes b.notes in
-        let product : flow_grants_to n (a.notes ++ b.notes) * q ≡ flow_grants_to n a.notes * q + flow_grants_to n b.notes * q = ap (λ k. k * q) grants ∙ add-mul (flow_grants_to n a.notes) (flow_grants_to n b.notes) q in
+        let product : flow_grants_to n (a.notes ++ b.notes) * q ≡ flow_grants_to n a.notes * q + flow_grants_to n b.notes * q =
+        ap (λ k. k * q) grants ∙ add-mul (flow_grants_to n a.notes) (flow_grants_to n b.notes) q in
         let quantum = ap (λ k. flow_grants_to n b.notes * k) same in
         record {
           after = second.after;

@@ -47,7 +47,9 @@ pub given-weighs : (w : Descriptor → ℕ) (now : ℕ) (s : FqState) → weigh 
 unfolding sent_from packet_sent
 given-weighs w now s = by (sender s)
   where
-    by : (o : Option Flow) → weigh w (option_to_list (given (option_and_then (λ (f : Flow). as_taken (marks f.codel now f.queue) (sent f.codel now f.queue)) o))) ≡ sum_by (stamped_weight w) (option_to_list (option_and_then (λ (f : Flow). sent f.codel now f.queue) o))
+    by : (o : Option Flow)
+        → weigh w (option_to_list (given (option_and_then (λ (f : Flow). as_taken (marks f.codel now f.queue) (sent f.codel now f.queue)) o)))
+        ≡ sum_by (stamped_weight w) (option_to_list (option_and_then (λ (f : Flow). sent f.codel now f.queue) o))
     by None = weigh-nil w
     by (Some f) = head-weighs w (marks f.codel now f.queue) (sent f.codel now f.queue)
 

@@ -117,7 +117,8 @@ module _ (i j q mtu : ℕ) where
       let apart : e.flow ≢ j = λ same. absurd (omega (arith, none, times-cons j e es, one_at j e same)) in
       old-other passed e (es ++ x ∷ []) apart ∙ old-last (passed || (e.flow == i)) x es own (omega (arith, none, times-cons j e es)) (passes-on passed e es passes)
 
-  pub lists-last : (passed : Bool) (x : Entry) (new old : List Entry) → x.flow ≡ j → times j (new ++ old) ≡ 0 → Passes passed (new ++ old) → in_lists passed new (old ++ x ∷ []) ≡ reach mtu x.credits - q
+  pub lists-last : (passed : Bool) (x : Entry) (new old : List Entry) → x.flow ≡ j → times j (new ++ old) ≡ 0 → Passes passed (new ++ old)
+      → in_lists passed new (old ++ x ∷ []) ≡ reach mtu x.credits - q
   lists-last passed x [] old own none passes = old-last passed x old own none passes
   lists-last passed x (e ∷ es) old own none passes =
       let apart : e.flow ≢ j = λ same. absurd (omega (arith, none, times-cons j e (es ++ old), one_at j e same)) in
@@ -233,7 +234,8 @@ module _ (i j q mtu : ℕ) where
       reach-other e (es ++ x ∷ []) (λ same. absurd (omega (arith, none, times-cons j e es, one_at j e same))) ∙ reach-last x es own (omega (arith, none, times-cons j e es))
 
   -- a bound that holds of what joins holds after a visit: the front goes to the end as m, or leaves
-  pub reach-turns : (most : ℕ) (e m : Entry) (es : List Entry) → m.flow ≡ e.flow → times j (e ∷ es) ≤ 1 → (reach mtu e.credits ≤ most → reach mtu m.credits ≤ most) → reach_in (e ∷ es) ≤ most → reach_in (es ++ m ∷ []) ≤ most
+  pub reach-turns : (most : ℕ) (e m : Entry) (es : List Entry) → m.flow ≡ e.flow → times j (e ∷ es) ≤ 1
+      → (reach mtu e.credits ≤ most → reach mtu m.credits ≤ most) → reach_in (e ∷ es) ≤ most → reach_in (es ++ m ∷ []) ≤ most
   reach-turns most e m es flow once keeps bound = elim (cases_eq e.flow j) [
     | inl own ↦
         let kept = keeps (omega (arith, bound, reach-own e es own)) in

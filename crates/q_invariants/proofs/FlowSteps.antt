@@ -180,7 +180,8 @@ module _ (now : ℕ) (node : Node (List Note)) (s : FqState) (is : node.own.disc
       (λ n. st.notes (given_by n) (past-given n) (λ q. refl)) (λ n. st.notes (flow_granted_by n) (past-flow_granted n) (λ q. refl))
       (by st.discipline (ap (λ (k : Node (List Note)). k.own.discipline) put.is ∙ now_is))
     where
-      by : (put.worked.own.discipline ≡ node.own.discipline) ⊎ (put.worked.own.discipline ≡ queued_in p now node.own.discipline) ⊎ ((i : ℕ) × (emptied : Bool) × (put.worked.own.discipline ≡ settled_in i emptied node.own.discipline))
+      by : (put.worked.own.discipline ≡ node.own.discipline) ⊎ (put.worked.own.discipline ≡ queued_in p now node.own.discipline) ⊎
+          ((i : ℕ) × (emptied : Bool) × (put.worked.own.discipline ≡ settled_in i emptied node.own.discipline))
           → put.worked.own.discipline ≡ FqCodel t → SameLists s t ⊎ ((p : Descriptor) × (now : ℕ) × (t ≡ after_put s p now))
       by (inl e) there = stays t (same-state s t (sym (e ∙ is) ∙ there))
       by (inr (inl e)) there = inr (p, now, sym (same-state (after_put s p now) t (sym (e ∙ ap (queued_in p now) is) ∙ there)))

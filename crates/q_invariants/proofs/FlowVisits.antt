@@ -84,7 +84,8 @@ module _ (i j mtu : ℕ) (apart : i ≢ j) where
     at-most-once e xs all = (let most = lawful.once i in omega (arith, most, ap (times i) all))
 
     -- a bound on what flow j may give before it waits, where the front goes to the end
-    turn-bounded : (most : ℕ) (e m : Entry) (xs : List Entry) → lists_of s ≡ e ∷ xs → m.flow ≡ e.flow → (reach mtu e.credits ≤ most → reach mtu m.credits ≤ most) → reach_in i j q mtu (lists_of s) ≤ most
+    turn-bounded : (most : ℕ) (e m : Entry) (xs : List Entry) → lists_of s ≡ e ∷ xs → m.flow ≡ e.flow
+        → (reach mtu e.credits ≤ most → reach mtu m.credits ≤ most) → reach_in i j q mtu (lists_of s) ≤ most
         → reach_in i j q mtu (xs ++ m ∷ []) ≤ most
     turn-bounded most e m xs all flow keeps bound =
         reach-turns i j q mtu most e m xs flow (let once = lawful.once j in omega (arith, once, ap (times j) all)) keeps (omega (arith, bound, ap (reach_in i j q mtu) all))
@@ -330,7 +331,8 @@ module _ (i j mtu : ℕ) (apart : i ≢ j) where
   goes-on s t k v r =
       let same : selected t ≡ selected s = v.led.on.same in
       let quantum : t.settings.quantum ≡ s.settings.quantum = v.same_quantum in
-      let product : (k + r.quanta) * s.settings.quantum ≡ k * s.settings.quantum + r.quanta * t.settings.quantum = add-mul k r.quanta s.settings.quantum ∙ ap (λ n. k * s.settings.quantum + r.quanta * n) (sym quantum) in
+      let product : (k + r.quanta) * s.settings.quantum ≡ k * s.settings.quantum + r.quanta * t.settings.quantum =
+      add-mul k r.quanta s.settings.quantum ∙ ap (λ n. k * s.settings.quantum + r.quanta * n) (sym quantum) in
       let gain : (k + r.quanta) * (2 * s.settings.quantum - 1) ≡ k * (2 * s.settings.quantum - 1) + r.quanta * (2 * t.settings.quantum - 1) =
       add-mul k r.quanta (2 * s.settings.quantum - 1) ∙ ap (λ n. k * (2 * s.settings.quantum - 1) + r.quanta * (2 * n - 1)) (sym quantum) in
       record {
@@ -339,10 +341,13 @@ module _ (i j mtu : ℕ) (apart : i ≢ j) where
             ∙ ap Some (omega (arith, ints, product));
         less = let first = v.less in let rest = r.less in omega (arith, first, rest, gain, ap may_give same);
         ready = subst (λ (x : FqState). IfSome (front x) (λ (e : Entry). pos 0 <ℤ e.credits)) same r.ready;
-        bounded = λ most least bound. bound-on s.settings.quantum t.settings.quantum (lists_of t) (lists_of (selected t)) (lists_of (selected s)) most quantum (ap lists_of same) (r.bounded most) least (v.bounded most least bound);
+        bounded =
+            λ most least bound. bound-on s.settings.quantum t.settings.quantum (lists_of t) (lists_of (selected t)) (lists_of (selected s)) most
+            quantum (ap lists_of same) (r.bounded most) least (v.bounded most least bound);
       }
     where
-      bound-on : (p r : ℕ) (xs ys zs : List Entry) (most : ℕ) → r ≡ p → ys ≡ zs → (r + (mtu - 1) ≤ most → reach_in i j r mtu xs ≤ most → reach_in i j r mtu ys ≤ most) → p + (mtu - 1) ≤ most → reach_in i j p mtu xs ≤ most
+      bound-on : (p r : ℕ) (xs ys zs : List Entry) (most : ℕ) → r ≡ p → ys ≡ zs
+          → (r + (mtu - 1) ≤ most → reach_in i j r mtu xs ≤ most → reach_in i j r mtu ys ≤ most) → p + (mtu - 1) ≤ most → reach_in i j p mtu xs ≤ most
           → reach_in i j p mtu zs ≤ most
       bound-on p r xs ys zs most same lists on least bound =
           subst (λ (l : List Entry). reach_in i j p mtu l ≤ most) lists
@@ -350,7 +355,9 @@ module _ (i j mtu : ℕ) (apart : i ≢ j) where
 
   selects-within : (n : ℕ) (s : FqState) → turns s < n → IsLawful s → 1 ≤ s.settings.quantum → is_idle s.flows i ≡ false → Selects s
   selects-within zero s h lawful positive busy = absurd (omega arith)
-  selects-within (suc n) s h lawful positive busy = by (at-front s lawful positive busy s.new_flows s.old_flows refl refl) (λ t fewer later few full. selects-within n t (omega (arith, h, fewer)) later few full)
+  selects-within (suc n) s h lawful positive busy =
+      by (at-front s lawful positive busy s.new_flows s.old_flows refl refl)
+      (λ t fewer later few full. selects-within n t (omega (arith, h, fewer)) later few full)
     where
       by : Visited s → ((t : FqState) → turns t < turns s → IsLawful t → 1 ≤ t.settings.quantum → is_idle t.flows i ≡ false → Selects t) → Selects s
       by (inr stop) rest = stops s stop.0 stop.1

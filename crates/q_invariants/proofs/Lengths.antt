@@ -21,7 +21,8 @@ bounds_of least most p h =
     let both = and_parts (nat_le least p.len) (nat_le p.len most) (not-false (nat_le least p.len && nat_le p.len most) h) in
     (leb-true least p.len both.0, leb-true p.len most both.1)
 
-within-among : (least most : ℕ) (ps qs : List Descriptor) → ((w : Descriptor → ℕ) → weigh w qs ≤ weigh w ps) → All (λ (p : Descriptor). IsWithin least most p.len) ps → All (λ (p : Descriptor). IsWithin least most p.len) qs
+within-among : (least most : ℕ) (ps qs : List Descriptor) → ((w : Descriptor → ℕ) → weigh w qs ≤ weigh w ps)
+    → All (λ (p : Descriptor). IsWithin least most p.len) ps → All (λ (p : Descriptor). IsWithin least most p.len) qs
 within-among least most ps qs fewer h =
     All-weaker (IsNone (out_of least most)) (λ (p : Descriptor). IsWithin least most p.len) (bounds_of least most) qs
     (none-among (out_of least most) ps qs fewer (All-weaker (λ (p : Descriptor). IsWithin least most p.len) (IsNone (out_of least most)) (in_bounds least most) ps h))

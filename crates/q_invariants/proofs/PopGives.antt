@@ -62,7 +62,8 @@ going (suc k) (b ∷ below) all =
     }
 
 -- a node whose own part and children give a packet between them
-module _ (own after : Own) (below : List Popping) (children : List Worked) (packet : Option Descriptor) (same : after.handle ≡ own.handle) (all : AreGiven below) (told : AreTold (as_they_are below) children)
+module _ (own after : Own) (below : List Popping) (children : List Worked) (packet : Option Descriptor) (same : after.handle ≡ own.handle)
+    (all : AreGiven below) (told : AreTold (as_they_are below) children)
     (gives : (w : Descriptor → ℕ) → weigh w (waiting own (as_they_are below)) ≡ weigh w (option_to_list packet) + weigh w (waiting after children))
     (held : (w : Descriptor → ℕ) → weigh w (holds own (as_they_are below)) ≤ weigh w (option_to_list packet) + weigh w (holds after children)) where
   is-given : IsGiven (giving own below after children packet)

@@ -94,7 +94,9 @@ before-own own below = by own.held own.discipline
     discipline (Drr s) = refl
     discipline (FqCodel s) = refl
 
-    by : (o : Option Descriptor) (d : Discipline) → (option_map_or (λ (p : Descriptor). giving own below (record own { held = None; since = 0 }) (as_they_are below) (Some p)) o (pop_discipline own below d)).before ≡ worked own [] (as_they_are below)
+    by : (o : Option Descriptor) (d : Discipline)
+        → (option_map_or (λ (p : Descriptor). giving own below (record own { held = None; since = 0 }) (as_they_are below) (Some p)) o
+        (pop_discipline own below d)).before ≡ worked own [] (as_they_are below)
     by None d = discipline d
     by (Some p) d = refl
 
@@ -133,7 +135,9 @@ kept-kids : (kids : List Worked) → AreThen (side_by_side kids) (side_by_side (
 kept-kids kids = subst (λ (bs : List Popping). AreThen (side_by_side kids) (side_by_side (as_they_are bs)) (side_by_side kids)) (sym (each-side pop_own kids)) (still-side kids)
 
 -- one that holds what it shows
-holds-popped : (after : Own) (at : ℕ) (notes : List Note) (kids : List Worked) (p : Descriptor) → IsPoppedAs (worked (record after { held = Some p; since = at }) notes kids) (worked (record after { held = None; since = 0 }) (notes ++ Sent p ∷ []) kids) (Some p)
+holds-popped : (after : Own) (at : ℕ) (notes : List Note) (kids : List Worked) (p : Descriptor)
+    → IsPoppedAs (worked (record after { held = Some p; since = at }) notes kids)
+    (worked (record after { held = None; since = 0 }) (notes ++ Sent p ∷ []) kids) (Some p)
 holds-popped after at notes kids p = record { shown = refl; taken = λ some. record { own = refl; memory = refl; below = kept-kids kids } }
 
 -- one that shows nothing
@@ -170,7 +174,8 @@ taken_at k below = map (λ (a : Asked). a.peeked) (take k below) ++ map (λ (a :
 record ArePopped (k : ℕ) (below : List Asked) : Type 0 where
   found : first_ready (map pop (peeked_to k below)) ≡ k
   shown : option_and_then (λ (b : Popping). b.shown) (slice_get (map pop (peeked_to k below)) k) ≡ option_and_then (λ (a : Asked). a.shown) (slice_get below k)
-  taken : is_some (option_and_then (λ (a : Asked). a.shown) (slice_get below k)) ≡ true → AreThen (side_by_side (peeked_to k below)) (side_by_side (popped_at k (map pop (peeked_to k below)))) (side_by_side (taken_at k below))
+  taken : is_some (option_and_then (λ (a : Asked). a.shown) (slice_get below k)) ≡ true
+      → AreThen (side_by_side (peeked_to k below)) (side_by_side (popped_at k (map pop (peeked_to k below)))) (side_by_side (taken_at k below))
 
 abbrev pub AllPopped : List Asked → Type 0
 AllPopped [] = Unit {0}
@@ -218,7 +223,9 @@ prio-popped handle filters since priomap below all =
       shown = ap (λ (bs : List Popping). (pop_prio own bs).shown) same ∙ shown;
       taken = λ some. record {
         own = refl;
-        memory = sym (ap (λ (o : Option Descriptor). flat_map (λ (a : Asked). a.rises) (take (suc k) below) ++ map Sent (option_to_list o)) (ap (λ (bs : List Popping). (pop_prio own bs).shown) same ∙ shown));
+        memory =
+            sym (ap (λ (o : Option Descriptor). flat_map (λ (a : Asked). a.rises) (take (suc k) below) ++ map Sent (option_to_list o))
+            (ap (λ (bs : List Popping). (pop_prio own bs).shown) same ∙ shown));
         below = subst (λ (bs : List Popping). AreThen (side_by_side (peeked_to k below)) (side_by_side (popped_at (first_ready bs) bs)) (side_by_side (taken_at k below))) (sym same)
             (subst (λ n. AreThen (side_by_side (peeked_to k below)) (side_by_side (popped_at n bands)) (side_by_side (taken_at k below))) (sym at.found) (at.taken some));
       };
@@ -232,36 +239,58 @@ tbf-popped : (now : ℕ) (handle : Option ℕ) (filters : List Filter) (since : 
     → IsPopped (ask_tbf now (record { handle = handle; discipline = Tbf b limit; held = None; since = since; filters = filters }) below b limit)
 tbf-popped now handle filters since b limit below = child (slice_get below 0)
   where
-    allowed : (a : Asked) (p : Descriptor) (may : Bool) → IsPopped (if may then spends (bare handle filters since (Tbf b limit)) below b limit now a p else waits (bare handle filters since (Tbf b limit)) below a)
-    allowed a p true = dequeued-popped (bare handle filters since (Tbf b limit)) (record (bare handle filters since (Tbf b limit)) { discipline = Tbf (after_spend b now p.len) limit }) below (a.taken ∷ []) a.rises (Spent p.len ∷ []) (Some p) (since_shown a) tt
+    allowed : (a : Asked) (p : Descriptor) (may : Bool)
+        → IsPopped (if may then spends (bare handle filters since (Tbf b limit)) below b limit now a p else waits
+        (bare handle filters since (Tbf b limit)) below a)
+    allowed a p true =
+        dequeued-popped (bare handle filters since (Tbf b limit))
+        (record (bare handle filters since (Tbf b limit)) { discipline = Tbf (after_spend b now p.len) limit }) below (a.taken ∷ []) a.rises
+        (Spent p.len ∷ []) (Some p) (since_shown a) tt
     allowed a p false = dequeued-popped (bare handle filters since (Tbf b limit)) (bare handle filters since (Tbf b limit)) below (a.peeked ∷ []) a.rises [] None 0 tt
 
-    packet : (a : Asked) (o : Option Descriptor) → IsPopped (option_map_or (λ (p : Descriptor). if allows b now p.len then spends (bare handle filters since (Tbf b limit)) below b limit now a p else waits (bare handle filters since (Tbf b limit)) below a) o (waits (bare handle filters since (Tbf b limit)) below a))
+    packet : (a : Asked) (o : Option Descriptor)
+        → IsPopped (option_map_or (λ (p : Descriptor). if allows b now p.len then spends (bare handle filters since (Tbf b limit)) below b limit now
+        a p else waits (bare handle filters since (Tbf b limit)) below a) o (waits (bare handle filters since (Tbf b limit)) below a))
     packet a None = dequeued-popped (bare handle filters since (Tbf b limit)) (bare handle filters since (Tbf b limit)) below (a.peeked ∷ []) a.rises [] None 0 tt
     packet a (Some p) = allowed a p (allows b now p.len)
 
-    child : (o : Option Asked) → IsPopped (option_map_or (ask_child now (bare handle filters since (Tbf b limit)) below b limit) o (dequeued (bare handle filters since (Tbf b limit)) below (record { after = (bare handle filters since (Tbf b limit)); children = []; rises = []; mine = []; packet = None; since = 0 })))
+    child : (o : Option Asked)
+        → IsPopped (option_map_or (ask_child now (bare handle filters since (Tbf b limit)) below b limit) o
+        (dequeued (bare handle filters since (Tbf b limit)) below
+        (record { after = (bare handle filters since (Tbf b limit)); children = []; rises = []; mine = []; packet = None; since = 0 })))
     child None = dequeued-popped (bare handle filters since (Tbf b limit)) (bare handle filters since (Tbf b limit)) below [] [] [] None 0 tt
     child (Some a) = packet a a.shown
 
 -- a drr, which holds the packet of the class that is met
-drr-popped : (handle : Option ℕ) (filters : List Filter) (since : ℕ) (s : Schedule) (below : List Asked) → IsPopped (ask_drr (record { handle = handle; discipline = Drr s; held = None; since = since; filters = filters }) below s)
+drr-popped : (handle : Option ℕ) (filters : List Filter) (since : ℕ) (s : Schedule) (below : List Asked)
+    → IsPopped (ask_drr (record { handle = handle; discipline = Drr s; held = None; since = since; filters = filters }) below s)
 drr-popped handle filters since s below = by (place_met s below)
   where
     nothing : IsPopped (gives_nothing (bare handle filters since (Drr s)) below (service_of s below))
-    nothing = let v = service_of s below in dequeued-popped (bare handle filters since (Drr s)) (record (bare handle filters since (Drr s)) { discipline = Drr v.schedule }) below v.below v.rises v.grants None 0 tt
+    nothing =
+        let v = service_of s below in dequeued-popped (bare handle filters since (Drr s))
+        (record (bare handle filters since (Drr s)) { discipline = Drr v.schedule }) below v.below v.rises v.grants None 0 tt
 
-    serves : (i : ℕ) (a : Asked) (o : Option Descriptor) → IsPopped (option_map_or (class_gives (bare handle filters since (Drr s)) below (service_of s below) i a) o (gives_nothing (bare handle filters since (Drr s)) below (service_of s below)))
+    serves : (i : ℕ) (a : Asked) (o : Option Descriptor)
+        → IsPopped (option_map_or (class_gives (bare handle filters since (Drr s)) below (service_of s below) i a) o
+        (gives_nothing (bare handle filters since (Drr s)) below (service_of s below)))
     serves i a None = nothing
     serves i a (Some p) =
         let v = service_of s below in
-        dequeued-popped (bare handle filters since (Drr s)) (record (bare handle filters since (Drr s)) { discipline = Drr (settled_class i (is_empty a.taken) v.schedule) }) below (set v.below i a.taken) v.rises v.grants (Some p) (since_shown a) tt
+        dequeued-popped (bare handle filters since (Drr s))
+        (record (bare handle filters since (Drr s)) { discipline = Drr (settled_class i (is_empty a.taken) v.schedule) }) below
+        (set v.below i a.taken) v.rises v.grants (Some p) (since_shown a) tt
 
-    child : (i : ℕ) (o : Option Asked) → IsPopped (option_map_or (class_serves (bare handle filters since (Drr s)) below (service_of s below) i) o (gives_nothing (bare handle filters since (Drr s)) below (service_of s below)))
+    child : (i : ℕ) (o : Option Asked)
+        → IsPopped (option_map_or (class_serves (bare handle filters since (Drr s)) below (service_of s below) i) o
+        (gives_nothing (bare handle filters since (Drr s)) below (service_of s below)))
     child i None = nothing
     child i (Some a) = serves i a a.shown
 
-    by : (o : Option ℕ) → IsPopped (option_map_or (λ i. option_map_or (class_serves (bare handle filters since (Drr s)) below (service_of s below) i) (slice_get below i) (gives_nothing (bare handle filters since (Drr s)) below (service_of s below))) o (gives_nothing (bare handle filters since (Drr s)) below (service_of s below)))
+    by : (o : Option ℕ)
+        → IsPopped (option_map_or (λ i. option_map_or (class_serves (bare handle filters since (Drr s)) below (service_of s below) i)
+        (slice_get below i) (gives_nothing (bare handle filters since (Drr s)) below (service_of s below))) o
+        (gives_nothing (bare handle filters since (Drr s)) below (service_of s below)))
     by None = nothing
     by (Some i) = child i (slice_get below i)
 
@@ -275,7 +304,8 @@ node-popped now handle filters since None (Drr s) below all = drr-popped handle 
 node-popped now handle filters since None (FqCodel s) below all =
     let own : Own = record { handle = handle; discipline = FqCodel s; held = None; since = since; filters = filters } in
     let sent = sent_from now (selected s) in
-    dequeued-popped own (record own { discipline = FqCodel (after_sending now (selected s)) }) below (befores below) (losses_of CoDel (packets_of (dropped_from now (selected s))) ++ marks_of sent) (flow_notes s (selected s) sent)
+    dequeued-popped own (record own { discipline = FqCodel (after_sending now (selected s)) }) below (befores below)
+    (losses_of CoDel (packets_of (dropped_from now (selected s))) ++ marks_of sent) (flow_notes s (selected s) sent)
     (option_map (λ (t : Taken). t.packet) sent) (option_map_or (λ (p : Stamped). p.at) (head_sent now (selected s)) 0) tt
 
 all-popped : (now : ℕ) (x : Forest (Unit {0})) → AllPopped (each (ask_own now) x)

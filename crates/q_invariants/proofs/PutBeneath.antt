@@ -97,7 +97,8 @@ module _ (mtu now : ℕ) (least : 1 ≤ mtu) (p : Descriptor) (fits : IsWithin 1
     own-settled (Drr s) can h = drr-put s h
 
 -- a node on the way
-pub beneath-put : (mtu now : ℕ) (p : Descriptor) (s : Shape) (i : ℕ) (c : Shape) (w : Work) → 1 ≤ mtu → IsWithin 1 mtu p.len → IsLawfulRoot mtu now s → CanPass p s.own.discipline → slice_get (children s) i ≡ Some c → IsPut mtu now p c w
+pub beneath-put : (mtu now : ℕ) (p : Descriptor) (s : Shape) (i : ℕ) (c : Shape) (w : Work) → 1 ≤ mtu → IsWithin 1 mtu p.len → IsLawfulRoot mtu now s
+    → CanPass p s.own.discipline → slice_get (children s) i ≡ Some c → IsPut mtu now p c w
     → IsPut mtu now p s (put_beneath p i s w)
 beneath-put mtu now p s i c w least fits h can at put =
     let after : List Worked = set (quiets s) i w.node in

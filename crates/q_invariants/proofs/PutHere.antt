@@ -38,7 +38,8 @@ pub record ArePut (mtu now : ℕ) (p : Descriptor) (s : Shape) (own : Own) (rise
   pub conserved : (f : Descriptor → ℕ) → f (plain p) + weigh f (waiting s.own (quiets s)) ≡ lost f rises + weigh f (waiting own below)
   pub held : (f : Descriptor → ℕ) → weigh f (holds s.own (quiets s)) ≡ weigh f (holds own below)
 
-pub put-parts : (mtu now : ℕ) (p : Descriptor) (s : Shape) (own : Own) (rises : List Note) (below : List Worked) → ArePut mtu now p s own rises below → IsPut mtu now p s (record { node = worked own (Arrived p ∷ rises) below; rises = rises })
+pub put-parts : (mtu now : ℕ) (p : Descriptor) (s : Shape) (own : Own) (rises : List Note) (below : List Worked) → ArePut mtu now p s own rises below
+    → IsPut mtu now p s (record { node = worked own (Arrived p ∷ rises) below; rises = rises })
 put-parts mtu now p s own rises below h =
     let node : Worked = worked own (Arrived p ∷ rises) below in
     let before_is : (f : Descriptor → ℕ) → weigh f (beneath (quiet s)) ≡ weigh f (beneath s) = λ f. ap (λ bs. weigh f (beneath_own s.own bs)) (each-each_memory beneath_own (λ u. []) s.below) in

@@ -17,7 +17,8 @@ use Rattle.q_invariants.proofs.Risen.{rise-here, rise-along}
 pub record IsPutStage (now : ℕ) (p : Descriptor) (s : Shape) (w : Worked) : Type 0 where
   pub held : w.own.held ≡ s.own.held
   pub notes : (f : Note → ℕ) → LooksPast f → ((q : Descriptor) → f (Arrived q) ≡ 0) → sum_by f w.memory ≡ 0
-  pub discipline : (w.own.discipline ≡ s.own.discipline) ⊎ (w.own.discipline ≡ queued_in p now s.own.discipline) ⊎ ((i : ℕ) × (emptied : Bool) × (w.own.discipline ≡ settled_in i emptied s.own.discipline))
+  pub discipline : (w.own.discipline ≡ s.own.discipline) ⊎ (w.own.discipline ≡ queued_in p now s.own.discipline) ⊎
+      ((i : ℕ) × (emptied : Bool) × (w.own.discipline ≡ settled_in i emptied s.own.discipline))
 
 arrived-sum : (p : Descriptor) (rises : List Note) → AreRisen rises → (f : Note → ℕ) → LooksPast f → ((q : Descriptor) → f (Arrived q) ≡ 0) → sum_by f (Arrived p ∷ rises) ≡ 0
 arrived-sum p rises h f past none = omega (arith, sum_by-cons f (Arrived p) rises, none p, sum-risen f past rises h)

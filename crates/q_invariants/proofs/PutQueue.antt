@@ -34,7 +34,8 @@ use Rattle.q_invariants.proofs.PutHere.{IsPut, put-parts}
 use Rattle.q_invariants.proofs.Stamps.{stamped-push, stamped-drop}
 
 -- the lengths of what was there, and of the packet that is put
-pub longer-lengths : (mtu : ℕ) (p : Descriptor) (before after : List Descriptor) → IsWithin 1 mtu p.len → ((w : Descriptor → ℕ) → weigh w after ≤ w (plain p) + weigh w before) → All (HasLength mtu) before → All (HasLength mtu) after
+pub longer-lengths : (mtu : ℕ) (p : Descriptor) (before after : List Descriptor) → IsWithin 1 mtu p.len
+    → ((w : Descriptor → ℕ) → weigh w after ≤ w (plain p) + weigh w before) → All (HasLength mtu) before → All (HasLength mtu) after
 longer-lengths mtu p before after fits fewer h =
     lengths-among mtu (p ∷ before) after (λ w. omega (arith, fewer w, weigh-cons w p before)) (All-cons (HasLength mtu) p before fits h)
 
@@ -50,7 +51,15 @@ module _ (mtu now : ℕ) (p : Descriptor) (fits : IsWithin 1 mtu p.len) (handle 
       let s : Shape = fifo_shape limit queue in
       let own : Own = record s.own { discipline = Fifo limit (queue ++ stamped ∷ []) } in
       let more : (w : Descriptor → ℕ) → w (plain p) + weigh w (waiting s.own (quiets s)) ≡ weigh w (waiting own (quiets s)) =
-      λ w. omega (arith, weigh-waiting w s.own (quiets s), weigh-waiting w own (quiets s), weigh-packets w queue, weigh-packets w (queue ++ stamped ∷ []), sum_by_push (stamped_weight w) queue stamped) in
+      λ w. omega (
+        arith,
+        weigh-waiting w s.own (quiets s),
+        weigh-waiting w own (quiets s),
+        weigh-packets w queue,
+        weigh-packets w
+            (queue ++ stamped ∷ []),
+        sum_by_push (stamped_weight w) queue stamped,
+      ) in
       put-parts mtu now p s own [] (quiets s) (record {
         handle = refl;
         lawful = record {
@@ -74,7 +83,8 @@ module _ (mtu now : ℕ) (p : Descriptor) (fits : IsWithin 1 mtu p.len) (handle 
       })
 
 -- every packet of a flow has a byte
-queue-bytes : (mtu : ℕ) (queue : List Stamped) (rest : List Stamped) → All (HasLength mtu) (packets_of (queue ++ rest)) → All (λ (x : Stamped). 1 ≤ x.packet.len) queue × All (HasLength mtu) (packets_of rest)
+queue-bytes : (mtu : ℕ) (queue : List Stamped) (rest : List Stamped) → All (HasLength mtu) (packets_of (queue ++ rest))
+    → All (λ (x : Stamped). 1 ≤ x.packet.len) queue × All (HasLength mtu) (packets_of rest)
 queue-bytes mtu [] rest h = (All-nil (λ (x : Stamped). 1 ≤ x.packet.len), h)
 queue-bytes mtu (x ∷ queue) rest h =
     let more = queue-bytes mtu queue rest (All-tail (HasLength mtu) x.packet (packets_of (queue ++ rest)) h) in
@@ -105,10 +115,12 @@ shortened-lawful now settings n f h = record { settings = h.settings; state = h.
 put-flows : (now : ℕ) (settings : FqSettings) (s : FqState) (p : Descriptor) → All (IsLawfulFlow now settings) s.flows → All (IsLawfulFlow now settings) (after_put s p now).flows
 unfolding cut_back appended
 put-flows now settings s p h =
-    All-adjust (IsLawfulFlow now settings) (shortened (overflow (appended s p now))) (shortened-lawful now settings (overflow (appended s p now))) (fattest (appended s p now).flows) (appended s p now).flows
+    All-adjust (IsLawfulFlow now settings) (shortened (overflow (appended s p now))) (shortened-lawful now settings (overflow (appended s p now)))
+    (fattest (appended s p now).flows) (appended s p now).flows
     (All-adjust (IsLawfulFlow now settings) (joined (record { packet = p; at = now })) (joined-lawful now settings p) (flow_of s p) s.flows h)
 
-put-lawful : (mtu now : ℕ) (s : FqState) (p : Descriptor) (below : List (List Descriptor)) → 1 ≤ p.len → All HasBytes s.flows → IsLawfulFqCodel mtu now s below → IsLawfulFqCodel mtu now (after_put s p now) below
+put-lawful : (mtu now : ℕ) (s : FqState) (p : Descriptor) (below : List (List Descriptor)) → 1 ≤ p.len → All HasBytes s.flows
+    → IsLawfulFqCodel mtu now s below → IsLawfulFqCodel mtu now (after_put s p now) below
 put-lawful mtu now s p below byte bytes h =
     let same = sym (put-settings s p now) in
     record {

@@ -31,14 +31,19 @@ use Rattle.q_invariants.proofs.PutBeneath.{beneath-put}
 
 module _ (mtu now : ℕ) (least : 1 ≤ mtu) (p : Descriptor) (fits : IsWithin 1 mtu p.len) where
   queued : (handle : Option ℕ) (held : Option Descriptor) (filters : List Filter) (since : ℕ) (below : Forest (Unit {0})) (d : Discipline) → CanQueue d
-      → (let s : Shape = record { own = record { handle = handle; discipline = d; held = held; since = since; filters = filters }; memory = tt; below = below } in IsLawfulRoot mtu now s → IsPut mtu now p s (put_here now p None s))
+      → (let s : Shape = record {
+        own = record { handle = handle; discipline = d; held = held; since = since; filters = filters };
+        memory = tt;
+        below = below;
+      } in IsLawfulRoot mtu now s → IsPut mtu now p s (put_here now p None s))
   queued handle held filters since below (Fifo limit queue) can h = fifo-put mtu now p fits handle held filters since below limit queue h
   queued handle held filters since below (FqCodel q) can h = fq-put mtu now p fits handle held filters since below q h
   queued handle held filters since below (Prio priomap) can h = absurd can
   queued handle held filters since below (Tbf b limit) can h = absurd can
   queued handle held filters since below (Drr s) can h = absurd can
 
-  pub along-put : (path : List ℕ) (refusal : Option Cause) (s : Shape) → route p s ≡ record { path = path; refusal = refusal } → IsLawfulRoot mtu now s → IsPut mtu now p s (put_along now p refusal path s)
+  pub along-put : (path : List ℕ) (refusal : Option Cause) (s : Shape) → route p s ≡ record { path = path; refusal = refusal }
+      → IsLawfulRoot mtu now s → IsPut mtu now p s (put_along now p refusal path s)
   along-put [] (Some cause) s e h = refused-put mtu now p s cause h
   along-put [] None s e h =
       queued s.own.handle s.own.held s.own.filters s.own.since s.below s.own.discipline (way-ends p s.own (each (λ own below. way p own below own.discipline) s.below) s.own.discipline e) h
@@ -72,7 +77,17 @@ module _ (clock now : ℕ) (s : TreeState (List Note)) (p : Descriptor) (h : IsK
 
   put-told : (w : Work) → IsPut s.device.mtu now p (shape s.root) w → IsKeptTree now (with_work history (Arrived p ∷ w.rises) w.node s)
   put-told w put = worked-kept clock now s (Arrived p ∷ w.rises) w.node h low (told-root w put.told) put.lawful (record {
-    conserved = λ f. omega (arith, put.conserved f, put.no_arrival f, put.nothing_sent f, ap (weigh f) waiting-bare, arrived-cons f (Arrived p) w.rises, sent-cons f (Arrived p) w.rises, lost-cons f (Arrived p) w.rises);
+    conserved =
+        λ f. omega (
+          arith,
+          put.conserved f,
+          put.no_arrival f,
+          put.nothing_sent f,
+          ap (weigh f) waiting-bare,
+          arrived-cons f (Arrived p) w.rises,
+          sent-cons f (Arrived p) w.rises,
+          lost-cons f (Arrived p) w.rises,
+        );
     marks = λ f. omega (arith, put.held f, put.nothing_marked f, put.nothing_sent f, ap (weigh f) held-bare, marked-cons f (Arrived p) w.rises);
   })
 

@@ -40,7 +40,8 @@ rise-class : (below : List Asked) (o : Option ℕ) → AllRise below → AreRise
 rise-class below None h = tt
 rise-class below (Some i) h = rise-at below i h
 
-rise-entries : (s : Schedule) (below : List Asked) (entries : List Entry) → AllRise below → AreRisen (flat_map (λ (e : Entry). option_map_or (λ (a : Asked). a.rises) (class_answer s below e.class) []) entries)
+rise-entries : (s : Schedule) (below : List Asked) (entries : List Entry) → AllRise below
+    → AreRisen (flat_map (λ (e : Entry). option_map_or (λ (a : Asked). a.rises) (class_answer s below e.class) []) entries)
 rise-entries s below [] h = tt
 rise-entries s below (e ∷ entries) h =
     risen-append (option_map_or (λ (a : Asked). a.rises) (class_answer s below e.class) []) (flat_map (λ (e : Entry). option_map_or (λ (a : Asked). a.rises) (class_answer s below e.class) []) entries)
@@ -81,7 +82,9 @@ rise-drr own below s h = by (place_met s below)
     child i None = rise-service s below h
     child i (Some a) = serves i a a.shown
 
-    by : (o : Option ℕ) → AreRisen (option_map_or (λ i. option_map_or (class_serves own below (service_of s below) i) (slice_get below i) (gives_nothing own below (service_of s below))) o (gives_nothing own below (service_of s below))).rises
+    by : (o : Option ℕ)
+        → AreRisen (option_map_or (λ i. option_map_or (class_serves own below (service_of s below) i) (slice_get below i)
+        (gives_nothing own below (service_of s below))) o (gives_nothing own below (service_of s below))).rises
     by None = rise-service s below h
     by (Some i) = child i (slice_get below i)
 

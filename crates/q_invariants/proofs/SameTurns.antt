@@ -151,7 +151,9 @@ same-woken m s = by (is_active m s.active)
   where
     by : (t : Bool) → SameTurns s (if t then s else record s { active = s.active ++ record { class = m; deficit = quantum_of m s.classes; granted = 0 } ∷ [] })
     by true = same-all s s refl
-    by false = same-more (record { class = m; deficit = quantum_of m s.classes; granted = 0 }) s (record s { active = s.active ++ record { class = m; deficit = quantum_of m s.classes; granted = 0 } ∷ [] }) refl refl
+    by false =
+        same-more (record { class = m; deficit = quantum_of m s.classes; granted = 0 }) s
+        (record s { active = s.active ++ record { class = m; deficit = quantum_of m s.classes; granted = 0 } ∷ [] }) refl refl
 
 pub same-settled : (i : ℕ) (emptied : Bool) (s : Schedule) → SameTurns s (settled_class i emptied s)
 same-settled i emptied s = by (slice_get s.classes i)
@@ -218,7 +220,8 @@ pub same-quantum : (n q : ℕ) (s : Schedule) → IsLawful s → SameTurns s (wi
 same-quantum n q s law = record {
   deficit = λ c before after quantum.
       deficit-cut n q s.max_len s.classes c s.active law.entries
-      (λ equal there. sym (set-here n q s.max_len s.classes there) ∙ ap (λ k. quantum_of k (with_quantum n q s).classes) (eqb-true n c equal) ∙ quantum ∙ ap (λ k. quantum_of k s.classes) (sym (eqb-true n c equal)));
+      (λ equal there. sym (set-here n q s.max_len s.classes there) ∙ ap (λ k. quantum_of k (with_quantum n q s).classes) (eqb-true n c equal)
+      ∙ quantum ∙ ap (λ k. quantum_of k s.classes) (sym (eqb-true n c equal)));
   order = λ i j a b c d. order-cut n q s.max_len i j s.active;
   wakes = none-wakes s (with_quantum n q s) (λ c after. sym (active-cut n q s.max_len c s.active) ∙ after);
   behind = λ i j there absent. absent-behind i j (with_quantum n q s).active (active-cut n q s.max_len j s.active ∙ absent);

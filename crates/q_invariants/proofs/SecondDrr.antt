@@ -162,7 +162,9 @@ module _ (now : ℕ) (handle : Option ℕ) (filters : List Filter) (since : ℕ)
 
     class-now : class_at e.class left ≡ Some place
     class-now =
-        let entry : IsEntry left.max_len left.classes e = All-head (IsEntry left.max_len left.classes) e rest (subst (λ (es : List Entry). All (IsEntry left.max_len left.classes) es) list-now lawful.entries) in
+        let entry : IsEntry left.max_len left.classes e =
+        All-head (IsEntry left.max_len left.classes) e rest
+        (subst (λ (es : List Entry). All (IsEntry left.max_len left.classes) es) list-now lawful.entries) in
         position_of (class_at e.class left) (class_known 0 e.class left ∙ entry.there)
 
     class-then : class_at e.class s ≡ Some place
@@ -201,7 +203,9 @@ module _ (now : ℕ) (handle : Option ℕ) (filters : List Filter) (since : ℕ)
               ∙ ap (serviced (Some (record { rounds = 0; place = 0 })) left.active) (sym (served_nothing heads_now left left e.class front_now hidden-now ready))
               ∙ ap (λ (es : List Entry). serviced (Some (record { rounds = 0; place = 0 })) es left) list-now
               ∙ ap₂ (λ (ws : List Worked) (notes : List Note). record { schedule = left; below = ws; rises = notes ++ []; grants = [] }) (looked (e ∷ []) only) quiet;
-          head = ap (λ (o : Option ℕ). option_and_then length_of (option_and_then (slice_get children) o)) (place-front left children e rest (ap (λ (t : Schedule). t.active) ready ∙ list-now)) ∙ hidden-now;
+          head =
+              ap (λ (o : Option ℕ). option_and_then length_of (option_and_then (slice_get children) o))
+              (place-front left children e rest (ap (λ (t : Schedule). t.active) ready ∙ list-now)) ∙ hidden-now;
         }
 
   -- ---- asked once more
@@ -250,7 +254,9 @@ module _ (now : ℕ) (handle : Option ℕ) (filters : List Filter) (since : ℕ)
       shows : (i : ℕ) (a : Asked) → place_met s below ≡ Some i → slice_get below i ≡ Some a → (o : Option Descriptor)
           → a.shown ≡ o → P (option_map_or (class_gives (drr s) below v i a) o nothing)
       shows i a e at None is = head (Some i) e (ap (option_and_then length_of) at ∙ ap (option_map (λ (p : Descriptor). p.len)) is)
-      shows i a e at (Some p) is = second-dequeued now handle filters since (drr s) below (Drr (settled_class i (is_empty a.taken) v.schedule)) (set v.below i a.taken) v.rises v.grants p (since_shown a)
+      shows i a e at (Some p) is =
+          second-dequeued now handle filters since (drr s) below (Drr (settled_class i (is_empty a.taken) v.schedule)) (set v.below i a.taken)
+          v.rises v.grants p (since_shown a)
 
       child : (i : ℕ) → place_met s below ≡ Some i → (o : Option Asked) → slice_get below i ≡ o
           → P (option_map_or (class_serves (drr s) below v i) o nothing)

@@ -83,7 +83,16 @@ module _ (now : ℕ) (handle : Option ℕ) (filters : List Filter) (since : ℕ)
       at = option_map_or (λ (p : Stamped). p.at) (head_sent now (selected s)) 0
 
       answer : Option Descriptor → Asked
-      answer o = dequeued own below (record { after = record own { discipline = FqCodel after }; children = befores below; rises = rises; mine = flow_notes s (selected s) sent; packet = o; since = at })
+      answer o =
+          dequeued own below (record {
+            after = record own { discipline = FqCodel after };
+            children = befores below;
+            rises = rises;
+            mine = flow_notes
+                s (selected s) sent;
+            packet = o;
+            since = at;
+          })
 
       by : (o : Option Descriptor) → given sent ≡ o → Repeats now (answer o)
       by (Some p) e = second-dequeued now handle filters since own below (FqCodel after) (befores below) rises (flow_notes s (selected s) sent) p at

@@ -42,7 +42,13 @@ module _ (mtu now : ℕ) (least : 1 ≤ mtu) (low : now ≤ 2 ^ 62) where
       → Repeats now (ask_own now (node now handle filters since (Drr s) None) below)
   drr-second handle filters since s below h all stable =
       let same : length s.classes ≡ length below =
-      omega (arith, exact-length (λ n. is_active n s.active) s.classes (map beneath (befores below)) h.discipline.exact, length-map (befores below) beneath, length-map below (λ (a : Asked). a.before)) in
+      omega (
+        arith,
+        exact-length (λ n. is_active n s.active) s.classes (map beneath (befores below)) h.discipline.exact,
+        length-map (befores below)
+            beneath,
+        length-map below (λ (a : Asked). a.before),
+      ) in
       let lawful : IsLawful (served (head_of s below) s) =
       served_lawful s (head_of s below) h.discipline.schedule (subst (λ n. HeadsFit (head_of s below) n) (sym h.discipline.longest) (heads-fit mtu now s below all)) in
       second-drr now handle filters since s below stable same lawful
@@ -74,7 +80,8 @@ module _ (mtu now : ℕ) (least : 1 ≤ mtu) (low : now ≤ 2 ^ 62) where
 
   pub ask-stable : (s : Shape) → IsLawfulRoot mtu now s → IsStable now (ask now s)
   ask-stable s h =
-      own-stable s.own (each (ask_own now) s.below) (subst (IsLawfulOwn mtu now s.own) (sym (beneath-befores now s.below)) h.0) (forest-answers mtu now least low s.below h.1) (forest-stable s.below h.1)
+      own-stable s.own (each (ask_own now) s.below) (subst (IsLawfulOwn mtu now s.own) (sym (beneath-befores now s.below)) h.0)
+      (forest-answers mtu now least low s.below h.1) (forest-stable s.below h.1)
 
 -- what remembers is asked as its shape is
 pub asked-shape : {M : Type 0} (now : ℕ) (n : Node M)

@@ -81,7 +81,9 @@ tbf-gives now own (a ∷ below) b limit h = child a.shown
     waiting : Gives (waits own (a ∷ below) a)
     waiting = dequeued-gives own (a ∷ below) (record { after = own; children = a.peeked ∷ []; rises = a.rises; mine = []; packet = None; since = 0 }) h.0 refl
 
-    child : (o : Option Descriptor) → Gives (option_map_or (λ (p : Descriptor). if allows b now p.len then spends own (a ∷ below) b limit now a p else waits own (a ∷ below) a) o (waits own (a ∷ below) a))
+    child : (o : Option Descriptor)
+        → Gives (option_map_or (λ (p : Descriptor). if allows b now p.len then spends own (a ∷ below) b limit now a p else waits own (a ∷ below) a) o
+        (waits own (a ∷ below) a))
     child None = waiting
     child (Some p) = by (allows b now p.len)
       where
@@ -130,7 +132,9 @@ drr-gives own below s h = by (place_met s below)
     child i None = nothing
     child i (Some a) = serves i a a.shown
 
-    by : (o : Option ℕ) → Gives (option_map_or (λ i. option_map_or (class_serves own below (service_of s below) i) (slice_get below i) (gives_nothing own below (service_of s below))) o (gives_nothing own below (service_of s below)))
+    by : (o : Option ℕ)
+        → Gives (option_map_or (λ i. option_map_or (class_serves own below (service_of s below) i) (slice_get below i)
+        (gives_nothing own below (service_of s below))) o (gives_nothing own below (service_of s below)))
     by None = nothing
     by (Some i) = child i (slice_get below i)
 

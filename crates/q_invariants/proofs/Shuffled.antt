@@ -28,7 +28,8 @@ key-made : (f1 p1 s1 d1 sp1 dp1 f2 p2 s2 d2 sp2 dp2 : ℕ) → f1 ≡ f2 → p1 
 key-made f1 p1 s1 d1 sp1 dp1 f2 p2 s2 d2 sp2 dp2 e1 e2 e3 e4 e5 e6 = cc
 
 packet-made : (p1 n1 b1 l1 : ℕ) (k1 : Key) (h1 q1 p2 n2 b2 l2 : ℕ) (k2 : Key) (h2 q2 : ℕ) → p1 ≡ p2 → n1 ≡ n2 → b1 ≡ b2 → l1 ≡ l2 → k1 ≡ k2 → h1 ≡ h2 → q1 ≡ q2
-    → ◌≡◌ {A = Descriptor} (record { port = p1; number = n1; buf = b1; len = l1; key = k1; hash = h1; prio = q1; ecn = NotEct }) (record { port = p2; number = n2; buf = b2; len = l2; key = k2; hash = h2; prio = q2; ecn = NotEct })
+    → ◌≡◌ {A = Descriptor} (record { port = p1; number = n1; buf = b1; len = l1; key = k1; hash = h1; prio = q1; ecn = NotEct })
+    (record { port = p2; number = n2; buf = b2; len = l2; key = k2; hash = h2; prio = q2; ecn = NotEct })
 packet-made p1 n1 b1 l1 k1 h1 q1 p2 n2 b2 l2 k2 h2 q2 e1 e2 e3 e4 e5 e6 e7 = cc
 
 pub key-is : (a b : Key) → same_key a b ≡ true → a ≡ b
@@ -126,7 +127,9 @@ shuffled (x ∷ xs) ys h =
     subst (λ zs. IsPermutation (plain x ∷ map plain rest) zs) (sym (ap (map plain) found.is ∙ map-append plain found.front (found.it ∷ found.rest)))
     (subst (λ zs. IsPermutation (plain x ∷ zs) (map plain found.front ++ plain found.it ∷ map plain found.rest)) (sym (map-append plain found.front found.rest))
     (subst (λ z. IsPermutation (z ∷ (map plain found.front ++ map plain found.rest)) (map plain found.front ++ plain found.it ∷ map plain found.rest)) (sym found.alike)
-    (IsPermutation-sym (map plain found.front ++ plain found.it ∷ map plain found.rest) (plain found.it ∷ (map plain found.front ++ map plain found.rest)) (IsPermutation-middle (map plain found.front) (plain found.it) (map plain found.rest))))) in
+    (IsPermutation-sym (map plain found.front ++ plain found.it ∷ map plain found.rest)
+    (plain found.it ∷ (map plain found.front ++ map plain found.rest))
+    (IsPermutation-middle (map plain found.front) (plain found.it) (map plain found.rest))))) in
     IsPermutation-trans (plain x ∷ map plain xs) (plain x ∷ map plain rest) (map plain ys)
     (IsPermutation-cons (plain x) (map plain xs) (map plain rest) (shuffled xs rest fewer)) moved
 

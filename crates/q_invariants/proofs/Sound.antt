@@ -50,7 +50,12 @@ kept-sound clock s h =
         device = is-balanced s.top (beneath s.root) (held_beneath s.root) h.top;
         marks = are-bounded s.top (beneath s.root) (held_beneath s.root) h.top;
         nodes = All-cons (IsLawfulNode history s.device.mtu clock) s.root (nodes_of s.root.below)
-            (record { own = h.lawful.0; balanced = is-balanced s.root.memory (beneath s.root) (held_beneath s.root) h.counted.0; marks = are-bounded s.root.memory (beneath s.root) (held_beneath s.root) h.counted.0 })
+            (record {
+              own = h.lawful.0;
+              balanced = is-balanced s.root.memory (beneath s.root) (held_beneath s.root) h.counted.0;
+              marks = are-bounded
+                  s.root.memory (beneath s.root) (held_beneath s.root) h.counted.0;
+            })
             (lawful-nodes s.device.mtu clock s.root.below h.counted.1 h.lawful.1);
         handles = h.handles;
         levels = h.levels;
@@ -76,7 +81,8 @@ counts-nodes mtu clock (more own m below others) c l =
     let n : Node (List Note) = record { own = own; memory = m; below = below } in
     All-cons (IsLawfulNode totals mtu clock) (with_memory counts_in n) (nodes_of (each_memory counts_in below) ++ nodes_of (each_memory counts_in others))
     (counts-node mtu clock own m below (record { own = l.0; balanced = is-balanced m (beneath n) (held_beneath n) c.0; marks = are-bounded m (beneath n) (held_beneath n) c.0 }))
-    (All-append (IsLawfulNode totals mtu clock) (nodes_of (each_memory counts_in below)) (nodes_of (each_memory counts_in others)) (counts-nodes mtu clock below c.1 l.1) (counts-nodes mtu clock others c.2 l.2))
+    (All-append (IsLawfulNode totals mtu clock) (nodes_of (each_memory counts_in below)) (nodes_of (each_memory counts_in others))
+    (counts-nodes mtu clock below c.1 l.1) (counts-nodes mtu clock others c.2 l.2))
 
 pub kept-totals : (clock : ℕ) (s : TreeState (List Note)) → IsKeptTree clock s → IsLawfulTree totals clock (shrunk s)
 kept-totals clock s h =
@@ -90,9 +96,16 @@ kept-totals clock s h =
       marks = subst (AreMarksBounded (counts_in s.top)) hs (are-bounded s.top (beneath s.root) (held_beneath s.root) h.top);
       nodes = All-cons (IsLawfulNode totals s.device.mtu clock) (with_memory counts_in s.root) (nodes_of (each_memory counts_in s.root.below))
           (counts-node s.device.mtu clock s.root.own s.root.memory s.root.below
-          (record { own = h.lawful.0; balanced = is-balanced s.root.memory (beneath s.root) (held_beneath s.root) h.counted.0; marks = are-bounded s.root.memory (beneath s.root) (held_beneath s.root) h.counted.0 }))
+          (record {
+            own = h.lawful.0;
+            balanced = is-balanced s.root.memory (beneath s.root) (held_beneath s.root) h.counted.0;
+            marks = are-bounded
+                s.root.memory (beneath s.root) (held_beneath s.root) h.counted.0;
+          }))
           (counts-nodes s.device.mtu clock s.root.below h.counted.1 h.lawful.1);
-      handles = subst (λ (xs : List Address). AllPairs (λ (a b : Address). (a.handle ≡ b.handle) → ⊥) xs) (sym (ap (addresses_own s.root.own) (each-each_memory addresses_own counts_in s.root.below))) h.handles;
+      handles =
+          subst (λ (xs : List Address). AllPairs (λ (a b : Address). (a.handle ≡ b.handle) → ⊥) xs)
+          (sym (ap (addresses_own s.root.own) (each-each_memory addresses_own counts_in s.root.below))) h.handles;
       levels = omega (arith, h.levels, ap (λ (ds : List ℕ). suc (greatest ds)) (each-each_memory (λ own below. suc (greatest below)) counts_in s.root.below));
       few = omega (arith, h.few, ap (λ (ns : List ℕ). suc (sum ns)) (each-each_memory (λ own below. suc (sum below)) counts_in s.root.below));
     }

@@ -105,7 +105,10 @@ module _ (h clock now : ℕ) (d : DeviceState (List Note)) (kept : IsKept d) (sa
   asked-so : (after : Node (List Note)) → IsOf after (booked history root (take_from now (shape root)).node) → HasHandle h after → IsAsked now n after
   asked-so after there handle =
       let a : Asked = ask now (shape root) in
-      let r = same-form (IsAskOf now) (take_from now (shape root)).node after (asked-related d.tree.device.mtu now (shape root) (take_from now (shape root)).node shape-lawful (taken-stage (is_some a.shown) a)) there handle in
+      let r =
+      same-form (IsAskOf now) (take_from now (shape root)).node after
+      (asked-related d.tree.device.mtu now (shape root) (take_from now (shape root)).node shape-lawful (taken-stage (is_some a.shown) a)) there
+      handle in
       record { worked = r.0; stage = r.1; is = r.2 }
 
   put-so : (p : Descriptor) (r : Option Route) (after : Node (List Note)) → IsOf after (booked history root (put_on now p r (shape root)).node) → HasHandle h after → IsPut now p n after
@@ -139,7 +142,14 @@ module _ (h clock now : ℕ) (d : DeviceState (List Note)) (kept : IsKept d) (sa
         ends = λ old. inl (ap (λ (ps : List Descriptor). length ps == 0) (new_beneath d.tree.device.mtu now plan.fresh new plan.suits), refl);
         by = settle notes f (IsRemadeSo now notes) after
             (comes-edited notes f (IsRemadeSo now notes) h path root after
-            (λ old at in_root k of_new has. absurd (let free = plan.free h in omega (arith, of-counts h k (blank history new) of_new has, new_times d.tree.device.mtu now plan.fresh new plan.suits h, free, of-counts h n root before.there before.handle)))
+            (λ old at in_root k of_new has. absurd (let free = plan.free h in omega (
+              arith,
+              of-counts h k (blank history new) of_new has,
+              new_times d.tree.device.mtu now plan.fresh new plan.suits h,
+              free,
+              of-counts h
+                  n root before.there before.handle,
+            )))
             there handle);
       }
   edited-so (Remake path own below) plan form after there handle =

@@ -150,4 +150,5 @@ module _ (now : ℕ) where
       fq_codel-so s =
           dequeued-so (node now handle filters since (FqCodel s) None) below (FqCodel (after_sending now (selected s))) (befores below)
           (losses_of CoDel (packets_of (dropped_from now (selected s))) ++ marks_of (sent_from now (selected s)))
-          (flow_notes s (selected s) (sent_from now (selected s))) (option_map (λ (t : Taken). t.packet) (sent_from now (selected s))) (option_map_or (λ (p : Stamped). p.at) (head_sent now (selected s)) 0)
+          (flow_notes s (selected s) (sent_from now (selected s))) (option_map (λ (t : Taken). t.packet) (sent_from now (selected s)))
+          (option_map_or (λ (p : Stamped). p.at) (head_sent now (selected s)) 0)

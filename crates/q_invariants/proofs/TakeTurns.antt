@@ -117,7 +117,9 @@ noted-some c k (e ∷ es) = elim (cases_Bool (eqb c e.class)) [
       omega (arith, one, more, sum_by-cons (granted_by c) (Granted e.class k) (map (λ (e : Entry). Granted e.class k) es), noted-some c k es)
   | inr there ↦
       let none : (if c == e.class then k else 0) ≡ 0 = ap (λ (t : Bool). if t then k else 0) there in
-      let count : stands_in c (e ∷ es) ≡ stands_in c es = sum_by-cons (λ (e : Entry). if c == e.class then 1 else 0) e es ∙ ap (λ (t : Bool). (if t then 1 else 0) + stands_in c es) there ∙ omega arith in
+      let count : stands_in c (e ∷ es) ≡ stands_in c es =
+      sum_by-cons (λ (e : Entry). if c == e.class then 1 else 0) e es ∙ ap (λ (t : Bool). (if t then 1 else 0) + stands_in c es) there
+      ∙ omega arith in
       let same : k * stands_in c (e ∷ es) ≡ k * stands_in c es = ap (λ m. k * m) count in
       omega (arith, none, same, sum_by-cons (granted_by c) (Granted e.class k) (map (λ (e : Entry). Granted e.class k) es), noted-some c k es)
 ]
@@ -150,7 +152,9 @@ once-before c (x ∷ es) zero (suc k) e d at name =
     let none : stands_in c es ≡ 0 = absent-none c es absent in
     let split : stands_in c es ≡ stands_in c (take k es) + stands_in c (drop k es) =
     ap (stands_in c) (sym (take-append-drop k es)) ∙ sum_by-append (λ (e : Entry). if c == e.class then 1 else 0) (take k es) (drop k es) in
-    let count : stands_in c (x ∷ take k es) ≡ 1 + stands_in c (take k es) = sum_by-cons (λ (e : Entry). if c == e.class then 1 else 0) x (take k es) ∙ ap (λ (t : Bool). (if t then 1 else 0) + stands_in c (take k es)) here in
+    let count : stands_in c (x ∷ take k es) ≡ 1 + stands_in c (take k es) =
+    sum_by-cons (λ (e : Entry). if c == e.class then 1 else 0) x (take k es) ∙ ap (λ (t : Bool). (if t then 1 else 0) + stands_in c (take k es))
+    here in
     let before : one_if (nat_lt 0 (suc k)) ≡ 1 = ap one_if (lt-ltb 0 (suc k) (omega arith)) in
     (omega (arith, count, none, split, before), omega (arith, none, split, before))
 once-before c (x ∷ es) (suc i) zero e d at name =
@@ -169,7 +173,9 @@ once-before c (x ∷ es) (suc i) zero e d at name =
 once-before c (x ∷ es) (suc i) (suc k) e d at name =
     let rest = once-before c es i k e d.1 at name in
     let far : eqb c x.class ≡ false = not-here es i d.0 at in
-    let count : stands_in c (x ∷ take k es) ≡ stands_in c (take k es) = sum_by-cons (λ (e : Entry). if c == e.class then 1 else 0) x (take k es) ∙ ap (λ (t : Bool). (if t then 1 else 0) + stands_in c (take k es)) far ∙ omega arith in
+    let count : stands_in c (x ∷ take k es) ≡ stands_in c (take k es) =
+    sum_by-cons (λ (e : Entry). if c == e.class then 1 else 0) x (take k es) ∙ ap (λ (t : Bool). (if t then 1 else 0) + stands_in c (take k es))
+    far ∙ omega arith in
     let same : nat_lt (suc i) (suc k) ≡ nat_lt i k = same-test i k in
     (omega (arith, count, rest.0, ap one_if same), let r = rest.1 in omega (arith, r, ap one_if same))
   where

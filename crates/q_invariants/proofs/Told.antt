@@ -34,7 +34,8 @@ pub noted-history : (m notes : List Note) → noted history m notes ≡ m ++ not
 noted-history m [] = sym (append-nil m)
 noted-history m (n ∷ notes) = noted-history (m ++ n ∷ []) notes ∙ append_assoc m (n ∷ []) notes
 
-pub counted-noted : (m notes : List Note) (waiting waiting_after held held_after : List Descriptor) → AreCounted m waiting held → IsTold notes waiting waiting_after held held_after → AreCounted (noted history m notes) waiting_after held_after
+pub counted-noted : (m notes : List Note) (waiting waiting_after held held_after : List Descriptor) → AreCounted m waiting held
+    → IsTold notes waiting waiting_after held held_after → AreCounted (noted history m notes) waiting_after held_after
 counted-noted m notes waiting waiting_after held held_after c t = subst (λ h. AreCounted h waiting_after held_after) (sym (noted-history m notes)) (record {
   conserved = λ w. omega (arith, c.conserved w, t.conserved w, arrived-append w m notes, sent-append w m notes, lost-append w m notes);
   marks = λ w. omega (arith, c.marks w, t.marks w, marked-append w m notes, sent-append w m notes, dropped-append w m notes);
@@ -55,8 +56,11 @@ booked-counted none (more own notes below others) c h = absurd h
 booked-counted (more own m below others) none c h = absurd h
 booked-counted (more own m below others) (more own_after notes below_after others_after) c h =
     let below_is : (A : Type 0) (f : Own → List A → A) → each f (each_booked history below below_after) ≡ each f below_after = λ A f. each-booked history f below below_after h.2 in
-    let here = counted-noted m notes (beneath_own own (each beneath_own below)) (beneath_own own_after (each beneath_own below_after)) (held_own own (each held_own below)) (held_own own_after (each held_own below_after)) c.0 h.0 in (
-      subst (λ bs. AreCounted (noted history m notes) (beneath_own own_after bs) (held_own own_after (each held_own (each_booked history below below_after)))) (sym (below_is (List Descriptor) beneath_own))
+    let here =
+    counted-noted m notes (beneath_own own (each beneath_own below)) (beneath_own own_after (each beneath_own below_after))
+    (held_own own (each held_own below)) (held_own own_after (each held_own below_after)) c.0 h.0 in (
+      subst (λ bs. AreCounted (noted history m notes) (beneath_own own_after bs)
+          (held_own own_after (each held_own (each_booked history below below_after)))) (sym (below_is (List Descriptor) beneath_own))
           (subst (λ hs. AreCounted (noted history m notes) (beneath_own own_after (each beneath_own below_after)) (held_own own_after hs)) (sym (below_is (List Descriptor) held_own)) here),
       booked-counted below below_after c.1 h.2,
       booked-counted others others_after c.2 h.3,
@@ -79,8 +83,10 @@ told-memory f none none h = tt
 told-memory f none (more own notes below others) h = absurd h
 told-memory f (more own m below others) none h = absurd h
 told-memory f (more own m below others) (more own_after notes below_after others_after) h = (
-  subst (λ bs. IsTold notes (beneath_own own bs) (beneath_own own_after (each beneath_own below_after)) (held_own own (each held_own below)) (held_own own_after (each held_own below_after))) (each-each_memory beneath_own f below)
-      (subst (λ hs. IsTold notes (beneath_own own (each beneath_own (each_memory f below))) (beneath_own own_after (each beneath_own below_after)) (held_own own hs) (held_own own_after (each held_own below_after))) (each-each_memory held_own f below) h.0),
+  subst (λ bs. IsTold notes (beneath_own own bs) (beneath_own own_after (each beneath_own below_after)) (held_own own (each held_own below))
+      (held_own own_after (each held_own below_after))) (each-each_memory beneath_own f below)
+      (subst (λ hs. IsTold notes (beneath_own own (each beneath_own (each_memory f below))) (beneath_own own_after (each beneath_own below_after))
+      (held_own own hs) (held_own own_after (each held_own below_after))) (each-each_memory held_own f below) h.0),
   h.1,
   told-memory f below below_after h.2,
   told-memory f others others_after h.3,

@@ -45,10 +45,13 @@ through-ends below i e = by (slice_get below i) e
     by None e = none-some NoClass (sym (ap (λ (r : Route). r.refusal) e))
     by (Some r) e = nil-cons i r.path (sym (ap (λ (r : Route). r.path) e))
 
-through-goes : (below : List Route) (k i : ℕ) (path : List ℕ) (refusal : Option Cause) → through below k ≡ record { path = i ∷ path; refusal = refusal } → slice_get below i ≡ Some (record { path = path; refusal = refusal })
+through-goes : (below : List Route) (k i : ℕ) (path : List ℕ) (refusal : Option Cause)
+    → through below k ≡ record { path = i ∷ path; refusal = refusal } → slice_get below i ≡ Some (record { path = path; refusal = refusal })
 through-goes below k i path refusal e = by (slice_get below k) refl e
   where
-    by : (o : Option Route) → slice_get below k ≡ o → option_map_or (λ (r : Route). record r { path = k ∷ r.path }) o (refused NoClass) ≡ record { path = i ∷ path; refusal = refusal } → slice_get below i ≡ Some (record { path = path; refusal = refusal })
+    by : (o : Option Route) → slice_get below k ≡ o
+        → option_map_or (λ (r : Route). record r { path = k ∷ r.path }) o (refused NoClass) ≡ record { path = i ∷ path; refusal = refusal }
+        → slice_get below i ≡ Some (record { path = path; refusal = refusal })
     by None h e = absurd (nil-cons i path (ap (λ (r : Route). r.path) e))
     by (Some r) h e =
         let steps : k ∷ r.path ≡ i ∷ path = ap (λ (r : Route). r.path) e in
@@ -104,7 +107,9 @@ module _ (p : Descriptor) (own : Own) (below : List Route) where
       found None e = refused-goes NoClass i path refusal e
       found (Some k) e = through-goes below k i path refusal e
 
-      by : (o : Option ℕ) → ◌≡◌ {A = Route} (elim o [ None ↦ refused NoClass | Some minor ↦ option_map_or (through below) (class_at minor s) (refused NoClass) ]) (record { path = i ∷ path; refusal = refusal })
+      by : (o : Option ℕ)
+          → ◌≡◌ {A = Route} (elim o [ None ↦ refused NoClass | Some minor ↦ option_map_or (through below) (class_at minor s) (refused NoClass) ])
+          (record { path = i ∷ path; refusal = refusal })
           → slice_get below i ≡ Some (record { path = path; refusal = refusal })
       by None e = refused-goes NoClass i path refusal e
       by (Some minor) e = found (class_at minor s) e

@@ -138,7 +138,8 @@ module _ (now : ℕ) (n after : Node (List Note)) (s t : Schedule) (is : n.own.d
       by u ws (inl h) = (same-all s u (ap (λ (x : Schedule). x.active) h.same)).behind
       by u ws (inr h) = served-behind u ws h.how
 
-wakes-behind : (major : ℕ) (d : DeviceState (List Note)) (e : Event) (n after : Node (List Note)) (s t : Schedule) → IsKept d → IsEvent e → qdisc major d ≡ Some n → qdisc major (step history d e).device ≡ Some after
+wakes-behind : (major : ℕ) (d : DeviceState (List Note)) (e : Event) (n after : Node (List Note)) (s t : Schedule) → IsKept d → IsEvent e
+    → qdisc major d ≡ Some n → qdisc major (step history d e).device ≡ Some after
     → n.own.discipline ≡ Drr s → after.own.discipline ≡ Drr t → WakesBehind s t
 wakes-behind major d e n after s t kept range there later is now_is = by e now_is (becomes major d e n after kept range there later)
   where
@@ -148,7 +149,9 @@ wakes-behind major d e n after s t kept range there later is now_is = by e now_i
     by : (e : Event) → after.own.discipline ≡ Drr t → Becomes (step history d e).device.clock e n after → WakesBehind s t
     by (event.Arrive p moment) now_is h = put-behind (step history d (event.Arrive p moment)).device.clock n after s t is now_is lawful p h
     by (event.Poll moment) now_is h = asked-behind (step history d (event.Poll moment)).device.clock n after s t is now_is lawful h
-    by (event.Command c moment) now_is (inl same) = stayed-behind (step history d (event.Command c moment)).device.clock n after s t is now_is lawful (ap (λ (k : Node (List Note)). k.own.discipline) same)
+    by (event.Command c moment) now_is (inl same) =
+        stayed-behind (step history d (event.Command c moment)).device.clock n after s t is now_is lawful
+        (ap (λ (k : Node (List Note)). k.own.discipline) same)
     by (event.Command c moment) now_is (inr edit) = edited-behind (step history d (event.Command c moment)).device.clock n after s t is now_is lawful edit
 
 -- ---- one event
@@ -167,7 +170,8 @@ module _ (major i quantum : ℕ) where
   abbrev IsCalmAt : ClassAt → Type 0
   IsCalmAt x = is_active i x.schedule.active ≡ true → IsCalm i quantum x.schedule.active
 
-  calm-step : (d : DeviceState (List Note)) (e : Event) (x y : ClassAt) → IsKept d → IsEvent e → IsKept (step history d e).device → class_in major i d ≡ Some x → class_in major i (step history d e).device ≡ Some y
+  calm-step : (d : DeviceState (List Note)) (e : Event) (x y : ClassAt) → IsKept d → IsEvent e → IsKept (step history d e).device
+      → class_in major i d ≡ Some x → class_in major i (step history d e).device ≡ Some y
       → quantum_of i x.schedule.classes ≡ quantum → quantum_of i y.schedule.classes ≡ quantum → IsCalmAt x → IsCalmAt y
   calm-step d e x y kept range kept_next is at same_x same_y calm active j apart front =
       let next : DeviceState (List Note) = (step history d e).device in
@@ -242,5 +246,7 @@ classes-are-calm settings range before since major i quantum first last all_befo
     let law = drr-lawful major start a.node first.schedule kept a.there a.discipline in
     let asleep : is_active i first.schedule.active ≡ false =
     active-of (λ c. is_active c first.schedule.active) first.schedule.classes (children a.node) i first.child law.exact a.child ∙ ap not empty in
-    let m = moves (IsClass major i quantum) (Moves major i quantum) (still major i quantum) (one major i quantum) (more major i quantum) settings before since range all_before all_since there first last is at in
+    let m =
+    moves (IsClass major i quantum) (Moves major i quantum) (still major i quantum) (one major i quantum) (more major i quantum) settings before
+    since range all_before all_since there first last is at in
     m (λ active. absurd (false≢true (sym asleep ∙ active))) (backlogged-active major i end last kept_last (class-node major i end last at) queued)

@@ -53,7 +53,8 @@ module _ (major i j quantum mtu : ℕ) (apart : i ≢ j) where
   more : (a b c : DeviceState (List Note)) → Stays a → Stays b → Moves a b → Moves b c → Moves a c
   more a b c h k f g x z e at = more-flow-against i j mtu quantum x k.0.fq z (f x k.0.fq e k.0.there) (g k.0.fq z k.0.there at)
 
-  over : (settings : DeviceSettings) (before during : List Event) → IsInRange settings → All IsEvent before → All IsEvent during → settings.mtu ≡ mtu → Throughout (IsBackloggedFlow major i quantum) settings before during
+  over : (settings : DeviceSettings) (before during : List Event) → IsInRange settings → All IsEvent before → All IsEvent during → settings.mtu ≡ mtu
+      → Throughout (IsBackloggedFlow major i quantum) settings before during
       → Moves (device_after settings before) (device_after settings (before ++ during))
   over settings before during range all_before all_during same stays =
       moves Stays Moves still one more settings before during range all_before all_during (λ seen later e. (stays seen later e, mtu-stays settings (before ++ seen) ∙ same))
@@ -81,7 +82,8 @@ flow-against-any settings range before during major i j quantum first last apart
       in_new = λ z e. omega (arith, within, lists-new i j quantum settings.mtu false first.state.new_flows first.state.old_flows z e);
     }
   where
-    most : 1 ≤ quantum → (o : Option ℤ) → credits_of j (lists_of first.state) ≡ o → in_lists i j quantum settings.mtu false first.state.new_flows first.state.old_flows ≤ quantum + reach settings.mtu (unwrap_or o (pos 0))
+    most : 1 ≤ quantum → (o : Option ℤ) → credits_of j (lists_of first.state) ≡ o
+        → in_lists i j quantum settings.mtu false first.state.new_flows first.state.old_flows ≤ quantum + reach settings.mtu (unwrap_or o (pos 0))
     most positive (Some z) e =
         omega (arith, lists-bound i j quantum settings.mtu positive false first.state.new_flows first.state.old_flows, reach-listed i j quantum settings.mtu (lists_of first.state) z e)
     most positive None e = omega (arith, lists-none i j quantum settings.mtu false first.state.new_flows first.state.old_flows (unlisted j (lists_of first.state) e))
@@ -96,7 +98,8 @@ pub no-flow-starves : (settings : DeviceSettings) → IsInRange settings → NoF
 no-flow-starves settings range before e during major i j quantum first next last apart all_before event all_during stays is then at same =
     let start : DeviceState (List Note) = device_after settings before in
     let kept : IsKept start = replay-kept settings before range all_before in
-    let stepped : device_after settings (before ++ e ∷ []) ≡ (step history start e).device = ap (λ (r : Replay (List Note)). r.device) (replay_from-append history (nothing_yet history settings) before e) in
+    let stepped : device_after settings (before ++ e ∷ []) ≡ (step history start e).device =
+    ap (λ (r : Replay (List Note)). r.device) (replay_from-append history (nothing_yet history settings) before e) in
     let whole : (seen : List Event) → before ++ (e ∷ seen) ≡ (before ++ e ∷ []) ++ seen = λ seen. sym (append_assoc before (e ∷ []) seen) in
     let later : Throughout (IsBackloggedFlow major i quantum) settings (before ++ e ∷ []) during =
     λ seen later together. subst (λ (es : List Event). IsBackloggedFlow major i quantum (device_after settings es)) (whole seen) (stays (e ∷ seen) later (ap (λ es. e ∷ es) together)) in
@@ -112,7 +115,8 @@ no-flow-starves settings range before e during major i j quantum first next last
     (flow-bounded major i j quantum start e first next apart kept event is (ap (fq_in major) (sym stepped) ∙ then) busy quantum_first quantum_next) in
     let m = over major i j quantum settings.mtu apart settings (before ++ e ∷ []) during range (All-push IsEvent before e all_before event) all_during refl later next last then
     (ap (λ (es : List Event). fq_in major (device_after settings es)) (sym (whole during)) ∙ at) in
-    let grants : flow_grants_to i next.noted + flow_grants_to i m.notes ≡ flow_grants_to i next.noted = sym (sum_by-append (flow_granted_by i) next.noted m.notes) ∙ ap (flow_grants_to i) (sym m.is) ∙ same in
+    let grants : flow_grants_to i next.noted + flow_grants_to i m.notes ≡ flow_grants_to i next.noted =
+    sym (sum_by-append (flow_granted_by i) next.noted m.notes) ∙ ap (flow_grants_to i) (sym m.is) ∙ same in
     let no_grants : flow_grants_to i m.notes ≡ 0 = omega (arith, grants) in
     let none : flow_grants_to i m.notes * (2 * quantum - 1) ≡ 0 = ap (λ n. n * (2 * quantum - 1)) no_grants ∙ omega arith in
     let gave_first : bytes_given j next.noted ≡ bytes_given j first.noted + bytes_given j b.notes = ap (bytes_given j) b.is ∙ sum_by-append (given_by j) first.noted b.notes in

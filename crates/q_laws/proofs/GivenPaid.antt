@@ -54,7 +54,15 @@ module _ (now : ℕ) (own : Own) (below : List Asked) (b : TokenBucket) (limit :
 
   spends-pays : (a : Asked) (p : Descriptor) → AreRisen a.rises → PaysShown (spends own below b limit now a p)
   spends-pays a p rises =
-      omega (arith, sum-risen spent_by past-spent a.rises rises, sum_by-append spent_by a.rises (Spent p.len ∷ []), sum_by-append spent_by (a.rises ++ Spent p.len ∷ []) (Sent p ∷ []), sum_by-cons spent_by (Spent p.len) [], sum_by-cons spent_by (Sent p) [])
+      omega (
+        arith,
+        sum-risen spent_by past-spent a.rises rises,
+        sum_by-append spent_by a.rises (Spent p.len ∷ []),
+        sum_by-append spent_by
+            (a.rises ++ Spent p.len ∷ []) (Sent p ∷ []),
+        sum_by-cons spent_by (Spent p.len) [],
+        sum_by-cons spent_by (Sent p) [],
+      )
 
   child-pays : (a : Asked) → AreRisen a.rises → PaysShown (ask_child now own below b limit a)
   child-pays a rises = by a.shown
@@ -118,7 +126,8 @@ module _ (major rate burst : ℕ) where
   more d e during end kept range h k on =
       by e range k on (becomes major d e d.tree.root (step history d e).device.tree.root kept range (root-at major d h.0.root) (root-at major (step history d e).device k.0.root))
     where
-      by : (e : Event) → IsEvent e → Holds (step history d e).device → Moves (step history d e).device during end → Becomes (step history d e).device.clock e d.tree.root (step history d e).device.tree.root
+      by : (e : Event) → IsEvent e → Holds (step history d e).device → Moves (step history d e).device during end
+          → Becomes (step history d e).device.clock e d.tree.root (step history d e).device.tree.root
           → Moves d (e ∷ during) end
       by (event.Arrive p moment) range k on put =
           let next : DeviceState (List Note) = (step history d (event.Arrive p moment)).device in

@@ -26,7 +26,9 @@ use Rattle.q_laws.proofs.StillHeld.{still-held-low, still-within}
 -- a node that holds a packet shows it
 held-shown : (t : ℕ) (n : Node (List Note)) (p : Descriptor) → n.own.held ≡ Some p → length_held (ask t (shape n)).shown ≡ length_held n.own.held
 held-shown t n p e =
-    ap (λ (o : Option Descriptor). length_held (option_map_or (holding n.own (each (ask_own t) (shape n).below)) o (ask_discipline t n.own (each (ask_own t) (shape n).below) n.own.discipline)).shown) e
+    ap (λ (o : Option Descriptor). length_held
+    (option_map_or (holding n.own (each (ask_own t) (shape n).below)) o
+    (ask_discipline t n.own (each (ask_own t) (shape n).below) n.own.discipline)).shown) e
     ∙ sym (ap length_held e)
 
 -- a drr that holds one is next below the root where it is the only child

@@ -69,7 +69,9 @@ module _ (now : ℕ) (handle : Option ℕ) (filters : List Filter) (since : ℕ)
       may a p true = refl
       may a p false = refl
 
-      child : (a : Asked) (o : Option Descriptor) → IsFree (option_map_or (λ (p : Descriptor). if allows b now p.len then spends own below b limit now a p else waits own below a) o (waits own below a))
+      child : (a : Asked) (o : Option Descriptor)
+          → IsFree (option_map_or (λ (p : Descriptor). if allows b now p.len then spends own below b limit now a p else waits own below a) o
+          (waits own below a))
       child a None = refl
       child a (Some p) = may a p (allows b now p.len)
 
@@ -111,7 +113,8 @@ module _ (now : ℕ) (handle : Option ℕ) (filters : List Filter) (since : ℕ)
       let chosen = selected s in
       let sent = sent_from now chosen in
       let own : Own = node (FqCodel s) None in
-      free-dequeued own below (record own { discipline = FqCodel (after_sending now chosen) }) (befores below) (losses_of CoDel (packets_of (dropped_from now chosen)) ++ marks_of sent) (flow_notes s chosen sent)
+      free-dequeued own below (record own { discipline = FqCodel (after_sending now chosen) }) (befores below)
+      (losses_of CoDel (packets_of (dropped_from now chosen)) ++ marks_of sent) (flow_notes s chosen sent)
       (option_map (λ (t : Taken). t.packet) sent) (option_map_or (λ (p : Stamped). p.at) (head_sent now chosen) 0)
 
 -- ---- an arrival
@@ -137,7 +140,8 @@ puts-held now p (Some r) s = put-held now p r.path r.refusal s
 
 -- ---- a command
 
-edit-held : (notes : List Note) (f : Node (List Note) → Node (List Note)) (path : List ℕ) (n : Node (List Note)) → (path ≡ [] → (f n).own.held ≡ None) → n.own.held ≡ None → (edited_at history notes f path n).own.held ≡ None
+edit-held : (notes : List Note) (f : Node (List Note) → Node (List Note)) (path : List ℕ) (n : Node (List Note)) → (path ≡ [] → (f n).own.held ≡ None)
+    → n.own.held ≡ None → (edited_at history notes f path n).own.held ≡ None
 edit-held notes f [] n here e = here refl
 edit-held notes f (i ∷ path) n here e = by (slice_get (children n) i)
   where

@@ -65,7 +65,8 @@ set-line (d ∷ cs) c m e = refl
 
 module _ (mtu now : ℕ) (p : Descriptor) (short : p.len ≤ mtu) where
   -- what a fifo takes is within its limit
-  taken-within : (limit : Limit) (queue : List Stamped) → All (λ (q : Descriptor). IsWithin 1 mtu q.len) (packets_of queue) → takes limit queue p.len ≡ true → bytes_in (packets_of queue) + p.len ≤ most_bytes mtu limit
+  taken-within : (limit : Limit) (queue : List Stamped) → All (λ (q : Descriptor). IsWithin 1 mtu q.len) (packets_of queue)
+      → takes limit queue p.len ≡ true → bytes_in (packets_of queue) + p.len ≤ most_bytes mtu limit
   taken-within (Packets most) queue all e =
       let few : count queue < most = ltb-true (count queue) most e in
       let bytes = most-of mtu (packets_of queue) all in
@@ -98,7 +99,9 @@ module _ (mtu now : ℕ) (p : Descriptor) (short : p.len ≤ mtu) where
             let own : Own = record (node (Fifo limit queue) None).own { discipline = Fifo limit (queue ++ packet ∷ []) } in
             record {
               last = line-worked own (put_here now p None (node (Fifo limit queue) None)).node.memory (map quiet (nodes_in below)) ∙ map-append (λ (s : Stamped). s.packet) queue (packet ∷ []);
-              within = taken-within limit queue (All-front (λ (q : Descriptor). IsWithin 1 mtu q.len) (packets_of queue) (flat_map (λ (ps : List Descriptor). ps) (each beneath_own below)) h.0.lengths) is;
+              within =
+                  taken-within limit queue (All-front (λ (q : Descriptor). IsWithin 1 mtu q.len) (packets_of queue)
+                  (flat_map (λ (ps : List Descriptor). ps) (each beneath_own below)) h.0.lengths) is;
             }
 
     here-puts : (held : Option Descriptor) (d : Discipline) (limit : Limit) → limit_of d ≡ Some limit → IsLawfulRoot mtu now (node d held) → way p (node d held).own ways d ≡ ends
@@ -136,13 +139,16 @@ module _ (mtu now : ℕ) (p : Descriptor) (short : p.len ≤ mtu) where
   lane-puts (i ∷ path) s limit h is e = along (is-first i path s limit is) (route-goes p s i path None e) (λ c law rest goes. lane-puts path c limit law rest goes)
     where
       along : IsFirst i path s limit → IsOn p s i path None
-          → ((c : Shape) → IsLawfulRoot mtu now c → limit_along path c ≡ Some limit → route p c ≡ record { path = path; refusal = None } → IsPutLast (most_bytes mtu limit) p (line c) (line (put_along now p None path c).node))
+          → ((c : Shape) → IsLawfulRoot mtu now c → limit_along path c ≡ Some limit → route p c ≡ record { path = path; refusal = None }
+          → IsPutLast (most_bytes mtu limit) p (line c) (line (put_along now p None path c).node))
           → IsPutLast (most_bytes mtu limit) p (line s) (line (put_along now p None (i ∷ path) s).node)
       along f on beneath =
           let there : slice_get (children s) 0 ≡ Some on.child = subst (λ (k : ℕ). slice_get (children s) k ≡ Some on.child) f.first on.there in
           let rest : limit_along path on.child ≡ Some limit = sym (ap (option_and_then (limit_along path)) on.there) ∙ f.rest in
           let put = beneath on.child (child-lawful mtu now s.below i on.child h.1 on.there) rest on.way in
-          subst (λ (o : Option Shape). IsPutLast (most_bytes mtu limit) p (line s) (line (option_map_or (λ (child : Shape). put_beneath p i s (put_along now p None path child)) o (put_here now p None s)).node)) (sym on.there)
+          subst (λ (o : Option Shape). IsPutLast (most_bytes mtu limit) p (line s)
+          (line (option_map_or (λ (child : Shape). put_beneath p i s (put_along now p None path child)) o (put_here now p None s)).node))
+          (sym on.there)
           (subst (λ (k : ℕ). IsPutLast (most_bytes mtu limit) p (line s) (line (put_beneath p k s (put_along now p None path on.child)).node)) (sym f.first)
           (prio-puts s.own.handle s.own.filters s.own.since s.below (most_bytes mtu limit) path s.own.held s.own.discipline on.child f.prio there h put))
 
@@ -157,7 +163,8 @@ module _ (mtu now : ℕ) (p : Descriptor) (short : p.len ≤ mtu) where
           ap (λ (d : Discipline). option_to_list s.own.held ++ line_in d (each line_own s.below)) is
           ∙ ap (λ (o : Option Descriptor). option_to_list o ++ unwrap_or (slice_get (each line_own s.below) 0) []) none ∙ first-line s c there
 
-      beneath : IsPutLast (most_bytes mtu limit) p (line c) (line (put_along now p None path c).node) → IsPutLast (most_bytes mtu limit) p (line s) (line (put_beneath p 0 s (put_along now p None path c)).node)
+      beneath : IsPutLast (most_bytes mtu limit) p (line c) (line (put_along now p None path c).node)
+          → IsPutLast (most_bytes mtu limit) p (line s) (line (put_beneath p 0 s (put_along now p None path c)).node)
       beneath on =
           let m : Worked = (put_along now p None path c).node in
           let lines : List (List Descriptor) = map line (set (map quiet (children s)) 0 m) in
@@ -175,4 +182,6 @@ module _ (mtu now : ℕ) (p : Descriptor) (short : p.len ≤ mtu) where
           let same : on.child ≡ c = same_Some on.child c (sym on.there ∙ there) in
           let goes : route p c ≡ record { path = path; refusal = None } = ap (λ (x : Shape). route p x) (sym same) ∙ on.way in
           let put = lane-puts path c limit (child-lawful mtu now s.below 0 c h.1 there) rest goes in
-          subst (λ (o : Option Shape). IsPutLast (most_bytes mtu limit) p (line s) (line (option_map_or (λ (child : Shape). put_beneath p 0 s (put_along now p None path child)) o (put_here now p None s)).node)) (sym there) (beneath put)
+          subst (λ (o : Option Shape). IsPutLast (most_bytes mtu limit) p (line s)
+          (line (option_map_or (λ (child : Shape). put_beneath p 0 s (put_along now p None path child)) o (put_here now p None s)).node))
+          (sym there) (beneath put)

@@ -58,7 +58,8 @@ drr-node major classes d e = option_and_then_some (λ (n : Node (List Note)). cl
     by n (Tbf bucket limit) is there at = absurd (none-some classes at)
     by n (FqCodel s) is there at = absurd (none-some classes at)
 
-pub is-class : (major : ℕ) (classes : List Class) (d : DeviceState (List Note)) → IsKept d → HasClasses major classes d → (c quantum : ℕ) → has_class c classes ≡ true → quantum_of c classes ≡ quantum → IsClass major c quantum d
+pub is-class : (major : ℕ) (classes : List Class) (d : DeviceState (List Note)) → IsKept d → HasClasses major classes d → (c quantum : ℕ)
+    → has_class c classes ≡ true → quantum_of c classes ≡ quantum → IsClass major c quantum d
 is-class major classes d kept e c quantum has is =
     let at = drr-node major classes d e in
     let s : Schedule = at.schedule in
@@ -98,7 +99,11 @@ own-quanta (k ∷ classes) differ =
     behind (c ∷ cs) h =
         let first : IsOwn classes c = All-head (IsOwn classes) c cs h in
         let far : eqb c.name k.name ≡ false = other c first.0 in
-        All-cons (IsOwn (k ∷ classes)) c cs (or_right (eqb c.name k.name) (has_class c.name classes) first.0, quantum_behind c.name k classes far ∙ first.1) (behind cs (All-tail (IsOwn classes) c cs h))
+        All-cons (IsOwn (k ∷ classes)) c cs (
+          or_right (eqb c.name k.name) (has_class c.name classes) first.0,
+          quantum_behind c.name k classes far ∙
+              first.1,
+        ) (behind cs (All-tail (IsOwn classes) c cs h))
 
 -- ---- the sum
 
@@ -201,7 +206,9 @@ stands-among major i quantum classes d e h =
     let node = class-node major i d h.class h.there in
     let drr = drr-node major classes d e in
     let same : h.class.schedule.classes ≡ classes =
-    classes-are h.class.schedule drr.schedule (sym node.discipline ∙ ap (λ (n : Node (List Note)). n.own.discipline) (same_Some node.node drr.node (sym node.there ∙ drr.there)) ∙ drr.discipline) ∙ drr.same in
+    classes-are h.class.schedule drr.schedule
+    (sym node.discipline ∙ ap (λ (n : Node (List Note)). n.own.discipline) (same_Some node.node drr.node (sym node.there ∙ drr.there))
+    ∙ drr.discipline) ∙ drr.same in
     record {
       has = ap (has_class i) (sym same) ∙ child-has i h.class.schedule.classes (children node.node) h.class.child node.child;
       own = ap (quantum_of i) (sym same) ∙ h.same_quantum;
@@ -210,7 +217,8 @@ stands-among major i quantum classes d e h =
     classes-are : (s t : Schedule) → ◌≡◌ {A = Discipline} (Drr s) (Drr t) → s.classes ≡ t.classes
     classes-are s t e = cc
 
-module _ (settings : DeviceSettings) (range : IsInRange settings) (before during : List Event) (all_before : All IsEvent before) (all_during : All IsEvent during) (major i quantum : ℕ) (classes : List Class)
+module _ (settings : DeviceSettings) (range : IsInRange settings) (before during : List Event) (all_before : All IsEvent before)
+    (all_during : All IsEvent during) (major i quantum : ℕ) (classes : List Class)
     (there : Throughout (HasClasses major classes) settings before during) (stays : Throughout (IsBackloggedClass major i quantum) settings before during) where
   abbrev sent : ℕ → ℕ
   sent c = class_sent major c (device_after settings before) during
@@ -233,7 +241,8 @@ module _ (settings : DeviceSettings) (range : IsInRange settings) (before during
   quanta-are [] h = All-nil (λ (c : Class). c.name ≡ i → c.quantum ≡ quantum)
   quanta-are (c ∷ cs) h =
       let own = stands.own in
-      All-cons (λ (c : Class). c.name ≡ i → c.quantum ≡ quantum) c cs (λ e. sym (All-head (IsOwn classes) c cs h).1 ∙ ap (λ m. quantum_of m classes) e ∙ own) (quanta-are cs (All-tail (IsOwn classes) c cs h))
+      All-cons (λ (c : Class). c.name ≡ i → c.quantum ≡ quantum) c cs
+      (λ e. sym (All-head (IsOwn classes) c cs h).1 ∙ ap (λ m. quantum_of m classes) e ∙ own) (quanta-are cs (All-tail (IsOwn classes) c cs h))
 
   -- Where so many bytes of class i count, beside which each other class has what is within them.
   module _ (own k : ℕ) where
@@ -249,7 +258,8 @@ module _ (settings : DeviceSettings) (range : IsInRange settings) (before during
     its-part one =
         let p : ℕ = settings.mtu - 1 in
         let o = others-within i quantum (sent i) own k p (λ (c : Class). sent c.name) classes (each one classes owned) (λ c e. ap sent e) (quanta-are classes owned) stands.has in
-        part-is i quantum (sent i) own k p (λ (c : Class). sent c.name) o.total o.number o.quanta (all_sent major classes (device_after settings before) during) (length classes) (quanta_of classes) o.all o.size
+        part-is i quantum (sent i) own k p (λ (c : Class). sent c.name) o.total o.number o.quanta
+        (all_sent major classes (device_after settings before) during) (length classes) (quanta_of classes) o.all o.size
         o.whole o.within
 
     -- with class i itself, of which no more than two products lack

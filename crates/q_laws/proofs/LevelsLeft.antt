@@ -78,7 +78,8 @@ module _ (now : ℕ) (b : TokenBucket) where
         let st = put-stage now p put.refusal (shape n) put.worked put.way in
         as-was c paid (same-bucket c b most limit (sym now_is ∙ ap (λ (k : Node (List Note)). k.own.discipline) (sym put.is) ∙ by st.discipline))
       where
-        by : (put.worked.own.discipline ≡ n.own.discipline) ⊎ (put.worked.own.discipline ≡ queued_in p now n.own.discipline) ⊎ ((i : ℕ) × (emptied : Bool) × (put.worked.own.discipline ≡ settled_in i emptied n.own.discipline))
+        by : (put.worked.own.discipline ≡ n.own.discipline) ⊎ (put.worked.own.discipline ≡ queued_in p now n.own.discipline) ⊎
+            ((i : ℕ) × (emptied : Bool) × (put.worked.own.discipline ≡ settled_in i emptied n.own.discipline))
             → put.worked.own.discipline ≡ Tbf b limit
         by (inl e) = e ∙ is
         by (inr (inl e)) = e ∙ ap (queued_in p now) is
@@ -100,7 +101,9 @@ module _ (now : ℕ) (b : TokenBucket) where
             let d : r.own.discipline ≡ Tbf c most = ap (λ (k : Node (List Note)). k.own.discipline) (sym r.is) ∙ now_is in
             changed (subst (λ (x : Discipline). IsForm now (Tbf b limit) (children n) x r.below) d (subst (λ (x : Discipline). IsForm now x (children n) r.own.discipline r.below) is r.form.form))
         by (inr (inr a)) =
-            let d : after.own.discipline ≡ Tbf b limit = ap (λ (k : Node (List Note)). k.own.discipline) a.is ∙ ap (settled_in a.place (is_empty (edited_at history (losses_of Purged edit.purged) edit.f a.path a.child))) is in
+            let d : after.own.discipline ≡ Tbf b limit =
+            ap (λ (k : Node (List Note)). k.own.discipline) a.is ∙ ap
+            (settled_in a.place (is_empty (edited_at history (losses_of Purged edit.purged) edit.f a.path a.child))) is in
             as-was c paid (same-bucket c b most limit (sym now_is ∙ d))
 
     event-left : (e : Event) (notes : List Note) → after.memory ≡ n.memory ++ notes → Becomes now e n after → Leaves now b c (bytes_spent notes)
@@ -110,7 +113,8 @@ module _ (now : ℕ) (b : TokenBucket) where
     event-left (event.Command command moment) notes memory (inr edit) = edited-left (bytes_spent notes) edit
 
 -- what an event leaves of a tbf that is there before it and after it
-pub level-left : (major : ℕ) (d : DeviceState (List Note)) (e : Event) (x y : TbfAt) (kept : IsKept d) (happens : IsEvent e) (is : tbf_in major d ≡ Some x) (at : tbf_in major (step history d e).device ≡ Some y)
+pub level-left : (major : ℕ) (d : DeviceState (List Note)) (e : Event) (x y : TbfAt) (kept : IsKept d) (happens : IsEvent e)
+    (is : tbf_in major d ≡ Some x) (at : tbf_in major (step history d e).device ≡ Some y)
     (notes : List Note) → y.noted ≡ x.noted ++ notes → Leaves (step history d e).device.clock x.bucket y.bucket (bytes_spent notes)
 level-left major d e x y kept happens is at notes noted =
     let t = tbf-node major d x is in

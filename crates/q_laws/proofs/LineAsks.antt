@@ -66,7 +66,8 @@ module _ (now : ℕ) (handle : Option ℕ) (filters : List Filter) (since : ℕ)
   before-lined own lines below h = line-worked own [] (befores below) ∙ ap (line_own own) (lines-befores lines below h)
 
   -- a packet that is held
-  held-lined : (p : Descriptor) (d : Discipline) (lines : List (List Descriptor)) (below : List Asked) → AreLined lines below → IsLined (line_own (node d (Some p)) lines) (holding (node d (Some p)) below p)
+  held-lined : (p : Descriptor) (d : Discipline) (lines : List (List Descriptor)) (below : List Asked) → AreLined lines below
+      → IsLined (line_own (node d (Some p)) lines) (holding (node d (Some p)) below p)
   held-lined p d lines below h =
       let own : Own = node d (Some p) in
       let free : Own = node d None in
@@ -75,7 +76,10 @@ module _ (now : ℕ) (handle : Option ℕ) (filters : List Filter) (since : ℕ)
       record {
         before = same;
         peeked = subst (BeginsWith ls) (sym same) (begins-refl ls);
-        taken = subst (λ (xs : List Descriptor). BeginsWith ls (p ∷ xs)) (sym (line-worked free ((holding own below p).taken.memory) (befores below) ∙ ap (line_own free) (lines-befores lines below h))) (begins-refl ls);
+        taken =
+            subst (λ (xs : List Descriptor). BeginsWith ls (p ∷ xs))
+            (sym (line-worked free ((holding own below p).taken.memory) (befores below) ∙ ap (line_own free) (lines-befores lines below h)))
+            (begins-refl ls);
       }
 
   -- a fifo
@@ -83,7 +87,8 @@ module _ (now : ℕ) (handle : Option ℕ) (filters : List Filter) (since : ℕ)
   queue-lined limit [] = refl
   queue-lined limit (s ∷ queue) = refl
 
-  fifo-lined : (limit : Limit) (queue : List Stamped) (lines : List (List Descriptor)) (below : List Asked) → IsLined (packets_of queue) (ask_discipline now (node (Fifo limit queue) None) below (Fifo limit queue))
+  fifo-lined : (limit : Limit) (queue : List Stamped) (lines : List (List Descriptor)) (below : List Asked)
+      → IsLined (packets_of queue) (ask_discipline now (node (Fifo limit queue) None) below (Fifo limit queue))
   fifo-lined limit queue lines below = record {
     before = refl;
     peeked = begins-refl (packets_of queue);
@@ -134,7 +139,9 @@ module _ (now : ℕ) (handle : Option ℕ) (filters : List Filter) (since : ℕ)
         by None e = begins-nil ls (option_to_list (ask_prio prio (a ∷ below)).shown ++ line (ask_prio prio (a ∷ below)).taken) (none-left e ls refl)
         by (Some p) e =
             let shown : (ask_prio prio (a ∷ below)).shown ≡ a.shown = prio-shown prio (a ∷ below) ∙ ap (λ (o : Option Descriptor). or_else o (first_of below)) e ∙ sym e in
-            let line_is : line (ask_prio prio (a ∷ below)).taken ≡ line a.taken = line-taken ∙ ap (λ (o : Option Descriptor). unwrap_or (slice_get (map line (taken_at (a ∷ below) (gives_at (is_some o) below))) 0) []) e in
+            let line_is : line (ask_prio prio (a ∷ below)).taken ≡ line a.taken =
+            line-taken ∙ ap (λ (o : Option Descriptor). unwrap_or (slice_get (map line (taken_at (a ∷ below) (gives_at (is_some o) below))) 0)
+            []) e in
             subst (BeginsWith ls) (ap₂ (λ (o : Option Descriptor) (xs : List Descriptor). option_to_list o ++ xs) (sym shown) (sym line_is)) h.taken
 
     prio-lined : (lines : List (List Descriptor)) (below : List Asked) → AreLined lines below → IsLined (line_own prio lines) (ask_prio prio below)
@@ -172,7 +179,11 @@ module _ (now : ℕ) (handle : Option ℕ) (filters : List Filter) (since : ℕ)
   own-lined None (Fifo limit queue) lines below other h = (fifo-lined limit queue lines below, fifo-shows limit queue below)
   own-lined None (Prio priomap) lines below other h = (prio-lined priomap lines below h, prio-shows priomap lines below h)
   own-lined None (Tbf b limit) lines below other h = let wrong : true ≡ false = other in cc
-  own-lined None (Drr s) lines below other h = (no-line (Drr s) lines below (ask_drr (node (Drr s) None) below s) refl h (before-is now (node (Drr s) None) below), no-shows [] (ask_drr (node (Drr s) None) below s) refl)
+  own-lined None (Drr s) lines below other h = (
+    no-line (Drr s) lines below (ask_drr (node (Drr s) None) below s) refl h (before-is now (node (Drr s) None) below),
+    no-shows []
+        (ask_drr (node (Drr s) None) below s) refl,
+  )
   own-lined None (FqCodel s) lines below other h =
       (no-line (FqCodel s) lines below (ask_fq_codel now (node (FqCodel s) None) below s) refl h refl, no-shows [] (ask_fq_codel now (node (FqCodel s) None) below s) refl)
 

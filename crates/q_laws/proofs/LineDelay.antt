@@ -54,7 +54,8 @@ next-in-line (l ∷ ls) rest (t ∷ taken) left e less =
     let n = next-in-line ls rest taken left (ap (λ (xs : List Descriptor). drop 1 xs) e) (omega (arith, less, len, first, whole)) in
     record { next = n.next; others = n.others; is = n.is; within = let within = n.within in omega (arith, within, len, first, whole) }
 
-head-shown : (lines : List (List Descriptor)) (below : List Asked) → AreLined lines below → (p : Descriptor) (others : List Descriptor) → unwrap_or (slice_get lines 0) [] ≡ p ∷ others → first_length below ≡ p.len
+head-shown : (lines : List (List Descriptor)) (below : List Asked) → AreLined lines below → (p : Descriptor) (others : List Descriptor)
+    → unwrap_or (slice_get lines 0) [] ≡ p ∷ others → first_length below ≡ p.len
 head-shown [] [] h p others e = let wrong : [] ≡ p ∷ others = e in cc
 head-shown [] (a ∷ below) h p others e = absurd h
 head-shown (ls ∷ lines) [] h p others e = absurd h
@@ -62,11 +63,20 @@ head-shown (ls ∷ lines) (a ∷ below) h p others e = ap length_held (h.1 p oth
 
 -- ---- a line is a part of what is queued
 
-own-within : (own : Own) (lines packets : List (List Descriptor)) → length (unwrap_or (slice_get lines 0) []) ≤ length (flat_map (λ (ps : List Descriptor). ps) packets) → length (line_own own lines) ≤ length (beneath_own own packets)
+own-within : (own : Own) (lines packets : List (List Descriptor))
+    → length (unwrap_or (slice_get lines 0) []) ≤ length (flat_map (λ (ps : List Descriptor). ps) packets)
+    → length (line_own own lines) ≤ length (beneath_own own packets)
 own-within own lines packets h =
     let all : List Descriptor = flat_map (λ (ps : List Descriptor). ps) packets in
     let here = by own.discipline in
-    omega (arith, here, length-append (option_to_list own.held) (line_in own.discipline lines), length-append (option_to_list own.held ++ packets_in own.discipline) all, length-append (option_to_list own.held) (packets_in own.discipline))
+    omega (
+      arith,
+      here,
+      length-append (option_to_list own.held) (line_in own.discipline lines),
+      length-append
+          (option_to_list own.held ++ packets_in own.discipline) all,
+      length-append (option_to_list own.held) (packets_in own.discipline),
+    )
   where
     by : (d : Discipline) → length (line_in d lines) ≤ length (packets_in d) + length (flat_map (λ (ps : List Descriptor). ps) packets)
     by (Fifo limit queue) = omega arith
@@ -132,11 +142,14 @@ lines-leave-in-time settings range before during e link rate burst late first al
         (λ xs ys split. stays xs (ys ++ later) (sym (append_assoc xs ys later) ∙ ap (λ zs. zs ++ later) split ∙ es))
         (keep-front line_below_root (device_after settings before) seen later (subst (KeepLine line_below_root (device_after settings before)) (sym es) keep))
 
-    next : (seen later : List Event) (es : seen ++ later ≡ during) → NextInLine (line_below_root (device_after settings before)) (passes seen later es).taken (line_below_root (device_after settings (before ++ seen)))
+    next : (seen later : List Event) (es : seen ++ later ≡ during)
+        → NextInLine (line_below_root (device_after settings before)) (passes seen later es).taken
+        (line_below_root (device_after settings (before ++ seen)))
     next seen later es =
         let p = passes seen later es in
         let less = waits seen later es in
-        next-in-line (line_below_root (device_after settings before)) p.begins.0 p.taken (line_below_root (device_after settings (before ++ seen))) p.begins.1 (let paid = p.paid in omega (arith, less, paid))
+        next-in-line (line_below_root (device_after settings before)) p.begins.0 p.taken (line_below_root (device_after settings (before ++ seen)))
+        p.begins.1 (let paid = p.paid in omega (arith, less, paid))
 
     left : Throughout (IsLeft link (bytes_in (line_below_root (device_after settings before))) (device_after settings before)) settings before during
     left seen later es t order low =
@@ -177,5 +190,6 @@ limits-are-delays settings range before during e link rate burst late limit all_
     let bytes : ℕ = bytes_in (line_below_root start) in
     let some : 1 ≤ rate = subst (λ n. 1 ≤ n) h.tbf.same_rate (rate-some link start first (replay-kept settings before range all_before) h.tbf.there) in
     let rises = ceil-rises (bytes * units_in_byte - level) (limit * units_in_byte) rate some (omega (arith, within)) in
-    later-still (latest start.clock rate level bytes) (start.clock + div_ceil (limit * units_in_byte) rate) late (device_after settings (before ++ during)) (step history (device_after settings (before ++ during)) e).device
+    later-still (latest start.clock rate level bytes) (start.clock + div_ceil (limit * units_in_byte) rate) late
+    (device_after settings (before ++ during)) (step history (device_after settings (before ++ during)) e).device
     (omega (arith, rises)) (lines-leave-in-time settings range before during e link rate burst late first all_before all_during happens room stays waits keep drained h.tbf.there)

@@ -98,7 +98,8 @@ module _ (link rate burst : ℕ) where
       record { taken = []; begins = begins; paid = omega (arith, before.paid, after.paid, sum, q.spent) }
 
   -- where the root still holds what it held
-  same-held : (d next : DeviceState (List Note)) → Stays d → Stays next → next.tree.root.own.held ≡ d.tree.root.own.held → BeginsWith (line_at_root d) (line_at_root next) → BeginsWith (line_below_root d) (line_below_root next)
+  same-held : (d next : DeviceState (List Note)) → Stays d → Stays next → next.tree.root.own.held ≡ d.tree.root.own.held
+      → BeginsWith (line_at_root d) (line_at_root next) → BeginsWith (line_below_root d) (line_below_root next)
   same-held d next h k held begins =
       let before = root-is d h in
       let after = root-is next k in
@@ -197,7 +198,9 @@ module _ (link rate burst : ℕ) where
           let first : line n ≡ line_below_root d = ap (λ (ns : List (Node (List Note))). unwrap_or (option_map line (slice_get ns 0)) []) (sym only) in
           record {
             taken = t.taken;
-            begins = subst (λ (xs : List Descriptor). BeginsWith xs (t.taken ++ line_below_root next)) first (subst (λ (xs : List Descriptor). BeginsWith (line n) (t.taken ++ xs)) (sym last) t.begins);
+            begins =
+                subst (λ (xs : List Descriptor). BeginsWith xs (t.taken ++ line_below_root next)) first
+                (subst (λ (xs : List Descriptor). BeginsWith (line n) (t.taken ++ xs)) (sym last) t.begins);
             paid = omega (arith, before.paid, after.paid, sum, t.bytes);
           }
 
@@ -224,7 +227,8 @@ module _ (link rate burst : ℕ) where
   event-passes d e kept range h k keep =
       by e range k keep (becomes link d e d.tree.root (step history d e).device.tree.root kept range (root-at link d h.root) (root-at link (step history d e).device k.root))
     where
-      by : (e : Event) → IsEvent e → Stays (step history d e).device → KeepLine line_below_root d (e ∷ []) → Becomes (step history d e).device.clock e d.tree.root (step history d e).device.tree.root → Passes d (step history d e).device
+      by : (e : Event) → IsEvent e → Stays (step history d e).device → KeepLine line_below_root d (e ∷ [])
+          → Becomes (step history d e).device.clock e d.tree.root (step history d e).device.tree.root → Passes d (step history d e).device
       by (event.Arrive p moment) range k keep put =
           let next : DeviceState (List Note) = (step history d (event.Arrive p moment)).device in
           let st = put-stage next.clock p put.refusal (shape d.tree.root) put.worked put.way in

@@ -40,7 +40,8 @@ module _ (now : ℕ) (p : Descriptor) where
   here-line None s =
       let own : Own = record s.own { discipline = queued_in p now s.own.discipline } in
       subst (BeginsWith (line s)) (sym (line-worked own (put_here now p None s).node.memory (map quiet (children s)) ∙ ap (line_own own) (lines-quiet s.below)))
-      (begins-after (option_to_list s.own.held) (line_in s.own.discipline (each line_own s.below)) (line_in own.discipline (each line_own s.below)) (queued-line s.own.discipline (each line_own s.below)))
+      (begins-after (option_to_list s.own.held) (line_in s.own.discipline (each line_own s.below)) (line_in own.discipline (each line_own s.below))
+      (queued-line s.own.discipline (each line_own s.below)))
 
   -- the first child, where one became another
   first-set : (cs : List Shape) (i : ℕ) (c : Shape) (m : Worked) → slice_get cs i ≡ Some c → BeginsWith (line c) (line m)
@@ -61,7 +62,9 @@ module _ (now : ℕ) (p : Descriptor) where
   along-line [] refusal s = here-line refusal s
   along-line (i ∷ path) refusal s = by (slice_get (children s) i) refl (along-line path refusal)
     where
-      by : (o : Option Shape) → slice_get (children s) i ≡ o → ((c : Shape) → BeginsWith (line c) (line (put_along now p refusal path c).node)) → BeginsWith (line s) (line (option_map_or (λ (child : Shape). put_beneath p i s (put_along now p refusal path child)) o (put_here now p refusal s)).node)
+      by : (o : Option Shape) → slice_get (children s) i ≡ o → ((c : Shape) → BeginsWith (line c) (line (put_along now p refusal path c).node))
+          → BeginsWith (line s) (line (option_map_or (λ (child : Shape). put_beneath p i s (put_along now p refusal path child)) o
+          (put_here now p refusal s)).node)
       by None e on = here-line refusal s
       by (Some c) e on =
           let m : Worked = (put_along now p refusal path c).node in

@@ -77,7 +77,9 @@ module _ (d : DeviceState (List Note)) (now : ℕ) (kept : IsKept d) (later : d.
       quiet-told : (w : Worked) → IsRootTold (ask now bare).before w → IsRootTold (quiet bare) w
       quiet-told w t = subst (λ (n : Worked). IsRootTold n w) (before-root now bare) t
 
-      by : (o : Option Descriptor) → (ask now bare).shown ≡ o → BeginsWith (line root) (option_to_list o ++ line (booked history root (if is_some o then (ask now bare).taken else (ask now bare).peeked)))
+      by : (o : Option Descriptor) → (ask now bare).shown ≡ o
+          → BeginsWith (line root) (option_to_list o ++ line
+          (booked history root (if is_some o then (ask now bare).taken else (ask now bare).peeked)))
       by None e = booked-line [] (ask now bare).peeked (quiet-told (ask now bare).peeked answer.told_peeked) lined.peeked
       by (Some p) e =
           booked-line (p ∷ []) (ask now bare).taken (quiet-told (ask now bare).taken answer.told_taken)

@@ -35,7 +35,8 @@ module _ (now : ℕ) (own : Own) (a : Asked) (rises : AreRisen a.rises) where
   holds-takes p w (inr (inl e)) = subst (TakesOf a) (sym e) (as-was (holding own (a ∷ []) p).peeked refl refl)
   holds-takes p w (inr (inr e)) = subst (TakesOf a) (sym e) (as-was (holding own (a ∷ []) p).taken refl (omega arith))
 
-  dequeued-takes : (d : Dequeue) (child : Worked) (paid : ℕ) → d.children ≡ child ∷ [] → d.rises ≡ a.rises → bytes_spent d.mine ≡ paid → Leaves a child paid → (w : Worked) → IsStageOf (dequeued own (a ∷ []) d) w → TakesOf a w
+  dequeued-takes : (d : Dequeue) (child : Worked) (paid : ℕ) → d.children ≡ child ∷ [] → d.rises ≡ a.rises → bytes_spent d.mine ≡ paid
+      → Leaves a child paid → (w : Worked) → IsStageOf (dequeued own (a ∷ []) d) w → TakesOf a w
   dequeued-takes d child paid children risen mine leaves w stage =
       let past = sum-risen spent_by past-spent d.rises (subst AreRisen (sym risen) rises) in
       let all = sum_by-append spent_by d.rises d.mine in
@@ -69,7 +70,10 @@ module _ (now : ℕ) (own : Own) (a : Asked) (rises : AreRisen a.rises) where
             since = since_shown a;
           }) a.taken p.len refl refl (omega arith) (inr (inr (refl, sym (ap length_held e)))) w st
 
-      by : (o : Option Descriptor) → a.shown ≡ o → IsStageOf (option_map_or (λ (p : Descriptor). if allows b now p.len then spends own (a ∷ []) b limit now a p else waits own (a ∷ []) a) o (waits own (a ∷ []) a)) w → TakesOf a w
+      by : (o : Option Descriptor) → a.shown ≡ o
+          → IsStageOf (option_map_or (λ (p : Descriptor). if allows b now p.len then spends own (a ∷ []) b limit now a p else waits own (a ∷ []) a) o
+          (waits own (a ∷ []) a)) w
+          → TakesOf a w
       by None e st = waits-takes w st
       by (Some p) e st = may p e (allows b now p.len) st
 

@@ -107,7 +107,9 @@ pub rate-splits : (r a b c : ℕ) → a ≤ b → b ≤ c → r * (c - a) ≡ r 
 rate-splits r a b c first next = let whole : (b - a) + (c - b) ≡ c - a = omega (arith, first, next) in ap (λ n. r * n) (sym whole) ∙ mul-add r (b - a) (c - b)
 
 -- what the child of a root shows
-pub next-is : (u : ℕ) (root : Node (List Note)) → first_length (each (ask_own u) (shape root).below) ≡ option_map_or (λ (c : Node (List Note)). length_held (ask u (shape c)).shown) (slice_get (children root) 0) 0
+pub next-is : (u : ℕ) (root : Node (List Note))
+    → first_length (each (ask_own u) (shape root).below) ≡ option_map_or (λ (c : Node (List Note)). length_held (ask u (shape c)).shown)
+    (slice_get (children root) 0) 0
 next-is u root = ap first_length (each-each_memory (ask_own u) (λ m. tt) root.below ∙ each-nodes (ask_own u) root.below) ∙ by (nodes_in root.below)
   where
     by : (ns : List (Node (List Note))) → first_length (map (from_below (ask_own u)) ns) ≡ option_map_or (λ (c : Node (List Note)). length_held (ask u (shape c)).shown) (slice_get ns 0) 0
@@ -214,7 +216,8 @@ module _ (major rate burst : ℕ) where
             | inr past ↦
                 let low_before : at - 1 ≤ 2 ^ 62 = omega (arith, low, past) in
                 let order : d.clock ≤ at - 1 = omega (arith, further) in
-                let early : IfSome (ready_at d.clock d.tree.root) (λ n. at - 1 < n) = subst (λ (o : Option ℕ). IfSome o (λ n. at - 1 < n)) (sym is) (let one : at - 1 < at = omega (arith, further) in one) in
+                let early : IfSome (ready_at d.clock d.tree.root) (λ n. at - 1 < n) =
+                subst (λ (o : Option ℕ). IfSome o (λ n. at - 1 < n)) (sym is) (let one : at - 1 < at = omega (arith, further) in one) in
                 silent-uncut (at - 1) t order low_before (silent-before (at - 1) order low_before early) (omega (arith, past)) (omega (arith, until, further))
           ]
 
@@ -263,7 +266,8 @@ module _ (major rate burst : ℕ) where
         let old : x.bucket.last ≤ d.clock = tbf-lawful major d x kept is in
         let young : y.bucket.last ≤ next.clock = tbf-lawful major next y kept_next k.0.tbf.there in
         let kept_on : Lasts 0 due next.clock y.bucket =
-        λ t from low after until. paid-uncut x.bucket y.bucket d.clock next.clock (bytes_spent s.notes) t s.paid old young later from same_rate same_burst here (lasts t (omega (arith, later, from)) low after until) in (
+        λ t from low after until. paid-uncut x.bucket y.bucket d.clock next.clock (bytes_spent s.notes) t s.paid old young later from same_rate
+        same_burst here (lasts t (omega (arith, later, from)) low after until) in (
           subst (λ (o : Option TbfAt). IfSome o (λ z. IsUncutAt next.clock z.bucket)) (sym is) here,
           on y (due_in due next) k.0.tbf.there (lasts-on next kept_next k 0 due (λ after. s.paid.uncut here) kept_on) drained.1,
         )
@@ -286,14 +290,18 @@ link-spends settings range before during major rate burst late first last all_be
     let s = at-start (Stays major rate burst mtu late room) settings before during along in
     let kept : IsKept start = replay-kept settings before range all_before in
     let first_is : s.0.tbf.tbf ≡ first = same_Some s.0.tbf.tbf first (sym s.0.tbf.there ∙ is) in
-    let lasts = subst (λ (x : TbfAt). Lasts major rate burst mtu late room 0 (ready_at start.clock start.tree.root) start.clock x.bucket) first_is (begins major rate burst mtu late room start kept s polled_before) in
+    let lasts =
+    subst (λ (x : TbfAt). Lasts major rate burst mtu late room 0 (ready_at start.clock start.tree.root) start.clock x.bucket) first_is
+    (begins major rate burst mtu late room start kept s polled_before) in
     let uncut : IsNowhereCut major start during =
-    counted (Stays major rate burst mtu late room) (Moves major rate burst mtu late room) (still major rate burst mtu late room) (more major rate burst mtu late room) settings before during range all_before all_during along first
+    counted (Stays major rate burst mtu late room) (Moves major rate burst mtu late room) (still major rate burst mtu late room)
+    (more major rate burst mtu late room) settings before during range all_before all_during along first
     (ready_at start.clock start.tree.root) is lasts drained in
     rate-is-spent settings range before during major rate burst first last all_before all_during (λ seen later e. (stays seen later e).tbf) uncut is at
 
 -- where a poll gives nothing less is left than the packet takes that the child shows
-pub left-short : (settings : DeviceSettings) → IsInRange settings → (events : List Event) (major rate burst : ℕ) (tbf : TbfAt) → All IsEvent events → IsBackloggedLink major rate burst (device_after settings events)
+pub left-short : (settings : DeviceSettings) → IsInRange settings → (events : List Event) (major rate burst : ℕ) (tbf : TbfAt) → All IsEvent events
+    → IsBackloggedLink major rate burst (device_after settings events)
     → IsPolledOut (device_after settings events) → tbf_in major (device_after settings events) ≡ Some tbf
     → (level_at tbf.bucket (device_after settings events).clock < next_below (device_after settings events).clock (device_after settings events) * units_in_byte)
     × (next_below (device_after settings events).clock (device_after settings events) ≤ settings.mtu)

@@ -95,7 +95,8 @@ module _ (j k : ℕ) (apart : j ≢ k) where
         };
   }
 
-  pub flow-quiet : (major : ℕ) (z : ℤ) → pos 0 <ℤ z → (d : DeviceState (List Note)) (e : Event) (x y : FqAt) → IsKept d → IsEvent e → fq_in major d ≡ Some x → fq_in major (step history d e).device ≡ Some y
+  pub flow-quiet : (major : ℕ) (z : ℤ) → pos 0 <ℤ z → (d : DeviceState (List Note)) (e : Event) (x y : FqAt) → IsKept d → IsEvent e
+      → fq_in major d ≡ Some x → fq_in major (step history d e).device ≡ Some y
       → is_idle x.state.flows j ≡ false → FlowQuiet z d.tree.device.mtu x y
   flow-quiet major z high d e x y kept range is at busy =
       let law = fq-lawful major d x kept (fq-node major d x is) in

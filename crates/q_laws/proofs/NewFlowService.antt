@@ -54,7 +54,8 @@ module _ (major j k mtu : ℕ) (apart : j ≢ k) (z : ℤ) (high : pos 0 <ℤ z)
       let later = g l.0.fq w l.0.there at in
       (more-flow-waits j k mtu apart z x l.0.fq w first.0 later.0, more-flow-quiet j k apart z mtu x l.0.fq w first.1 later.1)
 
-  over : (settings : DeviceSettings) (before during : List Event) → IsInRange settings → All IsEvent before → All IsEvent during → settings.mtu ≡ mtu → Throughout (IsQueuedFlow major j) settings before during
+  over : (settings : DeviceSettings) (before during : List Event) → IsInRange settings → All IsEvent before → All IsEvent during → settings.mtu ≡ mtu
+      → Throughout (IsQueuedFlow major j) settings before during
       → Moves (device_after settings before) (device_after settings (before ++ during))
   over settings before during range all_before all_during same stays =
       moves Stays Moves still one more settings before during range all_before all_during (λ seen later e. (stays seen later e, mtu-stays settings (before ++ seen) ∙ same))
@@ -65,20 +66,26 @@ pub record GoesOn (k mtu : ℕ) (first last : FqAt) : Type 0 where
   pub is : last.noted ≡ first.noted ++ notes
   pub first_goes : GoesFirst k mtu first last
 
-pub new-flow-goes : (settings : DeviceSettings) → IsInRange settings → (before : List Event) (e : Event) (during : List Event) (major j k : ℕ) (first next last : FqAt) → j ≢ k → All IsEvent before → IsEvent e → All IsEvent during
-    → fq_in major (device_after settings before) ≡ Some first → fq_in major (device_after settings (before ++ e ∷ [])) ≡ Some next → fq_in major (device_after settings (before ++ e ∷ during)) ≡ Some last
+pub new-flow-goes : (settings : DeviceSettings) → IsInRange settings
+    → (before : List Event) (e : Event) (during : List Event) (major j k : ℕ) (first next last : FqAt) → j ≢ k → All IsEvent before → IsEvent e
+    → All IsEvent during
+    → fq_in major (device_after settings before) ≡ Some first → fq_in major (device_after settings (before ++ e ∷ [])) ≡ Some next
+    → fq_in major (device_after settings (before ++ e ∷ during)) ≡ Some last
     → is_listed j (first.state.new_flows ++ first.state.old_flows) ≡ false → is_listed j (next.state.new_flows ++ next.state.old_flows) ≡ true
     → Throughout (IsQueuedFlow major j) settings (before ++ e ∷ []) during → bytes_given j last.noted ≡ bytes_given j first.noted
     → GoesOn k settings.mtu first last
 new-flow-goes settings range before e during major j k first next last apart all_before event all_during is then at absent listed stays silent =
     let start : DeviceState (List Note) = device_after settings before in
     let kept : IsKept start = replay-kept settings before range all_before in
-    let stepped : device_after settings (before ++ e ∷ []) ≡ (step history start e).device = ap (λ (r : Replay (List Note)). r.device) (replay_from-append history (nothing_yet history settings) before e) in
+    let stepped : device_after settings (before ++ e ∷ []) ≡ (step history start e).device =
+    ap (λ (r : Replay (List Note)). r.device) (replay_from-append history (nothing_yet history settings) before e) in
     let after : fq_in major (step history start e).device ≡ Some next = ap (fq_in major) (sym stepped) ∙ then in
     let whole : before ++ (e ∷ during) ≡ (before ++ e ∷ []) ++ during = sym (append_assoc before (e ∷ []) during) in
     let all_next : All IsEvent (before ++ e ∷ []) = All-push IsEvent before e all_before event in
     let h = at-start (IsQueuedFlow major j) settings (before ++ e ∷ []) during stays in
-    let law = fq-lawful major (device_after settings (before ++ e ∷ [])) next (replay-kept settings (before ++ e ∷ []) range all_next) (fq-node major (device_after settings (before ++ e ∷ [])) next then) in
+    let law =
+    fq-lawful major (device_after settings (before ++ e ∷ [])) next (replay-kept settings (before ++ e ∷ []) range all_next)
+    (fq-node major (device_after settings (before ++ e ∷ [])) next then) in
     let positive = law.settings.quantum_low in
     let begins = flow-begins major j start e first next kept event is after absent listed in
     let joins = flow-joins major j k settings.mtu apart start e first next kept event is after absent listed in
@@ -87,7 +94,8 @@ new-flow-goes settings range before e during major j k first next last apart all
     (ap (λ (es : List Event). fq_in major (device_after settings es)) (sym whole) ∙ at) in
     let m = both.0 in
     let q = both.1 in
-    let gave_first : (n : ℕ) → bytes_given n next.noted ≡ bytes_given n first.noted = λ n. ap (bytes_given n) joins.is ∙ sum_by-append (given_by n) first.noted joins.notes ∙ omega (arith, joins.joins.nothing n) in
+    let gave_first : (n : ℕ) → bytes_given n next.noted ≡ bytes_given n first.noted =
+    λ n. ap (bytes_given n) joins.is ∙ sum_by-append (given_by n) first.noted joins.notes ∙ omega (arith, joins.joins.nothing n) in
     let gave_then : (n : ℕ) → bytes_given n last.noted ≡ bytes_given n next.noted + bytes_given n m.notes = λ n. ap (bytes_given n) m.is ∙ sum_by-append (given_by n) next.noted m.notes in
     let none : bytes_given j m.notes ≡ 0 = omega (arith, silent, gave_first j, gave_then j) in
     let waits = m.waits none begins in

@@ -94,7 +94,8 @@ credits-listed n (k ∷ es) c e = elim (cases_Bool (k.flow == n)) [
       (credits-listed n es c (sym (ap (λ (t : Bool). option_map (λ (x : Entry). x.credits) (cond t (Some k) (find (λ (x : Entry). x.flow == n) es))) other) ∙ e))
 ]
 
-each-within : (mtu : ℕ) (es : List Entry) (notes : List Note) → ((n : ℕ) → times n es ≤ 1) → ((n : ℕ) (c : ℤ) → credits_of n es ≡ Some c → bytes_given n notes ≤ reach_before mtu c) → from_list es notes ≤ reaches mtu es
+each-within : (mtu : ℕ) (es : List Entry) (notes : List Note) → ((n : ℕ) → times n es ≤ 1)
+    → ((n : ℕ) (c : ℤ) → credits_of n es ≡ Some c → bytes_given n notes ≤ reach_before mtu c) → from_list es notes ≤ reaches mtu es
 each-within mtu [] notes once most = omega arith
 each-within mtu (e ∷ es) notes once most =
     let here = most e.flow e.credits (ap (λ (t : Bool). option_map (λ (x : Entry). x.credits) (cond t (Some e) (find (λ (x : Entry). x.flow == e.flow) es))) (eq-eqb e.flow e.flow refl)) in
@@ -134,7 +135,8 @@ new-flows-go-before settings range before e during major j first next last all_b
       | inr apart ↦ omega (arith, gave, (goes n (eqb-false j n apart)).first_goes.others gone)
     ]
 
-    most : (n : ℕ) (c : ℤ) → credits_of n first.state.new_flows ≡ Some c → {g : ℕ} → bytes_given n last.noted ≡ bytes_given n first.noted + g → times j first.state.new_flows ≡ 0 → g ≤ reach_before settings.mtu c
+    most : (n : ℕ) (c : ℤ) → credits_of n first.state.new_flows ≡ Some c → {g : ℕ} → bytes_given n last.noted ≡ bytes_given n first.noted + g
+        → times j first.state.new_flows ≡ 0 → g ≤ reach_before settings.mtu c
     most n c credits {g} gave unlisted = elim (cases_Bool (j == n)) [
       | inl same ↦
           let there = listed_yes n first.state.new_flows (credits-listed n first.state.new_flows c credits) in

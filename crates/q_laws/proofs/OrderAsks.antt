@@ -108,7 +108,9 @@ module _ (c : Descriptor) where
         before = way-worked c own [] (befores below) way all;
         peeked = way-worked c (record d.after { held = d.packet; since = since_of d.packet d.since }) (d.rises ++ d.mine) d.children way_after all_after;
         taken = way-worked c (record d.after { held = None; since = 0 }) (d.rises ++ d.mine ++ map Sent (option_to_list d.packet)) d.children way_after all_after;
-        peeks = subst (λ (ps : List Descriptor). IsLess c ps (beneath (worked own [] (befores below)))) (sym (beneath-is (record d.after { held = d.packet; since = since_of d.packet d.since }) (d.rises ++ d.mine) d.children)) less;
+        peeks =
+            subst (λ (ps : List Descriptor). IsLess c ps (beneath (worked own [] (befores below))))
+            (sym (beneath-is (record d.after { held = d.packet; since = since_of d.packet d.since }) (d.rises ++ d.mine) d.children)) less;
         gives = subst (λ (ps : List Descriptor). IsLess c (option_to_list d.packet ++ ps) (beneath (worked own [] (befores below))))
             (sym (beneath-is (record d.after { held = None; since = 0 }) (d.rises ++ d.mine ++ map Sent (option_to_list d.packet)) d.children)) less;
       }
@@ -173,7 +175,9 @@ module _ (c : Descriptor) where
         }
 
     -- a prio gives what its first band that shows a packet gives
-    prio-keeps : (priomap : List ℕ) (below : List Asked) → AreKept below → IsOnWay c (node (Prio priomap) None) (Prio priomap) (waiting (befores below)) → Keeps (ask_discipline now (node (Prio priomap) None) below (Prio priomap))
+    prio-keeps : (priomap : List ℕ) (below : List Asked) → AreKept below
+        → IsOnWay c (node (Prio priomap) None) (Prio priomap) (waiting (befores below))
+        → Keeps (ask_discipline now (node (Prio priomap) None) below (Prio priomap))
     prio-keeps priomap below h way =
         let own : Own = node (Prio priomap) None in
         let k : ℕ = position_or_len (λ (a : Asked). is_some a.shown) below in
@@ -183,11 +187,16 @@ module _ (c : Descriptor) where
         let notes : List Note = rises ++ map Sent head in
         let peeked : AreLess c (waiting (peeked_to k below)) (waiting (befores below)) = stages-less below (peeked_to k below) h (prio-peeked k below) in
         let taken : AreLess c (waiting (taken_at k below)) (waiting (befores below)) = stages-less below (taken_at k below) h (prio-taken k below) in
-        let given : IsLess c (head ++ flat (waiting (taken_at k below))) (flat (waiting (befores below))) = gives-flat c head band (waiting (taken_at k below)) (waiting (befores below)) way (prio-gives k below h) in
+        let given : IsLess c (head ++ flat (waiting (taken_at k below))) (flat (waiting (befores below))) =
+        gives-flat c head band (waiting (taken_at k below)) (waiting (befores below)) way (prio-gives k below h) in
         record {
           before = way-worked c own [] (befores below) way (stages-way below (befores below) h (unasked below));
-          peeked = way-worked c own rises (peeked_to k below) (less-only c band (waiting (peeked_to k below)) (waiting (befores below)) peeked way) (stages-way below (peeked_to k below) h (prio-peeked k below));
-          taken = way-worked c own notes (taken_at k below) (less-only c band (waiting (taken_at k below)) (waiting (befores below)) taken way) (stages-way below (taken_at k below) h (prio-taken k below));
+          peeked =
+              way-worked c own rises (peeked_to k below) (less-only c band (waiting (peeked_to k below)) (waiting (befores below)) peeked way)
+              (stages-way below (peeked_to k below) h (prio-peeked k below));
+          taken =
+              way-worked c own notes (taken_at k below) (less-only c band (waiting (taken_at k below)) (waiting (befores below)) taken way)
+              (stages-way below (taken_at k below) h (prio-taken k below));
           peeks = subst (λ (ps : List Descriptor). IsLess c ps (beneath (worked own [] (befores below)))) (sym (beneath-worked own rises (peeked_to k below)))
               (subst (IsLess c (flat (waiting (peeked_to k below)))) (sym (beneath-worked own [] (befores below))) (less-flat c (waiting (peeked_to k below)) (waiting (befores below)) peeked));
           gives = subst (λ (ps : List Descriptor). IsLess c (head ++ ps) (beneath (worked own [] (befores below)))) (sym (beneath-worked own notes (taken_at k below)))
@@ -217,7 +226,9 @@ module _ (c : Descriptor) where
           (gives-flat c (p ∷ []) 0 (beneath a.taken ∷ []) (beneath a.before ∷ []) refl
           (inl (subst (λ (o : Option Descriptor). IsLess c (option_to_list o ++ beneath a.taken) (beneath a.before)) e h.gives, tt)))
 
-      child-keeps : (o : Option Descriptor) → a.shown ≡ o → Keeps (option_map_or (λ (p : Descriptor). if allows b now p.len then spends tbf (a ∷ []) b limit now a p else waits tbf (a ∷ []) a) o (waits tbf (a ∷ []) a))
+      child-keeps : (o : Option Descriptor) → a.shown ≡ o
+          → Keeps (option_map_or (λ (p : Descriptor). if allows b now p.len then spends tbf (a ∷ []) b limit now a p else waits tbf (a ∷ []) a) o
+          (waits tbf (a ∷ []) a))
       child-keeps None e = waits-keeps
       child-keeps (Some p) e = by (allows b now p.len)
         where
@@ -231,7 +242,8 @@ module _ (c : Descriptor) where
     tbf-keeps b limit (a ∷ d ∷ below) e h = absurd (omega (arith, e))
 
     -- a drr gives what the class gives that is met
-    class-way : (s t : Schedule) (after below : List (List Descriptor)) → t.classes ≡ s.classes → AreLess c after below → IsOnWay c (node (Drr s) None) (Drr s) below → IsOnWay c (node (Drr t) None) (Drr t) after
+    class-way : (s t : Schedule) (after below : List (List Descriptor)) → t.classes ≡ s.classes → AreLess c after below
+        → IsOnWay c (node (Drr s) None) (Drr s) below → IsOnWay c (node (Drr t) None) (Drr t) after
     class-way s t after below e h way =
         subst (λ (cs : List Class). HasWay c (option_and_then (λ minor. position (λ (x : Class). minor == x.name) cs) (named_class filters c)) after) (sym e)
         (less-way c (option_and_then (λ minor. position (λ (x : Class). minor == x.name) s.classes) (named_class filters c)) after below h way)
@@ -292,12 +304,15 @@ module _ (c : Descriptor) where
           child i None e = nothing-keeps
           child i (Some a) e = serves-keeps i a a.shown e refl
 
-          by : (o : Option ℕ) → Keeps (option_map_or (λ i. option_map_or (class_serves drr below (service_of s below) i) (slice_get below i) (gives_nothing drr below (service_of s below))) o (gives_nothing drr below (service_of s below)))
+          by : (o : Option ℕ)
+              → Keeps (option_map_or (λ i. option_map_or (class_serves drr below (service_of s below) i) (slice_get below i)
+              (gives_nothing drr below (service_of s below))) o (gives_nothing drr below (service_of s below)))
           by None = nothing-keeps
           by (Some i) = child i (slice_get below i) refl
 
     -- an fq_codel gives what the flow gives that is chosen
-    fq-keeps : (s : FqState) (below : List Asked) → AreKept below → IsOnWay c (node (FqCodel s) None) (FqCodel s) (waiting (befores below)) → Keeps (ask_discipline now (node (FqCodel s) None) below (FqCodel s))
+    fq-keeps : (s : FqState) (below : List Asked) → AreKept below → IsOnWay c (node (FqCodel s) None) (FqCodel s) (waiting (befores below))
+        → Keeps (ask_discipline now (node (FqCodel s) None) below (FqCodel s))
     fq-keeps s below h way =
         let own : Own = node (FqCodel s) None in
         let after : FqState = after_sending now (selected s) in
@@ -313,7 +328,9 @@ module _ (c : Descriptor) where
         let whole : IsLess c (head ++ (packets_of (all_packets after.flows) ++ rest)) (packets_of (all_packets s.flows) ++ rest) =
         subst (λ (ps : List Descriptor). IsLess c ps (packets_of (all_packets s.flows) ++ rest)) (append_assoc head (packets_of (all_packets after.flows)) rest)
         (less-append c (head ++ packets_of (all_packets after.flows)) (packets_of (all_packets s.flows)) rest rest queues (part-refl (flow_among c rest))) in
-        let only : OnlyAt c (flow_of s c) (flow_queues after.flows) = less-only c (flow_of s c) (flow_queues after.flows) (flow_queues s.flows) (gives-less c head (flow_queues after.flows) (flow_queues s.flows) given) way in
+        let only : OnlyAt c (flow_of s c) (flow_queues after.flows) =
+        less-only c (flow_of s c) (flow_queues after.flows) (flow_queues s.flows)
+        (gives-less c head (flow_queues after.flows) (flow_queues s.flows) given) way in
         let left : OnlyAt c (flow_of after c) (flow_queues after.flows) = subst (λ (x : FqSettings). OnlyAt c (c.hash % x.flows) (flow_queues after.flows)) (sym (take-settings now s)) only in
         dequeued-keeps own below (record {
           after = record own { discipline = FqCodel after };
@@ -324,7 +341,8 @@ module _ (c : Descriptor) where
           since = option_map_or (λ (p : Stamped). p.at) (head_sent now (selected s)) 0;
         }) way all left all whole
 
-    node-keeps : (held : Option Descriptor) (d : Discipline) (below : List Asked) → HasSoMany d (length below) → AreKept below → IsOnWay c (node d held) d (waiting (befores below)) → Keeps (ask_own now (node d held) below)
+    node-keeps : (held : Option Descriptor) (d : Discipline) (below : List Asked) → HasSoMany d (length below) → AreKept below
+        → IsOnWay c (node d held) d (waiting (befores below)) → Keeps (ask_own now (node d held) below)
     node-keeps (Some p) d below many h way = holding-keeps d p below h way
     node-keeps None (Fifo limit queue) below many h way = fifo-keeps limit queue below h
     node-keeps None (Prio priomap) below many h way = prio-keeps priomap below h way
@@ -335,7 +353,8 @@ module _ (c : Descriptor) where
   -- ---- every node
 
   module _ (mtu now : ℕ) where
-    own-keeps : (own : Own) (x : Forest (Unit {0})) → IsLawfulOwn mtu now own (each beneath_own x) → IsOnWay c own own.discipline (each beneath_own x) → AreKept (each (ask_own now) x) → Keeps (ask_own now own (each (ask_own now) x))
+    own-keeps : (own : Own) (x : Forest (Unit {0})) → IsLawfulOwn mtu now own (each beneath_own x) → IsOnWay c own own.discipline (each beneath_own x)
+        → AreKept (each (ask_own now) x) → Keeps (ask_own now own (each (ask_own now) x))
     own-keeps own x lawful way h =
         let many = so-many mtu now (each beneath_own x) own.discipline lawful.discipline in
         node-keeps now own.handle own.filters own.since own.held own.discipline (each (ask_own now) x) (subst (HasSoMany own.discipline) (each-length beneath_own (ask_own now) x) many) h

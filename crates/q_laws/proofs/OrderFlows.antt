@@ -168,7 +168,8 @@ module _ (c : Descriptor) where
   -- of another flow
   other-joins : (p : Descriptor) (now : ℕ) → is_alike c p ≡ false → (f : Flow) → IsLess c (packets_of (joined (stamped p now) f).queue) (packets_of f.queue)
   other-joins p now e f =
-      let same : flow_among c (packets_of (joined (stamped p now) f).queue) ≡ flow_among c (packets_of f.queue) = ap (flow_among c) (join-is p now f) ∙ skip-rest c (packets_of f.queue) (p ∷ []) (alike-none c p e) in
+      let same : flow_among c (packets_of (joined (stamped p now) f).queue) ≡ flow_among c (packets_of f.queue) =
+      ap (flow_among c) (join-is p now f) ∙ skip-rest c (packets_of f.queue) (p ∷ []) (alike-none c p e) in
       subst (λ xs. IsPartOf xs (flow_among c (packets_of f.queue))) (sym same) (part-refl (flow_among c (packets_of f.queue)))
 
   abbrev Joins : Descriptor → ℕ → List Flow → List Flow → Type 0
@@ -186,7 +187,8 @@ module _ (c : Descriptor) where
       let qs : List Descriptor = packets_of (joined (stamped p now) f).queue in
       let same : flow_queues (adjust (joined (stamped p now)) k flows) ≡ set (flow_queues flows) k qs = set-adjust (joined (stamped p now)) k flows f e in
       let here : IsLess c qs (packets_of f.queue ++ p ∷ []) = subst (IsLess c qs) (join-is p now f) (part-refl (flow_among c qs)) in (
-        subst (λ (bs : List (List Descriptor)). IsLess c (flat bs) (flat (flow_queues flows) ++ p ∷ [])) (sym same) (flat-set c (flow_queues flows) k (packets_of f.queue) qs (p ∷ []) (queue-at flows k f e) o here),
+        subst (λ (bs : List (List Descriptor)). IsLess c (flat bs) (flat (flow_queues flows) ++ p ∷ [])) (sym same)
+            (flat-set c (flow_queues flows) k (packets_of f.queue) qs (p ∷ []) (queue-at flows k f e) o here),
         subst (OnlyAt c k) (sym same) (only-set c (flow_queues flows) k qs o),
       )
 
@@ -200,7 +202,8 @@ module _ (c : Descriptor) where
   cut-joins : (p : Descriptor) (k m n : ℕ) (flows after : List Flow) → Joins p k flows after → Joins p k flows (adjust (shortened m) n after)
   cut-joins p k m n flows after h =
       let less : AreLess c (flow_queues (adjust (shortened m) n after)) (flow_queues after) = less-adjust (shortened m) (λ f. queue-drops c m f.queue) n after in (
-        less-trans c (flat (flow_queues (adjust (shortened m) n after))) (flat (flow_queues after)) (flat (flow_queues flows) ++ p ∷ []) (less-flat c (flow_queues (adjust (shortened m) n after)) (flow_queues after) less) h.0,
+        less-trans c (flat (flow_queues (adjust (shortened m) n after))) (flat (flow_queues after)) (flat (flow_queues flows) ++ p ∷ [])
+            (less-flat c (flow_queues (adjust (shortened m) n after)) (flow_queues after) less) h.0,
         less-only c k (flow_queues (adjust (shortened m) n after)) (flow_queues after) less h.1,
       )
 

@@ -144,7 +144,8 @@ module _ (c : Descriptor) where
   only-set (rs ∷ below) (suc i) qs o = (o.0, only-set below i qs o.1)
 
   -- the list in whose place the flow is gets these packets more, at its end
-  pub flat-set : (below : List (List Descriptor)) (i : ℕ) (ps qs more : List Descriptor) → slice_get below i ≡ Some ps → OnlyAt i below → IsLess qs (ps ++ more) → IsLess (flat (set below i qs)) (flat below ++ more)
+  pub flat-set : (below : List (List Descriptor)) (i : ℕ) (ps qs more : List Descriptor) → slice_get below i ≡ Some ps → OnlyAt i below
+      → IsLess qs (ps ++ more) → IsLess (flat (set below i qs)) (flat below ++ more)
   flat-set [] i ps qs more e o h = absurd (none-some ps e)
   flat-set (rs ∷ below) zero ps qs more e o h =
       let here : IsLess qs (rs ++ more) = subst (λ (xs : List Descriptor). IsLess qs (xs ++ more)) (sym (same_Some rs ps e)) h in

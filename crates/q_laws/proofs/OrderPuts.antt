@@ -148,7 +148,8 @@ module _ (c p : Descriptor) (now : ℕ) where
     abbrev node : Discipline → Shape
     node d = record { own = record { handle = handle; discipline = d; held = held; since = since; filters = filters }; memory = tt; below = below }
 
-    fifo-puts : (limit : Limit) (queue : List Stamped) → IsLawfulRoot mtu now (node (Fifo limit queue)) → IsRootOnWay c (node (Fifo limit queue)) → Puts (node (Fifo limit queue)) (put_here now p None (node (Fifo limit queue))).node
+    fifo-puts : (limit : Limit) (queue : List Stamped) → IsLawfulRoot mtu now (node (Fifo limit queue)) → IsRootOnWay c (node (Fifo limit queue))
+        → Puts (node (Fifo limit queue)) (put_here now p None (node (Fifo limit queue))).node
     fifo-puts limit queue lawful h =
         let more : packets_of (queue ++ record { packet = p; at = now } ∷ []) ≡ packets_of queue ++ p ∷ [] = map-append (λ (x : Stamped). x.packet) queue (record { packet = p; at = now } ∷ []) in
         queued-puts (node (Fifo limit queue)) lawful.0.discipline.none (way-quiets c below h.1) (Fifo limit (queue ++ record { packet = p; at = now } ∷ [])) (Arrived p ∷ [])
@@ -187,7 +188,8 @@ module _ (c p : Descriptor) (now : ℕ) where
       subst (λ (cs : List Class). HasWay c (option_and_then (λ minor. position (λ (x : Class). minor == x.name) cs) (named_class own.filters c)) below) (sym e) way
 
   -- packets of it alone, or none, were put there
-  own-way : (own : Own) (d : Discipline) (i : ℕ) (emptied : Bool) (after : List (List Descriptor)) → AreAlike c p → GoesTo own d p i → OnlyAt c i after → IsOnWay c (settled i emptied own) (settled_in i emptied d) after
+  own-way : (own : Own) (d : Discipline) (i : ℕ) (emptied : Bool) (after : List (List Descriptor)) → AreAlike c p → GoesTo own d p i
+      → OnlyAt c i after → IsOnWay c (settled i emptied own) (settled_in i emptied d) after
   own-way own (Fifo limit queue) i emptied after a at way = absurd at
   own-way own (FqCodel s) i emptied after a at way = absurd at
   own-way own (Prio priomap) i emptied after a at way = subst (λ k. OnlyAt c k after) (sym (one-band own priomap c p a ∙ at)) way
@@ -196,7 +198,8 @@ module _ (c p : Descriptor) (now : ℕ) where
       class-way own s (settled_class i emptied s) after (class-settled i emptied s)
       (subst (λ (o : Option ℕ). HasWay c o after) (sym (ap (option_and_then (λ minor. class_at minor s)) (one-name own.filters c p a) ∙ at)) way)
 
-  other-way : (own : Own) (d : Discipline) (i : ℕ) (emptied : Bool) (after below : List (List Descriptor)) → GoesTo own d p i → AreLess c after below → IsOnWay c own d below → IsOnWay c (settled i emptied own) (settled_in i emptied d) after
+  other-way : (own : Own) (d : Discipline) (i : ℕ) (emptied : Bool) (after below : List (List Descriptor)) → GoesTo own d p i → AreLess c after below
+      → IsOnWay c own d below → IsOnWay c (settled i emptied own) (settled_in i emptied d) after
   other-way own (Fifo limit queue) i emptied after below at less way = absurd at
   other-way own (FqCodel s) i emptied after below at less way = absurd at
   other-way own (Prio priomap) i emptied after below at less way = less-only c (band_of own priomap c) after below less way
@@ -211,7 +214,8 @@ module _ (c p : Descriptor) (now : ℕ) where
   quiets-set (more own m below others) (suc i) w h new =
       (way-with_memory c (λ u. []) (record { own = own; memory = m; below = below }) (h.0, h.1), quiets-set others i w h.2 new)
 
-  module _ (s : Shape) (i : ℕ) (child : Shape) (below : Work) (h : IsRootOnWay c s) (there : slice_get (children s) i ≡ Some child) (at : GoesTo s.own s.own.discipline p i) (put : Puts child below.node) where
+  module _ (s : Shape) (i : ℕ) (child : Shape) (below : Work) (h : IsRootOnWay c s) (there : slice_get (children s) i ≡ Some child)
+      (at : GoesTo s.own s.own.discipline p i) (put : Puts child below.node) where
     abbrev before : List (List Descriptor)
     before = each beneath_own s.below
 
@@ -254,7 +258,8 @@ module _ (c p : Descriptor) (now : ℕ) where
         ∙ ap (λ (ps : List Descriptor). (option_to_list s.own.held ++ ps) ++ flat after) (settled-packets i (is_empty below.node) s.own.discipline) in
         let r : Into = is-into (is_alike c p) refl in
         let less : IsLess c (first ++ flat after) (beneath s ++ p ∷ []) =
-        subst (IsLess c (first ++ flat after)) (sym (append_assoc first (flat before) (p ∷ []))) (less-append c first first (flat after) (flat before ++ p ∷ []) (part-refl (flow_among c first)) r.into) in
+        subst (IsLess c (first ++ flat after)) (sym (append_assoc first (flat before) (p ∷ [])))
+        (less-append c first first (flat after) (flat before ++ p ∷ []) (part-refl (flow_among c first)) r.into) in
         record {
           less = subst (λ (xs : List Descriptor). IsLess c xs (beneath s ++ p ∷ [])) (sym is) less;
           way = way-worked c own_after notes new (subst (IsOnWay c own_after own_after.discipline) (sym same) r.stays) (quiets-set s.below i below.node h.1 put.way);
@@ -262,7 +267,8 @@ module _ (c p : Descriptor) (now : ℕ) where
 
   -- ---- along the whole route
 
-  pub along-puts : (mtu : ℕ) (path : List ℕ) (refusal : Option Cause) (s : Shape) → route p s ≡ record { path = path; refusal = refusal } → IsLawfulRoot mtu now s → IsRootOnWay c s → Puts s (put_along now p refusal path s).node
+  pub along-puts : (mtu : ℕ) (path : List ℕ) (refusal : Option Cause) (s : Shape) → route p s ≡ record { path = path; refusal = refusal }
+      → IsLawfulRoot mtu now s → IsRootOnWay c s → Puts s (put_along now p refusal path s).node
   along-puts mtu [] (Some cause) s e lawful h = refused-puts s (Arrived p ∷ Lost p cause ∷ []) h
   along-puts mtu [] None s e lawful h =
       here-puts mtu s.own.handle s.own.held s.own.filters s.own.since s.below s.own.discipline

@@ -37,7 +37,10 @@ poll : Event
 poll = Poll 0
 
 unfoldable all_rules : ℕ
-unfolding gap_of adjust clear packets_of bytes_of rested_flow retuned all_packets appended fattest shed_count overflow shed cut_back is_lost_itself need given stay leave chosen turned first_ready moved with_rest arranged selected packet_sent packets_dropped flow_after front sender sent_from dropped_from paid with_sent after_sending quanta_in visits quanta_turned passed_over old_list quanta_old quanta_given grants settings packet arrives poll
+unfolding gap_of adjust clear packets_of bytes_of rested_flow retuned all_packets appended fattest shed_count overflow shed cut_back is_lost_itself
+    need given stay leave chosen turned first_ready moved with_rest arranged selected packet_sent packets_dropped flow_after front sender sent_from
+    dropped_from paid with_sent after_sending quanta_in visits quanta_turned passed_over old_list quanta_old quanta_given grants settings packet
+    arrives poll
 all_rules = 0
 
 numbers : List Descriptor → List ℕ

@@ -67,7 +67,8 @@ module _ (c : Descriptor) where
     told-root : (w : Worked) → IsRootTold (quiet bare) w → IsRootTold root w
     told-root w t = root-memory (λ m. tt) root w (root-memory (λ u. []) bare w t)
 
-    booked-leaves : (given come : List Descriptor) (w : Worked) → IsRootTold (quiet bare) w → IsLess c (given ++ beneath w) (beneath bare ++ come) → IsRootOnWay c w → Leaves given come root (booked history root w)
+    booked-leaves : (given come : List Descriptor) (w : Worked) → IsRootTold (quiet bare) w → IsLess c (given ++ beneath w) (beneath bare ++ come)
+        → IsRootOnWay c w → Leaves given come root (booked history root w)
     booked-leaves given come w t less way = record {
       less = subst (λ (ps : List Descriptor). IsLess c (given ++ ps) (beneath root ++ come)) (sym (root-booked history beneath_own root w (told-root w t)))
           (subst (λ (ps : List Descriptor). IsLess c (given ++ beneath w) (ps ++ come)) bare-is less);
@@ -135,7 +136,9 @@ module _ (c : Descriptor) where
       let next : DeviceState (List Note) = (step history d e).device in
       let range : IsEvent e = All-head IsEvent e events all in
       let leaves = put-leaves d (max d.clock moment) kept (not-before d.clock moment) (not-after d.clock moment (2 ^ 62) kept.moment range.1) h p range.0.len.0 (nat_lt d.tree.device.mtu p.len) refl in
-      let rest : InOrder next events = in-order next events (step-kept d e kept range) (All-tail IsEvent e events all) (All-tail (λ (r : Reply). is_done r ≡ false) (step history d e).reply (answers next events) still) leaves.way in
+      let rest : InOrder next events =
+      in-order next events (step-kept d e kept range) (All-tail IsEvent e events all)
+      (All-tail (λ (r : Reply). is_done r ≡ false) (step history d e).reply (answers next events) still) leaves.way in
       follows [] (p ∷ []) (beneath next.tree.root) (filter_map given_in (answers next events)) (beneath d.tree.root) (filter_map brought events) leaves.less rest
   in-order d (event.Poll moment ∷ events) kept all still h =
       let e : Event = event.Poll moment in
@@ -144,7 +147,9 @@ module _ (c : Descriptor) where
       let now : ℕ = max d.clock moment in
       let shown : Option Descriptor = (ask now (shape d.tree.root)).shown in
       let leaves = poll-leaves d now kept (not-before d.clock moment) (not-after d.clock moment (2 ^ 62) kept.moment range) h in
-      let rest : InOrder next events = in-order next events (step-kept d e kept range) (All-tail IsEvent e events all) (All-tail (λ (r : Reply). is_done r ≡ false) (step history d e).reply (answers next events) still) leaves.way in
+      let rest : InOrder next events =
+      in-order next events (step-kept d e kept range) (All-tail IsEvent e events all)
+      (All-tail (λ (r : Reply). is_done r ≡ false) (step history d e).reply (answers next events) still) leaves.way in
       subst (λ (ps : List Descriptor). IsLess c ps (beneath d.tree.root ++ filter_map brought events)) (sym (given-is shown (is_empty (shape next.tree.root)) (answers next events)))
       (follows (option_to_list shown) [] (beneath next.tree.root) (filter_map given_in (answers next events)) (beneath d.tree.root) (filter_map brought events) leaves.less rest)
   in-order d (event.Command k moment ∷ events) kept all still h =
@@ -155,7 +160,8 @@ module _ (c : Descriptor) where
     where
       by : (answer : Result Edit Refusal) → is_done (answered history answer (max d.clock moment) d).reply ≡ false → NoCommandIsDone (answered history answer (max d.clock moment) d).device events
           → (NoCommandIsDone d events → InOrder d events)
-          → IsLess c (filter_map given_in ((answered history answer (max d.clock moment) d).reply ∷ answers (answered history answer (max d.clock moment) d).device events)) (beneath d.tree.root ++ filter_map brought events)
+          → IsLess c (filter_map given_in ((answered history answer (max d.clock moment) d).reply ∷ answers
+          (answered history answer (max d.clock moment) d).device events)) (beneath d.tree.root ++ filter_map brought events)
       by (Ok edit) refused quiet rest = absurd (true≢false refused)
       by (Err refusal) refused quiet rest = rest quiet
 

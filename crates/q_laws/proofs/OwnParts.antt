@@ -68,7 +68,8 @@ module _ (settings : DeviceSettings) (range : IsInRange settings) (before during
   begins =
       let o = at-start (IsClass major c.name c.quantum) settings before during there in
       let same : o.class.schedule ≡ first.schedule =
-      same-drr major i c.name (device_after settings before) first o.class (class-node major i (device_after settings before) first is) (class-node major c.name (device_after settings before) o.class o.there) in
+      same-drr major i c.name (device_after settings before) first o.class (class-node major i (device_after settings before) first is)
+      (class-node major c.name (device_after settings before) o.class o.there) in
       let bound = deficits-bounded settings range before major c.name o.class all_before o.there in
       omega (arith, bound, o.same_quantum, ap (λ (u : Schedule). deficit_of c.name u.active) same)
 

@@ -104,7 +104,8 @@ module _ (link rate burst mtu late bytes level : ℕ) (room : HasRoom mtu late r
   abbrev Ends : Option ℕ → ℕ → Type 0
   Ends due now = (t : ℕ) → now ≤ t → t ≤ 2 ^ 62 → IfSome due (λ at. t ≤ at + late) → t ≤ soonest + late
 
-  ends-on : (d : DeviceState (List Note)) (kept : IsKept d) (h : Stays d) (x : TbfAt) (is : tbf_in link d ≡ Some x) → Reached d x → d.clock ≤ soonest + late → (due : Option ℕ) → Ends due d.clock → Ends (due_in due d) d.clock
+  ends-on : (d : DeviceState (List Note)) (kept : IsKept d) (h : Stays d) (x : TbfAt) (is : tbf_in link d ≡ Some x) → Reached d x
+      → d.clock ≤ soonest + late → (due : Option ℕ) → Ends due d.clock → Ends (due_in due d) d.clock
   ends-on d kept h x is reached here due ends t from low_t until = elim (cases_lt d.clock t) [
     | inl less ↦ by (ready_at d.clock d.tree.root) refl less until
     | inr past ↦ omega (arith, here, past)
@@ -125,7 +126,8 @@ module _ (link rate burst mtu late bytes level : ℕ) (room : HasRoom mtu late r
         | inr past ↦
             let low_before : at - 1 ≤ 2 ^ 62 = omega (arith, low_t, past) in
             let order : d.clock ≤ at - 1 = omega (arith, further) in
-            let early : IfSome (ready_at d.clock d.tree.root) (λ n. at - 1 < n) = subst (λ (o : Option ℕ). IfSome o (λ n. at - 1 < n)) (sym e) (let one : at - 1 < at = omega (arith, further) in one) in
+            let early : IfSome (ready_at d.clock d.tree.root) (λ n. at - 1 < n) =
+            subst (λ (o : Option ℕ). IfSome o (λ n. at - 1 < n)) (sym e) (let one : at - 1 < at = omega (arith, further) in one) in
             let soon_enough = next-soon (at - 1) order low_before early in
             omega (arith, soon_enough, until, further)
       ]
@@ -158,7 +160,8 @@ module _ (link rate burst mtu late bytes level : ℕ) (room : HasRoom mtu late r
   }
 
   reached-on : (d : DeviceState (List Note)) (e : Event) (x y : TbfAt) (kept : IsKept d) (happens : IsEvent e) (h : Stays d) (k : Stays (step history d e).device)
-      (is : tbf_in link d ≡ Some x) (at : tbf_in link (step history d e).device ≡ Some y) → Reached d x → (since ≤ (step history d e).device.clock → IsUncutAt (step history d e).device.clock x.bucket) → Reached (step history d e).device y
+      (is : tbf_in link d ≡ Some x) (at : tbf_in link (step history d e).device ≡ Some y) → Reached d x
+      → (since ≤ (step history d e).device.clock → IsUncutAt (step history d e).device.clock x.bucket) → Reached (step history d e).device y
   reached-on d e x y kept happens h k is at reached here =
       let next : DeviceState (List Note) = (step history d e).device in
       let later : d.clock ≤ next.clock = clock-rises d e in
@@ -241,4 +244,5 @@ bytes-are-paid settings range before during e major rate burst late bytes first 
     ends-on major rate burst mtu late bytes level room start low start kept s first is reached (omega arith) (Some start.clock)
     (λ u order low_u soon. omega (arith, soon)) t from low_t (due-begins late start t until) in
     counted (Stays major rate burst mtu late bytes level room start low) (Moves major rate burst mtu late bytes level room start low) (still major rate burst mtu late bytes level room start low)
-    (more major rate burst mtu late bytes level room start low) settings before during range all_before all_during along first (ready_at start.clock start.tree.root) is reached lasts ends e happens drained
+    (more major rate burst mtu late bytes level room start low) settings before during range all_before all_during along first
+    (ready_at start.clock start.tree.root) is reached lasts ends e happens drained

@@ -150,7 +150,9 @@ module _ (major : ℕ) (classes : List Class) where
       same_Some x.schedule.classes classes (sym (ap (option_and_then (λ (k : Node (List Note)). classes_of k.own.discipline)) n.there ∙ ap classes_of n.discipline) ∙ has)
 
   -- the drr beneath the root, in a poll
-  module _ (d next : DeviceState (List Note)) (now : ℕ) (kept : IsKept d) (later : d.clock ≤ now) (kept_next : IsKept next) (h : HasClasses major classes d) (k : HasClasses major classes next) (n m : Node (List Note)) (is : qdisc major d ≡ Some n) (at : qdisc major next ≡ Some m) where
+  module _ (d next : DeviceState (List Note)) (now : ℕ) (kept : IsKept d) (later : d.clock ≤ now) (kept_next : IsKept next)
+      (h : HasClasses major classes d) (k : HasClasses major classes next) (n m : Node (List Note)) (is : qdisc major d ≡ Some n)
+      (at : qdisc major next ≡ Some m) where
     lawful : IsLawfulRoot d.tree.device.mtu now (shape n)
     lawful =
         lawful-with_memory d.tree.device.mtu now (λ u. tt) n
@@ -186,11 +188,15 @@ module _ (major : ℕ) (classes : List Class) where
             let mine : nx.node ≡ n = same_Some nx.node n (sym nx.there ∙ is) in
             let theirs : ny.node ≡ m = same_Some ny.node m (sym ny.there ∙ at) in
             let child_x : child_for c classes (children n) ≡ Some x.class.child =
-            ap (λ cs. child_for c cs (children n)) (sym (same-classes d c x.class h x.there)) ∙ ap (λ (q : Node (List Note)). child_for c x.class.schedule.classes (children q)) (sym mine) ∙ nx.child in
+            ap (λ cs. child_for c cs (children n)) (sym (same-classes d c x.class h x.there))
+            ∙ ap (λ (q : Node (List Note)). child_for c x.class.schedule.classes (children q)) (sym mine) ∙ nx.child in
             let child_y : child_for c classes (nodes_in (booked history n w).below) ≡ Some y.class.child =
             ap (λ (q : Node (List Note)). child_for c classes (children q)) becomes_is
-            ∙ ap (λ cs. child_for c cs (children m)) (sym (same-classes next c y.class k y.there)) ∙ ap (λ (q : Node (List Note)). child_for c y.class.schedule.classes (children q)) (sym theirs) ∙ ny.child in
-            let b = booked-child (IsAskOf now) classes n.below w.below c y.class.child (asked-related d.tree.device.mtu now (shape n) w lawful (leaves-stage (ask now (shape n)) w taken leaves)).2 child_y in
+            ∙ ap (λ cs. child_for c cs (children m)) (sym (same-classes next c y.class k y.there))
+            ∙ ap (λ (q : Node (List Note)). child_for c y.class.schedule.classes (children q)) (sym theirs) ∙ ny.child in
+            let b =
+            booked-child (IsAskOf now) classes n.below w.below c y.class.child
+            (asked-related d.tree.device.mtu now (shape n) w lawful (leaves-stage (ask now (shape n)) w taken leaves)).2 child_y in
             let same : b.child ≡ x.class.child = same_Some b.child x.class.child (sym b.there ∙ child_x) in
             let listed : child_for c classes (set (service_of s below).below gave.place gave.answer.taken) ≡ Some b.worked =
             sym (ap (child_for c classes) (ap nodes_in gave.below_is ∙ nodes-side (set (service_of s below).below gave.place gave.answer.taken))) ∙ b.becomes in
@@ -198,14 +204,17 @@ module _ (major : ℕ) (classes : List Class) where
             let memory : y.class.child.memory ≡ x.class.child.memory ++ gave.answer.taken.memory =
             ap (λ (q : Node (List Note)). q.memory) (sym b.is) ∙ noted-history b.child.memory b.worked.memory
             ∙ ap (λ (q : Node (List Note)). q.memory ++ b.worked.memory) same ∙ ap (λ (v : Worked). x.class.child.memory ++ v.memory) worked in
-            let sent : bytes_sent y.class.child.memory ≡ bytes_sent x.class.child.memory + bytes_sent gave.answer.taken.memory = ap bytes_sent memory ∙ sum_by-append sent_by x.class.child.memory gave.answer.taken.memory in
+            let sent : bytes_sent y.class.child.memory ≡ bytes_sent x.class.child.memory + bytes_sent gave.answer.taken.memory =
+            ap bytes_sent memory ∙ sum_by-append sent_by x.class.child.memory gave.answer.taken.memory in
             let gives = gives-for now (shape n).below classes c gave.answer answered in
             omega (arith, sent, gives.taken, given-at major c d x.class x.there, given-at major c next y.class y.there)
           where
             which : (v : Worked) → child_for c classes (set (service_of s below).below gave.place gave.answer.taken) ≡ Some v → v ≡ gave.answer.taken
             which v e = by (child-set c classes (service_of s below).below gave.place gave.answer.taken v e).which
               where
-                by : ((place_in c classes ≡ Some gave.place) × (v ≡ gave.answer.taken)) ⊎ ((child_for c classes (service_of s below).below ≡ Some v) × (place_in c classes ≡ Some gave.place → ⊥)) → v ≡ gave.answer.taken
+                by : ((place_in c classes ≡ Some gave.place) × (v ≡ gave.answer.taken)) ⊎
+                    ((child_for c classes (service_of s below).below ≡ Some v) × (place_in c classes ≡ Some gave.place → ⊥))
+                    → v ≡ gave.answer.taken
                 by (inl o) = o.1
                 by (inr o) = absurd (o.1 (ap (place_in c) (sym own_classes) ∙ named))
 
@@ -218,7 +227,9 @@ module _ (major : ℕ) (classes : List Class) where
           let mine : at_drr.node ≡ n = same_Some at_drr.node n (sym at_drr.there ∙ is) in
           by at_drr.schedule (ap (λ (q : Node (List Note)). q.own.discipline) (sym mine) ∙ at_drr.discipline) at_drr.same
         where
-          how : (s : Schedule) (disc : n.own.discipline ≡ Drr s) → s.classes ≡ classes → (taken + length_held w.own.held ≤ length_held n.own.held) ⊎ GaveAt s below w taken → taken + length_held m.own.held ≤ gain d next + length_held n.own.held
+          how : (s : Schedule) (disc : n.own.discipline ≡ Drr s) → s.classes ≡ classes
+              → (taken + length_held w.own.held ≤ length_held n.own.held) ⊎ GaveAt s below w taken
+              → taken + length_held m.own.held ≤ gain d next + length_held n.own.held
           how s disc same (inl held) = omega (arith, held, held-after)
           how s disc same (inr gave) =
               option_and_then_some (λ (q : Met). class_at q.class s) (met (head_of s below) s) gave.place gave.placed
@@ -236,7 +247,8 @@ module _ (major : ℕ) (classes : List Class) where
   quiet-drr : (d next : DeviceState (List Note)) (n m : Node (List Note)) → IsQuiet n m → DrrPasses d next n m
   quiet-drr d next n m q = record { notes = q.notes; memory = q.memory; passed = omega (arith, q.sent, q.held) }
 
-  asked-drr : (d next : DeviceState (List Note)) (now : ℕ) → IsKept d → d.clock ≤ now → IsKept next → HasClasses major classes d → HasClasses major classes next → (n m : Node (List Note)) → qdisc major d ≡ Some n → qdisc major next ≡ Some m
+  asked-drr : (d next : DeviceState (List Note)) (now : ℕ) → IsKept d → d.clock ≤ now → IsKept next → HasClasses major classes d
+      → HasClasses major classes next → (n m : Node (List Note)) → qdisc major d ≡ Some n → qdisc major next ≡ Some m
       → IsAsked now n m → DrrPasses d next n m
   asked-drr d next now kept later kept_next h k n m is at asked =
       let w : Worked = asked.worked in
@@ -251,11 +263,14 @@ module _ (major : ℕ) (classes : List Class) where
       gave g (inr (inl e)) = inr (inl (e, ap (λ (x : Worked). bytes_sent x.memory) e ∙ g.peeked))
       gave g (inr (inr e)) = inr (inr (e, ap (λ (x : Worked). bytes_sent x.memory) e ∙ g.taken))
 
-  pub drr-passes : (d : DeviceState (List Note)) (e : Event) → IsKept d → IsEvent e → HasClasses major classes d → HasClasses major classes (step history d e).device → (n m : Node (List Note)) → qdisc major d ≡ Some n → qdisc major (step history d e).device ≡ Some m
+  pub drr-passes : (d : DeviceState (List Note)) (e : Event) → IsKept d → IsEvent e → HasClasses major classes d
+      → HasClasses major classes (step history d e).device → (n m : Node (List Note)) → qdisc major d ≡ Some n
+      → qdisc major (step history d e).device ≡ Some m
       → DrrPasses d (step history d e).device n m
   drr-passes d e kept happens h k n m is at = by e happens k at (becomes major d e n m kept happens is at)
     where
-      by : (e : Event) → IsEvent e → HasClasses major classes (step history d e).device → qdisc major (step history d e).device ≡ Some m → Becomes (step history d e).device.clock e n m → DrrPasses d (step history d e).device n m
+      by : (e : Event) → IsEvent e → HasClasses major classes (step history d e).device → qdisc major (step history d e).device ≡ Some m
+          → Becomes (step history d e).device.clock e n m → DrrPasses d (step history d e).device n m
       by (event.Arrive p moment) range k at b = let next : DeviceState (List Note) = (step history d (event.Arrive p moment)).device in quiet-drr d next n m (put-quiet next.clock p n m b)
       by (event.Command c moment) range k at b = let next : DeviceState (List Note) = (step history d (event.Command c moment)).device in quiet-drr d next n m (command-quiet next.clock n m b)
       by (event.Poll moment) range k at b =
@@ -276,7 +291,8 @@ module _ (link rate burst major : ℕ) (classes : List Class) where
   quiet-passes d next root after n m a b = record { notes = a.notes; memory = a.memory; passed = omega (arith, a.spent, b.held) }
 
   -- the root in a poll
-  poll-passes : (d next : DeviceState (List Note)) (now : ℕ) → IsKept d → d.clock ≤ now → IsKept next → Stays d → Stays next → (n m : Node (List Note)) → qdisc major d ≡ Some n → qdisc major next ≡ Some m
+  poll-passes : (d next : DeviceState (List Note)) (now : ℕ) → IsKept d → d.clock ≤ now → IsKept next → Stays d → Stays next
+      → (n m : Node (List Note)) → qdisc major d ≡ Some n → qdisc major next ≡ Some m
       → IsAsked now d.tree.root next.tree.root → EventPasses d next d.tree.root next.tree.root n m
   poll-passes d next now kept later kept_next h k n m is at asked =
       let root : Node (List Note) = d.tree.root in
@@ -299,12 +315,15 @@ module _ (link rate burst major : ℕ) (classes : List Class) where
         passed = passes major classes d next now kept later kept_next h.1 k.1 n m is at takes.child (bytes_spent w.memory) takes.leaves child;
       }
 
-  event-passes : (d : DeviceState (List Note)) (e : Event) → IsKept d → IsEvent e → Stays d → Stays (step history d e).device → (n m : Node (List Note)) → qdisc major d ≡ Some n → qdisc major (step history d e).device ≡ Some m
+  event-passes : (d : DeviceState (List Note)) (e : Event) → IsKept d → IsEvent e → Stays d → Stays (step history d e).device
+      → (n m : Node (List Note)) → qdisc major d ≡ Some n → qdisc major (step history d e).device ≡ Some m
       → EventPasses d (step history d e).device d.tree.root (step history d e).device.tree.root n m
   event-passes d e kept happens h k n m is at =
-      by e happens h k at (becomes link d e d.tree.root (step history d e).device.tree.root kept happens (at-root link rate burst d h.0.rated) (at-root link rate burst (step history d e).device k.0.rated)) (becomes major d e n m kept happens is at)
+      by e happens h k at (becomes link d e d.tree.root (step history d e).device.tree.root kept happens (at-root link rate burst d h.0.rated)
+      (at-root link rate burst (step history d e).device k.0.rated)) (becomes major d e n m kept happens is at)
     where
-      by : (e : Event) → IsEvent e → Stays d → Stays (step history d e).device → qdisc major (step history d e).device ≡ Some m → Becomes (step history d e).device.clock e d.tree.root (step history d e).device.tree.root → Becomes (step history d e).device.clock e n m
+      by : (e : Event) → IsEvent e → Stays d → Stays (step history d e).device → qdisc major (step history d e).device ≡ Some m
+          → Becomes (step history d e).device.clock e d.tree.root (step history d e).device.tree.root → Becomes (step history d e).device.clock e n m
           → EventPasses d (step history d e).device d.tree.root (step history d e).device.tree.root n m
       by (event.Arrive p moment) range h k at a b =
           let next : DeviceState (List Note) = (step history d (event.Arrive p moment)).device in

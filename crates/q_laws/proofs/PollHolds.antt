@@ -51,7 +51,9 @@ drr-holds own below s = met (place_met s below)
     child i None p e = absurd (none-some p e)
     child i (Some a) p e = shows i a a.shown p e
 
-    met : (o : Option ℕ) → HoldsShown (option_map_or (λ i. option_map_or (class_serves own below (service_of s below) i) (slice_get below i) (gives_nothing own below (service_of s below))) o (gives_nothing own below (service_of s below)))
+    met : (o : Option ℕ)
+        → HoldsShown (option_map_or (λ i. option_map_or (class_serves own below (service_of s below) i) (slice_get below i)
+        (gives_nothing own below (service_of s below))) o (gives_nothing own below (service_of s below)))
     met None p e = absurd (none-some p e)
     met (Some i) p e = child i (slice_get below i) p e
 
@@ -94,7 +96,8 @@ later-silent : (o : Option Descriptor) (empty : Bool) → ◌≡◌ {A = Reply} 
 later-silent None empty e = refl
 later-silent (Some p) empty e = let wrong : reply.Polled (polled.Packet p) ≡ reply.Polled polled.Later = e in cc
 
-module _ (link rate burst major : ℕ) (classes : List Class) (d : DeviceState (List Note)) (moment : ℕ) (kept : IsKept d) (range : IsEvent (event.Poll moment)) (h : IsLinkOver link rate burst major d) (has : HasClasses major classes d)
+module _ (link rate burst major : ℕ) (classes : List Class) (d : DeviceState (List Note)) (moment : ℕ) (kept : IsKept d)
+    (range : IsEvent (event.Poll moment)) (h : IsLinkOver link rate burst major d) (has : HasClasses major classes d)
     (free : d.tree.root.own.held ≡ None) where
   abbrev now : ℕ
   now = max d.clock moment
@@ -113,7 +116,12 @@ module _ (link rate burst major : ℕ) (classes : List Class) (d : DeviceState (
     shows : (p : Descriptor) × (a.shown ≡ Some p)
     shows =
         let short = polled-next link rate burst d h.rated now kept (not-before d.clock moment) (step-kept d (event.Poll moment) kept range).moment silent in
-        by a.shown refl (let less = short.0 in omega (arith, less, ap (λ (ns : List (Node (List Note))). option_map_or (λ (c : Node (List Note)). length_held (ask now (shape c)).shown) (slice_get ns 0) 0) h.child))
+        by a.shown refl (let less = short.0 in omega (
+          arith,
+          less,
+          ap (λ (ns : List (Node (List Note))). option_map_or (λ (c : Node (List Note)). length_held (ask now (shape c)).shown)
+              (slice_get ns 0) 0) h.child,
+        ))
       where
         by : (o : Option Descriptor) → a.shown ≡ o → 1 ≤ length_held a.shown → (p : Descriptor) × (a.shown ≡ Some p)
         by (Some p) e some = (p, e)
@@ -158,5 +166,7 @@ polls-leave-holding settings range before moment link rate burst major classes a
     let h = at-start (IsLinkOver link rate burst major) settings before (e ∷ []) over in
     let k : IsLinkOver link rate burst major next = subst (IsLinkOver link rate burst major) stepped (at-end (IsLinkOver link rate burst major) settings before (e ∷ []) over) in
     let silent = later-silent (ask (max d.clock moment) (shape d.tree.root)).shown (is_empty (shape next.tree.root)) later in
-    let holds = left-holding link rate burst major classes d moment (replay-kept settings before range all) happens h (at-start (HasClasses major classes) settings before (e ∷ []) same) (holds-none settings before range all) silent k.drr k.child in
+    let holds =
+    left-holding link rate burst major classes d moment (replay-kept settings before range all) happens h
+    (at-start (HasClasses major classes) settings before (e ∷ []) same) (holds-none settings before range all) silent k.drr k.child in
     subst (IsHolding major) (sym stepped) (subst (λ (o : Option (Node (List Note))). IsSomeAnd o (λ (n : Node (List Note)). is_some n.own.held ≡ true)) (sym k.there) holds)

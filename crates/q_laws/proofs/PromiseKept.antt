@@ -96,7 +96,9 @@ module _ (root : Node (List Note)) where
 
       found : (b : TokenBucket) (limit h i : ℕ) (c : Node (List Note)) (path : List ℕ) (tbf_there : Bool) (o : Option (List DrrClass)) → root.own.discipline ≡ Tbf b limit → root.own.handle ≡ Some h
           → slice_get (children root) i ≡ Some c → has_tbf c ≡ tbf_there → drrs_on path c ≡ o
-          → (if tbf_there then None else option_map (λ (xs : List DrrClass). record { link = Some (record { handle = h; rate = b.rate; burst = b.burst }); drrs = xs }) o) ≡ Some w → IsLinked root link ds
+          → (if tbf_there then None else option_map
+          (λ (xs : List DrrClass). record { link = Some (record { handle = h; rate = b.rate; burst = b.burst }); drrs = xs }) o) ≡ Some w
+          → IsLinked root link ds
       found b limit h i c path true o is handle there has way e = absurd (none-some w e)
       found b limit h i c path false None is handle there has way e = absurd (none-some w e)
       found b limit h i c path false (Some xs) is handle there has way e =
@@ -193,7 +195,8 @@ link-of dev kept link ds l =
     let size : length (children root) ≡ 1 = sym (length-map (children root) (from_below beneath_own)) ∙ ap length (sym (each-nodes beneath_own root.below)) ∙ law.one in
     let child : children root ≡ l.child ∷ [] = one-child (children root) l.place l.child size l.there in
     let others : list_any (λ b. b) (each tbf_here root.below) ≡ false =
-    ap (list_any (λ b. b)) (each-nodes tbf_here root.below) ∙ ap (λ (ns : List (Node (List Note))). list_any (λ b. b) (map (λ (n : Node (List Note)). has_tbf n) ns)) child ∙ ap (λ b. b || false) l.alone in (
+    ap (list_any (λ b. b)) (each-nodes tbf_here root.below) ∙ ap
+    (λ (ns : List (Node (List Note))). list_any (λ b. b) (map (λ (n : Node (List Note)). has_tbf n) ns)) child ∙ ap (λ b. b || false) l.alone in (
       record {
         tbf = record {
           tbf = record { bucket = l.bucket; held = root.own.held; noted = root.memory };
@@ -279,7 +282,9 @@ service-is-delivered settings range before during link d ds p all_before all_dur
     let here = λ (seen later : List Event) (e : seen ++ later ≡ during).
     linked-way (device_after settings (before ++ seen)) (kept-at settings range before during all_before all_during seen later e) d ds link (served seen later e) in
     let parts : All IsPart (map share_of (d ∷ ds)) = (here [] during refl).parts in
-    let law = shares-multiply settings range before during link.handle link.rate link.burst late l levels all_before all_during room (λ seen later e. (here seen later e).over) (λ seen later e. (here seen later e).way)
+    let law =
+    shares-multiply settings range before during link.handle link.rate link.burst late l levels all_before all_during room
+    (λ seen later e. (here seen later e).over) (λ seen later e. (here seen later e).way)
     in_time polled_before polled_after in
     let time : ℕ = (device_after settings (before ++ during)).clock - (device_after settings before).clock in
     let sent : ℕ = sent_at (last_level l levels) (device_after settings before) during in
@@ -287,7 +292,8 @@ service-is-delivered settings range before during link d ds p all_before all_dur
     let R : ℕ = sums_on l levels in
     let fits : 2 * (settings.mtu * P) + lacks_on settings.mtu l levels ≤ p.slack * R =
     omega (arith, enough settings.mtu (2 * settings.mtu) d ds parts, mul_assoc 2 settings.mtu P, ap (λ k. k * R) is.slack) in
-    let exact : link.rate * time * P < (sent + p.slack) * R * units_in_byte = timed-numbers link.rate time P R sent (2 * (settings.mtu * P) + lacks_on settings.mtu l levels) p.slack units_in_byte law fits in
+    let exact : link.rate * time * P < (sent + p.slack) * R * units_in_byte =
+    timed-numbers link.rate time P R sent (2 * (settings.mtu * P) + lacks_on settings.mtu l levels) p.slack units_in_byte law fits in
     record {
       exact = exact;
       rounded = timed-part (part_of p.shares link.rate) link.rate time P R (sent + p.slack) units_in_byte

@@ -57,7 +57,8 @@ enough mtu x d (e ∷ ds) h =
     let A : ℕ = lacks_of_bytes s.classes s.quantum s.quanta mtu in
     let y : ℕ = lack_at mtu x s in
     let here : x * s.quantum + A ≤ y * s.quanta = (div_ceil_times (x * s.quantum + A) s.quanta (omega (arith, part.positive, part.part))).0 in
-    enough-numbers x s.quantum (quanta_on (level_of e) (levels_of ds)) A mtu s.quanta (lacks_on mtu (level_of e) (levels_of ds)) (slack_on mtu (y + mtu) (shares (e ∷ ds))) (sums_on (level_of e) (levels_of ds)) y here
+    enough-numbers x s.quantum (quanta_on (level_of e) (levels_of ds)) A mtu s.quanta (lacks_on mtu (level_of e) (levels_of ds))
+    (slack_on mtu (y + mtu) (shares (e ∷ ds))) (sums_on (level_of e) (levels_of ds)) y here
     (enough mtu (y + mtu) e ds (other-parts d (e ∷ ds) h))
 
 -- a part is no more than the whole
@@ -92,7 +93,8 @@ no-more-numbers x q P A m Q L S R y k n here rest whole one next =
     omega (arith, a, b, c, a_left, a_right, a_first, b_left, b_same, b_right, b_split, b_more, held, held_same, steps, one)
 
 pub no-more : (mtu x : ℕ) (d : DrrClass) (ds : List DrrClass) → AreParts (d ∷ ds)
-    → slack_on mtu x (shares (d ∷ ds)) * sums_on (level_of d) (levels_of ds) < x * quanta_on (level_of d) (levels_of ds) + lacks_on mtu (level_of d) (levels_of ds) + (length (levels_of ds) + 1) * sums_on (level_of d) (levels_of ds)
+    → slack_on mtu x (shares (d ∷ ds)) * sums_on (level_of d) (levels_of ds) < x * quanta_on (level_of d) (levels_of ds)
+    + lacks_on mtu (level_of d) (levels_of ds) + (length (levels_of ds) + 1) * sums_on (level_of d) (levels_of ds)
 no-more mtu x d [] h =
     let s : Share = share_of d in
     let part = first-part d [] h in
@@ -106,7 +108,8 @@ no-more mtu x d (e ∷ ds) h =
     let some : 1 ≤ s.quanta = omega (arith, part.positive, part.part) in
     let here : y * s.quanta < x * s.quantum + A + s.quanta = (div_ceil_times (x * s.quantum + A) s.quanta some).1 in
     let rest : AreParts (e ∷ ds) = other-parts d (e ∷ ds) h in
-    no-more-numbers x s.quantum (quanta_on (level_of e) (levels_of ds)) A mtu s.quanta (lacks_on mtu (level_of e) (levels_of ds)) (slack_on mtu (y + mtu) (shares (e ∷ ds))) (sums_on (level_of e) (levels_of ds)) y
+    no-more-numbers x s.quantum (quanta_on (level_of e) (levels_of ds)) A mtu s.quanta (lacks_on mtu (level_of e) (levels_of ds))
+    (slack_on mtu (y + mtu) (shares (e ∷ ds))) (sums_on (level_of e) (levels_of ds)) y
     (length (levels_of ds) + 1) (length (levels_of (e ∷ ds)) + 1) here (no-more mtu (y + mtu) e ds rest) (no-more-than-sums e ds rest) some (omega arith)
 
 -- ---- the part
@@ -125,7 +128,8 @@ rounded-down w d [] = div-mul-le_self (w * (share_of d).quantum) (share_of d).qu
 rounded-down w d (e ∷ ds) =
     let s : Share = share_of d in
     let v : ℕ = w * s.quantum / s.quanta in
-    part-numbers (part_of (shares (e ∷ ds)) v) v w s.quantum s.quanta (quanta_on (level_of e) (levels_of ds)) (sums_on (level_of e) (levels_of ds)) (div-mul-le_self (w * s.quantum) s.quanta) (rounded-down v e ds)
+    part-numbers (part_of (shares (e ∷ ds)) v) v w s.quantum s.quanta (quanta_on (level_of e) (levels_of ds)) (sums_on (level_of e) (levels_of ds))
+    (div-mul-le_self (w * s.quantum) s.quanta) (rounded-down v e ds)
 
 -- a factor on both sides
 pub cancel-le : (a b k : ℕ) → 1 ≤ k → a * k ≤ b * k → a ≤ b

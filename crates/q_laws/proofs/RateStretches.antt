@@ -62,7 +62,8 @@ module _ (major rate burst : ℕ) where
       let y : TbfAt = k.tbf in
       let s = tbf-step major d e x y kept event is k.there in
       let same : y.bucket.burst ≡ x.bucket.burst = k.same_burst ∙ sym (burst-there d x h is) in
-      let own : bytes_spent s.notes * units_in_byte + level_at y.bucket next.clock ≡ level_at x.bucket d.clock + x.bucket.rate * (next.clock - d.clock) = s.paid.exact same (uncut-there major d e x is uncut.0) in
+      let own : bytes_spent s.notes * units_in_byte + level_at y.bucket next.clock ≡ level_at x.bucket d.clock
+      + x.bucket.rate * (next.clock - d.clock) = s.paid.exact same (uncut-there major d e x is uncut.0) in
       let rest = on y z k.there at uncut.1 in
       let brought : x.bucket.rate * (next.clock - d.clock) ≡ rate * (next.clock - d.clock) = ap (λ n. n * (next.clock - d.clock)) (rate-there d x h is) in
       let split = mul-add rate (next.clock - d.clock) (end.clock - next.clock) in
@@ -78,5 +79,7 @@ module _ (major rate burst : ℕ) where
 
 pub rate-is-spent : (settings : DeviceSettings) → IsInRange settings → RateIsSpent settings
 rate-is-spent settings range before during major rate burst first last all_before all_during stays uncut is at =
-    let m = counted (Stays major rate burst) (Moves major rate burst) (still major rate burst) (more major rate burst) settings before during range all_before all_during stays first last is at uncut in
+    let m =
+    counted (Stays major rate burst) (Moves major rate burst) (still major rate burst) (more major rate burst) settings before during range
+    all_before all_during stays first last is at uncut in
     record { notes = m.notes; goes_on = m.is; spent = m.level }

@@ -38,7 +38,8 @@ module _ (c : CodelState) (above : c.first_above_time ≡ 0) (dropping : c.dropp
 
   pub spares-marks : marks c now queue ≡ false
   spares-marks =
-      ap₂ (λ (d late : Bool). if d then (let j = drops c now queue in is_late c now (drop j queue) && nat_le (moment c j) now && is_markable c (drop j queue)) else late && is_markable c queue) dropping never-late
+      ap₂ (λ (d late : Bool). if d then (let j = drops c now queue in is_late c now (drop j queue) && nat_le (moment c j) now && is_markable c
+      (drop j queue)) else late && is_markable c queue) dropping never-late
 
 pub sparing : (f : Flow) → IsAtRest f → IsSparing f.codel
 sparing f h = record { drops_none = spares-drops f.codel h.not_above h.not_dropping; marks_none = spares-marks f.codel h.not_above h.not_dropping }
@@ -202,7 +203,8 @@ arranged-holds n q idle new old h = with-gone (rest-holds n q idle (drop p new) 
         Holds n rest → Has n (rest.new_flows ++ rest.old_flows) (leave q 1 (take (first_ready q idle new) new) ++ rest.gone))
     with-gone (inl a) = inl a
     with-gone (inr b) =
-        inr (gone-append n (leave q 1 (take (first_ready q idle new) new)) (with_rest q idle (drop (first_ready q idle new) new) (old ++ map (moved q) (take (first_ready q idle new) new))).gone (inr b))
+        inr (gone-append n (leave q 1 (take (first_ready q idle new) new))
+        (with_rest q idle (drop (first_ready q idle new) new) (old ++ map (moved q) (take (first_ready q idle new) new))).gone (inr b))
 
 -- ---- a take
 

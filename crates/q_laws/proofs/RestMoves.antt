@@ -47,7 +47,8 @@ no-head (x ∷ queue) e = absurd (none-some x (sym e))
 -- CoDel finds the queue of a flow at rest empty, and leaves it at rest
 control-still : (c : CodelState) (above : c.first_above_time ≡ 0) (dropping : c.dropping ≡ false) (now : ℕ) (queue : List Stamped) → control_after c now queue ≡ c
 control-still c above dropping now queue =
-    ap₂ (λ (d late : Bool). if d then (let j = drops c now queue in gone_on c j (marks c now queue) (is_late c now (drop j queue))) else if late then begun c now else c) dropping (never-late c above dropping now queue)
+    ap₂ (λ (d late : Bool). if d then (let j = drops c now queue in gone_on c j (marks c now queue) (is_late c now (drop j queue))) else if late then
+    begun c now else c) dropping (never-late c above dropping now queue)
 
 empty-rests : (now : ℕ) (f : Flow) → IsAtRest f → f.queue ≡ [] → IsAtRest (flow_after now f)
 unfolding flow_after
@@ -65,7 +66,9 @@ none-mapped g (Some x) e = absurd (none-some (g x) (sym e))
 none-sent : (now : ℕ) (f : Flow) → IsAtRest f → packet_sent now f ≡ None → f.queue ≡ []
 unfolding packet_sent
 none-sent now f h e =
-    let head : sent f.codel now f.queue ≡ None = none-mapped (λ (head : Stamped). record { packet = leaving (marks f.codel now f.queue) head.packet; marked = marks f.codel now f.queue }) (sent f.codel now f.queue) e in
+    let head : sent f.codel now f.queue ≡ None =
+    none-mapped (λ (head : Stamped). record { packet = leaving (marks f.codel now f.queue) head.packet; marked = marks f.codel now f.queue })
+    (sent f.codel now f.queue) e in
     no-head f.queue (ap (slice_get f.queue) (sym (spares-drops f.codel h.not_above h.not_dropping now f.queue)) ∙ head)
 
 adjust-own : (g : Flow → Flow) (n : ℕ) (flows : List Flow) → slice_get (adjust g n flows) n ≡ option_map g (slice_get flows n)
@@ -87,7 +90,8 @@ own-rests j now s e own at none h f there =
 gave-own : (j : ℕ) (e : Entry) (t : Taken) → e.flow ≡ j → bytes_given j (flow_gave (Some e) (Some t)) ≡ t.packet.len
 gave-own j e t own = omega (arith, sum_by-cons (given_by j) (FlowGave e.flow t.packet.len) [], ap (λ (b : Bool). if b then t.packet.len else 0) (eq-eqb j e.flow (sym own)))
 
-sent-keeps : (j now : ℕ) (s : FqState) → bytes_given j (flow_gave (front s) (sent_from now s)) ≡ 0 → IfSome (sent_from now s) (λ t. 1 ≤ t.packet.len) → FlowRests j s.flows → FlowRests j (after_sending now s).flows
+sent-keeps : (j now : ℕ) (s : FqState) → bytes_given j (flow_gave (front s) (sent_from now s)) ≡ 0 → IfSome (sent_from now s) (λ t. 1 ≤ t.packet.len)
+    → FlowRests j s.flows → FlowRests j (after_sending now s).flows
 sent-keeps j now s nothing long h = by (front s) refl
   where
     own : (e : Entry) → front s ≡ Some e → e.flow ≡ j → (o : Option Taken) → sent_from now s ≡ o → IfSome o (λ t. 1 ≤ t.packet.len) → FlowRests j (adjust (flow_after now) j s.flows)
@@ -179,12 +183,15 @@ joining-flows-are-spared settings range before e during major j first next last 
     let all_next : All IsEvent (before ++ e ∷ []) = All-push IsEvent before e all_before event in
     let d : DeviceState (List Note) = device_after settings before in
     let kept : IsKept d = replay-kept settings before range all_before in
-    let stepped : device_after settings (before ++ e ∷ []) ≡ (step history d e).device = ap (λ (r : Replay (List Note)). r.device) (replay_from-append history (nothing_yet history settings) before e) in
+    let stepped : device_after settings (before ++ e ∷ []) ≡ (step history d e).device =
+    ap (λ (r : Replay (List Note)). r.device) (replay_from-append history (nothing_yet history settings) before e) in
     let after : fq_in major (step history d e).device ≡ Some next = ap (fq_in major) (sym stepped) ∙ later in
     let left : FlowRests j first.state.flows = unlisted-rests settings before major j first range all_before is absent in
     let joined : FlowRests j next.state.flows = event-joins major j d e first next kept event is after absent listed left in
     let joins : Keeps major j first next = event-keeps major j d e first next kept event is after in
-    let m : Keeps major j next last = moves (IsQueuedFlow major j) (Moves major j) (still major j) (one major j) (more major j) settings (before ++ e ∷ []) during range all_next all_during stays next last later at in
+    let m : Keeps major j next last =
+    moves (IsQueuedFlow major j) (Moves major j) (still major j) (one major j) (more major j) settings (before ++ e ∷ []) during range all_next
+    all_during stays next last later at in
     let none : bytes_given j m.notes ≡ 0 =
     omega (
       arith,

@@ -96,7 +96,9 @@ module _ (now : ℕ) (own : Own) (below : List Asked) (h : Rests own.discipline)
     tbf-rests : AllRests (ask_tbf now own below b limit)
     tbf-rests = by (slice_get below 0)
       where
-        by : (o : Option Asked) → AllRests (option_map_or (ask_child now own below b limit) o (dequeued own below (record { after = own; children = []; rises = []; mine = []; packet = None; since = 0 })))
+        by : (o : Option Asked)
+            → AllRests (option_map_or (ask_child now own below b limit) o
+            (dequeued own below (record { after = own; children = []; rises = []; mine = []; packet = None; since = 0 })))
         by None = record { before = h; peeked = h; taken = h }
         by (Some a) = child-rests a a.shown
 
@@ -114,7 +116,9 @@ module _ (now : ℕ) (own : Own) (below : List Asked) (h : Rests own.discipline)
       child i None = nothing
       child i (Some a) = serves i a a.shown
 
-      by : (o : Option ℕ) → AllRests (option_map_or (λ i. option_map_or (class_serves own below (service_of s below) i) (slice_get below i) (gives_nothing own below (service_of s below))) o (gives_nothing own below (service_of s below)))
+      by : (o : Option ℕ)
+          → AllRests (option_map_or (λ i. option_map_or (class_serves own below (service_of s below) i) (slice_get below i)
+          (gives_nothing own below (service_of s below))) o (gives_nothing own below (service_of s below)))
       by None = nothing
       by (Some i) = child i (slice_get below i)
 

@@ -75,7 +75,8 @@ module _ (now : ℕ) (d : DeviceState (List Note)) (kept : IsKept d) (later : d.
       notes : List Note
       notes = lost_by (Remake path own below) (shape d.tree.root)
 
-      ends : (old : Node (List Note)) → node_at path d.tree.root ≡ Some old → IsOf old d.tree.root → AllRest old → AllRest (remade history own below (lost_by (Remake path own below) (shape d.tree.root)) old)
+      ends : (old : Node (List Note)) → node_at path d.tree.root ≡ Some old → IsOf old d.tree.root → AllRest old
+          → AllRest (remade history own below (lost_by (Remake path own below) (shape d.tree.root)) old)
       ends old at there in_old h n (inl is) has =
           let r = form old at (many-of old there) in
           subst (λ (k : Node (List Note)). Rests k.own.discipline) is

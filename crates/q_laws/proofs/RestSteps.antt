@@ -144,7 +144,8 @@ module _ (j now : ℕ) (node : Node (List Note)) (s : FqState) (is : node.own.di
         by = inl (by st.discipline (ap (λ (k : Node (List Note)). k.own.discipline) put.is ∙ now_is));
       }
     where
-      by : (put.worked.own.discipline ≡ node.own.discipline) ⊎ (put.worked.own.discipline ≡ queued_in p now node.own.discipline) ⊎ ((i : ℕ) × (emptied : Bool) × (put.worked.own.discipline ≡ settled_in i emptied node.own.discipline))
+      by : (put.worked.own.discipline ≡ node.own.discipline) ⊎ (put.worked.own.discipline ≡ queued_in p now node.own.discipline) ⊎
+          ((i : ℕ) × (emptied : Bool) × (put.worked.own.discipline ≡ settled_in i emptied node.own.discipline))
           → put.worked.own.discipline ≡ FqCodel t → FlowRests j s.flows → FlowRests j t.flows
       by (inl e) there h = same-rests t (same-state s t (sym (e ∙ is) ∙ there)) h
       by (inr (inl e)) there h = subst (λ (x : FqState). FlowRests j x.flows) (same-state (after_put s p now) t (sym (e ∙ ap (queued_in p now) is) ∙ there)) (put-rests j s p now h)

@@ -63,15 +63,19 @@ module _ (major i j quantum_i quantum_j : ℕ) (apart : i ≢ j) where
       let rest = on y z k.0.there at in
       let notes : v.notes ≡ m.notes = same-rest x.noted v.notes m.notes (sym v.is ∙ m.is) in
       let grants : grants_to i (m.notes ++ rest.notes) ≡ grants_to i m.notes + grants_to i rest.notes = sum_by-append (granted_by i) m.notes rest.notes in
-      let product_i : grants_to i (m.notes ++ rest.notes) * quantum_i ≡ grants_to i m.notes * quantum_i + grants_to i rest.notes * quantum_i = ap (λ g. g * quantum_i) grants ∙ add-mul (grants_to i m.notes) (grants_to i rest.notes) quantum_i in
-      let product_j : grants_to i (m.notes ++ rest.notes) * quantum_j ≡ grants_to i m.notes * quantum_j + grants_to i rest.notes * quantum_j = ap (λ g. g * quantum_j) grants ∙ add-mul (grants_to i m.notes) (grants_to i rest.notes) quantum_j in
+      let product_i : grants_to i (m.notes ++ rest.notes) * quantum_i ≡ grants_to i m.notes * quantum_i + grants_to i rest.notes * quantum_i =
+      ap (λ g. g * quantum_i) grants ∙ add-mul (grants_to i m.notes) (grants_to i rest.notes) quantum_i in
+      let product_j : grants_to i (m.notes ++ rest.notes) * quantum_j ≡ grants_to i m.notes * quantum_j + grants_to i rest.notes * quantum_j =
+      ap (λ g. g * quantum_j) grants ∙ add-mul (grants_to i m.notes) (grants_to i rest.notes) quantum_j in
       let gave : given_so_far major i next - given_so_far major i d ≡ bytes_sent m.given =
       (let sent : bytes_sent y.child.memory ≡ bytes_sent x.child.memory + bytes_sent m.given = ap bytes_sent m.gives ∙ sum_by-append sent_by x.child.memory m.given in
       omega (arith, sent, given-at major i next y k.0.there, given-at major i d x is)) in
       let own : bytes_sent m.given + deficit_of i y.schedule.active ≡ grants_to i m.notes * quantum_i + deficit_of i x.schedule.active =
       (let books = m.books in omega (arith, books, ap (λ q. grants_to i m.notes * q) quantum)) in
       let other : (given_so_far major j next - given_so_far major j d) + left_before i j quantum_j y.schedule.active ≤ grants_to i m.notes * quantum_j + left_before i j quantum_j x.schedule.active =
-      within-so v.notes m.notes (quantum_of j a.schedule.classes) quantum_j (given_so_far major j next) (given_so_far major j d) (bytes_sent b.child.memory) (bytes_sent a.child.memory) y.schedule.active x.schedule.active h.1.same_quantum notes (given-at major j next b k.1.there) (given-at major j d a h.1.there) v.within in
+      within-so v.notes m.notes (quantum_of j a.schedule.classes) quantum_j (given_so_far major j next) (given_so_far major j d)
+      (bytes_sent b.child.memory) (bytes_sent a.child.memory) y.schedule.active x.schedule.active h.1.same_quantum notes
+      (given-at major j next b k.1.there) (given-at major j d a h.1.there) v.within in
       record {
         notes = m.notes ++ rest.notes;
         is = rest.is ∙ ap (λ ns. ns ++ rest.notes) m.is ∙ append_assoc x.noted m.notes rest.notes;
@@ -107,7 +111,9 @@ service-numbers si sj g a b di dj ei m share most last first =
 pub class-against-any : (settings : DeviceSettings) → IsInRange settings → ClassAgainstAny settings
 class-against-any settings range before during major i j quantum_i quantum_j first last apart all_before all_during stays there is at =
     let start : DeviceState (List Note) = device_after settings before in
-    let m = counted (Both major i j quantum_i quantum_j apart) (Moves major i j quantum_i quantum_j apart) (still major i j quantum_i quantum_j apart) (more major i j quantum_i quantum_j apart) settings before during range all_before all_during
+    let m =
+    counted (Both major i j quantum_i quantum_j apart) (Moves major i j quantum_i quantum_j apart) (still major i j quantum_i quantum_j apart)
+    (more major i j quantum_i quantum_j apart) settings before during range all_before all_during
     (λ seen later e. (stays seen later e, there seen later e)) first last is at in
     let s = at-start (IsBackloggedClass major i quantum_i) settings before during stays in
     let t = at-end (IsBackloggedClass major i quantum_i) settings before during stays in
@@ -127,6 +133,8 @@ class-against-any settings range before during major i j quantum_i quantum_j fir
       share = m.share;
       no_more = no_more;
       behind = λ order. omega (arith, within, left-behind i j quantum_j first.schedule.active order);
-      in_quanta = service-numbers (class_sent major i start during) (class_sent major j start during) (grants_to i m.notes) quantum_i quantum_j (deficit_of i first.schedule.active) (deficit_of j first.schedule.active)
+      in_quanta =
+          service-numbers (class_sent major i start during) (class_sent major j start during) (grants_to i m.notes) quantum_i quantum_j
+          (deficit_of i first.schedule.active) (deficit_of j first.schedule.active)
           (deficit_of i last.schedule.active) settings.mtu m.share no_more end begin;
     }

@@ -38,7 +38,9 @@ use Rattle.q_laws.proofs.PassedStretches.{Moves, Stays, still, more-passes}
 
 -- a packet that is held is no longer than the mtu
 held-short : (mtu clock : ℕ) (own : Own) (below : List (List Descriptor)) → IsLawfulOwn mtu clock own below → length_held own.held ≤ mtu
-held-short mtu clock own below h = by own.held (λ p e. (All-head (λ (q : Descriptor). IsWithin 1 mtu q.len) p (rest own) (subst (λ ps. All (λ (q : Descriptor). IsWithin 1 mtu q.len) ps) (held-first p e) h.lengths)).1)
+held-short mtu clock own below h =
+    by own.held (λ p e. (All-head (λ (q : Descriptor). IsWithin 1 mtu q.len) p (rest own)
+    (subst (λ ps. All (λ (q : Descriptor). IsWithin 1 mtu q.len) ps) (held-first p e) h.lengths)).1)
   where
     rest : Own → List Descriptor
     rest o = packets_in o.discipline ++ flat_map (λ packets. packets) below
@@ -73,7 +75,8 @@ in-time-numbers r s t c q b m A less passed part one =
     omega (arith, whole, left, right, parts, two, part, one, mul_comm q r, mul_comm q t, mul_comm q m)
 
 -- the packet that a qdisc holds
-pub held-in : (settings : DeviceSettings) → IsInRange settings → (before : List Event) → All IsEvent before → (major : ℕ) (n : Node (List Note)) → qdisc major (device_after settings before) ≡ Some n → length_held n.own.held ≤ settings.mtu
+pub held-in : (settings : DeviceSettings) → IsInRange settings → (before : List Event) → All IsEvent before → (major : ℕ) (n : Node (List Note))
+    → qdisc major (device_after settings before) ≡ Some n → length_held n.own.held ≤ settings.mtu
 held-in settings range before all major n is =
     let d : DeviceState (List Note) = device_after settings before in
     let kept : IsKept d = replay-kept settings before range all in
@@ -81,12 +84,14 @@ held-in settings range before all major n is =
     (held-short d.tree.device.mtu d.clock n.own (each beneath_own n.below) (lawful-of d.tree.device.mtu d.clock n d.tree.root kept.lawful (found major d n is).there).0)
 
 -- the quantum of a class
-pub class-quantum : (settings : DeviceSettings) → IsInRange settings → (before : List Event) → All IsEvent before → (major minor quantum : ℕ) → IsBackloggedClass major minor quantum (device_after settings before) → 1 ≤ quantum
+pub class-quantum : (settings : DeviceSettings) → IsInRange settings → (before : List Event) → All IsEvent before → (major minor quantum : ℕ)
+    → IsBackloggedClass major minor quantum (device_after settings before) → 1 ≤ quantum
 class-quantum settings range before all major minor quantum class =
     let d : DeviceState (List Note) = device_after settings before in
     let node = class-node major minor d class.class class.there in
     let law = drr-lawful major d node.node class.class.schedule (replay-kept settings before range all) node.there node.discipline in
-    subst (λ q. 1 ≤ q) class.same_quantum (has-quantum class.class.schedule.classes minor law.schedule.quanta (child-has minor class.class.schedule.classes (children node.node) class.class.child node.child))
+    subst (λ q. 1 ≤ q) class.same_quantum (has-quantum class.class.schedule.classes minor law.schedule.quanta
+    (child-has minor class.class.schedule.classes (children node.node) class.class.child node.child))
 
 -- What a link pays over an interval that ends where a poll gives nothing, and what passes from the classes of the drr beneath it, which is n at first
 -- and m at last.
@@ -120,9 +125,13 @@ link-between settings range before during link rate burst late major classes all
     let n : Node (List Note) = s.0.drr in
     let m : Node (List Note) = t.0.drr in
     let all : All IsEvent (before ++ during) = All-append IsEvent before during all_before all_during in
-    let exact = link-spends settings range before during link rate burst late x y all_before all_during room (λ seen later e. (over seen later e).rated) drained polled_before s.0.rated.tbf.there t.0.rated.tbf.there in
+    let exact =
+    link-spends settings range before during link rate burst late x y all_before all_during room (λ seen later e. (over seen later e).rated)
+    drained polled_before s.0.rated.tbf.there t.0.rated.tbf.there in
     let short = left-short settings range (before ++ during) link rate burst y all t.0.rated polled_after t.0.rated.tbf.there in
-    let passed = counted (Stays link rate burst major classes) (Moves link rate burst major classes) (still link rate burst major classes) (more-passes link rate burst major classes) settings before during range all_before all_during along
+    let passed =
+    counted (Stays link rate burst major classes) (Moves link rate burst major classes) (still link rate burst major classes)
+    (more-passes link rate burst major classes) settings before during range all_before all_during along
     x y n m s.0.rated.tbf.there t.0.rated.tbf.there s.0.there t.0.there in
     let notes : exact.notes ≡ passed.notes = same-rest x.noted exact.notes passed.notes (sym exact.goes_on ∙ passed.is) in
     record {
@@ -163,5 +172,6 @@ share-in-time settings range before during link rate burst late major i quantum 
     let passed = link-passes settings range before during link rate burst late major classes all_before all_during room over same drained polled_before polled_after in
     let part = classes-get-their-parts settings range before during major i quantum classes all_before all_during same stays in
     let one : 1 ≤ quantum = class-quantum settings range before all_before major i quantum (at-start (IsBackloggedClass major i quantum) settings before during stays) in
-    in-time-numbers (rate * ((device_after settings (before ++ during)).clock - start.clock)) passed.0 (all_sent major classes start during) (class_sent major i start during) quantum (quanta_of classes) settings.mtu
+    in-time-numbers (rate * ((device_after settings (before ++ during)).clock - start.clock)) passed.0 (all_sent major classes start during)
+    (class_sent major i start during) quantum (quanta_of classes) settings.mtu
     (lacks_of_bytes (length classes) quantum (quanta_of classes) settings.mtu) passed.1 passed.2 (omega (arith, part)) one

@@ -138,7 +138,8 @@ module _ (major i quantum mtu : ℕ) where
       (record { within = omega arith; low = lowest m.notes m.is q (bytes_sent m.given) gain book (grants_to i m.notes) refl })
     where
       lowest : (notes : List Note) → k.0.class.noted ≡ x.noted ++ notes → quantum_of i x.schedule.classes ≡ quantum → (given : ℕ)
-          → given_so_far major i (step history d e).device - given_so_far major i d ≡ given → given + deficit_of i k.0.class.schedule.active ≡ grants_to i notes * quantum + deficit_of i x.schedule.active
+          → given_so_far major i (step history d e).device - given_so_far major i d ≡ given
+          → given + deficit_of i k.0.class.schedule.active ≡ grants_to i notes * quantum + deficit_of i x.schedule.active
           → (g : ℕ) → grants_to i notes ≡ g
           → deficit_of i k.0.class.schedule.active + min (w + (given_so_far major i (step history d e).device - given_so_far major i d)) (held_by major (step history d e).device) < quantum + mtu
       lowest notes noted q given gain book zero none =

@@ -61,7 +61,8 @@ module _ (major i quantum bytes d0 : ℕ) where
 
   abbrev Moves : DeviceState (List Note) → List Event → DeviceState (List Note) → Type 0
   Moves d during end =
-      (x z : ClassAt) (sent grants : ℕ) → class_in major i d ≡ Some x → class_in major i end ≡ Some z → Short sent grants x → StaysLeft major i bytes sent d during → Waits (sent + class_sent major i d during) end z
+      (x z : ClassAt) (sent grants : ℕ) → class_in major i d ≡ Some x → class_in major i end ≡ Some z → Short sent grants x
+      → StaysLeft major i bytes sent d during → Waits (sent + class_sent major i d during) end z
 
   still : (d : DeviceState (List Note)) → IsKept d → Stays d → Moves d [] d
   still d kept h x z sent grants is at short left =

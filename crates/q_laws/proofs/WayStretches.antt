@@ -124,5 +124,7 @@ shares-multiply settings range before during link rate burst late l levels all_b
     λ seen later e. (way-has settings range before during all_before all_during l levels (device_after settings (before ++ seen)) (way seen later e)).0 in
     let passed = link-passes settings range before during link rate burst late l.major l.classes all_before all_during room over has drained polled_before polled_after in
     let shares = way-shares settings range before during all_before all_during l levels way in
-    in-time-numbers (rate * ((device_after settings (before ++ during)).clock - start.clock)) passed.0 (all_sent l.major l.classes start during) (sent_at (last_level l levels) start during) (quanta_on l levels) (sums_on l levels)
-    settings.mtu (lacks_on settings.mtu l levels) passed.1 passed.2 shares (some-quanta settings range before during all_before all_during l levels (at-start (IsWay l levels) settings before during way))
+    in-time-numbers (rate * ((device_after settings (before ++ during)).clock - start.clock)) passed.0 (all_sent l.major l.classes start during)
+    (sent_at (last_level l levels) start during) (quanta_on l levels) (sums_on l levels)
+    settings.mtu (lacks_on settings.mtu l levels) passed.1 passed.2 shares
+    (some-quanta settings range before during all_before all_during l levels (at-start (IsWay l levels) settings before during way))

@@ -138,14 +138,19 @@ module _ (mtu now : ℕ) (own : Own) (s : Schedule) (below : List Asked) (h : Is
   -- the class that is met shows nothing, though something is queued there
   module _ (e : Entry) (others : List Entry) (first : (prepared heads s).active ≡ e ∷ others) where
     active : is_active e.class s.active ≡ true
-    active = sym (active-served e.class heads s) ∙ ap (is_active e.class) (list-left s below e others first own silent) ∙ or_left (e.class == e.class) (is_active e.class others) (eq-eqb e.class e.class refl)
+    active =
+        sym (active-served e.class heads s) ∙ ap (is_active e.class) (list-left s below e others first own silent)
+        ∙ or_left (e.class == e.class) (is_active e.class others) (eq-eqb e.class e.class refl)
 
     abbrev place : ℕ
     place = unwrap_or (class_at e.class s) 0
 
     class-there : class_at e.class s ≡ Some place
     class-there =
-        let entry : IsEntry left.max_len left.classes e = All-head (IsEntry left.max_len left.classes) e others (subst (λ (es : List Entry). All (IsEntry left.max_len left.classes) es) (list-left s below e others first own silent) lawful.entries) in
+        let entry : IsEntry left.max_len left.classes e =
+        All-head (IsEntry left.max_len left.classes) e others
+        (subst (λ (es : List Entry). All (IsEntry left.max_len left.classes) es) (list-left s below e others first own silent)
+        lawful.entries) in
         position_of (class_at e.class s) (class_known 0 e.class s ∙ ap (has_class e.class) (sym (classes-served heads s)) ∙ entry.there)
 
     contradicts : ⊥
@@ -153,7 +158,9 @@ module _ (mtu now : ℕ) (own : Own) (s : Schedule) (below : List Asked) (h : Is
         let met : IsMetAt s (asked_entries (choice_of heads s) s.active) place =
         met-asked s heads (choice_of heads s) place (sym (ap (option_and_then (λ (m : Met). class_at m.class s)) (chosen_is_met s heads)) ∙ place-front s below e others first ∙ class-there) in
         let child = child-there s.classes below place met.class same met.there in
-        let hidden : child.0.shown ≡ None = sym (ap (option_and_then (λ (x : Asked). x.shown)) (ap (option_and_then (slice_get below)) class-there ∙ child.1)) ∙ hides s below e others first own silent in
+        let hidden : child.0.shown ≡ None =
+        sym (ap (option_and_then (λ (x : Asked). x.shown)) (ap (option_and_then (slice_get below)) class-there ∙ child.1))
+        ∙ hides s below e others first own silent in
         let name : e.class ≡ met.class.name = named met.class met.there in
         let asleep = not-active (λ n. is_active n s.active) s.classes (map beneath (befores below)) place met.class (beneath child.0.before) h.exact met.there (packets-at below place child.0 child.1)
         (rest-at below rest place child.0 child.1 hidden) in
@@ -197,11 +204,20 @@ module _ (mtu now : ℕ) (low : now ≤ 2 ^ 62) (handle : Option ℕ) (filters :
       let counted : length (packets_of (all_packets after.flows)) ≡ 0 =
       omega (arith, gone, length-map (all_packets after.flows) (λ (x : Stamped). x.packet), packets-all after.flows, count-sum (all_packets after.flows)) in
       let peeked : length (beneath a.peeked) ≡ 0 =
-      omega (arith, ap length (beneath-worked left a.peeked.memory (befores below)), own-length left below, ap (λ (o : Option Descriptor). length (option_to_list o)) silent, counted, queued-none (map beneath (befores below)) h.discipline.none) in
+      omega (
+        arith,
+        ap length (beneath-worked left a.peeked.memory (befores below)),
+        own-length left below,
+        ap
+            (λ (o : Option Descriptor). length (option_to_list o)) silent,
+        counted,
+        queued-none (map beneath (befores below)) h.discipline.none,
+      ) in
       let before = answer.stays (omega (arith, weigh-count (beneath a.peeked), peeked)) in
       omega (arith, before, weigh-count (beneath a.before), ap length (beneath-worked own [] (befores below)))
 
-  pub own-rests : (held : Option Descriptor) (d : Discipline) (below : List Asked) → is_tbf d ≡ false → IsLawfulOwn mtu now (node d held) (map beneath (befores below)) → AreAnswers mtu now below → AreRests below
+  pub own-rests : (held : Option Descriptor) (d : Discipline) (below : List Asked) → is_tbf d ≡ false
+      → IsLawfulOwn mtu now (node d held) (map beneath (befores below)) → AreAnswers mtu now below → AreRests below
       → (ask_own now (node d held) below).shown ≡ None → length (waiting (node d held) (befores below)) ≡ 0
   own-rests (Some p) d below other h all rest silent = absurd (none-some p (sym silent))
   own-rests None (Fifo limit queue) below other h all rest silent =

@@ -75,7 +75,8 @@ module _ (mtu now : ℕ) (least : 1 ≤ mtu) (low : now ≤ 2 ^ 62) where
   node-rests own x other h lawful rest silent =
       let below : List Asked = each (ask_own now) x in
       ap (λ (w : Worked). length (beneath w)) (before-is now own below) ∙ ap length (beneath-worked own [] (befores below))
-      ∙ own-rests mtu now low own.handle own.filters own.since own.held own.discipline below other (subst (IsLawfulOwn mtu now own) (sym (beneath-befores now x)) h) (forest-answers mtu now least low x lawful) rest silent
+      ∙ own-rests mtu now low own.handle own.filters own.since own.held own.discipline below other
+      (subst (IsLawfulOwn mtu now own) (sym (beneath-befores now x)) h) (forest-answers mtu now least low x lawful) rest silent
 
   pub forest-rests : (x : Forest (Unit {0})) → AllLawful mtu now x → NoTbfs x → AreRests (each (ask_own now) x)
   forest-rests none h other = tt
@@ -123,7 +124,8 @@ work-is-conserved settings range events moment all within other =
 
         answered : (o : Option Descriptor) → given t d.tree ≡ o → IsNeverHeldBack d (step history d (event.Poll moment)).reply
         answered (Some p) e =
-            let is : (step history d (event.Poll moment)).reply ≡ reply.Polled (polled.Packet p) = ap (λ (o : Option Descriptor). reply.Polled (polled_of o (is_empty (shape (take_packet history t d.tree).root)))) e in
+            let is : (step history d (event.Poll moment)).reply ≡ reply.Polled (polled.Packet p) =
+            ap (λ (o : Option Descriptor). reply.Polled (polled_of o (is_empty (shape (take_packet history t d.tree).root)))) e in
             record {
               gives = λ some. (p, is);
               idle = λ empty. absurd (true≢false (sym empty ∙ shows-some d.tree.device.mtu t kept.least_mtu low d.tree.root p lawful e));
@@ -267,7 +269,9 @@ bands-are-strict settings range events moment major prio next priomap p all with
         let low : t ≤ 2 ^ 62 = not-after d.clock moment (2 ^ 62) kept.moment within in
         let asked : IsAsked t prio next = becomes major d (event.Poll moment) prio next kept within there at in
         let lawful : IsLawfulRoot d.tree.device.mtu t (shape prio) =
-        lawful-with_memory d.tree.device.mtu t (λ m. tt) prio (lawful-of d.tree.device.mtu t prio d.tree.root (root-later d.clock t (not-before d.clock moment) d.tree.device.mtu d.tree.root kept.lawful) (found major d prio there).there) in
+        lawful-with_memory d.tree.device.mtu t (λ m. tt) prio
+        (lawful-of d.tree.device.mtu t prio d.tree.root
+        (root-later d.clock t (not-before d.clock moment) d.tree.device.mtu d.tree.root kept.lawful) (found major d prio there).there) in
         let memory : next.memory ≡ prio.memory ++ asked.worked.memory = ap (λ (k : Node (List Note)). k.memory) (sym asked.is) ∙ noted-history prio.memory asked.worked.memory in
         let alone : filter_map sent_in asked.worked.memory ≡ p ∷ [] =
         append_cancel_left (filter_map sent_in prio.memory) (filter_map sent_in asked.worked.memory) (p ∷ [])

@@ -83,7 +83,8 @@ pub record IsLinked (root : Node (List Note)) (path : List ℕ) (lane : Lane) : 
   pub limit : limit_along rest child ≡ Some lane.limit
 
 -- the limit of a lane
-limit-is : (link : Option Link) (lane : Lane) (t : Bool) (o : Option Limit) → (if t then None else option_map (λ (limit : Limit). record { link = link; limit = limit }) o) ≡ Some lane → o ≡ Some lane.limit
+limit-is : (link : Option Link) (lane : Lane) (t : Bool) (o : Option Limit)
+    → (if t then None else option_map (λ (limit : Limit). record { link = link; limit = limit }) o) ≡ Some lane → o ≡ Some lane.limit
 limit-is link lane true o e = absurd (none-some lane e)
 limit-is link lane false None e = absurd (none-some lane e)
 limit-is link lane false (Some limit) e = ap Some (ap (λ (l : Lane). l.limit) (same_Some (record { link = link; limit = limit }) lane e))
@@ -212,7 +213,8 @@ bytes-last p others =
     omega (arith, size, one)
 
 -- the path of a lane that was found
-lane-path : (place : Place) (root : Node (List Note)) (lane : Lane) (path : List ℕ) → lane_to place root ≡ Some lane → place_path place root ≡ Some path → lane_from path root root.own.discipline ≡ Some lane
+lane-path : (place : Place) (root : Node (List Note)) (lane : Lane) (path : List ℕ) → lane_to place root ≡ Some lane
+    → place_path place root ≡ Some path → lane_from path root root.own.discipline ≡ Some lane
 lane-path place root lane path e is = sym (ap (option_and_then (λ steps. lane_from steps root root.own.discipline)) is) ∙ e
 
 -- the packet is put last in line
@@ -243,7 +245,9 @@ lines-keep-limits settings range before p moment place lane all_before comes fou
     record {
       others = others;
       last = put.last;
-      within = subst (λ (xs : List Descriptor). bytes_in xs ≤ most_bytes settings.mtu lane.limit) (sym put.last) (subst (λ m. bytes_in (others ++ p ∷ []) ≤ most_bytes m lane.limit) (mtu-stays settings before) bytes);
+      within =
+          subst (λ (xs : List Descriptor). bytes_in xs ≤ most_bytes settings.mtu lane.limit) (sym put.last)
+          (subst (λ m. bytes_in (others ++ p ∷ []) ≤ most_bytes m lane.limit) (mtu-stays settings before) bytes);
     }
 
 -- ---- what leaves, and in which time

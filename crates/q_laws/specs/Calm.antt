@@ -45,7 +45,8 @@ CalmClassesGetTheirParts settings =
     (before during : List Event) (major i quantum : ℕ) (classes : List Class) (first : ClassAt) → All IsEvent before → All IsEvent during
     → Throughout (HasClasses major classes) settings before during → Throughout (IsBackloggedClass major i quantum) settings before during
     → class_in major i (device_after settings before) ≡ Some first → IsCalm i quantum first.schedule.active
-    → GetsItsCalmPart (length classes) quantum (quanta_of classes) settings.mtu (class_sent major i (device_after settings before) during) (all_sent major classes (device_after settings before) during)
+    → GetsItsCalmPart (length classes) quantum (quanta_of classes) settings.mtu (class_sent major i (device_after settings before) during)
+    (all_sent major classes (device_after settings before) during)
 
 -- ---- its turn
 

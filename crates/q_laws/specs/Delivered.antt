@@ -72,7 +72,8 @@ ShareIsDelivered settings =
 -- and the slack is the law's
 abbrev pub SlackIsTheLaws : DeviceSettings → Type 0
 SlackIsTheLaws settings =
-    (link : Option Link) (d : DrrClass) (ds : List DrrClass) (p : Promise) → All IsPart (map share_of (d ∷ ds)) → promise_on settings.mtu link (shares_of (record { link = link; drrs = d ∷ ds })) ≡ Some p
+    (link : Option Link) (d : DrrClass) (ds : List DrrClass) (p : Promise) → All IsPart (map share_of (d ∷ ds))
+    → promise_on settings.mtu link (shares_of (record { link = link; drrs = d ∷ ds })) ≡ Some p
     → IsSlack settings.mtu (lack_of_link settings.mtu link) p.slack (level_of d) (levels_of ds)
 
 -- The lateness that is promised for is the greatest for which the burst has room, up to the end of time.

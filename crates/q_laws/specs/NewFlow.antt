@@ -32,7 +32,8 @@ reaches mtu entries = sum_by (λ (e : Entry). reach_before mtu e.credits) entrie
 abbrev pub NewFlowsGoBefore : DeviceSettings → Type 0
 NewFlowsGoBefore settings =
     (before : List Event) (e : Event) (during : List Event) (major j : ℕ) (first next last : FqAt) → All IsEvent before → IsEvent e → All IsEvent during
-    → fq_in major (device_after settings before) ≡ Some first → fq_in major (device_after settings (before ++ e ∷ [])) ≡ Some next → fq_in major (device_after settings (before ++ e ∷ during)) ≡ Some last
+    → fq_in major (device_after settings before) ≡ Some first → fq_in major (device_after settings (before ++ e ∷ [])) ≡ Some next
+    → fq_in major (device_after settings (before ++ e ∷ during)) ≡ Some last
     → is_listed j (first.state.new_flows ++ first.state.old_flows) ≡ false → is_listed j (next.state.new_flows ++ next.state.old_flows) ≡ true
     → Throughout (IsQueuedFlow major j) settings (before ++ e ∷ []) during → bytes_given j last.noted ≡ bytes_given j first.noted
     → all_given last.noted ≤ all_given first.noted + reaches settings.mtu first.state.new_flows

@@ -123,7 +123,8 @@ abbrev pub NoFlowStarves : DeviceSettings → Type 0
 NoFlowStarves settings =
     (before : List Event) (e : Event) (during : List Event) (major i j quantum : ℕ) (first next last : FqAt) → i ≢ j → All IsEvent before → IsEvent e → All IsEvent during
     → Throughout (IsBackloggedFlow major i quantum) settings before (e ∷ during)
-    → fq_in major (device_after settings before) ≡ Some first → fq_in major (device_after settings (before ++ e ∷ [])) ≡ Some next → fq_in major (device_after settings (before ++ e ∷ during)) ≡ Some last
+    → fq_in major (device_after settings before) ≡ Some first → fq_in major (device_after settings (before ++ e ∷ [])) ≡ Some next
+    → fq_in major (device_after settings (before ++ e ∷ during)) ≡ Some last
     → flow_grants_to i last.noted ≡ flow_grants_to i next.noted
     → bytes_given j last.noted ≤ bytes_given j first.noted + max (reach settings.mtu (pos quantum)) (reach settings.mtu (credits_in j first)) + (quantum - 1)
 
@@ -146,7 +147,8 @@ pub record GoesFirst (k mtu : ℕ) (first last : FqAt) : Type 0 where
 abbrev pub NewFlowFirst : DeviceSettings → Type 0
 NewFlowFirst settings =
     (before : List Event) (e : Event) (during : List Event) (major j k : ℕ) (first next last : FqAt) → j ≢ k → All IsEvent before → IsEvent e → All IsEvent during
-    → fq_in major (device_after settings before) ≡ Some first → fq_in major (device_after settings (before ++ e ∷ [])) ≡ Some next → fq_in major (device_after settings (before ++ e ∷ during)) ≡ Some last
+    → fq_in major (device_after settings before) ≡ Some first → fq_in major (device_after settings (before ++ e ∷ [])) ≡ Some next
+    → fq_in major (device_after settings (before ++ e ∷ during)) ≡ Some last
     → is_listed j (first.state.new_flows ++ first.state.old_flows) ≡ false → is_listed j (next.state.new_flows ++ next.state.old_flows) ≡ true
     → Throughout (IsQueuedFlow major j) settings (before ++ e ∷ []) during → bytes_given j last.noted ≡ bytes_given j first.noted
     → GoesFirst k settings.mtu first last

@@ -67,7 +67,8 @@ WorstIsEnough settings =
     → All IsEvent during
     → lane_to place (device_after settings before).tree.root ≡ Some lane → worst_on settings.mtu lane ≡ Some w → IsKeptAt place p moment (device_after settings before)
     → Throughout IsAlone settings (with_arrival before p moment) during → KeepLine line_at_root (device_after settings (with_arrival before p moment)) during
-    → LeavesWithin w.bytes p (filter_map given_in (answers (device_after settings (with_arrival before p moment)) during) ++ line_at_root (device_after settings (with_arrival before p moment ++ during)))
+    → LeavesWithin w.bytes p (filter_map given_in (answers (device_after settings (with_arrival before p moment)) during) ++ line_at_root
+    (device_after settings (with_arrival before p moment ++ during)))
 
 -- ---- in time
 

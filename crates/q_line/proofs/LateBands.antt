@@ -73,8 +73,19 @@ options_lead v h kind_name.Prio o index s = (once_leads _ _ index s, (once_leads
 options_lead v h kind_name.Tbf o index s =
     (once_leads _ _ index s, (once_leads _ _ index s, (once_leads _ _ index s, (once_leads _ _ index s, (once_leads _ _ index s, (once_leads _ _ index s, tt))))))
 options_lead v h kind_name.Drr o index s = tt
-options_lead v h kind_name.FqCodel o index s =
-    (once_leads _ _ index s, (once_leads _ _ index s, (once_leads _ _ index s, (once_leads _ _ index s, (once_leads _ _ index s, (once_leads _ _ index s, (once_leads _ _ index s, (once_leads _ _ index s, tt))))))))
+options_lead v h kind_name.FqCodel o index s = (
+  once_leads _ _ index s,
+  (
+    once_leads _ _ index s,
+    (
+      once_leads _ _ index s,
+      (
+        once_leads _ _ index s,
+        (once_leads _ _ index s, (once_leads _ _ index s, (once_leads _ _ index s, (once_leads _ _ index s, tt)))),
+      ),
+    ),
+  ),
+)
 
 -- the value of an option
 draft_leads : (r : Result ℕ Wrong) (g : ℕ → OptionDraft) (v : QdiscVerb) (h : HeadDraft) (k : KindName) (index : ℕ) → ((n : ℕ) → BandsStand (g n).priomap index)
@@ -82,7 +93,8 @@ draft_leads : (r : Result ℕ Wrong) (g : ℕ → OptionDraft) (v : QdiscVerb) (
 draft_leads (Ok n) g v h k index s = s n
 draft_leads (Err e) g v h k index s = tt
 
-limit_leads : (k : KindName) (o : OptionDraft) (word : List ℕ) (v : QdiscVerb) (h : HeadDraft) (index : ℕ) → BandsStand o.priomap index → Leads (value (limit_fits k o word) (λ d. Positions.options v h k d)) index
+limit_leads : (k : KindName) (o : OptionDraft) (word : List ℕ) (v : QdiscVerb) (h : HeadDraft) (index : ℕ) → BandsStand o.priomap index
+    → Leads (value (limit_fits k o word) (λ d. Positions.options v h k d)) index
 limit_leads kind_name.Pfifo o word v h index s = draft_leads (number_in 0 most word) (λ n. record o { limit = Some n }) v h kind_name.Pfifo index (λ n. s)
 limit_leads kind_name.Bfifo o word v h index s = draft_leads (size_in 0 most word) (λ n. record o { limit = Some n }) v h kind_name.Bfifo index (λ n. s)
 limit_leads kind_name.Tbf o word v h index s = draft_leads (size_in 0 most word) (λ n. record o { tbf_limit = Some (tbf_limit.Bytes n) }) v h kind_name.Tbf index (λ n. s)
@@ -96,11 +108,19 @@ option_leads Positions.latency v h k o word index s = value_leads (time_in 0 lon
 option_leads Positions.bands v h k o word index s = value_leads (number_in 2 16 word) (λ n. Positions.options v h k (record o { bands = Some n })) index (λ n. s)
 option_leads Positions.rate v h k o word index s = value_leads (rate_in word) (λ n. Positions.options v h k (record o { rate = Some n })) index (λ n. s)
 option_leads Positions.burst v h k o word index s = value_leads (size_in 1 most word) (λ n. Positions.options v h k (record o { burst = Some n })) index (λ n. s)
-option_leads Positions.flows v h k o word index s = value_leads (number_in 1 ranges.most_flows word) (λ n. Positions.options v h k (record o { fq_codel = record o.fq_codel { flows = Some n } })) index (λ n. s)
+option_leads Positions.flows v h k o word index s =
+    value_leads (number_in 1 ranges.most_flows word) (λ n. Positions.options v h k (record o { fq_codel = record o.fq_codel { flows = Some n } }))
+    index (λ n. s)
 option_leads Positions.quantum v h k o word index s = value_leads (size_in 1 most word) (λ n. Positions.options v h k (record o { fq_codel = record o.fq_codel { quantum = Some n } })) index (λ n. s)
-option_leads Positions.target v h k o word index s = value_leads (time_in 0 ranges.longest word) (λ n. Positions.options v h k (record o { fq_codel = record o.fq_codel { target = Some n } })) index (λ n. s)
-option_leads Positions.interval v h k o word index s = value_leads (time_in ranges.shortest_interval ranges.longest word) (λ n. Positions.options v h k (record o { fq_codel = record o.fq_codel { interval = Some n } })) index (λ n. s)
-option_leads Positions.drop_batch v h k o word index s = value_leads (number_in 1 ranges.most_batch word) (λ n. Positions.options v h k (record o { fq_codel = record o.fq_codel { drop_batch = Some n } })) index (λ n. s)
+option_leads Positions.target v h k o word index s =
+    value_leads (time_in 0 ranges.longest word) (λ n. Positions.options v h k (record o { fq_codel = record o.fq_codel { target = Some n } })) index
+    (λ n. s)
+option_leads Positions.interval v h k o word index s =
+    value_leads (time_in ranges.shortest_interval ranges.longest word)
+    (λ n. Positions.options v h k (record o { fq_codel = record o.fq_codel { interval = Some n } })) index (λ n. s)
+option_leads Positions.drop_batch v h k o word index s =
+    value_leads (number_in 1 ranges.most_batch word)
+    (λ n. Positions.options v h k (record o { fq_codel = record o.fq_codel { drop_batch = Some n } })) index (λ n. s)
 
 -- one number more: it is the word that is read
 number_leads : (v : QdiscVerb) (h : HeadDraft) (k : KindName) (o : OptionDraft) (word : List ℕ) (i : ℕ) → 1 ≤ i → BandsStand o.priomap i → Leads (priomap_fits i v h k o word) (suc i)
@@ -118,7 +138,9 @@ number_leads v h k o word i from_one s = by_form (is_numeral 10 word)
     by_whole true = stands o.priomap s (band_number word)
     by_whole false = stands o.priomap s (band_number word)
 
-    by_form : (b : Bool) → Leads (if b then Ok (if length more.numbers == 16 then Positions.options v h k (record o { priomap = Some more }) else Positions.priomap v h k (record o { priomap = Some more })) else Err wrong.BadNumber) (suc i)
+    by_form : (b : Bool)
+        → Leads (if b then Ok (if length more.numbers == 16 then Positions.options v h k (record o { priomap = Some more }) else Positions.priomap v
+        h k (record o { priomap = Some more })) else Err wrong.BadNumber) (suc i)
     by_form true = by_whole (length more.numbers == 16)
     by_form false = tt
 
@@ -196,11 +218,33 @@ fits_leads (Positions.head v h) i word o s = rows_lead (table (Positions.head v 
 fits_leads (Positions.options v h k d) i word o s = rows_lead (option_rows v h k d) word (suc i) (options_lead v h k d (suc i) (later d.priomap i s))
 fits_leads (Positions.quantum_of v h given) i word o s = rows_lead (table (Positions.quantum_of v h given)) word (suc i) (once_leads _ _ (suc i) tt, tt)
 fits_leads (Positions.keys h k) i word o s =
-    rows_lead (table (Positions.keys h k)) word (suc i)
-    (once_leads _ _ (suc i) tt, (once_leads _ _ (suc i) tt, (once_leads _ _ (suc i) tt, (once_leads _ _ (suc i) tt, (once_leads _ _ (suc i) tt, (once_leads _ _ (suc i) tt, (once_leads _ _ (suc i) tt, tt)))))))
+    rows_lead (table (Positions.keys h k)) word (suc i) (
+      once_leads _ _ (suc i) tt,
+      (
+        once_leads _ _ (suc i) tt,
+        (
+          once_leads _ _ (suc i) tt,
+          (
+            once_leads _ _ (suc i) tt,
+            (once_leads _ _ (suc i) tt, (once_leads _ _ (suc i) tt, (once_leads _ _ (suc i) tt, tt))),
+          ),
+        ),
+      ),
+    )
 fits_leads (Positions.packet p) i word o s =
-    rows_lead (table (Positions.packet p)) word (suc i)
-    (once_leads _ _ (suc i) tt, (once_leads _ _ (suc i) tt, (once_leads _ _ (suc i) tt, (once_leads _ _ (suc i) tt, (once_leads _ _ (suc i) tt, (once_leads _ _ (suc i) tt, (once_leads _ _ (suc i) tt, (once_leads _ _ (suc i) tt, tt))))))))
+    rows_lead (table (Positions.packet p)) word (suc i) (
+      once_leads _ _ (suc i) tt,
+      (
+        once_leads _ _ (suc i) tt,
+        (
+          once_leads _ _ (suc i) tt,
+          (
+            once_leads _ _ (suc i) tt,
+            (once_leads _ _ (suc i) tt, (once_leads _ _ (suc i) tt, (once_leads _ _ (suc i) tt, (once_leads _ _ (suc i) tt, tt)))),
+          ),
+        ),
+      ),
+    )
 fits_leads (Positions.show_line x named) i word o s = rows_lead (table (Positions.show_line x named)) word (suc i) (once_leads _ _ (suc i) tt, tt)
 fits_leads (Positions.done v h) i word o s = tt
 fits_leads (Positions.whole l) i word o s = tt
@@ -250,7 +294,9 @@ bad_within p b next word low within e = by_place (ltb (position_or_len p b.numbe
 bad_of : (o : OptionDraft) (next word : ℕ) → BandsStand o.priomap next → bad_band o ≡ Some word → (1 ≤ word) × (word < next)
 bad_of o next word s e = by_map o.priomap s e
   where
-    by_map : (map : Option Bands) → BandsStand map next → option_and_then (λ (b : Bands). option_map (λ i. b.from + i) (position (λ n. nat_le (bands_of o) n) b.numbers)) map ≡ Some word → (1 ≤ word) × (word < next)
+    by_map : (map : Option Bands) → BandsStand map next
+        → option_and_then (λ (b : Bands). option_map (λ i. b.from + i) (position (λ n. nat_le (bands_of o) n) b.numbers)) map ≡ Some word
+        → (1 ≤ word) × (word < next)
     by_map None s e = absurd (none_not_some word None refl e)
     by_map (Some b) s e = bad_within (λ n. nat_le (bands_of o) n) b next word s.0 s.1 e
 

@@ -191,7 +191,15 @@ list_step v h k o i n w q e = let x = named v h k o i w q e in by_entry x.entry 
   where
     by_entry : (e : Entry) → entry_in (entries k) w ≡ Some e → has e k o ≡ false → q ≡ behind e v h k o → Step v h k list o i n w q
     by_entry (valued x) is g leads = record { spot = value_at x; draft = o; is = leads; index = n; leads = name_fits v h k (moved n o) i w (valued x) is (has_moved (valued x) k n o ∙ g) }
-    by_entry (flag b) is g leads = record { spot = list; draft = over (says (flag b) k (number 0)) o; is = leads; index = n; leads = name_fits v h k (moved n o) i w (flag b) is (has_moved (flag b) k n o ∙ g) }
+    by_entry (flag b) is g leads =
+        record {
+          spot = list;
+          draft = over (says (flag b) k (number 0)) o;
+          is = leads;
+          index = n;
+          leads = name_fits v h k (moved n o) i w (flag b) is
+              (has_moved (flag b) k n o ∙ g);
+        }
     by_entry numbers is g leads = record { spot = bands_at; draft = o; is = leads; index = n; leads = name_fits v h k (moved n o) i w numbers is (has_moved numbers k n o ∙ g) }
 
 value_step : (v : QdiscVerb) (h : HeadDraft) (k : KindName) (x : OptionValue) (o : OptionDraft) (i n : ℕ) (w : List ℕ) (q : Position)

@@ -152,8 +152,12 @@ option_leads Positions.burst v h k o word = any_leads (size_in 1 most word) (λ 
 option_leads Positions.flows v h k o word = any_leads (number_in 1 ranges.most_flows word) (λ n. Positions.options v h k (record o { fq_codel = record o.fq_codel { flows = Some n } })) (λ a. tt)
 option_leads Positions.quantum v h k o word = any_leads (size_in 1 most word) (λ n. Positions.options v h k (record o { fq_codel = record o.fq_codel { quantum = Some n } })) (λ a. tt)
 option_leads Positions.target v h k o word = any_leads (time_in 0 ranges.longest word) (λ n. Positions.options v h k (record o { fq_codel = record o.fq_codel { target = Some n } })) (λ a. tt)
-option_leads Positions.interval v h k o word = any_leads (time_in ranges.shortest_interval ranges.longest word) (λ n. Positions.options v h k (record o { fq_codel = record o.fq_codel { interval = Some n } })) (λ a. tt)
-option_leads Positions.drop_batch v h k o word = any_leads (number_in 1 ranges.most_batch word) (λ n. Positions.options v h k (record o { fq_codel = record o.fq_codel { drop_batch = Some n } })) (λ a. tt)
+option_leads Positions.interval v h k o word =
+    any_leads (time_in ranges.shortest_interval ranges.longest word)
+    (λ n. Positions.options v h k (record o { fq_codel = record o.fq_codel { interval = Some n } })) (λ a. tt)
+option_leads Positions.drop_batch v h k o word =
+    any_leads (number_in 1 ranges.most_batch word) (λ n. Positions.options v h k (record o { fq_codel = record o.fq_codel { drop_batch = Some n } }))
+    (λ a. tt)
 
 priomap_leads : (index : ℕ) (v : QdiscVerb) (h : HeadDraft) (k : KindName) (o : OptionDraft) (word : List ℕ) → Leads (priomap_fits index v h k o word)
 priomap_leads index v h k o word = by_form (is_numeral 10 word) _ _ _

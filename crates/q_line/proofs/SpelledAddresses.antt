@@ -101,8 +101,10 @@ pub address4_read : (a : ℕ) → a < 2 ^ 32 → address_of (join_with_byte 46 (
 address4_read a h =
     let word = join_with_byte 46 (octets a) in
     let colons : list_any is_colon word ≡ false = none_of is_colon word (all_joined (λ c. not (is_colon c)) 46 (octets a) refl (octets_all (λ c. not (is_colon c)) no_colon a)) in
-    ap (λ (b : Bool). if b then ipv6_of (groups_in (take (gap_at word) word)) (groups_in (drop (suc (suc (gap_at word))) word)) (ltb (gap_at word) (length word)) else ipv4_of (slice_split is_point word)) colons
-    ∙ ap ipv4_of (split_joined is_point 46 (decimal (a / 2 ^ 24 % 256)) (decimal (a / 2 ^ 16 % 256) ∷ decimal (a / 2 ^ 8 % 256) ∷ decimal (a % 256) ∷ []) refl (octets_all (λ c. not (is_point c)) digit_no_point a))
+    ap (λ (b : Bool). if b then ipv6_of (groups_in (take (gap_at word) word)) (groups_in (drop (suc (suc (gap_at word))) word))
+    (ltb (gap_at word) (length word)) else ipv4_of (slice_split is_point word)) colons
+    ∙ ap ipv4_of (split_joined is_point 46 (decimal (a / 2 ^ 24 % 256))
+    (decimal (a / 2 ^ 16 % 256) ∷ decimal (a / 2 ^ 8 % 256) ∷ decimal (a % 256) ∷ []) refl (octets_all (λ c. not (is_point c)) digit_no_point a))
     ∙ ipv4_read _ _ _ _ (octet (a / 2 ^ 24 % 256) (omega arith)) (octet (a / 2 ^ 16 % 256) (omega arith)) (octet (a / 2 ^ 8 % 256) (omega arith)) (octet (a % 256) (omega arith))
     ∙ ap (λ n. Ok (record { version = V4; address = n })) (octets_value a h)
 
@@ -132,6 +134,7 @@ prefix_gives a word len plain read short small =
     ∙ ap (λ w. with_length (address_of w) (Some (after_first is_slash all))) before
     ∙ ap (λ w. with_length (address_of word) (Some w)) behind
     ∙ ap (λ r. with_length r (Some (decimal len))) read
-    ∙ ap (λ (b : Bool). if b then (if leb (digits_value 10 (decimal len)) (bits_of a.version) then Ok (record { version = a.version; address = a.address; len = digits_value 10 (decimal len) }) else Err OutOfRange) else Err BadNumber) form
+    ∙ ap (λ (b : Bool). if b then (if leb (digits_value 10 (decimal len)) (bits_of a.version) then Ok
+    (record { version = a.version; address = a.address; len = digits_value 10 (decimal len) }) else Err OutOfRange) else Err BadNumber) form
     ∙ ap (λ n. if leb n (bits_of a.version) then Ok (record { version = a.version; address = a.address; len = n }) else Err OutOfRange) d.1
     ∙ ap (λ (b : Bool). if b then Ok (record { version = a.version; address = a.address; len = len }) else Err OutOfRange) (le-leb _ _ short)

@@ -69,7 +69,8 @@ parts_read : (x y : List ℕ) (parts : List (List ℕ)) → AllByRecursion IsGro
 parts_read x y parts h =
     let word = join_with_byte 58 (x ∷ y ∷ parts) in
     let whole : gap_at word ≡ length word = least_none (λ i. begins_with_two (drop i word)) (length word) (λ i _. no_two x (y ∷ parts) h i) in
-    ap (λ (b : Bool). if b then ipv6_of (groups_in (take (gap_at word) word)) (groups_in (drop (suc (suc (gap_at word))) word)) (ltb (gap_at word) (length word)) else ipv4_of (slice_split is_point word)) (any_at is_colon 58 x (join_with_byte 58 (y ∷ parts)) refl)
+    ap (λ (b : Bool). if b then ipv6_of (groups_in (take (gap_at word) word)) (groups_in (drop (suc (suc (gap_at word))) word))
+    (ltb (gap_at word) (length word)) else ipv4_of (slice_split is_point word)) (any_at is_colon 58 x (join_with_byte 58 (y ∷ parts)) refl)
     ∙ ap (λ k. ipv6_of (groups_in (take k word)) (groups_in (drop (suc (suc k)) word)) (ltb k (length word))) whole
     ∙ ap (λ w. ipv6_of (groups_in w) (groups_in (drop (suc (suc (length word))) word)) (ltb (length word) (length word))) (take_all (length word) word (omega arith))
     ∙ ap (λ w. ipv6_of (groups_in word) (groups_in w) (ltb (length word) (length word))) (drop_all (suc (suc (length word))) word (omega arith))
@@ -139,7 +140,8 @@ address6_read : (a : ℕ) → a < 2 ^ 128 → address_of (join_with_byte 58 (gro
 address6_read a h =
     let value = groups_value a h in
     parts_read _ _ (hex (a / 2 ^ 80 % 65536) ∷ hex (a / 2 ^ 64 % 65536) ∷ hex (a / 2 ^ 48 % 65536) ∷ hex (a / 2 ^ 32 % 65536) ∷ hex (a / 2 ^ 16 % 65536) ∷ hex (a % 65536) ∷ []) (are_groups a)
-    ∙ eight_read _ _ _ _ _ _ _ _ _ _ _ _ _ _ _ _ (group (a / 2 ^ 112)) (group (a / 2 ^ 96)) (group (a / 2 ^ 80)) (group (a / 2 ^ 64)) (group (a / 2 ^ 48)) (group (a / 2 ^ 32)) (group (a / 2 ^ 16)) (group a)
+    ∙ eight_read _ _ _ _ _ _ _ _ _ _ _ _ _ _ _ _ (group (a / 2 ^ 112)) (group (a / 2 ^ 96)) (group (a / 2 ^ 80)) (group (a / 2 ^ 64))
+    (group (a / 2 ^ 48)) (group (a / 2 ^ 32)) (group (a / 2 ^ 16)) (group a)
     ∙ ap (λ n. Ok (record { version = V6; address = n * 65536 ^ (8 - 8) + 0 })) value ∙ ap (λ n. Ok (record { version = V6; address = n })) (omega arith)
 
 pub address_read : (v : IpVersion) (a : ℕ) → a < 2 ^ bits_of v → address_of (address_word v a) ≡ Ok (record { version = v; address = a })

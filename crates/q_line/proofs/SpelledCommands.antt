@@ -40,7 +40,8 @@ abbrev pub named : HeadDraft
 named = record no_head { named = true }
 
 -- tc OBJECT VERB dev NAME
-pub starts : (object verb name : List ℕ) (p : Position) (v : Verb) → Word object → Word verb → ((i : ℕ) → fits i (tc false) object ≡ Ok p) → ((i : ℕ) → fits i p verb ≡ Ok (head v no_head)) → IsName name
+pub starts : (object verb name : List ℕ) (p : Position) (v : Verb) → Word object → Word verb → ((i : ℕ) → fits i (tc false) object ≡ Ok p)
+    → ((i : ℕ) → fits i p verb ≡ Ok (head v no_head)) → IsName name
     → Path first (head v named) (change_words object verb name)
 starts object verb name p v a b f g is_name =
     chain first (tc false) (head v named) (codes "tc" ∷ []) (object ∷ verb ∷ codes "dev" ∷ name ∷ []) (word first (tc false) (codes "tc") (refl, refl) (λ i. refl))
@@ -77,7 +78,8 @@ handle_path v p n h =
     (λ i a e. ap (λ r. value r (λ x. head (of_qdisc v) (put p (Some x)))) e) (handle_reads n h)
 
 -- a qdisc's place, its handle and its kind
-made_says : (v : QdiscVerb) (p : Option Place) (n : Option ℕ) (k : Kind) (c : Command) → Makes v → IfSome p IsPlace → IfSome p IsBelow → IfSome n IsHandle → IsKind k → qdisc_line v (put p n) k ≡ Some c
+made_says : (v : QdiscVerb) (p : Option Place) (n : Option ℕ) (k : Kind) (c : Command) → Makes v → IfSome p IsPlace → IfSome p IsBelow
+    → IfSome n IsHandle → IsKind k → qdisc_line v (put p n) k ≡ Some c
     → Says (head (of_qdisc v) named) (Tc c) (some_place_words p ++ (given (codes "handle") handle_word n ++ kind_words k))
 made_says v p n k c m in_place below handle is made =
     chain_says (head (of_qdisc v) named) (head (of_qdisc v) (put p None)) (Tc c) (some_place_words p) (given (codes "handle") handle_word n ++ kind_words k) (place_path v p in_place below)

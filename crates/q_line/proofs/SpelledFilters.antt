@@ -68,7 +68,8 @@ or_none : {A : Type 0} (o : Option A) → option_or o None ≡ o
 or_none None = refl
 or_none (Some a) = refl
 
-with_version : (o : Option Prefix) (v w : Option IpVersion) → w ≡ v → IfSome o (λ p. option_map_or (same_version p.version) v true ≡ true) → IfSome o (λ p. option_map_or (same_version p.version) w true ≡ true)
+with_version : (o : Option Prefix) (v w : Option IpVersion) → w ≡ v → IfSome o (λ p. option_map_or (same_version p.version) v true ≡ true)
+    → IfSome o (λ p. option_map_or (same_version p.version) w true ≡ true)
 with_version None v w e h = tt
 with_version (Some p) v w e h = ap (λ x. option_map_or (same_version p.version) x true) e ∙ h
 

@@ -84,7 +84,8 @@ tbf_limit_path : (v : QdiscVerb) (h : HeadDraft) (r b : ℕ) (l : TbfLimit) → 
 tbf_limit_path v h r b (tbf_limit.Bytes n) few =
     pair (at_tbf v h (filled r b)) (option_value Positions.limit v h kind_name.Tbf (filled r b)) (at_tbf v h (bounded r b (tbf_limit.Bytes n))) (codes "limit") (bytes_word n) (refl, refl)
     (unit_is_word n (codes "b") (omega arith) refl refl) (λ i. refl)
-    (λ i. ap (λ a. value (elim a as (λ _. Result OptionDraft Wrong) [ Ok n ↦ Ok (bounded r b (tbf_limit.Bytes n)) | Err e ↦ Err e ]) (λ d. at_tbf v h d)) (bytes_read 0 most n (omega arith) few (lit< tt)))
+    (λ i. ap (λ a. value (elim a as (λ _. Result OptionDraft Wrong) [ Ok n ↦ Ok (bounded r b (tbf_limit.Bytes n)) | Err e ↦ Err e ])
+    (λ d. at_tbf v h d)) (bytes_read 0 most n (omega arith) few (lit< tt)))
 tbf_limit_path v h r b (tbf_limit.Latency ns) few =
     pair (at_tbf v h (filled r b)) (option_value Positions.latency v h kind_name.Tbf (filled r b)) (at_tbf v h (bounded r b (tbf_limit.Latency ns))) (codes "latency") (time_word ns) (refl, refl)
     (time_is_word ns (omega arith)) (λ i. refl)

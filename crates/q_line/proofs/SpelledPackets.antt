@@ -123,7 +123,8 @@ ports len hash prio proto sport dport src dst ecn h k =
     (pair (packet e) (packet_value field.DstPort e) (packet f) (codes "dst_port") (decimal dport) (refl, refl) (decimal_word dport (omega arith)) (λ i. refl)
     (λ i. ap (λ r. value (value r (λ n. fields len hash (Some prio) (Some proto) src dst (Some sport) (Some n) None)) packet) (number_read 0 65535 dport (omega arith) (omega arith) (lit< tt))))
     (pair (packet f) (packet_value field.Ecn f) q (codes "ecn") (decimal (codepoint ecn)) (refl, refl) (decimal_word (codepoint ecn) (omega arith)) (λ i. refl)
-    (λ i. ap (λ r. value (value r (λ n. fields len hash (Some prio) (Some proto) src dst (Some sport) (Some dport) (Some (ecn_of n)))) packet) (number_read 0 3 (codepoint ecn) (omega arith) few (lit< tt))
+    (λ i. ap (λ r. value (value r (λ n. fields len hash (Some prio) (Some proto) src dst (Some sport) (Some dport) (Some (ecn_of n)))) packet)
+    (number_read 0 3 (codepoint ecn) (omega arith) few (lit< tt))
     ∙ ap (λ x. Ok (packet (fields len hash (Some prio) (Some proto) src dst (Some sport) (Some dport) (Some x)))) (coded ecn))))
 
 -- the addresses of each family

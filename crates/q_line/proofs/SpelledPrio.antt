@@ -111,22 +111,30 @@ no_bad_band bands xs h =
 
 abbrev verdict : QdiscVerb → HeadDraft → ℕ → List ℕ → ℕ → Option ℕ → Bool → Result Line LineFault
 verdict v h bands xs index late whole =
-    elim late as (λ _. Result Line LineFault) [ Some word ↦ Err (fault.OutOfRange word) | None ↦ said (option_map Tc (option_and_then (qdisc_line v h) (option_map (λ m. Prio (record { bands = bands; priomap = m })) (if whole then Some xs else None)))) index ]
+    elim late as (λ _. Result Line LineFault) [
+      | Some word ↦ Err (fault.OutOfRange word)
+      | None ↦ said
+          (option_map Tc (option_and_then (qdisc_line v h)
+          (option_map (λ m. Prio (record { bands = bands; priomap = m })) (if whole then Some xs else None)))) index
+    ]
 
-map_ends : (v : QdiscVerb) (h : HeadDraft) (bands from index : ℕ) (xs : List ℕ) (c : Command) → Below bands xs → length xs ≡ 16 → qdisc_line v h (Prio (record { bands = bands; priomap = xs })) ≡ Some c
+map_ends : (v : QdiscVerb) (h : HeadDraft) (bands from index : ℕ) (xs : List ℕ) (c : Command) → Below bands xs → length xs ≡ 16
+    → qdisc_line v h (Prio (record { bands = bands; priomap = xs })) ≡ Some c
     → rest_of (at_options v h (mapped bands from xs)) index [] ≡ Ok (Tc c)
 map_ends v h bands from index xs c below all made =
     ap (λ late. verdict v h bands xs index (option_map (λ i. from + i) late) (length xs == 16)) (no_bad_band bands xs below)
     ∙ ap (verdict v h bands xs index None) (eq-eqb _ _ all)
     ∙ ap (λ o. said (option_map Tc o) index) made
 
-priomap_read : (v : QdiscVerb) (h : HeadDraft) (bands i : ℕ) (xs : List ℕ) (c : Command) → bands ≤ 16 → Below bands xs → length xs ≡ 16 → qdisc_line v h (Prio (record { bands = bands; priomap = xs })) ≡ Some c
+priomap_read : (v : QdiscVerb) (h : HeadDraft) (bands i : ℕ) (xs : List ℕ) (c : Command) → bands ≤ 16 → Below bands xs → length xs ≡ 16
+    → qdisc_line v h (Prio (record { bands = bands; priomap = xs })) ≡ Some c
     → rest_of (at_map v h (record no_options { bands = Some bands })) i (map decimal xs) ≡ Ok (Tc c)
 priomap_read v h bands i [] c few below all made = absurd (omega arith)
 priomap_read v h bands i (x ∷ xs) c few below all made =
     let x_below = below.0 in
     let rest = numbers_read xs v h bands i (suc i) (x ∷ []) few below.1 (omega arith) (omega arith) in
-    word_at (at_map v h (record no_options { bands = Some bands })) (at_map v h (mapped bands i (x ∷ []))) (decimal x) i (map decimal xs) (number_word x (omega arith)) (first_fits v h bands i x (omega arith))
+    word_at (at_map v h (record no_options { bands = Some bands })) (at_map v h (mapped bands i (x ∷ []))) (decimal x) i (map decimal xs)
+    (number_word x (omega arith)) (first_fits v h bands i x (omega arith))
     ∙ rest.1 ∙ map_ends v h bands i rest.0 (x ∷ xs) c below all made
 
 -- behind the kind's name

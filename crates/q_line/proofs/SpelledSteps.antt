@@ -90,7 +90,11 @@ handle_is_word n high = let d = hex_digits n (omega arith) in (handle_word (hex 
 
 -- what passes both tests behind a word is part of the word
 pub word_more : (w more : List ℕ) → Word w → list_all (λ b. not (is_blank b)) more ≡ true → list_all (λ b. ltb b 128) more ≡ true → Word (w ++ more)
-word_more w more a blanks ascii = (both (filled w a.0) (list_all-append (λ b. not (is_blank b)) w more ∙ both (right_of (is_filled w) _ a.0) blanks), list_all-append (λ b. ltb b 128) w more ∙ both a.1 ascii)
+word_more w more a blanks ascii = (
+  both (filled w a.0) (list_all-append (λ b. not (is_blank b)) w more ∙ both (right_of (is_filled w) _ a.0) blanks),
+  list_all-append
+      (λ b. ltb b 128) w more ∙ both a.1 ascii,
+)
   where
     filled : (w : List ℕ) → is_word w ≡ true → is_filled (w ++ more) ≡ true
     filled [] h = cc

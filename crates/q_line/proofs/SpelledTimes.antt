@@ -47,7 +47,8 @@ digits_together n ds value =
     sym (append_assoc (ds ++ (a ∷ [])) (b ∷ []) (c ∷ []) ∙ append_assoc ds (a ∷ []) (b ∷ c ∷ [])) in
     let one : digits_value 10 (ds ++ (a ∷ [])) ≡ digits_value 10 ds * 10 + digit_value a = digits_value_push 10 ds a in
     let two : digits_value 10 ((ds ++ (a ∷ [])) ++ (b ∷ [])) ≡ digits_value 10 (ds ++ (a ∷ [])) * 10 + digit_value b = digits_value_push 10 (ds ++ (a ∷ [])) b in
-    let three : digits_value 10 (((ds ++ (a ∷ [])) ++ (b ∷ [])) ++ (c ∷ [])) ≡ digits_value 10 ((ds ++ (a ∷ [])) ++ (b ∷ [])) * 10 + digit_value c = digits_value_push 10 ((ds ++ (a ∷ [])) ++ (b ∷ [])) c in
+    let three : digits_value 10 (((ds ++ (a ∷ [])) ++ (b ∷ [])) ++ (c ∷ [])) ≡ digits_value 10 ((ds ++ (a ∷ [])) ++ (b ∷ [])) * 10 + digit_value c =
+    digits_value_push 10 ((ds ++ (a ∷ [])) ++ (b ∷ [])) c in
     ap (digits_value 10) apart ∙ three
     ∙ ap (λ v. v * 10 + digit_value c) (two ∙ ap (λ v. v * 10 + digit_value b) (one ∙ ap (λ v. v * 10 + digit_value a) value))
     ∙ ap (λ v. ((n / 1000 * 10 + v) * 10 + digit_value b) * 10 + digit_value c) x

@@ -43,7 +43,9 @@ class_gives major minor ds es d e low high some =
     let before : before_first is_colon (ds ++ 58 ∷ es) ≡ ds = take_at ds (58 ∷ es) _ (sym colon) in
     let behind : after_first is_colon (ds ++ 58 ∷ es) ≡ es = ap (λ i. drop (i + 1) (ds ++ 58 ∷ es)) colon ∙ drop_past ds 58 es in
     ap (λ w. class_from w (after_first is_colon (ds ++ 58 ∷ es))) before ∙ ap (class_from ds) behind
-    ∙ ap (λ (b : Bool). if b then (if (leb (length ds) 4 && (leb 1 (digits_value 16 ds) && leb (digits_value 16 ds) 65534)) && (leb (length es) 4 && leb 1 (digits_value 16 es)) then Ok (record { major = digits_value 16 ds; minor = digits_value 16 es }) else Err OutOfRange) else Err BadNumber) (both d.form e.form)
+    ∙ ap (λ (b : Bool). if b then (if (leb (length ds) 4 && (leb 1 (digits_value 16 ds) && leb (digits_value 16 ds) 65534)) &&
+    (leb (length es) 4 && leb 1 (digits_value 16 es)) then Ok (record { major = digits_value 16 ds; minor = digits_value 16 es }) else Err
+    OutOfRange) else Err BadNumber) (both d.form e.form)
     ∙ ap (λ (b : Bool). if b then Ok (record { major = digits_value 16 ds; minor = digits_value 16 es }) else Err OutOfRange)
     (both (both (le-leb _ _ d.short) (both (le-leb 1 _ least) (le-leb _ 65534 most))) (both (le-leb _ _ e.short) (le-leb 1 _ least_minor)))
     ∙ ap (λ (k : ℕ). Ok (record { major = k; minor = digits_value 16 es })) value ∙ ap (λ (k : ℕ). Ok (record { major = major; minor = k })) minor_value
@@ -103,7 +105,9 @@ united_gives units low high n ds unit form value bare one above below =
     let suffix : suffix_of (ds ++ unit) ≡ map small unit = ap (λ w. map small (drop (length w) (ds ++ unit))) all ∙ ap (map small) (drop_front ds unit) in
     let decimal_form : is_decimal ds ≡ true = ap (λ w. is_numeral 10 w && (not (list_any is_point ds) || is_numeral 10 (decimals ds) && leb (length (decimals ds)) 9)) whole
     ∙ both form (ap (λ b. not b || is_numeral 10 (decimals ds) && leb (length (decimals ds)) 9) (none_of is_point ds plain)) in
-    let read : digits_value 10 (whole_part ds ++ decimals ds) ≡ n = ap (λ w. digits_value 10 (w ++ decimals ds)) whole ∙ ap (λ w. digits_value 10 (ds ++ w)) behind ∙ ap (digits_value 10) (append-nil ds) ∙ value in
+    let read : digits_value 10 (whole_part ds ++ decimals ds) ≡ n =
+    ap (λ w. digits_value 10 (w ++ decimals ds)) whole ∙ ap (λ w. digits_value 10 (ds ++ w)) behind ∙ ap (digits_value 10) (append-nil ds)
+    ∙ value in
     let times : times_factor ds 1 ≡ n = ap (λ k. k * 1 / 10 ^ length (decimals ds)) read ∙ ap (λ (w : List ℕ). n * 1 / 10 ^ length w) behind ∙ omega arith in
     ap (λ w. united_from units low high w (suffix_of (ds ++ unit))) all
     ∙ ap (united_from units low high ds) suffix

@@ -109,7 +109,9 @@ short_hex zero m n acc h = omega arith
 short_hex (suc k) m n acc h = by_last (short_hex k) m h (eqb (n / 16) 0) refl
   where
     by_last : ((m n : ℕ) (acc : List ℕ) → n < 16 ^ suc m → length (digits_onto k 16 false n acc) ≤ suc m + length acc)
-        → (m : ℕ) → n < 16 ^ suc m → (t : Bool) → eqb (n / 16) 0 ≡ t → length (if t then digit_glyph false (n % 16) ∷ acc else digits_onto k 16 false (n / 16) (digit_glyph false (n % 16) ∷ acc)) ≤ suc m + length acc
+        → (m : ℕ) → n < 16 ^ suc m → (t : Bool) → eqb (n / 16) 0 ≡ t
+        → length (if t then digit_glyph false (n % 16) ∷ acc else digits_onto k 16 false (n / 16) (digit_glyph false (n % 16) ∷ acc)) ≤ suc m
+        + length acc
     by_last more m h true e = omega arith
     by_last more zero h false e =
         let p : 16 ^ suc zero ≡ 16 * 16 ^ zero = pow-succ' 16 zero in
@@ -133,7 +135,8 @@ handle_gives n ds form value short low high =
     let major : before_first is_colon (ds ++ 58 ∷ []) ≡ ds = take_at ds (58 ∷ []) _ (sym colon) in
     let minor : after_first is_colon (ds ++ 58 ∷ []) ≡ [] = ap (λ i. drop (i + 1) (ds ++ 58 ∷ [])) colon ∙ drop_all (length ds + 1) (ds ++ 58 ∷ []) (omega (arith, length-append ds (58 ∷ []))) in
     ap (λ w. handle_from w (after_first is_colon (ds ++ 58 ∷ []))) major ∙ ap (handle_from ds) minor
-    ∙ ap (λ (b : Bool). if b && true then (if (leb (length ds) 4 && (leb 1 (digits_value 16 ds) && leb (digits_value 16 ds) 65534)) && true then Ok (digits_value 16 ds) else Err wrong.OutOfRange) else Err wrong.BadNumber) form
+    ∙ ap (λ (b : Bool). if b && true then (if (leb (length ds) 4 && (leb 1 (digits_value 16 ds) && leb (digits_value 16 ds) 65534)) && true then Ok
+    (digits_value 16 ds) else Err wrong.OutOfRange) else Err wrong.BadNumber) form
     ∙ ap (λ (v : ℕ). if (leb (length ds) 4 && (leb 1 v && leb v 65534)) && true then Ok v else Err wrong.OutOfRange) value
     ∙ ap (λ (b : Bool). if b && true then Ok n else Err wrong.OutOfRange) (both (le-leb _ _ short) (both (le-leb 1 n low) (le-leb n 65534 high)))
 

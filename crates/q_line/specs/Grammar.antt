@@ -81,7 +81,9 @@ option_fits Positions.burst v h k o word = value (size_in 1 most word) (λ n. Po
 option_fits Positions.flows v h k o word = value (number_in 1 ranges.most_flows word) (λ n. Positions.options v h k (record o { fq_codel = record o.fq_codel { flows = Some n } }))
 option_fits Positions.quantum v h k o word = value (size_in 1 ranges.most word) (λ n. Positions.options v h k (record o { fq_codel = record o.fq_codel { quantum = Some n } }))
 option_fits Positions.target v h k o word = value (time_in 0 ranges.longest word) (λ n. Positions.options v h k (record o { fq_codel = record o.fq_codel { target = Some n } }))
-option_fits Positions.interval v h k o word = value (time_in ranges.shortest_interval ranges.longest word) (λ n. Positions.options v h k (record o { fq_codel = record o.fq_codel { interval = Some n } }))
+option_fits Positions.interval v h k o word =
+    value (time_in ranges.shortest_interval ranges.longest word)
+    (λ n. Positions.options v h k (record o { fq_codel = record o.fq_codel { interval = Some n } }))
 option_fits Positions.drop_batch v h k o word = value (number_in 1 ranges.most_batch word) (λ n. Positions.options v h k (record o { fq_codel = record o.fq_codel { drop_batch = Some n } }))
 
 -- 16 numbers; whether each names a band is checked when the line ends

@@ -38,7 +38,8 @@ looked-none [] (a ∷ below) same = absurd (omega (arith, same))
 looked-none (c ∷ classes) [] same = refl
 looked-none (c ∷ classes) (a ∷ below) same = ap (λ ws. a.before ∷ ws) (looked-none classes below (omega (arith, same)))
 
-looked-same : (test new : Class → Bool) (classes : List Class) (below : List Asked) → ((k : ℕ) (d : Class) → slice_get classes k ≡ Some d → new d ≡ test d) → looked new classes below ≡ looked test classes below
+looked-same : (test new : Class → Bool) (classes : List Class) (below : List Asked)
+    → ((k : ℕ) (d : Class) → slice_get classes k ≡ Some d → new d ≡ test d) → looked new classes below ≡ looked test classes below
 looked-same test new [] below same = refl
 looked-same test new (c ∷ classes) [] same = refl
 looked-same test new (c ∷ classes) (a ∷ below) same =
@@ -118,7 +119,9 @@ next-asked s below j e i a law at place there =
     let c = class-found s e.class i place in
     looked-set (is_among (take j s.active)) (is_among (take (suc j) s.active)) s.classes below i c.class a c.there there
     (among-first s.active (suc j) j e c.class (omega arith) at c.named)
-    (λ k d at_k apart. among-same s.active j e d at (ne_eqb e.class d.name (λ same. apart (one_place (λ (x : Class). x.name) s.classes law.classes_differ k i d c.class at_k c.there (sym same ∙ c.named)))))
+    (λ k d at_k apart. among-same s.active j e d at
+    (ne_eqb e.class d.name (λ same. apart (one_place (λ (x : Class). x.name) s.classes law.classes_differ k i d c.class at_k c.there
+    (sym same ∙ c.named)))))
 
 -- until then it is as it was
 pub before-asked : (s : Schedule) (below : List Asked) (j : ℕ) (e : Entry) (i : ℕ) (a : Asked) → IsLawful s → slice_get s.active j ≡ Some e → class_at e.class s ≡ Some i → slice_get below i ≡ Some a
@@ -172,7 +175,8 @@ some-at [] i within = absurd (omega arith)
 some-at (x ∷ xs) zero within = (x, refl)
 some-at (x ∷ xs) (suc i) within = some-at xs i (omega arith)
 
-pub class-known : (s : Schedule) (below : List Asked) (n : ℕ) → has_class n s.classes ≡ true → length below ≡ length s.classes → (i : ℕ) × (a : Asked) × (class_at n s ≡ Some i) × (slice_get below i ≡ Some a)
+pub class-known : (s : Schedule) (below : List Asked) (n : ℕ) → has_class n s.classes ≡ true → length below ≡ length s.classes
+    → (i : ℕ) × (a : Asked) × (class_at n s ≡ Some i) × (slice_get below i ≡ Some a)
 class-known s below n known same =
     let place = known-place (λ (c : Class). n == c.name) s.classes known in
     let child = some-at below place.0 (omega (arith, same, place.2)) in

@@ -45,7 +45,8 @@ pub is_empty-with_memory : {M N : Type 0} (f : M → N) (n : Node M) → is_empt
 is_empty-with_memory f n = ap (λ b. Rattle.std.specs.Prelude.◌==◌ (Rattle.std.specs.Prelude.length (beneath_own n.own b)) 0) (each-each_memory beneath_own f n.below)
 
 -- booking
-pub each_booked-stands : {M N : Type 0} (t : Tally M) (u : Tally N) (f : M → N) → StandsFor t u f → (x : Forest M) (w : Forest (List Note)) → each_memory f (each_booked t x w) ≡ each_booked u (each_memory f x) w
+pub each_booked-stands : {M N : Type 0} (t : Tally M) (u : Tally N) (f : M → N) → StandsFor t u f → (x : Forest M) (w : Forest (List Note))
+    → each_memory f (each_booked t x w) ≡ each_booked u (each_memory f x) w
 each_booked-stands t u f h none w = refl
 each_booked-stands t u f h (more own m below others) none = refl
 each_booked-stands t u f h (more own m below others) (more own_after notes below_after others_after) =
@@ -69,7 +70,8 @@ pub child-with_memory : {M N : Type 0} (f : M → N) (n : Node M) (i : ℕ) → 
 child-with_memory f n i = ap (λ xs. slice_get xs i) (nodes_in-each_memory f n.below) ∙ slice_get-map (with_memory f) (children n) i
 
 -- edits
-pub with_children : {M N : Type 0} (t : Tally M) (u : Tally N) (f : M → N) → StandsFor t u f → (old : List (Node M)) (c : Child) → map (with_memory f) (child_of t old c) ≡ child_of u (map (with_memory f) old) c
+pub with_children : {M N : Type 0} (t : Tally M) (u : Tally N) (f : M → N) → StandsFor t u f → (old : List (Node M)) (c : Child)
+    → map (with_memory f) (child_of t old c) ≡ child_of u (map (with_memory f) old) c
 with_children t u f h old (Kept i) = kept (slice_get old i) ∙ sym (ap option_to_list (slice_get-map (with_memory f) old i))
   where
     kept : (x : Option (Node _)) → map (with_memory f) (option_to_list x) ≡ option_to_list (option_map (with_memory f) x)
@@ -82,20 +84,30 @@ with_children t u f h old (Retuned i own) = retuned (slice_get old i) ∙ sym (a
     retuned (Some y) = refl
 with_children t u f h old (New s) = ap (λ x. x ∷ []) (blank-stands t u f h s)
 
-pub all_children : {M N : Type 0} (t : Tally M) (u : Tally N) (f : M → N) → StandsFor t u f → (old : List (Node M)) (below : List Child) → map (with_memory f) (flat_map (child_of t old) below) ≡ flat_map (child_of u (map (with_memory f) old)) below
+pub all_children : {M N : Type 0} (t : Tally M) (u : Tally N) (f : M → N) → StandsFor t u f → (old : List (Node M)) (below : List Child)
+    → map (with_memory f) (flat_map (child_of t old) below) ≡ flat_map (child_of u (map (with_memory f) old)) below
 all_children t u f h old [] = refl
 all_children t u f h old (c ∷ below) =
     map-append (with_memory f) (child_of t old c) (flat_map (child_of t old) below)
     ∙ ap₂ (λ a b. a ++ b) (with_children t u f h old c) (all_children t u f h old below)
 
-pub remade-stands : {M N : Type 0} (t : Tally M) (u : Tally N) (f : M → N) → StandsFor t u f → (own : Own) (below : List Child) (notes : List Note) (n : Node M) → with_memory f (remade t own below notes n) ≡ remade u own below notes (with_memory f n)
+pub remade-stands : {M N : Type 0} (t : Tally M) (u : Tally N) (f : M → N) → StandsFor t u f
+    → (own : Own) (below : List Child) (notes : List Note) (n : Node M)
+    → with_memory f (remade t own below notes n) ≡ remade u own below notes (with_memory f n)
 remade-stands t u f h own below notes n =
     ap₂ (λ a b. record { own = own; memory = a; below = b }) (noted-stands t u f h n.memory notes)
     (side_by_side-map f (flat_map (child_of t (children n)) below)
     ∙ ap side_by_side (all_children t u f h (children n) below ∙ sym (ap (λ xs. flat_map (child_of u xs) below) (nodes_in-each_memory f n.below))))
 
-pub above-stands : {M N : Type 0} (t : Tally M) (u : Tally N) (f : M → N) → StandsFor t u f → (notes : List Note) (i : ℕ) (child : Node M) (n : Node M) → with_memory f (above t notes i child n) ≡ above u notes i (with_memory f child) (with_memory f n)
+pub above-stands : {M N : Type 0} (t : Tally M) (u : Tally N) (f : M → N) → StandsFor t u f
+    → (notes : List Note) (i : ℕ) (child : Node M) (n : Node M)
+    → with_memory f (above t notes i child n) ≡ above u notes i (with_memory f child) (with_memory f n)
 above-stands t u f h notes i child n =
     ap₂ (λ a b. record { own = settled i (is_empty child) n.own; memory = a; below = b }) (noted-stands t u f h n.memory notes)
     (side_by_side-map f (set (children n) i child) ∙ ap side_by_side (map-set (with_memory f) (children n) i child ∙ sym (ap (λ xs. set xs i (with_memory f child)) (nodes_in-each_memory f n.below))))
-    ∙ sym (ap (λ e. record { own = settled i e n.own; memory = noted u (f n.memory) notes; below = side_by_side (set (children (with_memory f n)) i (with_memory f child)) }) (is_empty-with_memory f child))
+    ∙ sym (ap (λ e. record {
+      own = settled i e n.own;
+      memory = noted u (f n.memory) notes;
+      below = side_by_side
+          (set (children (with_memory f n)) i (with_memory f child));
+    }) (is_empty-with_memory f child))

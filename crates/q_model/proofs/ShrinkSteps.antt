@@ -15,11 +15,15 @@ use Rattle.q_model.proofs.ShrinkLemmas.{noted-stands, shape-with_memory, blank-s
 
 module _ {M N : Type 0} (t : Tally M) (u : Tally N) (f : M → N) (h : StandsFor t u f) where
   -- at the child that the path leads to, or at none
-  pub at_child : (notes : List Note) (g : Node M → Node M) (k : Node N → Node N) (i : ℕ) (n : Node M) (c : Option (Node M)) → ((x : Node M) → with_memory f (g x) ≡ k (with_memory f x)) → with_memory f (option_map_or (λ child. above t notes i (g child) n) c n) ≡ option_map_or (λ child. above u notes i (k child) (with_memory f n)) (option_map (with_memory f) c) (with_memory f n)
+  pub at_child : (notes : List Note) (g : Node M → Node M) (k : Node N → Node N) (i : ℕ) (n : Node M) (c : Option (Node M))
+      → ((x : Node M) → with_memory f (g x) ≡ k (with_memory f x))
+      → with_memory f (option_map_or (λ child. above t notes i (g child) n) c n) ≡ option_map_or
+      (λ child. above u notes i (k child) (with_memory f n)) (option_map (with_memory f) c) (with_memory f n)
   at_child notes g k i n None e = refl
   at_child notes g k i n (Some c) e = above-stands t u f h notes i (g c) n ∙ ap (λ x. above u notes i x (with_memory f n)) (e c)
 
-  pub edited_at-stands : (notes : List Note) (g : Node M → Node M) (k : Node N → Node N) → ((x : Node M) → with_memory f (g x) ≡ k (with_memory f x)) → (path : List ℕ) (n : Node M) → with_memory f (edited_at t notes g path n) ≡ edited_at u notes k path (with_memory f n)
+  pub edited_at-stands : (notes : List Note) (g : Node M → Node M) (k : Node N → Node N) → ((x : Node M) → with_memory f (g x) ≡ k (with_memory f x))
+      → (path : List ℕ) (n : Node M) → with_memory f (edited_at t notes g path n) ≡ edited_at u notes k path (with_memory f n)
   edited_at-stands notes g k e [] n = e n
   edited_at-stands notes g k e (i ∷ path) n =
       at_child notes (edited_at t notes g path) (edited_at u notes k path) i n (slice_get (children n) i) (edited_at-stands notes g k e path)

@@ -28,7 +28,8 @@ asked : true ≡ false → ⊥
 asked same = cc
 
 -- a run with an outcome, of whose lines nothing is told yet
-pub ended_so : {file : Option Text} {lines : ℕ} {whole : Outcome → ℕ → List ℕ → Type 0} {partly : List ℕ → Type 0} {script old new errors_old errors_new : Option (List ℕ)} {reads : Reads} {writes : Writes}
+pub ended_so : {file : Option Text} {lines : ℕ} {whole : Outcome → ℕ → List ℕ → Type 0} {partly : List ℕ → Type 0}
+    {script old new errors_old errors_new : Option (List ℕ)} {reads : Reads} {writes : Writes}
     (told : Outcome) (status : ℕ) → (told ≡ Clean → status ≡ 0) → (told ≡ Refused → status ≡ 1)
     → IfSome script (whole told lines) → Ended (Ok told) reads writes
     → IsAnswered true lines file whole partly script old new errors_old errors_new reads writes status
@@ -52,7 +53,8 @@ pub counted_as : {A B : Type 0} {old new : Option (List ℕ)} (m n : ℕ) → m 
 counted_as {A} {B} {old} {new} m n same h = subst (λ (k : ℕ). A → B → IsCounted k old new) same h
 
 -- of the lines at most their number is told, and where they are explained, whatever it is
-pub told_lines : {file : Option Text} {whole : Outcome → ℕ → List ℕ → Type 0} {partly : List ℕ → Type 0} {script old new errors_old errors_new errors_later : Option (List ℕ)} {reads : Reads} {writes : Writes} {status : ℕ}
+pub told_lines : {file : Option Text} {whole : Outcome → ℕ → List ℕ → Type 0} {partly : List ℕ → Type 0}
+    {script old new errors_old errors_new errors_later : Option (List ℕ)} {reads : Reads} {writes : Writes} {status : ℕ}
     (explains : Bool) (lines : ℕ) → IsAnswered true lines file whole partly script old new errors_old errors_new reads writes status
     → (status ≢ 2 → errors_new ≡ errors_old)
     → (status ≡ 2 → errors_later ≡ errors_new)
@@ -64,5 +66,7 @@ told_lines {file} {whole} {partly} {script} {old} {new} {errors_old} {errors_new
   refused = a.refused;
   silent = λ unasked zero. subst (λ (e : Option (List ℕ)). Keeps errors_old e) (sym (clean unasked zero ∙ kept (zero_is_not_two status zero))) (keeps_itself errors_old);
   counted = λ unasked one. subst (λ (e : Option (List ℕ)). IsCounted lines e errors_later) (kept (one_is_not_two status one)) (counted unasked one);
-  fault = λ two. subst (λ (e : Option (List ℕ)). (fault : RunFault) × IsToldOf file (Run fault) errors_old e × Leaves partly fault script old new × Ended (Err fault) reads writes) (sym (fault two)) (a.fault two);
+  fault =
+      λ two. subst (λ (e : Option (List ℕ)). (fault : RunFault) × IsToldOf file (Run fault) errors_old e × Leaves partly fault script old new
+      × Ended (Err fault) reads writes) (sym (fault two)) (a.fault two);
 }

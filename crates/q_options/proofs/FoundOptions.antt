@@ -65,7 +65,8 @@ drive_out_of_range found senders count len ring s n l r out =
 
 -- the command that was found, by its name and its rows
 pub command_found : {Z : Type 0} (sub : Option (Box SubCommand Z)) (name : Text) (rows : List Row)
-    → option_map (λ (b : Box SubCommand Z). (out-SubCommand (box_value b)).name.now) sub ≡ Some name → option_map (λ (p : Text × List Row). p.1) (subcommand_rows sub) ≡ Some rows → subcommand_rows sub ≡ Some (name, rows)
+    → option_map (λ (b : Box SubCommand Z). (out-SubCommand (box_value b)).name.now) sub ≡ Some name
+    → option_map (λ (p : Text × List Row). p.1) (subcommand_rows sub) ≡ Some rows → subcommand_rows sub ≡ Some (name, rows)
 command_found None name rows e f = absurd (let k : None ≡ Some name = e in cc)
 command_found (Some b) name rows e f = cc
 

@@ -77,7 +77,8 @@ pub record IsCounted (lines : ℕ) (old new : Option (List ℕ)) : Type 0 where
 -- Standard input or a file was read: what the output and the error output had before and have now, what the reads and writes came
 -- to, and the status. So many lines had a fault or were refused. What is reported whole of a script, with its outcome and that number,
 -- and what in part, is the command's own. Where these lines are explained, the error output says of them what it will.
-pub record IsAnswered (explained : Bool) (lines : ℕ) (file : Option Text) (whole : Outcome → ℕ → List ℕ → Type 0) (partly : List ℕ → Type 0) (script old new errors_old errors_new : Option (List ℕ)) (reads : Reads) (writes : Writes) (status : ℕ) : Type 0 where
+pub record IsAnswered (explained : Bool) (lines : ℕ) (file : Option Text) (whole : Outcome → ℕ → List ℕ → Type 0) (partly : List ℕ → Type 0)
+    (script old new errors_old errors_new : Option (List ℕ)) (reads : Reads) (writes : Writes) (status : ℕ) : Type 0 where
   -- the whole report, in which nothing had a fault or was refused
   pub clean : status ≡ 0 → IfSome script (whole Clean lines) × Ended (Ok Clean) reads writes
   -- the whole report, in which something had a fault or was refused
@@ -91,7 +92,8 @@ pub record IsAnswered (explained : Bool) (lines : ℕ) (file : Option Text) (who
 -- a script of a file or of standard input was played, of which so many lines were not done
 abbrev pub IsPlayedWith : Bool → ℕ → Option Text → Settings → Option (List ℕ) → Option (List ℕ) → Option (List ℕ) → Option (List ℕ) → Option (List ℕ) → Reads → Writes → ℕ → Type 0
 IsPlayedWith explained lines file settings script old new errors_old errors_new reads writes status =
-    IsAnswered explained lines file (λ told lines all. IsReportedOf settings all told lines old new) (λ all. IsPartlyReported settings all old new) script old new errors_old errors_new reads writes status
+    IsAnswered explained lines file (λ told lines all. IsReportedOf settings all told lines old new) (λ all. IsPartlyReported settings all old new)
+    script old new errors_old errors_new reads writes status
 
 abbrev pub IsPlayedOf : Bool → Option Text → Settings → Option (List ℕ) → Option (List ℕ) → Option (List ℕ) → Option (List ℕ) → Option (List ℕ) → Reads → Writes → ℕ → Type 0
 IsPlayedOf explained file settings script old new errors_old errors_new reads writes status =
@@ -108,7 +110,8 @@ pub record IsUnopened {T : Type 0} (path : Text) (target target_new : T) (errors
 
 -- The script of the file that is named was played, of which `remaining` says what it had, and the source was not read; or the
 -- script of the source, where no file is named.
-pub record IsPlayedFrom {F S T : Type 0} (remaining : F → Option (List ℕ)) (options : PlayOptions) (source source_new : S) (target target_new : T) (input old new errors_old errors_new : Option (List ℕ)) (reads : Reads) (writes : Writes) (status : ℕ) : Type 0 where
+pub record IsPlayedFrom {F S T : Type 0} (remaining : F → Option (List ℕ)) (options : PlayOptions) (source source_new : S) (target target_new : T)
+    (input old new errors_old errors_new : Option (List ℕ)) (reads : Reads) (writes : Writes) (status : ℕ) : Type 0 where
   pub of_input : option_map string_bytes options.file ≡ None → IsPlayedOf options.explain None options.settings input old new errors_old errors_new reads writes status
   pub unread : (path : Text) → option_map string_bytes options.file ≡ Some path → source_new ≡ source
   pub of_file : (path : Text) → option_map string_bytes options.file ≡ Some path

@@ -27,7 +27,8 @@ record Halves : Type 0 where
 abbrev with_halves : StoredPacket → Halves → StoredPacket
 with_halves s h = record s { src_high = h.a; src_low = h.b; dst_high = h.c; dst_low = h.d; ecn = h.e }
 
-halves : {a a' b b' c c' d d' e e' : ℕ} → a ≡ a' → b ≡ b' → c ≡ c' → d ≡ d' → e ≡ e' → ◌≡◌ {A = Halves} (record { a = a; b = b; c = c; d = d; e = e }) (record { a = a'; b = b'; c = c'; d = d'; e = e' })
+halves : {a a' b b' c c' d d' e e' : ℕ} → a ≡ a' → b ≡ b' → c ≡ c' → d ≡ d' → e ≡ e'
+    → ◌≡◌ {A = Halves} (record { a = a; b = b; c = c; d = d; e = e }) (record { a = a'; b = b'; c = c'; d = d'; e = e' })
 halves p q r s t i = record { a = p i; b = q i; c = r i; d = s i; e = t i }
 
 pub stored-descriptor : (c : StoredPacket) → IsStored c → stored_of (descriptor c) ≡ c

@@ -51,5 +51,7 @@ adds_goes log v e old more len next may legal pre false is =
 pub adds_moves : (v : List Row) (e : Row) (old more : ℕ) → length v ≡ old → more ≡ old + 1 → MayFollow v e
     → Moves IsKept shown moved 0 (v, (no_nib, None)) (λ n. either (n == old) more n) (Adds (step 0 old more e) (v, (no_nib, None)))
 adds_moves v e old more len next may cs log kept pre away =
-    let P : List Cell → Type 0 = λ c. (0 < length c) × ((cell c 0).1 ≡ true) × Goes IsKept shown moved 0 (v, (no_nib, None)) (λ n. either (n == old) more n) (Adds (step 0 old more e) (v, (no_nib, None))) c log in
+    let P : List Cell → Type 0 =
+    λ c. (0 < length c) × ((cell c 0).1 ≡ true) × Goes IsKept shown moved 0 (v, (no_nib, None)) (λ n. either (n == old) more n)
+    (Adds (step 0 old more e) (v, (no_nib, None))) c log in
     subst P (sym kept.words) (omega arith, refl, adds_goes log v e old more len next may kept.legal pre (length log == old) refl)

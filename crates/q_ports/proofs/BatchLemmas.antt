@@ -22,7 +22,8 @@ take-first (suc n) (suc m) [] h = refl
 take-first (suc n) (suc m) (x ∷ xs) h = ap (λ ys. x ∷ ys) (take-first n m xs (omega (arith, h)))
 
 -- a batch more, of at most m packets, of which n were placed
-pub placed-more : (v u w : PortSeen) (packets : List Descriptor) (a m n : ℕ) → u ≡ fold placing v (take a packets) → n ≤ length (take m (drop a packets)) → w ≡ fold placing u (take n (take m (drop a packets))) → w ≡ fold placing v (take (a + n) packets)
+pub placed-more : (v u w : PortSeen) (packets : List Descriptor) (a m n : ℕ) → u ≡ fold placing v (take a packets)
+    → n ≤ length (take m (drop a packets)) → w ≡ fold placing u (take n (take m (drop a packets))) → w ≡ fold placing v (take (a + n) packets)
 placed-more v u w packets a m n before few more =
     more
     ∙ (ap₂ (λ (x : PortSeen) (ps : List Descriptor). fold placing x ps) before (take-first n m (drop a packets) few)

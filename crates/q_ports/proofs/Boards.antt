@@ -32,7 +32,8 @@ pub turns : (seat : ℕ) (v : BoardView) (x y : Board) → Continues x.front y.f
 turns seat v x y on views h at =
     let w : BoardView = knows (v.reads + 1) y.front in (
       w,
-      (λ j u e. ⊎_elim (λ (t : (j ≡ seat) × (w ≡ u)). subst (HasBeenShown y) t.1 (λ k. continues-self y.front)) (λ (t : (j ≢ seat) × (get_elem? views j ≡ some u)). λ k. continues-trans u.front x.front y.front (h j u t.1 k) on)
+      (λ j u e. ⊎_elim (λ (t : (j ≡ seat) × (w ≡ u)). subst (HasBeenShown y) t.1 (λ k. continues-self y.front))
+          (λ (t : (j ≢ seat) × (get_elem? views j ≡ some u)). λ k. continues-trans u.front x.front y.front (h j u t.1 k) on)
           (at_set views seat j w u e)),
       record { seen = refl; continues = λ k. continues-trans v.front x.front y.front (h seat v at k) on },
     )
@@ -44,7 +45,9 @@ forks seat v x views h at j u e =
 pub merges : (seat : ℕ) (v : BoardView) (other : ℕ) (w : BoardView) → Merges IsShared seat v other w (record w { reads = v.reads }) newcomer
 merges seat v other w x views h at apart there =
     let both : BoardView = record w { reads = v.reads } in
-    let known : HasBeenShown x w = ⊎_elim (λ (t : (other ≡ seat) × (both ≡ w)). absurd (apart t.0)) (λ (t : (other ≢ seat) × (get_elem? views other ≡ some w)). h other w t.1) (at_set views seat other both w there) in
+    let known : HasBeenShown x w =
+    ⊎_elim (λ (t : (other ≡ seat) × (both ≡ w)). absurd (apart t.0)) (λ (t : (other ≢ seat) × (get_elem? views other ≡ some w)). h other w t.1)
+    (at_set views seat other both w there) in
     set-shared x (set views seat both) other newcomer (set-shared x views seat both h known) (newcomer-knows x)
 
 -- the last of these goes on behind the first
@@ -63,7 +66,8 @@ matched (Ok x) P Q ok h = h
 matched (Err e) P Q ok h = absurd (false≢true ok)
 
 -- a front more, or none
-pub pending-of : (first : RowHistorySeen) (old new : List RowHistorySeen) (f : RowHistorySeen) (r : Result (Unit {0}) RowHistorySeen) → MatchResult r (λ _. new ≡ old ++ f ∷ []) (λ (x : RowHistorySeen). (x ≡ f) × (new ≡ old)) → Continues (last_front first old) f
+pub pending-of : (first : RowHistorySeen) (old new : List RowHistorySeen) (f : RowHistorySeen) (r : Result (Unit {0}) RowHistorySeen)
+    → MatchResult r (λ _. new ≡ old ++ f ∷ []) (λ (x : RowHistorySeen). (x ≡ f) × (new ≡ old)) → Continues (last_front first old) f
     → AreContinued first old → AreContinued first new
 pending-of first old new f (Ok x) h on all = subst (AreContinued first) (sym h) (continued-push first old f all on)
 pending-of first old new f (Err e) h on all = subst (AreContinued first) (sym h.1) all

@@ -68,7 +68,8 @@ collects-same now a a' b b' d e e' n p q r c =
 -- ---- where want of memory ends it
 
 -- a packet that was refused after some were collected
-pub stops-here : (now : ℕ) (before : List (List Descriptor)) (rings rings' : List RingSeen) (device full device' : DeviceSeen) (taken : ℕ) → Collects now before (map received_from rings) device full taken → (taken ≡ 0 → full ≡ device)
+pub stops-here : (now : ℕ) (before : List (List Descriptor)) (rings rings' : List RingSeen) (device full device' : DeviceSeen) (taken : ℕ)
+    → Collects now before (map received_from rings) device full taken → (taken ≡ 0 → full ≡ device)
     → map received_from rings' ≡ map received_from rings → HasNoRoomForNext full rings' → StaysButForPlaces full device' → Stops now before rings' device device' taken
 stops-here now before rings rings' device full device' taken collected first same next stays = record {
   full = full;
@@ -79,7 +80,8 @@ stops-here now before rings rings' device full device' taken collected first sam
 }
 
 -- the same behind others that were collected
-pub stops-then : (now : ℕ) (before middle : List (List Descriptor)) (rings : List RingSeen) (device device1 device' : DeviceSeen) (n m : ℕ) → Collects now before middle device device1 n → (n ≡ 0 → device1 ≡ device)
+pub stops-then : (now : ℕ) (before middle : List (List Descriptor)) (rings : List RingSeen) (device device1 device' : DeviceSeen) (n m : ℕ)
+    → Collects now before middle device device1 n → (n ≡ 0 → device1 ≡ device)
     → Stops now middle rings device1 device' m → Stops now before rings device device' (n + m)
 stops-then now before middle rings device device1 device' n m collected first s = record {
   full = s.full;

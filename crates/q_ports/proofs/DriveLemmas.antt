@@ -29,7 +29,8 @@ offers-ring v [] = refl
 offers-ring v (o ∷ os) = offers-ring (offering v o) os ∙ offering-ring v o.packet o.placed
 
 -- the ports that all senders handed back are of the rings of those that they got
-pub drove-rings : (tries : ℕ) (before : List PortSeen) (loads : List (List Descriptor)) (after : List Sent) → Drove tries before loads after → map ring_of_port (map port_in after) ≡ map ring_of_port before
+pub drove-rings : (tries : ℕ) (before : List PortSeen) (loads : List (List Descriptor)) (after : List Sent) → Drove tries before loads after
+    → map ring_of_port (map port_in after) ≡ map ring_of_port before
 drove-rings tries before loads after d =
     let one = length-map after port_in in
     let two = length-map (map port_in after) ring_of_port in
@@ -46,13 +47,16 @@ drove-rings tries before loads after d =
     ∙ sym (get_or-map ring_of_port before k no_port r (omega (arith, hk, d.count)))))))
 
 -- so they are of the drain's rings
-pub back-again : (tries : ℕ) (before : List PortSeen) (loads : List (List Descriptor)) (after : List Sent) (back : List PortSeen) (rings rings' : List RingSeen) → Drove tries before loads after → back ≡ map port_in after
+pub back-again : (tries : ℕ) (before : List PortSeen) (loads : List (List Descriptor)) (after : List Sent) (back : List PortSeen)
+    (rings rings' : List RingSeen)
+    → Drove tries before loads after → back ≡ map port_in after
     → map ring_of_port before ≡ map ring_id rings → map ring_id rings' ≡ map ring_id rings → map ring_of_port back ≡ map ring_id rings'
 back-again tries before loads after back rings rings' drove is pairs same =
     ap (λ (ps : List PortSeen). map ring_of_port ps) is ∙ (drove-rings tries before loads after drove ∙ (pairs ∙ sym same))
 
 -- as ports show it
-pub sent-back : (tries : ℕ) (before : List PortSeen) (loads : List (List Descriptor)) (after : List Sent) (back : List PortSeen) → AllOffered tries before loads after → back ≡ map port_in after → AreBack tries before loads back
+pub sent-back : (tries : ℕ) (before : List PortSeen) (loads : List (List Descriptor)) (after : List Sent) (back : List PortSeen)
+    → AllOffered tries before loads after → back ≡ map port_in after → AreBack tries before loads back
 sent-back tries before loads after back each is k p lt =
     let s : Sent = record { port = p; given_up = 0; ran = false } in
     let hk : k < length after = omega (arith, lt, ap (λ (ps : List PortSeen). length ps) is, length-map after port_in) in
@@ -112,7 +116,8 @@ next-rest running n h rest e = ap (λ (hs : List Started). drop 1 hs) (sym (drop
 next-is : (running : List Started) (n : ℕ) (h : Started) (rest : List Started) → drop n running ≡ h ∷ rest → get_or running n h ≡ h
 next-is running n h rest e = ap (λ (hs : List Started). get_or hs 0 h) (sym (drop_more running n h (next-left running n h rest e)) ∙ e)
 
-pub offered-next : (tries : ℕ) (running : List Started) (sent : List Sent) (h : Started) (rest : List Started) (r : Sent) → AllOffered tries (map promised_port running) (map promised_load running) sent → drop (length sent) running ≡ h ∷ rest
+pub offered-next : (tries : ℕ) (running : List Started) (sent : List Sent) (h : Started) (rest : List Started) (r : Sent)
+    → AllOffered tries (map promised_port running) (map promised_load running) sent → drop (length sent) running ≡ h ∷ rest
     → Offered tries r.ran (promised_port h) (promised_load h) r.port r.given_up → AllOffered tries (map promised_port running) (map promised_load running) (sent ++ r ∷ [])
 offered-next tries running sent h rest r each e new k p s lt =
     let ps = map promised_port running in

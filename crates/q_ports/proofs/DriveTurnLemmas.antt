@@ -16,7 +16,8 @@ pub no-turns-at-all : (start step : ℕ) (d : DrainSeen) → HasTurned start ste
 no-turns-at-all start step d = record { count = 0; turned = no-turns start step d }
 
 -- the numbers of turns may stand below a higher one
-below-more : (start step count more : ℕ) (first last : DrainSeen) (drains : List (ℕ × DrainSeen)) → count ≤ more → AreTurns start step count first drains last → AreTurns start step more first drains last
+below-more : (start step count more : ℕ) (first last : DrainSeen) (drains : List (ℕ × DrainSeen)) → count ≤ more
+    → AreTurns start step count first drains last → AreTurns start step more first drains last
 below-more start step count more first last [] le h = h
 below-more start step count more first last (d ∷ drains) le h = (omega (arith, le, h.0), h.1, h.2)
 
@@ -33,7 +34,8 @@ same-moment start (suc step) count =
     (cases_lt count (2 ^ 64))
 
 -- a turn more, which may have been refused
-pub turn-more : (start step count now : ℕ) (first before after : DrainSeen) (r : Result Turn AllocError) → now ≡ min (start + min count (2 ^ 64 - 1) * step) (2 ^ 62) → TurnsBelow start step count first before
+pub turn-more : (start step count now : ℕ) (first before after : DrainSeen) (r : Result Turn AllocError)
+    → now ≡ min (start + min count (2 ^ 64 - 1) * step) (2 ^ 62) → TurnsBelow start step count first before
     → IfOk r (λ (t : Turn). TurnedSome now most before after t) → OnErr r (after ≡ before) → TurnsBelow start step (count + 1) first after
 turn-more start step count now first before after (Ok t) at h turned same = record {
   drains = (count, before) ∷ h.drains;

@@ -20,7 +20,8 @@ one-less : (p : Descriptor) (b : Bool) (m : ℕ) → m ≡ given_up_in (record {
 one-less p true m is e = cc
 one-less p false m is e = omega (arith, is)
 
-pub offered-more : (tries : ℕ) (ran : Bool) (v0 v v' : PortSeen) (load : List Descriptor) (i : ℕ) (p : Descriptor) (n m : ℕ) → Offered tries ran v0 (take i load) v n → i < length load → p ≡ get_or load i p → OffersOne v p v' m
+pub offered-more : (tries : ℕ) (ran : Bool) (v0 v v' : PortSeen) (load : List Descriptor) (i : ℕ) (p : Descriptor) (n m : ℕ)
+    → Offered tries ran v0 (take i load) v n → i < length load → p ≡ get_or load i p → OffersOne v p v' m
     → (1 ≤ m → 1 ≤ tries → MayBeFull v p) → Offered tries ran v0 (take (i + 1) load) v' (n + m)
 offered-more tries ran v0 v v' load i p n m o h is one full =
     let last : Offer = record { packet = p; placed = one.placed } in

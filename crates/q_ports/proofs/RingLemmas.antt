@@ -32,7 +32,8 @@ map-set-same f xs at r d e = map-set f xs at r ∙ (ap (λ y. set (map f xs) at 
 
 -- ---- a look
 
-pub looks-map : {B : Type 0} (f : RingSeen → B) (at : ℕ) (xs ys : List RingSeen) (e : Bool) → Looks at xs ys e → ((ks : List Descriptor) (r : RingSeen) → f (with_known ks r) ≡ f r) → map f ys ≡ map f xs
+pub looks-map : {B : Type 0} (f : RingSeen → B) (at : ℕ) (xs ys : List RingSeen) (e : Bool) → Looks at xs ys e
+    → ((ks : List Descriptor) (r : RingSeen) → f (with_known ks r) ≡ f r) → map f ys ≡ map f xs
 looks-map f at xs ys e l same = ap (λ zs. map f zs) (l.after_is no_ring) ∙ map-set-same f xs at (with_known l.known (get_or xs at no_ring)) no_ring (same l.known (get_or xs at no_ring))
 
 pub looks-ids : (at : ℕ) (xs ys : List RingSeen) (e : Bool) → Looks at xs ys e → map ring_id ys ≡ map ring_id xs
@@ -107,7 +108,8 @@ seen-looked a b l =
     ap (λ (i : RingId). record { ring = i; received = ends.received b; known = ends.known_items b }) id
     ∙ ap (λ (ps : List Descriptor). record { ring = ring_at a; received = ps; known = ends.known_items b }) l.1
 
-pub seen-popped : (a b : Ring) (p : Descriptor) → ends.SameConsumer a b → ends.received b ≡ ends.received a ++ p ∷ [] → ends.known_items a ≡ p ∷ ends.known_items b → ring_seen b ≡ popped p (ring_seen a)
+pub seen-popped : (a b : Ring) (p : Descriptor) → ends.SameConsumer a b → ends.received b ≡ ends.received a ++ p ∷ []
+    → ends.known_items a ≡ p ∷ ends.known_items b → ring_seen b ≡ popped p (ring_seen a)
 seen-popped a b p same all known =
     let s = same.0 in
     let id : ring_at b ≡ ring_at a = cc (s.0, s.1, s.2, s.3) in

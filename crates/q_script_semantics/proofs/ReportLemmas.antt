@@ -44,7 +44,8 @@ done-shrunk edit now d = record {
   losses = sym (ap (λ (r : Shape). losses_in (lost_by edit r)) (same_shape d));
 }
 
-arrival-shrunk : (seed : ℕ) (starved : Bool) (k : ℕ) (a : Arrival) (s : SessionState (List Note)) → IsShrunkEffect (arrival history seed starved k a s) (arrival totals seed starved k a (shrunk_session s))
+arrival-shrunk : (seed : ℕ) (starved : Bool) (k : ℕ) (a : Arrival) (s : SessionState (List Note))
+    → IsShrunkEffect (arrival history seed starved k a s) (arrival totals seed starved k a (shrunk_session s))
 arrival-shrunk seed true k a s = record { text = refl; session = refl }
 arrival-shrunk seed false k a s =
     let p = numbered_packet seed (suc s.packets) a in
@@ -55,7 +56,9 @@ arrival-shrunk seed false k a s =
     }
 
 -- what a poll's line says
-poll_line-shrunk : (now : ℕ) (d : DeviceState (List Note)) → poll_line (polled_of (given now d.tree) (is_empty (shape (poll history now d).device.tree.root))) ≡ poll_line (polled_of (given now (shrunk d).tree) (is_empty (shape (poll totals now (shrunk d)).device.tree.root)))
+poll_line-shrunk : (now : ℕ) (d : DeviceState (List Note))
+    → poll_line (polled_of (given now d.tree) (is_empty (shape (poll history now d).device.tree.root)))
+    ≡ poll_line (polled_of (given now (shrunk d).tree) (is_empty (shape (poll totals now (shrunk d)).device.tree.root)))
 poll_line-shrunk now d =
     sym (ap (λ (r : Shape). poll_line (polled_of (ask now r).shown (is_empty (shape (take_packet history now d.tree).root)))) (same_shape d))
     ∙ ap (λ (r : Shape). poll_line (polled_of (given now (shrunk d).tree) (is_empty r)))
@@ -67,10 +70,13 @@ polls-shrunk (suc n) s =
     let now = counts_at s.moment s.device in
     let first = poll history now s.device in
     let second = poll totals now (shrunk s.device) in
-    let rest = subst (λ (r : SessionState Counts). IsShrunkEffect (polls history n (after first s)) (polls totals n r)) (after-shrunk first second (step-shrunk s.device (event.Poll s.moment)) s) (polls-shrunk n (after first s)) in
+    let rest =
+    subst (λ (r : SessionState Counts). IsShrunkEffect (polls history n (after first s)) (polls totals n r))
+    (after-shrunk first second (step-shrunk s.device (event.Poll s.moment)) s) (polls-shrunk n (after first s)) in
     record { text = ap₂ (λ (a b : List ℕ). a ++ b) (poll_line-shrunk now s.device) rest.text; session = rest.session }
 
-planned-shrunk : (starved : Bool) (k : ℕ) (answer : Result Edit Refusal) (s : SessionState (List Note)) → IsShrunkEffect (planned history starved k answer s) (planned totals starved k answer (shrunk_session s))
+planned-shrunk : (starved : Bool) (k : ℕ) (answer : Result Edit Refusal) (s : SessionState (List Note))
+    → IsShrunkEffect (planned history starved k answer s) (planned totals starved k answer (shrunk_session s))
 planned-shrunk starved k (Err refusal) s = record { text = refl; session = refl }
 planned-shrunk true k (Ok edit) s = record { text = refl; session = refl }
 planned-shrunk false k (Ok edit) s =
@@ -84,7 +90,8 @@ commanded-shrunk starved k c s =
     subst (λ (r : Shape). IsShrunkEffect (commanded history starved k c s) (planned totals starved k (answer r) (shrunk_session s))) (sym (same_shape s.device))
     (planned-shrunk starved k (answer (shape s.device.tree.root)) s)
 
-answered-shrunk : (seed : ℕ) (starved : Bool) (k : ℕ) (l : Line) (s : SessionState (List Note)) → IsShrunkEffect (answered history seed starved k l s) (answered totals seed starved k l (shrunk_session s))
+answered-shrunk : (seed : ℕ) (starved : Bool) (k : ℕ) (l : Line) (s : SessionState (List Note))
+    → IsShrunkEffect (answered history seed starved k l s) (answered totals seed starved k l (shrunk_session s))
 answered-shrunk seed starved k line.Blank s = record { text = refl; session = refl }
 answered-shrunk seed starved k (line.At moment) s = record { text = refl; session = refl }
 answered-shrunk seed starved k (line.Pkt a) s = arrival-shrunk seed starved k a s
@@ -98,16 +105,20 @@ answered-shrunk seed starved k line.Totals s = record {
   session = refl;
 }
 
-effect-shrunk : (seed : ℕ) (starved : Bool) (k : ℕ) (l : Result Line LineFault) (s : SessionState (List Note)) → IsShrunkEffect (effect history seed starved k l s) (effect totals seed starved k l (shrunk_session s))
+effect-shrunk : (seed : ℕ) (starved : Bool) (k : ℕ) (l : Result Line LineFault) (s : SessionState (List Note))
+    → IsShrunkEffect (effect history seed starved k l s) (effect totals seed starved k l (shrunk_session s))
 effect-shrunk seed starved k (Err fault) s = record { text = refl; session = refl }
 effect-shrunk seed starved k (Ok l) s = answered-shrunk seed starved k l s
 
-replayed-shrunk : (seed : ℕ) (starved : ℕ → Bool) (k : ℕ) (lines : List (List ℕ)) (s : SessionState (List Note)) → IsShrunkEffect (replayed history seed starved k lines s) (replayed totals seed starved k lines (shrunk_session s))
+replayed-shrunk : (seed : ℕ) (starved : ℕ → Bool) (k : ℕ) (lines : List (List ℕ)) (s : SessionState (List Note))
+    → IsShrunkEffect (replayed history seed starved k lines s) (replayed totals seed starved k lines (shrunk_session s))
 replayed-shrunk seed starved k [] s = record { text = refl; session = refl }
 replayed-shrunk seed starved k (l ∷ lines) s =
     let first = effect history seed (starved k) k (line_of l) s in
     let same = effect-shrunk seed (starved k) k (line_of l) s in
-    let rest = subst (λ (r : SessionState Counts). IsShrunkEffect (replayed history seed starved (suc k) lines first.session) (replayed totals seed starved (suc k) lines r)) same.session (replayed-shrunk seed starved (suc k) lines first.session) in
+    let rest =
+    subst (λ (r : SessionState Counts). IsShrunkEffect (replayed history seed starved (suc k) lines first.session)
+    (replayed totals seed starved (suc k) lines r)) same.session (replayed-shrunk seed starved (suc k) lines first.session) in
     record { text = ap₂ (λ (a b : List ℕ). a ++ b) same.text rest.text; session = rest.session }
 
 new_session-shrunk : (settings : DeviceSettings) → shrunk_session (new_session history settings) ≡ new_session totals settings
@@ -117,5 +128,7 @@ new_session-shrunk settings =
 
 pub replay-shrunk : TotalsAreEnough
 replay-shrunk settings seed script starved =
-    subst (λ (r : SessionState Counts). IsShrunkEffect (replayed history seed (is_starved starved) 1 (lines_of script) (new_session history settings)) (replayed totals seed (is_starved starved) 1 (lines_of script) r)) (new_session-shrunk settings)
+    subst (λ (r : SessionState Counts). IsShrunkEffect
+    (replayed history seed (is_starved starved) 1 (lines_of script) (new_session history settings))
+    (replayed totals seed (is_starved starved) 1 (lines_of script) r)) (new_session-shrunk settings)
     (replayed-shrunk seed (is_starved starved) 1 (lines_of script) (new_session history settings))

@@ -89,12 +89,16 @@ module _ {M N : Type 0} (t : Tally M) (u : Tally N) (f : M → N) (same : (m : M
   pub qdiscs-seen : (counters : Bool) (s : TreeState M) → flat_map (qdisc_text counters) (views t s) ≡ flat_map (qdisc_text counters) (views u (remembering f s))
   qdiscs-seen counters s = ap (λ (vs : List NodeView). flat_map (qdisc_text counters) vs) (views-seen s)
 
-  pub classes-seen : (s : TreeState M) → flat_map (λ n. flat_map class_line (class_views n)) (every_node s.root) ≡ flat_map (λ n. flat_map class_line (class_views n)) (every_node (remembering f s).root)
+  pub classes-seen : (s : TreeState M)
+      → flat_map (λ n. flat_map class_line (class_views n)) (every_node s.root) ≡ flat_map (λ n. flat_map class_line (class_views n))
+      (every_node (remembering f s).root)
   classes-seen s =
       texts-seen (λ n. flat_map class_line (class_views n)) (λ n. flat_map class_line (class_views n))
       (λ n. ap (λ (vs : List ClassView). flat_map class_line vs) (class_views-seen n)) s.root
 
-  pub filters-seen : (s : TreeState M) → flat_map (λ n. flat_map filter_line (filter_views n)) (every_node s.root) ≡ flat_map (λ n. flat_map filter_line (filter_views n)) (every_node (remembering f s).root)
+  pub filters-seen : (s : TreeState M)
+      → flat_map (λ n. flat_map filter_line (filter_views n)) (every_node s.root)
+      ≡ flat_map (λ n. flat_map filter_line (filter_views n)) (every_node (remembering f s).root)
   filters-seen s = texts-seen (λ n. flat_map filter_line (filter_views n)) (λ n. flat_map filter_line (filter_views n)) (λ n. refl) s.root
 
 -- with totals in place of histories

@@ -26,7 +26,9 @@ lines-are starved k (l ∷ lines) s =
     ap (λ (e : Effect SessionSeen). record e { text = first.text ++ e.text }) (lines-are starved (suc k) lines (record s { state = first.session }))
 
 -- a whole script on a new device
-script-is : (settings : Settings) (script starved : List ℕ) → run_of effect_of starved script (opened settings) ≡ seen (opened settings) (report.replay_with totals (device_settings settings) settings.seed script starved)
+script-is : (settings : Settings) (script starved : List ℕ)
+    → run_of effect_of starved script (opened settings) ≡ seen (opened settings)
+    (report.replay_with totals (device_settings settings) settings.seed script starved)
 script-is settings script starved = lines-are (is_starved starved) 1 (lines_of script) (opened settings)
 
 text-is : (settings : Settings) (script starved : List ℕ) → (run_of effect_of starved script (opened settings)).text ≡ text_of settings script starved
@@ -51,7 +53,8 @@ whole settings script told old new first last is h =
       lines,
     )
 
-partly : (settings : Settings) (script : List ℕ) (old new : Option (List ℕ)) (first : SessionSeen) → first ≡ opened settings → IsPartlyRun effect_of script first old new → IsPartlyReported settings script old new
+partly : (settings : Settings) (script : List ℕ) (old new : Option (List ℕ)) (first : SessionSeen) → first ≡ opened settings
+    → IsPartlyRun effect_of script first old new → IsPartlyReported settings script old new
 partly settings script old new first is h =
     let r = subst (λ s. IsPartlyRun effect_of script s old new) is h in
     (r.0, subst (AppendsFront old new) (text-is settings script r.0) r.1)

@@ -71,7 +71,16 @@ few-minors mtu clock own below lawful few = by own.discipline lawful where
   by (Fifo limit queue) h = omega arith
   by (Prio priomap) h = omega (arith, few, length-range_with_len 1 (length (nodes_in below)))
   by (Tbf bucket limit) h = omega arith
-  by (Drr s) h = omega (arith, few, length-map s.classes (λ (c : Class). c.name), AllZip-long _ s.classes (each beneath_own below) h.exact, ap length (each-nodes beneath_own below), length-map (nodes_in below) (from_below beneath_own))
+  by (Drr s) h =
+      omega (
+        arith,
+        few,
+        length-map s.classes (λ (c : Class). c.name),
+        AllZip-long _ s.classes (each beneath_own below) h.exact,
+        ap length
+            (each-nodes beneath_own below),
+        length-map (nodes_in below) (from_below beneath_own),
+      )
   by (FqCodel s) h = omega arith
 
 -- what stands at one node is counted up to 256

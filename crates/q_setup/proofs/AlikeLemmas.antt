@@ -50,7 +50,8 @@ among_first P all x rest left is h here = h (subst (IsAmong P) (sym is) (inl her
 pub among_rest : {A : Type 0} (P : A → Type 0) (all : List A) (x : A) (rest left : List A) → left ≡ x ∷ rest → (IsAmong P left → IsAmong P all) → IsAmong P rest → IsAmong P all
 among_rest P all x rest left is h more = h (subst (IsAmong P) (sym is) (inr more))
 
-pub all_rest : {A : Type 0} (P : A → Type 0) (all : List A) (x : A) (rest left : List A) → left ≡ x ∷ rest → (AllByRecursion P left → AllByRecursion P all) → P x → AllByRecursion P rest → AllByRecursion P all
+pub all_rest : {A : Type 0} (P : A → Type 0) (all : List A) (x : A) (rest left : List A) → left ≡ x ∷ rest
+    → (AllByRecursion P left → AllByRecursion P all) → P x → AllByRecursion P rest → AllByRecursion P all
 all_rest P all x rest left is h here more = h (subst (AllByRecursion P) (sym is) (here, more))
 
 -- where nothing is left, all are so

@@ -78,7 +78,8 @@ there_behind : (keep : Bool) (e : Entry) (wanted nodes : List Entry) → AllByRe
 there_behind keep e [] nodes h = tt
 there_behind keep e (w ∷ wanted) nodes h = (inr h.0, there_behind keep e wanted nodes h.1)
 
-besides_behind : (keep : Bool) (e : Entry) (wanted nodes : List Entry) → AllByRecursion (λ y. IsAmong (λ x. IsLike keep x y) wanted) nodes → AllByRecursion (λ y. IsAmong (λ x. IsLike keep x y) (e ∷ wanted)) nodes
+besides_behind : (keep : Bool) (e : Entry) (wanted nodes : List Entry) → AllByRecursion (λ y. IsAmong (λ x. IsLike keep x y) wanted) nodes
+    → AllByRecursion (λ y. IsAmong (λ x. IsLike keep x y) (e ∷ wanted)) nodes
 besides_behind keep e wanted [] h = tt
 besides_behind keep e wanted (n ∷ nodes) h = (inr h.0, besides_behind keep e wanted nodes h.1)
 

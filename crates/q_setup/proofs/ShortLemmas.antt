@@ -70,7 +70,9 @@ short-entry : (mtu clock : ℕ) (p : Place) (n : Node Counts) → IsLawfulNode t
 short-entry mtu clock p n h =
     let below = each beneath_own n.below in
     let few = few_minors mtu clock (length (children n)) below n.own.discipline (sym (length-each beneath_own n.below)) h.own.discipline in
-    let ids = length-filter_map {B = ClassId} (λ minor. Rattle.std.specs.Prelude.option_map (λ major. record { major = major; minor = minor }) n.own.handle) (minors (length (children n)) n.own.discipline) in
+    let ids =
+    length-filter_map {B = ClassId} (λ minor. Rattle.std.specs.Prelude.option_map (λ major. record { major = major; minor = minor })
+    n.own.handle) (minors (length (children n)) n.own.discipline) in
     let views = length-map {B = ClassView} (class_ids n) (λ (c : ClassId). record { class = c; kind = class_kind n.own.discipline c.minor }) in
     let filters = length-filter_map {B = FilterView} (λ (f : Filter). Rattle.std.specs.Prelude.option_map (λ parent. record { parent = parent; filter = f }) n.own.handle) n.own.filters in
     let most = h.own.filters in

@@ -9,7 +9,8 @@ pub left-write : (taken n : ℕ) (rest text : List ℕ) → rest ≡ drop taken 
 left-write taken n rest text h = take_all (length rest - n) (drop n rest) (omega (arith, length-drop n rest)) ∙ (ap (λ l. drop n l) h ∙ drop-drop n taken text)
 
 -- what the writer has of the text
-pub taken-write : (a b c : Option (List ℕ)) (taken n : ℕ) (rest text : List ℕ) → rest ≡ drop taken text → Appends a b (take taken text) → Appends b c (take n rest) → Appends a c (take (taken + n) text)
+pub taken-write : (a b c : Option (List ℕ)) (taken n : ℕ) (rest text : List ℕ) → rest ≡ drop taken text → Appends a b (take taken text)
+    → Appends b c (take n rest) → Appends a c (take (taken + n) text)
 taken-write a b c taken n rest text h before w =
     subst (Appends a c) (sym (take-add taken n text)) (Appends-trans a b c (take taken text) (take n (drop taken text)) before (subst (λ l. Appends b c (take n l)) h w))
 

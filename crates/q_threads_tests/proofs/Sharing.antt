@@ -27,11 +27,33 @@ use Rattle.q_ports.specs.contracts.booked.Booked.TheInside as Inside
 
 -- a device may go to another thread: all that it owns may
 device_send : IsSend Device.the_row
-device_send = search (settings.the_send, moment.the_send, losses.the_send, event.the_send, row.the_send, handles.the_send, handle.the_send, packet.the_send, filter.the_send, masked_filter.the_send, fifo.the_send, bucket.the_send, active.the_send, flows.the_send, crossing.crosses, knot.crosses, sendable) depth 60 fits 20000
+device_send =
+    search (
+      settings.the_send,
+      moment.the_send,
+      losses.the_send,
+      event.the_send,
+      row.the_send,
+      handles.the_send,
+      handle.the_send,
+      packet.the_send,
+      filter.the_send,
+      masked_filter.the_send,
+      fifo.the_send,
+      bucket.the_send,
+      active.the_send,
+      flows.the_send,
+      crossing.crosses,
+      knot.crosses,
+      sendable,
+    ) depth 60 fits 20000
 
 -- so may a device with its books
 booked_send : (T U : RattleType) (g : Ghosts T.Denot) (h : Ghosts U.Denot) → IsSend (Booked.the_row T U g h)
-booked_send T U g h = view_send (Inside.the_row T U g h) _ _ _ _ (recorded_send (Inside.the_field T U g h).row _ _ (Inside.the_type T U g h).to_one (struct_send (shape (Inside.the_type T U g h)) (device_send, (book.the_send T g, (book.the_send U h, tt)))))
+booked_send T U g h =
+    view_send (Inside.the_row T U g h) _ _ _ _
+    (recorded_send (Inside.the_field T U g h).row _ _ (Inside.the_type T U g h).to_one
+    (struct_send (shape (Inside.the_type T U g h)) (device_send, (book.the_send T g, (book.the_send U h, tt)))))
 
 -- and threads may share the lock of one
 pub lock_sync : (T U : RattleType) (g : Ghosts T.Denot) (h : Ghosts U.Denot) → IsSync (Mutex.the_row (Booked.the_row T U g h))

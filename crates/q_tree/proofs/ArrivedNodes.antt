@@ -92,7 +92,9 @@ module _ (now : ℕ) (p : Descriptor) (a : Inside) (n : Node Kept) (k : IsKept a
       place-of : (path : List ℕ) (refusal : Option Cause) → IsPutOn now p refusal path h.placed d o h.notes → refusal ≡ None → HasPlace path (seen (record a { discipline = h.placed }))
       place-of [] refusal put none = put.place none
       place-of (i ∷ rest) refusal put none =
-          subst (λ (x : Option (Node Kept)). IfSome (option_and_then (node_at rest) x) (λ (end : Node Kept). HasPlaceIn end.memory.places end.own.discipline)) (sym (ap (λ xs. slice_get xs i) (nodes-side (children_seen h.placed)) ∙ put.there)) (put.place none)
+          subst (λ (x : Option (Node Kept)). IfSome (option_and_then (node_at rest) x)
+          (λ (end : Node Kept). HasPlaceIn end.memory.places end.own.discipline))
+          (sym (ap (λ xs. slice_get xs i) (nodes-side (children_seen h.placed)) ∙ put.there)) (put.place none)
 
       can-mid : CanPut now p (route p n).path (route p n).refusal (seen (record a { discipline = h.placed }))
       can-mid = record {
@@ -104,12 +106,16 @@ module _ (now : ℕ) (p : Descriptor) (a : Inside) (n : Node Kept) (k : IsKept a
         counts = can-here.counts;
       }
 
-      into : (i : ℕ) (rest : List ℕ) (refusal : Option Cause) → IsPutOn now p refusal (i ∷ rest) h.placed d o h.notes → (c : Node Kept) → slice_get (children_seen h.placed) i ≡ Some c → IsPutInto now p refusal rest i h.placed d c o
+      into : (i : ℕ) (rest : List ℕ) (refusal : Option Cause) → IsPutOn now p refusal (i ∷ rest) h.placed d o h.notes → (c : Node Kept)
+          → slice_get (children_seen h.placed) i ≡ Some c → IsPutInto now p refusal rest i h.placed d c o
       into i rest refusal put c at = subst (λ (x : Node Kept). IsPutInto now p refusal rest i h.placed d x o) (same_Some put.child c (sym put.there ∙ at)) put.put
 
-      lost-by : (path : List ℕ) (refusal : Option Cause) → IsPutOn now p refusal path h.placed d o h.notes → CanPut now p path refusal (seen (record a { discipline = h.placed })) → IsLostOf p o a.row.queued
+      lost-by : (path : List ℕ) (refusal : Option Cause) → IsPutOn now p refusal path h.placed d o h.notes
+          → CanPut now p path refusal (seen (record a { discipline = h.placed })) → IsLostOf p o a.row.queued
       lost-by [] refusal put can2 = here-lost now p refusal (record a { discipline = h.placed }) (seen (record a { discipline = h.placed })) [] kept-mid refl can2 refl d o put.queued
-      lost-by (i ∷ rest) refusal put can2 = on-lost now p refusal (record a { discipline = h.placed }) (seen (record a { discipline = h.placed })) (i ∷ rest) kept-mid refl can2 i rest refl d o (into i rest refusal put)
+      lost-by (i ∷ rest) refusal put can2 =
+          on-lost now p refusal (record a { discipline = h.placed }) (seen (record a { discipline = h.placed })) (i ∷ rest) kept-mid refl can2 i rest
+          refl d o (into i rest refusal put)
 
       pub come-lost : IsLostOf p o a.row.queued
       come-lost = lost-by (route p n).path (route p n).refusal put-on can-mid
@@ -133,7 +139,9 @@ module _ (now : ℕ) (p : Descriptor) (a : Inside) (n : Node Kept) (k : IsKept a
         done-by : (path : List ℕ) (refusal : Option Cause) → IsPutOn now p refusal path h.placed d o h.notes → CanPut now p path refusal (seen (record a { discipline = h.placed }))
             → IsDone now p path refusal (seen (record a { discipline = h.placed })) (record a { row = row; discipline = d }) o
         done-by [] refusal put can2 = here-at now p refusal (record a { discipline = h.placed }) (seen (record a { discipline = h.placed })) [] kept-mid refl can2 refl d row o put.queued row_is
-        done-by (i ∷ rest) refusal put can2 = on-at now p refusal (record a { discipline = h.placed }) (seen (record a { discipline = h.placed })) (i ∷ rest) kept-mid refl can2 i rest refl d row o (into i rest refusal put) row_is
+        done-by (i ∷ rest) refusal put can2 =
+            on-at now p refusal (record a { discipline = h.placed }) (seen (record a { discipline = h.placed })) (i ∷ rest) kept-mid refl can2 i rest
+            refl d row o (into i rest refusal put) row_is
 
         come-done : IsDone now p (route p n).path (route p n).refusal (seen (record a { discipline = h.placed })) (record a { row = row; discipline = d }) o
         come-done = done-by (route p n).path (route p n).refusal put-on can-mid

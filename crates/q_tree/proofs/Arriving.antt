@@ -48,7 +48,8 @@ pub nothing-placed : (d : Discipline) → IsPlacedIn d d
 nothing-placed d = record { discipline = refl; children = refl; places = omega arith; grows = λ way i. omega arith }
 
 -- one of the children was given places
-pub placed-at : (before after : Discipline) (ns : List (Node Kept)) (i : ℕ) (x x2 : Node Kept) → children_seen before ≡ ns → x ≡ slice_index_or ns i x → IsPlaced x x2 → children_seen after ≡ set ns i x2
+pub placed-at : (before after : Discipline) (ns : List (Node Kept)) (i : ℕ) (x x2 : Node Kept) → children_seen before ≡ ns → x ≡ slice_index_or ns i x
+    → IsPlaced x x2 → children_seen after ≡ set ns i x2
     → discipline_seen after ≡ discipline_seen before → places_seen after ≡ places_seen before → IsPlacedIn before after
 placed-at before after ns i x x2 kids is h kids2 same places = record {
   discipline = same;
@@ -75,7 +76,8 @@ same-route p n m e =
 pub refusal-counted : (p : Descriptor) (cause : Cause) → is_refusal cause ≡ true → counted no_counts (Lost p cause) ≡ record no_counts { refused = with_packet no_totals p }
 refusal-counted p cause e = ap (λ b. if b then record no_counts { refused = with_packet no_totals p } else record no_counts { dropped = with_packet no_totals p }) e
 
-pub refused-in : (now : ℕ) (p : Descriptor) (cause : Cause) (filters : List Filter) (d : Discipline) (o : Outcome) (sink sink2 : SinkState) → is_refusal cause ≡ true → way_in p filters d ≡ refused cause
+pub refused-in : (now : ℕ) (p : Descriptor) (cause : Cause) (filters : List Filter) (d : Discipline) (o : Outcome) (sink sink2 : SinkState)
+    → is_refusal cause ≡ true → way_in p filters d ≡ refused cause
     → (q : Descriptor) → q ≡ p → o ≡ record { loss = Some cause; refused = with_packet no_totals q; dropped = no_totals } → IsTold (record { packet = q; cause = cause } ∷ []) sink sink2
     → HasComeIn now p filters d d o sink sink2
 refused-in now p cause filters d o sink sink2 refusal way q same is told = record {
@@ -101,27 +103,36 @@ refused-in now p cause filters d o sink sink2 refusal way q same is told = recor
 }
 
 -- in an fq_codel
-pub queued-in-flows : (now : ℕ) (p : Descriptor) (filters : List Filter) (before placed after : Discipline) (s : FqState) (o : Outcome) (notes : List Note) (sink sink2 : SinkState) → discipline_seen before ≡ spec.FqCodel s
+pub queued-in-flows : (now : ℕ) (p : Descriptor) (filters : List Filter) (before placed after : Discipline) (s : FqState) (o : Outcome)
+    (notes : List Note) (sink sink2 : SinkState)
+    → discipline_seen before ≡ spec.FqCodel s
     → IsPlacedIn before placed → HasPlaceIn (places_seen placed) (discipline_seen placed) → IsQueued now p None placed after o → notes ≡ rises_here now p None (discipline_seen placed)
-    → IsToldOf notes sink sink2 → (((way_in p filters before).refusal ≡ None → HasPlaceOn (way_in p filters before).path before) → IsAsPlaced before placed) → HasComeIn now p filters before after o sink sink2
+    → IsToldOf notes sink sink2
+    → (((way_in p filters before).refusal ≡ None → HasPlaceOn (way_in p filters before).path before) → IsAsPlaced before placed)
+    → HasComeIn now p filters before after o sink sink2
 queued-in-flows now p filters before placed after s o notes sink sink2 is h room queued are told stays = record {
   placed = placed;
   is_placed = h;
   notes = notes;
-  put = subst (λ (w : Route). IsPutOn now p w.refusal w.path placed after o notes) (sym (ap (λ d. way p (own_of None filters d) (ways p (children_seen before)) d) is)) (record { place = λ none. room; queued = queued; notes_are = are });
+  put =
+      subst (λ (w : Route). IsPutOn now p w.refusal w.path placed after o notes)
+      (sym (ap (λ d. way p (own_of None filters d) (ways p (children_seen before)) d) is))
+      (record { place = λ none. room; queued = queued; notes_are = are });
   told = told;
   in_place = stays;
 }
 
 -- ---- where it goes on
 
-pub through-at : (p : Descriptor) (ns : List (Node Kept)) (i : ℕ) (x : Node Kept) → slice_get ns i ≡ Some x → through (ways p ns) i ≡ record { path = i ∷ (route p x).path; refusal = (route p x).refusal }
+pub through-at : (p : Descriptor) (ns : List (Node Kept)) (i : ℕ) (x : Node Kept) → slice_get ns i ≡ Some x
+    → through (ways p ns) i ≡ record { path = i ∷ (route p x).path; refusal = (route p x).refusal }
 through-at p ns i x e = ap (λ (o : Option Route). option_map_or (λ (r : Route). record r { path = i ∷ r.path }) o (refused NoClass)) (slice_get-map (route p) ns i ∙ ap (option_map (route p)) e)
 
 pub through-past : (p : Descriptor) (ns : List (Node Kept)) (i : ℕ) → slice_get ns i ≡ None → through (ways p ns) i ≡ refused NoClass
 through-past p ns i e = ap (λ (o : Option Route). option_map_or (λ (r : Route). record r { path = i ∷ r.path }) o (refused NoClass)) (slice_get-map (route p) ns i ∙ ap (option_map (route p)) e)
 
-module _ (now : ℕ) (p : Descriptor) (filters : List Filter) (before placed after : Discipline) (ns : List (Node Kept)) (i : ℕ) (x x2 : Node Kept) (o : Outcome) (kids : children_seen before ≡ ns) (inside : i < length ns)
+module _ (now : ℕ) (p : Descriptor) (filters : List Filter) (before placed after : Discipline) (ns : List (Node Kept)) (i : ℕ) (x x2 : Node Kept)
+    (o : Outcome) (kids : children_seen before ≡ ns) (inside : i < length ns)
     (is : x ≡ slice_index_or ns i x) (to : way_in p filters before ≡ through (ways p ns) i) where
   on : slice_get ns i ≡ Some x
   on = slice_get_read ns (length ns) i x refl inside is
@@ -131,9 +142,11 @@ module _ (now : ℕ) (p : Descriptor) (filters : List Filter) (before placed aft
   place-below h none =
       let w : way_in p filters before ≡ record { path = i ∷ (route p x).path; refusal = (route p x).refusal } = to ∙ through-at p ns i x on in
       let there : HasPlaceOn (i ∷ (route p x).path) before = subst (λ (v : Route). HasPlaceOn v.path before) w (h (ap (λ (v : Route). v.refusal) w ∙ none)) in
-      subst (λ (y : Option (Node Kept)). IfSome (option_and_then (node_at (route p x).path) y) (λ (end : Node Kept). HasPlaceIn end.memory.places end.own.discipline)) (ap (λ xs. slice_get xs i) kids ∙ on) there
+      subst (λ (y : Option (Node Kept)). IfSome (option_and_then (node_at (route p x).path) y)
+      (λ (end : Node Kept). HasPlaceIn end.memory.places end.own.discipline)) (ap (λ xs. slice_get xs i) kids ∙ on) there
 
-  pub gone-in : (h : HasCome now p x x2 o) → children_seen placed ≡ set ns i h.placed → discipline_seen placed ≡ discipline_seen before → places_seen placed ≡ places_seen before → children_seen after ≡ set ns i x2
+  pub gone-in : (h : HasCome now p x x2 o) → children_seen placed ≡ set ns i h.placed → discipline_seen placed ≡ discipline_seen before
+      → places_seen placed ≡ places_seen before → children_seen after ≡ set ns i x2
       → places_seen after ≡ places_seen before → discipline_seen after ≡ settled_in i (is_empty (put_along now p (route p x).refusal (route p x).path (shape h.placed)).node) (discipline_seen before)
       → (sink sink2 : SinkState) → IsToldOf (rises_along now p x) sink sink2 → HasComeIn now p filters before after o sink sink2
   gone-in h kids2 same2 places2 kids3 places3 settled sink sink2 told =
@@ -165,28 +178,34 @@ module _ (now : ℕ) (p : Descriptor) (filters : List Filter) (before placed aft
 -- ---- by what the discipline is
 
 module _ (p : Descriptor) (filters : List Filter) (d : Discipline) where
-  pub fifo-place : (f : FifoState) → d ≡ code.Fifo f → ((way_in p filters d).refusal ≡ None → HasPlaceOn (way_in p filters d).path d) → takes f.limit f.packets p.len ≡ true → length f.packets < f.places
+  pub fifo-place : (f : FifoState) → d ≡ code.Fifo f → ((way_in p filters d).refusal ≡ None → HasPlaceOn (way_in p filters d).path d)
+      → takes f.limit f.packets p.len ≡ true → length f.packets < f.places
   fifo-place f is h fits =
       let w : way_in p filters d ≡ ends = ap (way_in p filters) is ∙ ap (λ b. if b then ends else refused OverLimit) fits in
       subst (λ (x : Discipline). HasPlaceOn [] x) is (subst (λ (v : Route). HasPlaceOn v.path d) w (h (ap (λ (v : Route). v.refusal) w)))
 
-  pub flows-place : (s : FqState) (places : ℕ) → discipline_seen d ≡ spec.FqCodel s → places_seen d ≡ places → ((way_in p filters d).refusal ≡ None → HasPlaceOn (way_in p filters d).path d) → packets_of s.flows < places
+  pub flows-place : (s : FqState) (places : ℕ) → discipline_seen d ≡ spec.FqCodel s → places_seen d ≡ places
+      → ((way_in p filters d).refusal ≡ None → HasPlaceOn (way_in p filters d).path d) → packets_of s.flows < places
   flows-place s places is same h =
       let w : way_in p filters d ≡ ends = ap (λ (x : spec.Discipline). way p (own_of None filters x) (ways p (children_seen d)) x) is in
       subst (λ (x : spec.Discipline). HasPlaceIn places x) is
       (subst (λ n. HasPlaceIn n (discipline_seen d)) same (subst (λ (v : Route). HasPlaceOn v.path d) w (h (ap (λ (v : Route). v.refusal) w))))
 
-  pub prio-way : (priomap : List ℕ) (ns : List (Node Kept)) (k : ℕ) → discipline_seen d ≡ spec.Prio priomap → children_seen d ≡ ns → k ≡ option_map_or (λ minor. minor - 1) (named_class filters p) (slice_index priomap p.prio)
+  pub prio-way : (priomap : List ℕ) (ns : List (Node Kept)) (k : ℕ) → discipline_seen d ≡ spec.Prio priomap → children_seen d ≡ ns
+      → k ≡ option_map_or (λ minor. minor - 1) (named_class filters p) (slice_index priomap p.prio)
       → way_in p filters d ≡ through (ways p ns) k
   prio-way priomap ns k is kids at =
-      ap (λ (x : spec.Discipline). way p (own_of None filters x) (ways p (children_seen d)) x) is ∙ ap (λ xs. through (ways p xs) (option_map_or (λ minor. minor - 1) (named_class filters p) (slice_index priomap p.prio))) kids
+      ap (λ (x : spec.Discipline). way p (own_of None filters x) (ways p (children_seen d)) x) is
+      ∙ ap (λ xs. through (ways p xs) (option_map_or (λ minor. minor - 1) (named_class filters p) (slice_index priomap p.prio))) kids
       ∙ ap (through (ways p ns)) (sym at)
 
-  pub tbf-way : (bucket : TokenBucket) (limit : ℕ) (ns : List (Node Kept)) → discipline_seen d ≡ spec.Tbf bucket limit → children_seen d ≡ ns → way_in p filters d ≡ (if nat_lt bucket.burst p.len then refused TooLong else through (ways p ns) 0)
+  pub tbf-way : (bucket : TokenBucket) (limit : ℕ) (ns : List (Node Kept)) → discipline_seen d ≡ spec.Tbf bucket limit → children_seen d ≡ ns
+      → way_in p filters d ≡ (if nat_lt bucket.burst p.len then refused TooLong else through (ways p ns) 0)
   tbf-way bucket limit ns is kids =
       ap (λ (x : spec.Discipline). way p (own_of None filters x) (ways p (children_seen d)) x) is ∙ ap (λ xs. if nat_lt bucket.burst p.len then refused TooLong else through (ways p xs) 0) kids
 
-  pub drr-way : (s : Schedule) (ns : List (Node Kept)) (o : Option ℕ) → discipline_seen d ≡ spec.Drr s → children_seen d ≡ ns → o ≡ option_and_then (λ minor. drr.place_of minor s.classes) (named_class filters p)
+  pub drr-way : (s : Schedule) (ns : List (Node Kept)) (o : Option ℕ) → discipline_seen d ≡ spec.Drr s → children_seen d ≡ ns
+      → o ≡ option_and_then (λ minor. drr.place_of minor s.classes) (named_class filters p)
       → way_in p filters d ≡ option_map_or (through (ways p ns)) o (refused NoClass)
   drr-way s ns o is kids at =
       ap (λ (x : spec.Discipline). way p (own_of None filters x) (ways p (children_seen d)) x) is
@@ -201,29 +220,34 @@ module _ (p : Descriptor) (filters : List Filter) (d : Discipline) where
 
 -- what a fifo made of it
 pub queued-in-fifo : (now : ℕ) (p : Descriptor) (filters : List Filter) (f f2 : FifoState) (places : ℕ) (o : Outcome) (sink : SinkState) → takes f.limit f.packets p.len ≡ true → f.places ≤ places
-    → length f.packets < places → (length f.packets < f.places → places ≡ f.places) → f2 ≡ record { packets = f.packets ++ record { packet = p; at = now } ∷ []; limit = f.limit; places = places } → o ≡ record { loss = None; refused = no_totals; dropped = no_totals }
+    → length f.packets < places → (length f.packets < f.places → places ≡ f.places)
+    → f2 ≡ record { packets = f.packets ++ record { packet = p; at = now } ∷ []; limit = f.limit; places = places }
+    → o ≡ record { loss = None; refused = no_totals; dropped = no_totals }
     → HasComeIn now p filters (code.Fifo f) (code.Fifo f2) o sink sink
 queued-in-fifo now p filters f f2 places o sink fits grows room stays is out = record {
   placed = code.Fifo (record f { places = places });
   is_placed = record { discipline = refl; children = refl; places = grows; grows = λ way i. omega arith };
   notes = [];
-  put = subst (λ b. IsPutOn now p (if b then ends else refused OverLimit).refusal (if b then ends else refused OverLimit).path (code.Fifo (record f { places = places })) (code.Fifo f2) o []) (sym fits) (record {
-    place = λ none. room;
-    queued = record {
-      discipline = ap (λ (x : FifoState). spec.Fifo x.limit x.packets) is;
-      children = refl;
-      places = ap (λ (x : FifoState). x.places) is;
-      outcome = record { loss = ap (λ (x : Outcome). x.loss) out; refused = ap (λ (x : Outcome). x.refused) out; dropped = ap (λ (x : Outcome). x.dropped) out };
-    };
-    notes_are = refl;
-  });
+  put =
+      subst (λ b. IsPutOn now p (if b then ends else refused OverLimit).refusal (if b then ends else refused OverLimit).path
+      (code.Fifo (record f { places = places })) (code.Fifo f2) o []) (sym fits) (record {
+        place = λ none. room;
+        queued = record {
+          discipline = ap (λ (x : FifoState). spec.Fifo x.limit x.packets) is;
+          children = refl;
+          places = ap (λ (x : FifoState). x.places) is;
+          outcome = record { loss = ap (λ (x : Outcome). x.loss) out; refused = ap (λ (x : Outcome). x.refused) out; dropped = ap (λ (x : Outcome). x.dropped) out };
+        };
+        notes_are = refl;
+      });
   told = told_nothing sink;
   in_place = λ there. record { children = refl; places = stays (fifo-place p filters (code.Fifo f) f refl there fits) };
 }
 
 -- what an fq_codel made of it
 pub flows-after : (now : ℕ) (p : Descriptor) (filters : List Filter) (before placed after : Discipline) (s s2 : FqState) (places : ℕ) (res : Result Outcome AllocError) (sink sink2 : SinkState)
-    → discipline_seen before ≡ spec.FqCodel s → children_seen before ≡ [] → places_seen before ≤ places → discipline_seen placed ≡ spec.FqCodel s → children_seen placed ≡ [] → places_seen placed ≡ places
+    → discipline_seen before ≡ spec.FqCodel s → children_seen before ≡ [] → places_seen before ≤ places → discipline_seen placed ≡ spec.FqCodel s
+    → children_seen placed ≡ [] → places_seen placed ≡ places
     → discipline_seen after ≡ spec.FqCodel s2 → children_seen after ≡ [] → places_seen after ≡ places
     → OnOk res (packets_of s.flows < places) → (packets_of s.flows < places_seen before → places ≡ places_seen before) → IfOk res (λ o. IsPutInFlow now p s s2 o sink sink2)
     → IfOk res (λ o. HasComeIn now p filters before after o sink sink2)
@@ -262,16 +286,21 @@ lt-false a b h = by (nat_lt a b) refl
     by true e = absurd (omega (arith, h, ltb-true a b e))
     by false e = e
 
-pub gone-after : (now : ℕ) (p : Descriptor) (filters : List Filter) (before after : Discipline) (ns : List (Node Kept)) (i : ℕ) (x x2 : Node Kept) → children_seen before ≡ ns → i < length ns → x ≡ slice_index_or ns i x
-    → way_in p filters before ≡ through (ways p ns) i → (place : Node Kept → Discipline) → ((m : Node Kept) → children_seen (place m) ≡ set ns i m) → ((m : Node Kept) → discipline_seen (place m) ≡ discipline_seen before)
-    → ((m : Node Kept) → places_seen (place m) ≡ places_seen before) → children_seen after ≡ set ns i x2 → places_seen after ≡ places_seen before → ((b : Bool) → discipline_seen after ≡ settled_in i b (discipline_seen before))
-    → (res : Result Outcome AllocError) (sink sink2 : SinkState) → IfOk res (λ o. HasCome now p x x2 o) → OnOk res (IsToldOf (rises_along now p x) sink sink2) → IfOk res (λ o. HasComeIn now p filters before after o sink sink2)
+pub gone-after : (now : ℕ) (p : Descriptor) (filters : List Filter) (before after : Discipline) (ns : List (Node Kept)) (i : ℕ) (x x2 : Node Kept)
+    → children_seen before ≡ ns → i < length ns → x ≡ slice_index_or ns i x
+    → way_in p filters before ≡ through (ways p ns) i → (place : Node Kept → Discipline) → ((m : Node Kept) → children_seen (place m) ≡ set ns i m)
+    → ((m : Node Kept) → discipline_seen (place m) ≡ discipline_seen before)
+    → ((m : Node Kept) → places_seen (place m) ≡ places_seen before) → children_seen after ≡ set ns i x2 → places_seen after ≡ places_seen before
+    → ((b : Bool) → discipline_seen after ≡ settled_in i b (discipline_seen before))
+    → (res : Result Outcome AllocError) (sink sink2 : SinkState) → IfOk res (λ o. HasCome now p x x2 o)
+    → OnOk res (IsToldOf (rises_along now p x) sink sink2) → IfOk res (λ o. HasComeIn now p filters before after o sink sink2)
 gone-after now p filters before after ns i x x2 kids inside is to place kids2 same2 places2 kids3 places3 settled (Err e) sink sink2 h told = tt
 gone-after now p filters before after ns i x x2 kids inside is to place kids2 same2 places2 kids3 places3 settled (Ok o) sink sink2 h told =
     gone-in now p filters before (place h.placed) after ns i x x2 o kids inside is to h (kids2 h.placed) (same2 h.placed) (places2 h.placed) kids3 places3
     (settled (is_empty (put_along now p (route p x).refusal (route p x).path (shape h.placed)).node)) sink sink2 told
 
-pub gone-same : (before after : Discipline) (ns : List (Node Kept)) (i : ℕ) (x x2 : Node Kept) (res : Result Outcome AllocError) → children_seen before ≡ ns → x ≡ slice_index_or ns i x → children_seen after ≡ set ns i x2
+pub gone-same : (before after : Discipline) (ns : List (Node Kept)) (i : ℕ) (x x2 : Node Kept) (res : Result Outcome AllocError)
+    → children_seen before ≡ ns → x ≡ slice_index_or ns i x → children_seen after ≡ set ns i x2
     → discipline_seen after ≡ discipline_seen before → places_seen after ≡ places_seen before → OnErr res (IsPlaced x x2) → OnErr res (IsPlacedIn before after)
 gone-same before after ns i x x2 (Ok o) kids is kids2 same places h = tt
 gone-same before after ns i x x2 (Err e) kids is kids2 same places h = placed-at before after ns i x x2 kids is h kids2 same places
@@ -282,7 +311,8 @@ nobody = record { loss = None; refused = no_totals; dropped = no_totals }
 
 -- a fifo in which a place was made, and then the packet was put
 pub fifo-form : (f g f2 : FifoState) (places : ℕ) (q p : Descriptor) (now : ℕ) → g ≡ record { packets = f.packets; limit = f.limit; places = places } → q ≡ p
-    → f2 ≡ record { packets = g.packets ++ record { packet = q; at = now } ∷ []; limit = g.limit; places = g.places } → f2 ≡ record { packets = f.packets ++ record { packet = p; at = now } ∷ []; limit = f.limit; places = places }
+    → f2 ≡ record { packets = g.packets ++ record { packet = q; at = now } ∷ []; limit = g.limit; places = g.places }
+    → f2 ≡ record { packets = f.packets ++ record { packet = p; at = now } ∷ []; limit = f.limit; places = places }
 fifo-form f g f2 places q p now same packet is =
     is
     ∙ ap (λ (x : FifoState). record { packets = x.packets ++ record { packet = q; at = now } ∷ []; limit = x.limit; places = x.places }) same

@@ -64,7 +64,9 @@ first-later (b ∷ below) zero a e s = ap (λ (t : Bool). cond (not t) (1 + firs
 first-later (b ∷ below) (suc i) a e s = first-later below i a e s
 
 -- what a prio comes to where its first band that shows a packet stands here, or no band does
-split-take : (k : ℕ) (below : List Asked) → map (λ (a : Asked). a.peeked) (take k below) ++ map (λ (a : Asked). a.peeked) (drop k (take (suc k) below)) ≡ map (λ (a : Asked). a.peeked) (take (suc k) below)
+split-take : (k : ℕ) (below : List Asked)
+    → map (λ (a : Asked). a.peeked) (take k below) ++ map (λ (a : Asked). a.peeked) (drop k (take (suc k) below))
+    ≡ map (λ (a : Asked). a.peeked) (take (suc k) below)
 split-take zero [] = refl
 split-take (suc k) [] = refl
 split-take zero (b ∷ below) = refl

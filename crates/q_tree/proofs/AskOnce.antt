@@ -44,13 +44,15 @@ pub record IsCounted (rises : List Note) (s : Shown) : Type 0 where
   pub dropped : s.dropped ≡ (counts_in rises).dropped
   pub marked : s.marked ≡ (counts_in rises).marked
 
-pub counted-then : (ms ns : List Note) (a b c : Shown) → IsCounted ms a → b.dropped ≡ (counts_in ns).dropped → b.marked ≡ (counts_in ns).marked → c.dropped ≡ plus a.dropped b.dropped → c.marked ≡ plus a.marked b.marked → IsCounted (ms ++ ns) c
+pub counted-then : (ms ns : List Note) (a b c : Shown) → IsCounted ms a → b.dropped ≡ (counts_in ns).dropped → b.marked ≡ (counts_in ns).marked
+    → c.dropped ≡ plus a.dropped b.dropped → c.marked ≡ plus a.marked b.marked → IsCounted (ms ++ ns) c
 counted-then ms ns a b c h d m cd cm = record {
   dropped = cd ∙ ap (λ t. plus t b.dropped) h.dropped ∙ ap (plus (counts_in ms).dropped) d ∙ dropped-both ms ns;
   marked = cm ∙ ap (λ t. plus t b.marked) h.marked ∙ ap (plus (counts_in ms).marked) m ∙ marked-both ms ns;
 }
 
-module _ (now : ℕ) (ns ms : List (Node Kept)) (ws : List Worked) (rises : List Note) (each : CanAskEach now ns) (h : IsAsking ns ms ws rises) (i : ℕ) (c : Node Kept) (at : slice_get ns i ≡ Some c) (before : slice_get ws i ≡ Some (ask now (shape c)).before) where
+module _ (now : ℕ) (ns ms : List (Node Kept)) (ws : List Worked) (rises : List Note) (each : CanAskEach now ns) (h : IsAsking ns ms ws rises) (i : ℕ)
+    (c : Node Kept) (at : slice_get ns i ≡ Some c) (before : slice_get ws i ≡ Some (ask now (shape c)).before) where
   pub can-ask : CanAsk now c
   can-ask = record { mtu = each.mtu; least = each.least; moment = each.moment; lawful = lawful-at each.mtu now ns i c each.lawful at }
 

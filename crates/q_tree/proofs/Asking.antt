@@ -39,7 +39,8 @@ side-all [] ws = refl
 side-all (n ∷ ns) [] = refl
 side-all (n ∷ ns) (w ∷ ws) = ap (λ o. more w.own (noted kept n.memory w.memory) (each_booked kept n.below w.below) o) (side-all ns ws)
 
-pub all-at : (ns : List (Node Kept)) (ws : List Worked) (i : ℕ) (n : Node Kept) (w : Worked) → slice_get ns i ≡ Some n → slice_get ws i ≡ Some w → slice_get (booked_all ns ws) i ≡ Some (booked kept n w)
+pub all-at : (ns : List (Node Kept)) (ws : List Worked) (i : ℕ) (n : Node Kept) (w : Worked) → slice_get ns i ≡ Some n → slice_get ws i ≡ Some w
+    → slice_get (booked_all ns ws) i ≡ Some (booked kept n w)
 all-at [] ws i n w e f = cc
 all-at (m ∷ ns) [] i n w e f = cc
 all-at (m ∷ ns) (v ∷ ws) zero n w e f = ap (λ (x : Node Kept). Some (booked kept x v)) (same_Some m n e) ∙ ap (λ (x : Worked). Some (booked kept n x)) (same_Some v w f)
@@ -129,7 +130,8 @@ weigh-set f w (n ∷ ns) (suc i) c d e =
     omega (arith, weigh-set f w ns i c d e, weigh-append w (f n) (flat_map (λ packets. packets) (map f (set ns i d))), weigh-append w (f n) (flat_map (λ packets. packets) (map f ns)))
 
 -- the others hold no more than what waits in them
-pub held-beside : (w : Descriptor → ℕ) (ns : List (Node Kept)) (i : ℕ) (c : Node Kept) → slice_get ns i ≡ Some c → weigh w (held_in ns) + weigh w (beneath c) ≤ weigh w (packets_beneath ns) + weigh w (held_beneath c)
+pub held-beside : (w : Descriptor → ℕ) (ns : List (Node Kept)) (i : ℕ) (c : Node Kept) → slice_get ns i ≡ Some c
+    → weigh w (held_in ns) + weigh w (beneath c) ≤ weigh w (packets_beneath ns) + weigh w (held_beneath c)
 held-beside w [] i c e = cc
 held-beside w (n ∷ ns) zero c e = omega (
   arith,
@@ -151,7 +153,8 @@ held-beside w (n ∷ ns) (suc i) c e = omega (
   held-beside w ns i c e,
 )
 
-pub part-of : (f : Node Kept → List Descriptor) (w : Descriptor → ℕ) (ns : List (Node Kept)) (i : ℕ) (c : Node Kept) → slice_get ns i ≡ Some c → weigh w (f c) ≤ weigh w (flat_map (λ packets. packets) (map f ns))
+pub part-of : (f : Node Kept → List Descriptor) (w : Descriptor → ℕ) (ns : List (Node Kept)) (i : ℕ) (c : Node Kept) → slice_get ns i ≡ Some c
+    → weigh w (f c) ≤ weigh w (flat_map (λ packets. packets) (map f ns))
 part-of f w [] i c e = cc
 part-of f w (n ∷ ns) zero c e = omega (arith, weigh-append w (f n) (flat_map (λ packets. packets) (map f ns)), ap (λ (x : Node Kept). weigh w (f x)) (same_Some n c e))
 part-of f w (n ∷ ns) (suc i) c e = omega (arith, weigh-append w (f n) (flat_map (λ packets. packets) (map f ns)), part-of f w ns i c e)
@@ -182,7 +185,8 @@ asking-starts now ns = record {
 }
 
 -- one of them that was not asked yet
-module _ (now : ℕ) (ns ms : List (Node Kept)) (ws : List Worked) (rises : List Note) (h : IsAsking ns ms ws rises) (i : ℕ) (c : Node Kept) (at : slice_get ns i ≡ Some c) (before : slice_get ws i ≡ Some (ask now (shape c)).before) where
+module _ (now : ℕ) (ns ms : List (Node Kept)) (ws : List Worked) (rises : List Note) (h : IsAsking ns ms ws rises) (i : ℕ) (c : Node Kept)
+    (at : slice_get ns i ≡ Some c) (before : slice_get ws i ≡ Some (ask now (shape c)).before) where
   pub still-there : slice_get ms i ≡ Some c
   still-there = ap (λ xs. slice_get xs i) h.children ∙ all-at ns ws i c (ask now (shape c)).before at before ∙ ap Some (booked-before now c)
 
@@ -196,7 +200,17 @@ module _ (now : ℕ) (ns ms : List (Node Kept)) (ws : List Worked) (rises : List
         children = ap (set ms i) new ∙ ap (λ xs. set xs i (booked kept c a.peeked)) h.children ∙ all-set ns ws i c a.peeked at;
         long = length-set ms i d ∙ h.long;
         waits = λ w. omega (arith, h.waits w, one_more.waits w, lost-append w rises a.rises, weigh-set beneath w ms i c d still-there, ap (λ (x : Node Kept). weigh w (beneath x)) new);
-        marks = λ w. omega (arith, h.marks w, one_more.marks w, lost-append w rises a.rises, marked-append w rises a.rises, weigh-set held_beneath w ms i c d still-there, ap (λ (x : Node Kept). weigh w (held_beneath x)) new);
+        marks =
+            λ w. omega (
+              arith,
+              h.marks w,
+              one_more.marks w,
+              lost-append w rises a.rises,
+              marked-append w rises a.rises,
+              weigh-set held_beneath w ms i
+                  c d still-there,
+              ap (λ (x : Node Kept). weigh w (held_beneath x)) new,
+            );
         quiet = quiet-append rises a.rises h.quiet one_more.quiet;
         within = λ t all.
             let so_far = h.within t all in

@@ -29,22 +29,35 @@ first-none b bs e =
 pub front-of : (ns : List (Node Kept)) (i : ℕ) (x : Node Kept) → i < length ns → x ≡ slice_index_or ns i x → map pop (drop i ns) ≡ pop x ∷ map pop (drop (i + 1) ns)
 front-of ns i x inside is = ap (map pop) (drop_more ns i x inside) ∙ ap (λ (y : Node Kept). pop y ∷ map pop (drop (i + 1) ns)) (sym is)
 
-pub found : (ns : List (Node Kept)) (i : ℕ) (x : Node Kept) (p : Descriptor) → i < length ns → x ≡ slice_index_or ns i x → first_shown (map pop (drop i ns)) ≡ first_shown (map pop ns) → (pop x).shown ≡ Some p → Some p ≡ first_shown (map pop ns)
+pub found : (ns : List (Node Kept)) (i : ℕ) (x : Node Kept) (p : Descriptor) → i < length ns → x ≡ slice_index_or ns i x
+    → first_shown (map pop (drop i ns)) ≡ first_shown (map pop ns) → (pop x).shown ≡ Some p → Some p ≡ first_shown (map pop ns)
 found ns i x p inside is same e = sym (first-some (pop x) (map pop (drop (i + 1) ns)) p e) ∙ sym (ap first_shown (front-of ns i x inside is)) ∙ same
 
-pub passed : (ns : List (Node Kept)) (i : ℕ) (x : Node Kept) → i < length ns → x ≡ slice_index_or ns i x → first_shown (map pop (drop i ns)) ≡ first_shown (map pop ns) → (pop x).shown ≡ None → first_shown (map pop (drop (i + 1) ns)) ≡ first_shown (map pop ns)
+pub passed : (ns : List (Node Kept)) (i : ℕ) (x : Node Kept) → i < length ns → x ≡ slice_index_or ns i x
+    → first_shown (map pop (drop i ns)) ≡ first_shown (map pop ns) → (pop x).shown ≡ None
+    → first_shown (map pop (drop (i + 1) ns)) ≡ first_shown (map pop ns)
 passed ns i x inside is same e = sym (first-none (pop x) (map pop (drop (i + 1) ns)) e) ∙ sym (ap first_shown (front-of ns i x inside is)) ∙ same
 
 pub nobody : (ns : List (Node Kept)) (i : ℕ) → length ns ≤ i → first_shown (map pop (drop i ns)) ≡ first_shown (map pop ns) → None ≡ first_shown (map pop ns)
 nobody ns i past same = sym (ap (λ (xs : List (Node Kept)). first_shown (map pop xs)) (drop_all i ns past)) ∙ same
 
 -- a prio that holds nothing has what its bands have
-pub prio-shown : (a : Inside) (n : Node Kept) (ns : List (Node Kept)) (priomap : List ℕ) → seen a ≡ n → packet_held a.held ≡ None → discipline_seen a.discipline ≡ spec.Prio priomap → ns ≡ children_seen a.discipline → first_shown (map pop ns) ≡ (pop n).shown
+pub prio-shown : (a : Inside) (n : Node Kept) (ns : List (Node Kept)) (priomap : List ℕ) → seen a ≡ n → packet_held a.held ≡ None
+    → discipline_seen a.discipline ≡ spec.Prio priomap → ns ≡ children_seen a.discipline → first_shown (map pop ns) ≡ (pop n).shown
 prio-shown a n ns priomap view none is kids =
     ap (λ xs. first_shown (map pop xs)) kids
     ∙ sym (ap first_shown (each-side pop_own (children_seen a.discipline)))
-    ∙ sym (ap (λ (o : Option Descriptor). (pop_own (record { handle = a.handle; discipline = spec.Prio priomap; held = o; since = since_held a.held; filters = a.filters }) (each pop_own (side_by_side (children_seen a.discipline)))).shown) none)
-    ∙ sym (ap (λ d. (pop_own (record { handle = a.handle; discipline = d; held = packet_held a.held; since = since_held a.held; filters = a.filters }) (each pop_own (side_by_side (children_seen a.discipline)))).shown) is)
+    ∙ sym (ap (λ (o : Option Descriptor). (pop_own
+    (record { handle = a.handle; discipline = spec.Prio priomap; held = o; since = since_held a.held; filters = a.filters })
+    (each pop_own (side_by_side (children_seen a.discipline)))).shown) none)
+    ∙ sym (ap (λ d. (pop_own (record {
+      handle = a.handle;
+      discipline = d;
+      held = packet_held a.held;
+      since = since_held a.held;
+      filters =
+          a.filters;
+    }) (each pop_own (side_by_side (children_seen a.discipline)))).shown) is)
     ∙ ap (λ (m : Node Kept). (pop m).shown) view
 
 pub none-held : (o : Option Descriptor) → false ≡ is_some o → o ≡ None

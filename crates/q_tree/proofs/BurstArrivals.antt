@@ -77,7 +77,9 @@ module _ (now : ℕ) (p : Descriptor) (n : Node Kept) (alone : n.below ≡ none)
   kept-of limit packets fits room = record {
     way = ap (λ (b : Bool). if b then ends else refused OverLimit) fits;
     place = room;
-    becomes = ap (λ (t : Totals). record (fifo limit (packets ++ record { packet = p; at = now } ∷ [])) { memory = record n.memory { counts = record n.memory.counts { arrived = t } } }) (one-total n.memory.counts.arrived p);
+    becomes =
+        ap (λ (t : Totals). record (fifo limit (packets ++ record { packet = p; at = now } ∷ []))
+        { memory = record n.memory { counts = record n.memory.counts { arrived = t } } }) (one-total n.memory.counts.arrived p);
     rises = refl;
     loss = refl;
   }
@@ -186,7 +188,9 @@ burst-came now (p ∷ ps) a k later low long packets bytes room alone =
       each = (
         record {
           fate = ap (λ c. reply.Fate (fate_of c)) (sym (tree-loss a k now p later low long.0.0 count nothing_lost b.root come));
-          losses = let empty : SinkState = record { losses = []; room = 0 } in sym (told-tree a k now p later low long.0.0 count empty empty (told-one now p a.root alone a.mtu long.0.1 keep empty)).lost;
+          losses =
+              let empty : SinkState = record { losses = []; room = 0 } in sym
+              (told-tree a k now p later low long.0.0 count empty empty (told-one now p a.root alone a.mtu long.0.1 keep empty)).lost;
         },
         subst (λ (d : DeviceState Kept). AreKept kept now ps d) first rest.each,
       );
@@ -195,7 +199,12 @@ burst-came now (p ∷ ps) a k later low long packets bytes room alone =
 -- ---- all of them at once
 
 pub queued-none : (now : ℕ) (n : Node Kept) → with_queued now [] n ≡ n
-queued-none now n = λ i. record n { own = record n.own { discipline = d n.own.discipline i }; memory = record n.memory { counts = record n.memory.counts { arrived = sym (none-more n.memory.counts.arrived) i } } }
+queued-none now n =
+    λ i. record n {
+      own = record n.own { discipline = d n.own.discipline i };
+      memory = record n.memory
+          { counts = record n.memory.counts { arrived = sym (none-more n.memory.counts.arrived) i } };
+    }
   where
     d : (x : Discipline) → queued_all now [] x ≡ x
     d (spec.Fifo limit queue) = ap (λ (q : List Stamped). spec.Fifo limit q) (append-nil queue)
@@ -205,7 +214,12 @@ queued-none now n = λ i. record n { own = record n.own { discipline = d n.own.d
     d (spec.FqCodel s) = refl
 
 queued-both : (now : ℕ) (p : Descriptor) (ps : List Descriptor) (n : Node Kept) → with_queued now ps (with_queued now (p ∷ []) n) ≡ with_queued now (p ∷ ps) n
-queued-both now p ps n = λ i. record n { own = record n.own { discipline = d n.own.discipline i }; memory = record n.memory { counts = record n.memory.counts { arrived = both n.memory.counts.arrived (p ∷ []) ps i } } }
+queued-both now p ps n =
+    λ i. record n {
+      own = record n.own { discipline = d n.own.discipline i };
+      memory = record n.memory
+          { counts = record n.memory.counts { arrived = both n.memory.counts.arrived (p ∷ []) ps i } };
+    }
   where
     d : (x : Discipline) → queued_all now ps (queued_all now (p ∷ []) x) ≡ queued_all now (p ∷ ps) x
     d (spec.Fifo limit queue) = ap (λ (q : List Stamped). spec.Fifo limit q) (append_assoc queue (stamped_at now (p ∷ [])) (stamped_at now ps))
@@ -234,9 +248,14 @@ came-all now (p ∷ ps) a some = came-at-once now (p ∷ ps) (record a { clock =
 
 pub bytes-bound : (cs : List StoredPacket) → All HasWidths cs → (totals_in (map descriptor cs)).bytes ≤ length cs * 65535
 bytes-bound cs widths =
-    let bound = sum_by-le (λ (p : Descriptor). p.len) 65535 (map descriptor cs) (All-map (λ (p : Descriptor). p.len ≤ 65535) descriptor cs (All-weaker HasWidths (λ (c : StoredPacket). c.len ≤ 65535) (λ c w. omega (arith, w.len)) cs widths)) in
+    let bound =
+    sum_by-le (λ (p : Descriptor). p.len) 65535 (map descriptor cs)
+    (All-map (λ (p : Descriptor). p.len ≤ 65535) descriptor cs
+    (All-weaker HasWidths (λ (c : StoredPacket). c.len ≤ 65535) (λ c w. omega (arith, w.len)) cs widths)) in
     subst (λ (k : ℕ). (totals_in (map descriptor cs)).bytes ≤ k * 65535) (length-map cs descriptor) bound
 
 pub long-each : (mtu : ℕ) (cs : List StoredPacket) → All (IsShort mtu) cs → AllByRecursion (IsLong mtu) (map descriptor cs)
 long-each mtu cs short =
-    recursion_from_All (IsLong mtu) (map descriptor cs) (All-map (IsLong mtu) descriptor cs (All-weaker (IsShort mtu) (λ (c : StoredPacket). (1 ≤ c.len) × (c.len ≤ mtu)) (λ c s. (s.in_range.len, s.short)) cs short))
+    recursion_from_All (IsLong mtu) (map descriptor cs)
+    (All-map (IsLong mtu) descriptor cs (All-weaker (IsShort mtu) (λ (c : StoredPacket). (1 ≤ c.len) × (c.len ≤ mtu))
+    (λ c s. (s.in_range.len, s.short)) cs short))

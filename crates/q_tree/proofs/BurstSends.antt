@@ -66,12 +66,18 @@ module _ (a : inside.Inside) (f : FifoState) (is : a.discipline ≡ code.Fifo f)
       → after ≡ map told (take count (packets_in n.own.discipline)) ++ drop count before
   heads-told told before after e = e ∙ ap (λ xs. xs ++ drop count before) (told-of told (take count f.packets) ∙ ap (λ (ps : List Descriptor). map told ps) (sym firsts))
 
-  module _ (bytes : ℕ) (total : bytes ≡ size (take count f.packets)) (row : Row) (row_is : row ≡ with_sends (record { packets = count; bytes = bytes }) a.row) (f2 : FifoState) (rest : f2 ≡ record f { packets = drop count f.packets }) where
+  module _ (bytes : ℕ) (total : bytes ≡ size (take count f.packets)) (row : Row)
+      (row_is : row ≡ with_sends (record { packets = count; bytes = bytes }) a.row) (f2 : FifoState)
+      (rest : f2 ≡ record f { packets = drop count f.packets }) where
     pub heads-after : seen (record a { row = row; discipline = code.Fifo f2 }) ≡ with_taken (take count (packets_in n.own.discipline)) n
     heads-after =
         let ps : List Descriptor = packets_of (take count f.packets) in
         let totals : record { packets = count; bytes = bytes } ≡ totals_in ps = ap₂ (λ (k b : ℕ). record { packets = k; bytes = b }) (sym counted) (total ∙ sym (size-of (take count f.packets))) in
-        (λ i. seen (record a { row = (row_is ∙ ap (λ (t : Totals). with_sends t a.row) totals) i; discipline = code.Fifo ((rest ∙ ap (λ (k : ℕ). record f { packets = drop k f.packets }) (sym counted)) i) }))
+        (λ i. seen (record a {
+          row = (row_is ∙ ap (λ (t : Totals). with_sends t a.row) totals) i;
+          discipline = code.Fifo
+              ((rest ∙ ap (λ (k : ℕ). record f { packets = drop k f.packets }) (sym counted)) i);
+        }))
         ∙ ap (λ d. with_taken ps (seen (record a { discipline = d }))) (sym is)
         ∙ ap₂ (λ (qs : List Descriptor) (m : Node Kept). with_taken qs m) (sym firsts) view
 
@@ -142,7 +148,8 @@ record IsOne (now : ℕ) (p : Descriptor) (a b : Inside) : Type 0 where
   pub packet : (ask now (shape a.root)).shown ≡ Some p
   pub losses : (poll kept now (tree_seen a)).losses ≡ []
 
-one-went : (now : ℕ) (p : Descriptor) (a : Inside) → IsIndexedDevice a → a.clock ≤ now → now ≤ 2 ^ 62 → a.top.arrived.packets < 2 ^ 64 → a.top.arrived.bytes < 2 ^ 64 → IsGivenBy now p a.root → IsOne now p a (one now p a)
+one-went : (now : ℕ) (p : Descriptor) (a : Inside) → IsIndexedDevice a → a.clock ≤ now → now ≤ 2 ^ 62 → a.top.arrived.packets < 2 ^ 64
+    → a.top.arrived.bytes < 2 ^ 64 → IsGivenBy now p a.root → IsOne now p a (one now p a)
 one-went now p a k later low packets bytes g =
     let quick = head-sent now a.root p g.head g.first in
     let gone : with_taken (p ∷ []) a.root ≡ booked kept a.root (take_from now (shape a.root)).node = g.gone ∙ sym quick.gone in
@@ -167,7 +174,8 @@ pub record IsSentBurst (now : ℕ) (ps : List Descriptor) (a b : Inside) : Type 
   pub after : tree_seen b ≡ polled_each kept now (length ps) (tree_seen a)
   pub each : AreGiven kept now ps (tree_seen a)
 
-pub burst-went : (now : ℕ) (q : List Stamped) (limit : Limit) (rest : List Stamped) (a : Inside) → IsIndexedDevice a → a.clock ≤ now → now ≤ 2 ^ 62 → a.top.arrived.packets < 2 ^ 64 → a.top.arrived.bytes < 2 ^ 64
+pub burst-went : (now : ℕ) (q : List Stamped) (limit : Limit) (rest : List Stamped) (a : Inside) → IsIndexedDevice a → a.clock ≤ now → now ≤ 2 ^ 62
+    → a.top.arrived.packets < 2 ^ 64 → a.top.arrived.bytes < 2 ^ 64
     → a.root.own.held ≡ None → a.root.below ≡ none → a.root.own.discipline ≡ spec.Fifo limit (q ++ rest) → IsSentBurst now (packets_of q) a (went now (packets_of q) a)
 burst-went now [] limit rest a k later low packets bytes free childless is = record { indexed = k; after = refl; each = tt }
 burst-went now (s ∷ q) limit rest a k later low packets bytes free childless is =
@@ -185,7 +193,12 @@ burst-went now (s ∷ q) limit rest a k later low packets bytes free childless i
 -- ---- all of them at once
 
 taken-none : (n : Node Kept) → with_taken [] n ≡ n
-taken-none n = λ i. record n { own = record n.own { discipline = d n.own.discipline i }; memory = record n.memory { counts = record n.memory.counts { sent = sym (none-more n.memory.counts.sent) i } } }
+taken-none n =
+    λ i. record n {
+      own = record n.own { discipline = d n.own.discipline i };
+      memory = record n.memory
+          { counts = record n.memory.counts { sent = sym (none-more n.memory.counts.sent) i } };
+    }
   where
     d : (x : Discipline) → taken_all 0 x ≡ x
     d (spec.Fifo limit queue) = refl
@@ -195,10 +208,17 @@ taken-none n = λ i. record n { own = record n.own { discipline = d n.own.discip
     d (spec.FqCodel s) = refl
 
 taken-both : (p : Descriptor) (ps : List Descriptor) (n : Node Kept) → with_taken ps (with_taken (p ∷ []) n) ≡ with_taken (p ∷ ps) n
-taken-both p ps n = λ i. record n { own = record n.own { discipline = d n.own.discipline i }; memory = record n.memory { counts = record n.memory.counts { sent = both n.memory.counts.sent (p ∷ []) ps i } } }
+taken-both p ps n =
+    λ i. record n {
+      own = record n.own { discipline = d n.own.discipline i };
+      memory = record n.memory
+          { counts = record n.memory.counts { sent = both n.memory.counts.sent (p ∷ []) ps i } };
+    }
   where
     d : (x : Discipline) → taken_all (length ps) (taken_all 1 x) ≡ taken_all (suc (length ps)) x
-    d (spec.Fifo limit queue) = let next : 1 + length ps ≡ suc (length ps) = omega arith in ap (λ (q : List Stamped). spec.Fifo limit q) (drop-drop (length ps) 1 queue ∙ ap (λ (k : ℕ). drop k queue) next)
+    d (spec.Fifo limit queue) =
+        let next : 1 + length ps ≡ suc (length ps) = omega arith in ap (λ (q : List Stamped). spec.Fifo limit q)
+        (drop-drop (length ps) 1 queue ∙ ap (λ (k : ℕ). drop k queue) next)
     d (spec.Prio priomap) = refl
     d (spec.Tbf bucket limit) = refl
     d (spec.Drr s) = refl

@@ -46,7 +46,8 @@ firsts-more homes firsts place home is h other to there = by (set-cases firsts h
         at j (inr differs) low high e next = next.first j (omega (arith, low, differs)) high e
 
 -- and the one that was first is behind it
-pub nexts-more : (homes firsts nexts : List ℕ) (place home to : ℕ) → slice_get homes place ≡ Some home → slice_get firsts home ≡ Some to → AreFirsts homes (suc place) firsts → AreNexts homes (suc place) nexts → AreNexts homes place (set nexts place to)
+pub nexts-more : (homes firsts nexts : List ℕ) (place home to : ℕ) → slice_get homes place ≡ Some home → slice_get firsts home ≡ Some to
+    → AreFirsts homes (suc place) firsts → AreNexts homes (suc place) nexts → AreNexts homes place (set nexts place to)
 nexts-more homes firsts nexts place home to is front h k j other next low of_j there = by (set-cases nexts place to j next there)
   where
     by : ((j ≡ place) × (to ≡ next)) ⊎ ((j ≡ place → ⊥) × (slice_get nexts j ≡ Some next)) → IsNext homes other (suc j) next

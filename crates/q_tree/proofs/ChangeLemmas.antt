@@ -180,7 +180,9 @@ module _ (d : Device) (now : ℕ) (root : Shape) (n : Counting) where
       abbrev new : TokenBucket
       new = after_change b rate burst now
 
-      burst-by : (small : Bool) → IsChange (λ plan. takes_none) (λ path. done_unless (refuse SmallBurst small ∷ []) (reshaped now (shape n) path b rate burst bytes)) n (done_unless (refuse SmallBurst small ∷ []) (SetBucket new bytes))
+      burst-by : (small : Bool)
+          → IsChange (λ plan. takes_none) (λ path. done_unless (refuse SmallBurst small ∷ []) (reshaped now (shape n) path b rate burst bytes)) n
+          (done_unless (refuse SmallBurst small ∷ []) (SetBucket new bytes))
       burst-by true = λ path. refl
       burst-by false = (
         record {
@@ -255,7 +257,11 @@ fresh d [] k new = All-nil IsFresh
 fresh d (l ∷ ls) zero new = absurd (omega (arith, ap length new))
 fresh d (l ∷ ls) (suc k) new =
     let is : IsNewNode l (implicit_pfifo d) = new-first l ls (implicit_pfifo d) (replicate k (implicit_pfifo d)) new in
-    All-cons IsFresh l ls (record { counts = new-counts l (implicit_pfifo d) is; alone = nothing-beneath l (implicit_pfifo d) is d.mtu 0 None (new_leaf d.mtu 0 None (Packets d.txqueuelen)) }) (fresh d ls k (new-rest l ls (implicit_pfifo d) (replicate k (implicit_pfifo d)) new))
+    All-cons IsFresh l ls (record {
+      counts = new-counts l (implicit_pfifo d) is;
+      alone = nothing-beneath l (implicit_pfifo d) is d.mtu 0 None
+          (new_leaf d.mtu 0 None (Packets d.txqueuelen));
+    }) (fresh d ls k (new-rest l ls (implicit_pfifo d) (replicate k (implicit_pfifo d)) new))
 
 module _ (d : Device) (n : Counting) (s : PrioSettings) (ls : List Counting) where
   abbrev old : ℕ
@@ -301,9 +307,11 @@ module _ (d : Device) (n : Counting) (s : PrioSettings) (ls : List Counting) whe
     pub more-made : 0 < length ls → IsTrue (list_any is_new (front ++ behind))
     more-made some = bands-made-of (omega (arith, some, many, length-shape n))
 
-    module _ (plans : List ℕ → Result model.Edit Refusal) (r : shapes.DisciplineChange) (priomap : List ℕ) (is : n.own.discipline ≡ Prio priomap) (planned : (path : List ℕ) → plans path ≡ Ok (rebanded d (shape n) path s.bands s.priomap)) where
+    module _ (plans : List ℕ → Result model.Edit Refusal) (r : shapes.DisciplineChange) (priomap : List ℕ) (is : n.own.discipline ≡ Prio priomap)
+        (planned : (path : List ℕ) → plans path ≡ Ok (rebanded d (shape n) path s.bands s.priomap)) where
       -- r is the edit of these bands
-      pub rebanded-is : discipline_after r n.own.discipline (children n) ≡ remapped s.priomap n.own.discipline → children_after r n.own.discipline (children n) ≡ bands_staying s.bands ls n.own.discipline (children n)
+      pub rebanded-is : discipline_after r n.own.discipline (children n) ≡ remapped s.priomap n.own.discipline
+          → children_after r n.own.discipline (children n) ≡ bands_staying s.bands ls n.own.discipline (children n)
           → lost_with r n.own.discipline (children n) ≡ packets_beneath (bands_going s.bands ls n.own.discipline (children n)) → (All IsFresh ls → AreReady r) → IsRemade plans n r
       rebanded-is becomes stay go ready = record {
         own = record n.own { discipline = Prio s.priomap };
@@ -413,13 +421,17 @@ module _ (root : Counting) (bounded : IsBounded root) (d : Device) (now mtu : �
     pub change-within : count_nodes n ≤ count_nodes root
     change-within = omega (arith, (sized-within path (shape root) (shape n) there).1, count-shape root, count-shape n)
 
-    pub change-refused : (memory : Result model.Edit Refusal → Type 0) (refusal : Refusal) → IsRefused (memory (change_at path (shape n))) (change_at path (shape n)) refusal → IsRefused (memory whole) whole refusal
+    pub change-refused : (memory : Result model.Edit Refusal → Type 0) (refusal : Refusal)
+        → IsRefused (memory (change_at path (shape n))) (change_at path (shape n)) refusal → IsRefused (memory whole) whole refusal
     change-refused memory refusal h = subst (λ q. IsRefused (memory q) q refusal) (sym at-node) h
 
-    pub change-planned : (memory : Result model.Edit Refusal → Type 0) (r : shapes.DisciplineChange) → IsRemade (λ way. change_at way (shape n)) n r × ((way : List ℕ) → TakesMore r → memory (change_at way (shape n))) → (p : Planned) → p.path.items ≡ path → p.edit ≡ DisciplineChange r → IsCommand (QdiscChange place handle k)
+    pub change-planned : (memory : Result model.Edit Refusal → Type 0) (r : shapes.DisciplineChange)
+        → IsRemade (λ way. change_at way (shape n)) n r × ((way : List ℕ) → TakesMore r → memory (change_at way (shape n))) → (p : Planned)
+        → p.path.items ≡ path → p.edit ≡ DisciplineChange r → IsCommand (QdiscChange place handle k)
         → IsPlannedFor (memory whole) (QdiscChange place handle k) p now d root
     change-planned memory r h p way edit ranges =
         subst (λ (q : Planned). IsPlannedFor (memory whole) (QdiscChange place handle k) q now d root) (λ i. record p { edit = sym edit i })
-        (remade-planned d root (record p { edit = DisciplineChange r }) h.0.ready n (subst (λ x. node_at x root ≡ Some n) (sym way) (reached-at root found_at path n found).there) h.0.own h.0.below h.0.lost_is
+        (remade-planned d root (record p { edit = DisciplineChange r }) h.0.ready n
+        (subst (λ x. node_at x root ≡ Some n) (sym way) (reached-at root found_at path n found).there) h.0.own h.0.below h.0.lost_is
         (change-does r n h.0.own h.0.below h.0.own_is h.0.kids_is) (QdiscChange place handle k) ranges now
         (at-node ∙ ap (λ x. change_at x (shape n)) (sym way) ∙ h.0.planned p.path.items) (memory whole) (λ takes. subst memory (sym at-node) (h.1 path takes)))

@@ -48,7 +48,8 @@ use Rattle.q_tree.proofs.TargetLemmas.{reached-at, target-none, target-some}
 
 -- ---- a class more
 
-module _ (root : Node Kept) (bounded : IsBounded root) (d : Device) (parent : ℕ) (class : ClassId) (quantum : Option ℕ) (own_parent : is_so (λ major. not (major == class.major)) (Some parent) ≡ false) (now : ℕ) where
+module _ (root : Node Kept) (bounded : IsBounded root) (d : Device) (parent : ℕ) (class : ClassId) (quantum : Option ℕ)
+    (own_parent : is_so (λ major. not (major == class.major)) (Some parent) ≡ false) (now : ℕ) where
   abbrev add_checks : List ℕ → Shape → List Check
   add_checks path n = class_add_checks class n ++ sizes (length path + 2) (suc (count_nodes (shape root)))
 
@@ -70,10 +71,14 @@ module _ (root : Node Kept) (bounded : IsBounded root) (d : Device) (parent : �
     here : plan d now (ClassAdd parent class quantum) (shape root) ≡ add_at path (shape n)
     here = add-plan ∙ target-some root (path_of class.major (shape root)) NoQdisc add_at path n found
 
-    pub add-refused : (refusal : Refusal) → drr_answer (class_add_sized class steps (shape n) root) n.own.discipline ≡ Err refusal → plan d now (ClassAdd parent class quantum) (shape root) ≡ Err refusal
-    add-refused refusal e = here ∙ drr-refused (add_checks path (shape n)) (adds path (shape n)) refusal n.own.discipline (sized-is class (length path) (shape n) root steps steps_is n.own.discipline ∙ e)
+    pub add-refused : (refusal : Refusal) → drr_answer (class_add_sized class steps (shape n) root) n.own.discipline ≡ Err refusal
+        → plan d now (ClassAdd parent class quantum) (shape root) ≡ Err refusal
+    add-refused refusal e =
+        here ∙ drr-refused (add_checks path (shape n)) (adds path (shape n)) refusal n.own.discipline
+        (sized-is class (length path) (shape n) root steps steps_is n.own.discipline ∙ e)
 
-    module _ (passed : drr_answer (class_add_sized class steps (shape n) root) n.own.discipline ≡ Ok tt) (leaf : Node Kept) (new : IsNewNode leaf (implicit_pfifo d)) (q : ℕ) (q_is : q ≡ unwrap_or quantum d.mtu)
+    module _ (passed : drr_answer (class_add_sized class steps (shape n) root) n.own.discipline ≡ Ok tt) (leaf : Node Kept)
+        (new : IsNewNode leaf (implicit_pfifo d)) (q : ℕ) (q_is : q ≡ unwrap_or quantum d.mtu)
         (p : Planned) (way : p.path.items ≡ path) (ranges : IsCommand (ClassAdd parent class quantum)) where
       h : IsPassed (add_checks path (shape n)) n.own.discipline
       h = drr-passed (add_checks path (shape n)) n.own.discipline (sized-is class (length path) (shape n) root steps steps_is n.own.discipline ∙ passed)
@@ -122,7 +127,8 @@ module _ (root : Node Kept) (bounded : IsBounded root) (d : Device) (parent : Op
     pub del-refused : (refusal : Refusal) → drr_answer (class_del_checks class (shape n)) n.own.discipline ≡ Err refusal → plan d now (ClassDel parent class) (shape root) ≡ Err refusal
     del-refused refusal e = gets ∙ drr-refused (class_del_checks class (shape n)) removes refusal n.own.discipline e
 
-    module _ (passed : drr_answer (class_del_checks class (shape n)) n.own.discipline ≡ Ok tt) (lawful : IsNumbered root) (p : Planned) (way : p.path.items ≡ path) (ranges : IsCommand (ClassDel parent class)) where
+    module _ (passed : drr_answer (class_del_checks class (shape n)) n.own.discipline ≡ Ok tt) (lawful : IsNumbered root) (p : Planned)
+        (way : p.path.items ≡ path) (ranges : IsCommand (ClassDel parent class)) where
       g : IsPassed (class_del_checks class (shape n)) n.own.discipline
       g = drr-passed (class_del_checks class (shape n)) n.own.discipline passed
 
@@ -158,7 +164,8 @@ module _ (root : Node Kept) (bounded : IsBounded root) (d : Device) (parent : Op
 
       pub class-del-planned : IsPlannedFor takes_none (ClassDel parent class) (record p { edit = DisciplineChange (RemoveClass class.minor) }) now d root
       class-del-planned =
-          remade-planned d root (record p { edit = DisciplineChange (RemoveClass class.minor) }) tt n (subst (λ x. node_at x root ≡ Some n) (sym way) at) left (one_less n g.own g.is class.minor place child.0 place_is child.1 within)
+          remade-planned d root (record p { edit = DisciplineChange (RemoveClass class.minor) }) tt n
+          (subst (λ x. node_at x root ≡ Some n) (sym way) at) left (one_less n g.own g.is class.minor place child.0 place_is child.1 within)
           (one-lost n g.own g.is class.minor place child.0 place_is child.1 within)
           (change-does (RemoveClass class.minor) n left (one_less n g.own g.is class.minor place child.0 place_is child.1 within)
           (own-left n g.own g.is class.minor place child.0 place_is child.1 within) (kids-left n g.own g.is class.minor place child.0 place_is child.1 within))

@@ -39,7 +39,8 @@ pub at-class : (parent : Option ℕ) (class : ClassId) (f : List ℕ → Shape �
     → at_drr parent class f root ≡ at_target NoQdisc (path_of class.major root) (λ path n. of_schedule (f path n) n.own.discipline) root
 at-class parent class f root e = ap (λ b. if b then Err NoParent else at_target NoQdisc (path_of class.major root) (λ path n. of_schedule (f path n) n.own.discipline) root) e
 
-pub drr-refused : (checks : List Check) (g : Schedule → model.Edit) (refusal : Refusal) (d : Discipline) → drr_answer checks d ≡ Err refusal → of_schedule (λ s. done_unless checks (g s)) d ≡ Err refusal
+pub drr-refused : (checks : List Check) (g : Schedule → model.Edit) (refusal : Refusal) (d : Discipline) → drr_answer checks d ≡ Err refusal
+    → of_schedule (λ s. done_unless checks (g s)) d ≡ Err refusal
 drr-refused checks g refusal (Drr s) e = same-refusal checks tt (g s) refusal e
 drr-refused checks g refusal (Fifo limit queue) e = cc
 drr-refused checks g refusal (Prio priomap) e = cc
@@ -83,7 +84,8 @@ pub there-known : (class : ClassId) (n : Node Kept) (s : Schedule) → n.own.dis
 there-known class n s is = ap (λ d. is_some (class_in (length (children (shape n))) class.minor d)) is ∙ class_known (length (children (shape n))) class.minor s
 
 pub change-done : (class : ClassId) (quantum : Option ℕ) (path : List ℕ) (n : Node Kept) → drr_answer (class_change_checks class (shape n)) n.own.discipline ≡ Ok tt
-    → of_schedule (class_changed class quantum path (shape n)) n.own.discipline ≡ Ok (Remake path (record n.own { discipline = rescheduled (requantum class.minor quantum) n.own.discipline }) (all_kept (shape n)))
+    → of_schedule (class_changed class quantum path (shape n)) n.own.discipline
+    ≡ Ok (Remake path (record n.own { discipline = rescheduled (requantum class.minor quantum) n.own.discipline }) (all_kept (shape n)))
 change-done class quantum path n e =
     let h : IsPassed (class_change_checks class (shape n)) n.own.discipline = drr-passed (class_change_checks class (shape n)) n.own.discipline e in
     let there : has_class class.minor h.own.classes ≡ true =
@@ -94,14 +96,16 @@ change-done class quantum path n e =
 
 -- ---- a class more
 
-module _ (n : Node Kept) (s : Schedule) (is : n.own.discipline ≡ Drr s) (class quantum : ℕ) (leaf : Node Kept) (d : Device) (new : IsNewNode leaf (implicit_pfifo d)) (absent : has_class class s.classes ≡ false) where
+module _ (n : Node Kept) (s : Schedule) (is : n.own.discipline ≡ Drr s) (class quantum : ℕ) (leaf : Node Kept) (d : Device)
+    (new : IsNewNode leaf (implicit_pfifo d)) (absent : has_class class s.classes ≡ false) where
   abbrev pub one_more : List model.Child
   one_more = all_kept (shape n) ++ New (implicit_pfifo d) ∷ []
 
   joins : can_join class n.own.discipline ≡ true
   joins = ap (can_join class) is ∙ ap not absent
 
-  pub own-joined : ◌≡◌ {A = Own} (record n.own { discipline = discipline_after (AddClass class quantum leaf) n.own.discipline (children n) }) (record n.own { discipline = Drr (added class quantum s) })
+  pub own-joined : ◌≡◌ {A = Own} (record n.own { discipline = discipline_after (AddClass class quantum leaf) n.own.discipline (children n) })
+      (record n.own { discipline = Drr (added class quantum s) })
   own-joined =
       ap (λ b. record n.own { discipline = if b then rescheduled (added class quantum) n.own.discipline else n.own.discipline }) joins
       ∙ ap (λ x. record n.own { discipline = rescheduled (added class quantum) x }) is
@@ -128,13 +132,15 @@ gone_only : (keep : ℕ → Bool) (a i : ℕ) (below : List (List Descriptor)) (
     → ((j : ℕ) → a ≤ j → j < a + length below → (j ≡ a + i → ⊥) → keep j ≡ true) → keep (a + i) ≡ false → gone keep a below ≡ ps
 gone_only keep a i [] ps e stay go = absurd (none-some ps e)
 gone_only keep a zero (qs ∷ below) ps e stay go =
-    ap₂ (λ x y. x ++ y) (ap (λ (t : Bool). if t then [] else qs) (ap keep (omega arith) ∙ go) ∙ same_Some qs ps e) (gone_none keep (a + 1) below (λ j le lt. stay j (omega arith) (omega arith) (λ s. omega arith)))
+    ap₂ (λ x y. x ++ y) (ap (λ (t : Bool). if t then [] else qs) (ap keep (omega arith) ∙ go) ∙ same_Some qs ps e)
+    (gone_none keep (a + 1) below (λ j le lt. stay j (omega arith) (omega arith) (λ s. omega arith)))
     ∙ append-nil ps
 gone_only keep a (suc i) (qs ∷ below) ps e stay go =
     ap (λ (t : Bool). (if t then [] else qs) ++ gone keep (a + 1) below) (stay a (omega arith) (omega arith) (λ s. omega arith))
     ∙ gone_only keep (a + 1) i below ps e (λ j le lt apart. stay j (omega arith) (omega arith) (λ s. apart (omega arith))) (ap keep (omega arith) ∙ go)
 
-module _ (n : Node Kept) (s : Schedule) (is : n.own.discipline ≡ Drr s) (class i : ℕ) (c : Node Kept) (place : class_place class (shape n) ≡ Some i) (there : slice_get (children n) i ≡ Some c) (within : i < length (children (shape n))) where
+module _ (n : Node Kept) (s : Schedule) (is : n.own.discipline ≡ Drr s) (class i : ℕ) (c : Node Kept) (place : class_place class (shape n) ≡ Some i)
+    (there : slice_get (children n) i ≡ Some c) (within : i < length (children (shape n))) where
   abbrev pub one_less : List model.Child
   one_less = remove (all_kept (shape n)) i
 

@@ -23,9 +23,16 @@ refusals k (Arrived p ∷ notes) = refusals (kept.more k (Arrived p)) notes
 refusals k (Sent p ∷ notes) = refusals (kept.more k (Sent p)) notes
 refusals k (Lost p cause ∷ notes) = by (is_refusal cause) (λ c. refusals (record k { counts = c }) notes) where
   by : (b : Bool) → ((c : Counts) → (noted kept (record k { counts = c }) notes).counts.refused ≡ plus c.refused (refused_of (losses_in notes)))
-      → (noted kept (record k { counts = if b then record k.counts { refused = with_packet k.counts.refused p } else record k.counts { dropped = with_packet k.counts.dropped p } }) notes).counts.refused
-      ≡ plus k.counts.refused (totals_in (map (λ (l : Loss). l.packet) (if b then record { packet = p; cause = cause } ∷ filter (λ (l : Loss). is_refusal l.cause) (losses_in notes) else filter (λ (l : Loss). is_refusal l.cause) (losses_in notes))))
-  by true on = on (record k.counts { refused = with_packet k.counts.refused p }) ∙ plus-with_packet k.counts.refused p (map (λ (l : Loss). l.packet) (filter (λ (l : Loss). is_refusal l.cause) (losses_in notes)))
+      → (noted kept (record k {
+        counts = if b then record k.counts { refused = with_packet k.counts.refused p } else record k.counts
+            { dropped = with_packet k.counts.dropped p };
+      }) notes).counts.refused
+      ≡ plus k.counts.refused (totals_in (map (λ (l : Loss). l.packet)
+      (if b then record { packet = p; cause = cause } ∷ filter (λ (l : Loss). is_refusal l.cause) (losses_in notes) else filter
+      (λ (l : Loss). is_refusal l.cause) (losses_in notes))))
+  by true on =
+      on (record k.counts { refused = with_packet k.counts.refused p }) ∙ plus-with_packet k.counts.refused p
+      (map (λ (l : Loss). l.packet) (filter (λ (l : Loss). is_refusal l.cause) (losses_in notes)))
   by false on = on (record k.counts { dropped = with_packet k.counts.dropped p })
 refusals k (Marked p ∷ notes) = refusals (kept.more k (Marked p)) notes
 refusals k (Granted class times ∷ notes) = refusals (kept.more k (Granted class times)) notes
@@ -39,10 +46,17 @@ drops k (Arrived p ∷ notes) = drops (kept.more k (Arrived p)) notes
 drops k (Sent p ∷ notes) = drops (kept.more k (Sent p)) notes
 drops k (Lost p cause ∷ notes) = by (is_refusal cause) (λ c. drops (record k { counts = c }) notes) where
   by : (b : Bool) → ((c : Counts) → (noted kept (record k { counts = c }) notes).counts.dropped ≡ plus c.dropped (dropped_of (losses_in notes)))
-      → (noted kept (record k { counts = if b then record k.counts { refused = with_packet k.counts.refused p } else record k.counts { dropped = with_packet k.counts.dropped p } }) notes).counts.dropped
-      ≡ plus k.counts.dropped (totals_in (map (λ (l : Loss). l.packet) (if not b then record { packet = p; cause = cause } ∷ filter (λ (l : Loss). not (is_refusal l.cause)) (losses_in notes) else filter (λ (l : Loss). not (is_refusal l.cause)) (losses_in notes))))
+      → (noted kept (record k {
+        counts = if b then record k.counts { refused = with_packet k.counts.refused p } else record k.counts
+            { dropped = with_packet k.counts.dropped p };
+      }) notes).counts.dropped
+      ≡ plus k.counts.dropped (totals_in (map (λ (l : Loss). l.packet)
+      (if not b then record { packet = p; cause = cause } ∷ filter (λ (l : Loss). not (is_refusal l.cause)) (losses_in notes) else filter
+      (λ (l : Loss). not (is_refusal l.cause)) (losses_in notes))))
   by true on = on (record k.counts { refused = with_packet k.counts.refused p })
-  by false on = on (record k.counts { dropped = with_packet k.counts.dropped p }) ∙ plus-with_packet k.counts.dropped p (map (λ (l : Loss). l.packet) (filter (λ (l : Loss). not (is_refusal l.cause)) (losses_in notes)))
+  by false on =
+      on (record k.counts { dropped = with_packet k.counts.dropped p }) ∙ plus-with_packet k.counts.dropped p
+      (map (λ (l : Loss). l.packet) (filter (λ (l : Loss). not (is_refusal l.cause)) (losses_in notes)))
 drops k (Marked p ∷ notes) = drops (kept.more k (Marked p)) notes
 drops k (Granted class times ∷ notes) = drops (kept.more k (Granted class times)) notes
 drops k (Spent bytes ∷ notes) = drops (kept.more k (Spent bytes)) notes

@@ -196,7 +196,13 @@ waits-remove w (n ∷ ns) (suc i) c e = omega (arith, weigh-joined-cons w (benea
 holds-remove : (w : Descriptor → ℕ) (ns : List (Node Kept)) (i : ℕ) (c : Node Kept) → slice_get ns i ≡ Some c → holds w ns ≡ holds w (remove ns i) + weigh w (held_beneath c)
 holds-remove w [] i c e = absurd (none-some c e)
 holds-remove w (n ∷ ns) zero c e = omega (arith, weigh-joined-cons w (held_beneath n) (map held_beneath ns), ap (λ (k : Node Kept). weigh w (held_beneath k)) (same_Some n c e))
-holds-remove w (n ∷ ns) (suc i) c e = omega (arith, weigh-joined-cons w (held_beneath n) (map held_beneath ns), weigh-joined-cons w (held_beneath n) (map held_beneath (remove ns i)), holds-remove w ns i c e)
+holds-remove w (n ∷ ns) (suc i) c e =
+    omega (
+      arith,
+      weigh-joined-cons w (held_beneath n) (map held_beneath ns),
+      weigh-joined-cons w (held_beneath n) (map held_beneath (remove ns i)),
+      holds-remove w ns i c e,
+    )
 
 class-goes : (d new : spec.Discipline) (ns : List (Node Kept)) (i : ℕ) (c : Node Kept) → packets_in new ≡ packets_in d → slice_get ns i ≡ Some c → IsConserved d new ns (remove ns i) (beneath c)
 class-goes d new ns i c same there = record {

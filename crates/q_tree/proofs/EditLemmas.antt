@@ -64,7 +64,9 @@ pub record Loses (lost : List Descriptor) (old new : Node Kept) : Type 0 where
   pub held : (w : Descriptor → ℕ) → weigh w (held_beneath old) ≤ weigh w (held_beneath new) + weigh w lost
   pub arrived : IsCountedWithin new.memory.counts.arrived old.memory.counts.arrived
 
-pub changed_by-loses : (r : shapes.DisciplineChange) (n : Node Kept) → IsConserved n.own.discipline (discipline_after r n.own.discipline (children n)) (children n) (children_after r n.own.discipline (children n)) (lost_with r n.own.discipline (children n))
+pub changed_by-loses : (r : shapes.DisciplineChange) (n : Node Kept)
+    → IsConserved n.own.discipline (discipline_after r n.own.discipline (children n)) (children n) (children_after r n.own.discipline (children n))
+    (lost_with r n.own.discipline (children n))
     → Loses (lost_with r n.own.discipline (children n)) n (changed_by r n)
 changed_by-loses r n h =
     let after : Node Kept = changed_by r n in
@@ -106,7 +108,8 @@ effect-loses (Graft new) n h = record {
 effect-loses (AddFilter f) n h = record { conserved = λ w. omega (arith, weigh-nil w); held = λ w. omega (arith, weigh-nil w); arrived = record { packets = omega arith; bytes = omega arith } }
 effect-loses (RemoveFilters prio) n h = record { conserved = λ w. omega (arith, weigh-nil w); held = λ w. omega (arith, weigh-nil w); arrived = record { packets = omega arith; bytes = omega arith } }
 effect-loses (DisciplineChange r) n h =
-    let kept_by : IsConserved n.own.discipline (discipline_after r n.own.discipline (children n)) (children n) (children_after r n.own.discipline (children n)) (lost_with r n.own.discipline (children n)) =
+    let kept_by : IsConserved n.own.discipline (discipline_after r n.own.discipline (children n)) (children n)
+    (children_after r n.own.discipline (children n)) (lost_with r n.own.discipline (children n)) =
     conserved r n.own.discipline (children n) h in
     changed_by-loses r n kept_by
 
@@ -174,7 +177,8 @@ edited-loses e (i ∷ path) n ready some =
     (subst (Loses (removed_at e path on.child) n) (sym on.is) (loses-above (removed_at e path on.child) i n on.child (edited_by e path on.child) on.there child))
 
 -- what is lost was queued
-pub can-drop : (lost : List Descriptor) (old new : Node Kept) (r : Row) → r.queued ≡ totals_in (beneath old) → Loses lost old new → r.arrived.packets < 2 ^ 64 → r.arrived.bytes < 2 ^ 64 → CanDrop (totals_in lost) r
+pub can-drop : (lost : List Descriptor) (old new : Node Kept) (r : Row) → r.queued ≡ totals_in (beneath old) → Loses lost old new
+    → r.arrived.packets < 2 ^ 64 → r.arrived.bytes < 2 ^ 64 → CanDrop (totals_in lost) r
 can-drop lost old new r is h packets_fit bytes_fit = record {
   packets = omega (arith, h.conserved one, weigh-count (beneath old), weigh-count lost, ap (λ (t : Totals). t.packets) is);
   bytes = omega (arith, h.conserved bytes, weigh-bytes (beneath old), weigh-bytes lost, ap (λ (t : Totals). t.bytes) is);
@@ -205,7 +209,8 @@ only-child (suc i) x c at = absurd (none-some c at)
 
 -- the same for an only child
 pub only-edited : (e : Edit) (rest : List ℕ) (i : ℕ) (before after : Discipline) (x x2 c : Node Kept) → children_seen before ≡ x ∷ [] → slice_get (children_seen before) i ≡ Some c
-    → x2 ≡ edited_by e rest x → children_seen after ≡ x2 ∷ [] → places_seen after ≡ places_seen before → discipline_seen after ≡ settled_in i (is_empty x2) (discipline_seen before) → IsEditedBeneath e rest i c before after
+    → x2 ≡ edited_by e rest x → children_seen after ≡ x2 ∷ [] → places_seen after ≡ places_seen before
+    → discipline_seen after ≡ settled_in i (is_empty x2) (discipline_seen before) → IsEditedBeneath e rest i c before after
 only-edited e rest i before after x x2 c kids there edited set_is places discipline =
     let first = only-child i x c (ap (λ xs. slice_get xs i) (sym kids) ∙ there) in
     edited-into e rest i before after (x ∷ []) x x2 c kids (first.1 x) there edited (set_is ∙ first.2 x2) places discipline
@@ -251,7 +256,8 @@ module _ (r : shapes.DisciplineChange) (e : Edit) (is : e ≡ DisciplineChange r
   pub goes-is : goes ≡ removed e n
   goes-is = sym (ap (λ m. removed e m) (sym view) ∙ ap (λ x. removed x (seen a)) is ∙ ap (lost_with r (discipline_seen a.discipline)) kids)
 
-  kept-whole : IsConserved (discipline_seen a.discipline) (discipline_after r (discipline_seen a.discipline) (children (seen a))) (children (seen a)) (children_after r (discipline_seen a.discipline) (children (seen a))) (lost_with r (discipline_seen a.discipline) (children (seen a)))
+  kept-whole : IsConserved (discipline_seen a.discipline) (discipline_after r (discipline_seen a.discipline) (children (seen a))) (children (seen a))
+      (children_after r (discipline_seen a.discipline) (children (seen a))) (lost_with r (discipline_seen a.discipline) (children (seen a)))
   kept-whole = conserved r (discipline_seen a.discipline) (children (seen a)) (subst IsReady is ready)
 
   goes-lost : Loses goes (seen a) (changed_by r (seen a))
@@ -266,7 +272,15 @@ module _ (r : shapes.DisciplineChange) (e : Edit) (is : e ≡ DisciplineChange r
   module _ (d : Discipline) (after : IsChangedBy r a.discipline d) (row : Row) (booked : row ≡ with_dropped (totals_in goes) a.row) where
     is-changed : seen (record a { row = row; discipline = d }) ≡ changed_by r (seen a)
     is-changed = λ j. record {
-      own = record { handle = a.handle; discipline = (after.discipline ∙ ap (discipline_after r (discipline_seen a.discipline)) (sym kids)) j; held = packet_held a.held; since = since_held a.held; filters = a.filters };
+      own =
+          record {
+            handle = a.handle;
+            discipline = (after.discipline ∙ ap (discipline_after r (discipline_seen a.discipline)) (sym kids)) j;
+            held =
+                packet_held a.held;
+            since = since_held a.held;
+            filters = a.filters;
+          };
       memory = memory j;
       below = ap side_by_side (after.children ∙ ap (children_after r (discipline_seen a.discipline)) (sym kids)) j;
     }
@@ -288,7 +302,8 @@ module _ (r : shapes.DisciplineChange) (e : Edit) (is : e ≡ DisciplineChange r
         ((conserved r (discipline_seen a.discipline) (children_seen a.discipline) (subst IsReady is ready)).within a.row.arrived k.within)) among
 
 -- a node that a way has gone through, once what was lost beneath is booked
-module _ (e : Edit) (a : Inside) (n : Node Kept) (view : seen a ≡ n) (k : IsKept a) (whole : List ℕ) (i : ℕ) (path : List ℕ) (way : whole ≡ i ∷ path) (ready : IsReady e) (some : IsSome (node_at whole n)) where
+module _ (e : Edit) (a : Inside) (n : Node Kept) (view : seen a ≡ n) (k : IsKept a) (whole : List ℕ) (i : ℕ) (path : List ℕ) (way : whole ≡ i ∷ path)
+    (ready : IsReady e) (some : IsSome (node_at whole n)) where
   on : GoesOn e i path (seen a)
   on = goes-on e i path (seen a) (subst (λ p. IsSome (node_at p (seen a))) way (subst (λ m. IsSome (node_at whole m)) (sym view) some))
 
@@ -321,7 +336,8 @@ module _ (e : Edit) (a : Inside) (n : Node Kept) (view : seen a ≡ n) (k : IsKe
         subst (λ t. CanDrop t a.row) same
         (can-drop (removed_at e path on.child) (seen a) (above kept (notes_of e path on.child) i (edited_by e path on.child) (seen a)) a.row k.queued loses packets_fit bytes_fit)
 
-    module _ (d : Discipline) (beneath_is : (c : Node Kept) → slice_get (children_seen a.discipline) i ≡ Some c → IsEditedBeneath e path i c a.discipline d) (r : Row) (booked_is : r ≡ with_dropped lost a.row) where
+    module _ (d : Discipline) (beneath_is : (c : Node Kept) → slice_get (children_seen a.discipline) i ≡ Some c → IsEditedBeneath e path i c
+        a.discipline d) (r : Row) (booked_is : r ≡ with_dropped lost a.row) where
       new : Inside
       new = record a { row = r; discipline = d }
 

@@ -12,7 +12,20 @@ abbrev web : Filter
 web = record { keys = record { src_ip = None; dst_ip = None; src_port = None; dst_port = Some 80; ip_proto = None }; prio = 1; minor = 1; protocol = Ip }
 
 abbrev to_one : Filter
-to_one = record { keys = record { src_ip = None; dst_ip = Some (record { version = V4; address = 0x0a000001; len = 32 }); src_port = None; dst_port = None; ip_proto = None }; prio = 1; minor = 2; protocol = Ip }
+to_one =
+    record {
+      keys = record {
+        src_ip = None;
+        dst_ip = Some (record { version = V4; address = 0x0a000001; len = 32 });
+        src_port = None;
+        dst_port =
+            None;
+        ip_proto = None;
+      };
+      prio = 1;
+      minor = 2;
+      protocol = Ip;
+    }
 
 -- a packet of TCP from 10.0.0.2 and port 5000 to both
 abbrev to_both : Key

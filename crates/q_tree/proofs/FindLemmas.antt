@@ -24,10 +24,14 @@ children-read a n ns view kids = kids ∙ sym (nodes-side (children_seen a.disci
 
 -- a band is its class number, from 1
 band-inside : (bands minor : ℕ) → 1 ≤ minor → minor - 1 < bands → Some (minor - 1) ≡ (if nat_le 1 minor && nat_le minor bands then Some (minor - 1) else None)
-band-inside bands minor positive inside = sym (ap (λ b. if b && nat_le minor bands then Some (minor - 1) else None) (le-leb 1 minor positive) ∙ ap (λ b. if b then Some (minor - 1) else None) (le-leb minor bands (omega (arith, positive, inside))))
+band-inside bands minor positive inside =
+    sym (ap (λ b. if b && nat_le minor bands then Some (minor - 1) else None) (le-leb 1 minor positive)
+    ∙ ap (λ b. if b then Some (minor - 1) else None) (le-leb minor bands (omega (arith, positive, inside))))
 
 band-past : (bands minor : ℕ) → 1 ≤ minor → bands ≤ minor - 1 → None ≡ (if nat_le 1 minor && nat_le minor bands then Some (minor - 1) else None)
-band-past bands minor positive past = sym (ap (λ b. if b && nat_le minor bands then Some (minor - 1) else None) (le-leb 1 minor positive) ∙ ap (λ b. if b then Some (minor - 1) else None) (lt-leb minor bands (omega (arith, positive, past))))
+band-past bands minor positive past =
+    sym (ap (λ b. if b && nat_le minor bands then Some (minor - 1) else None) (le-leb 1 minor positive)
+    ∙ ap (λ b. if b then Some (minor - 1) else None) (lt-leb minor bands (omega (arith, positive, past))))
 
 module _ (a : Inside) (n : Node Kept) (priomap : List ℕ) (bands : _) (minor k : ℕ) (view : seen a ≡ n) (is : a.discipline ≡ Prio priomap bands) (same : k ≡ minor) (positive : 1 ≤ k) where
   prio-place : class_in (length bands.items) k (spec.Prio priomap) ≡ class_place minor n

@@ -23,7 +23,9 @@ sends : (head : Option Stamped) (f : Stamped → Taken) (at : ℕ) → Some at �
 sends None f at is = absurd (none-some at (sym is))
 sends (Some s) f at is = refl
 
-sender-sends : (now : ℕ) (o : Option Flow) (at : ℕ) → Some at ≡ option_map (λ (s : Stamped). s.at) (option_and_then (λ (f : Flow). sent f.codel now f.queue) o) → is_some (packet_of (option_and_then (packet_sent now) o)) ≡ true
+sender-sends : (now : ℕ) (o : Option Flow) (at : ℕ)
+    → Some at ≡ option_map (λ (s : Stamped). s.at) (option_and_then (λ (f : Flow). sent f.codel now f.queue) o)
+    → is_some (packet_of (option_and_then (packet_sent now) o)) ≡ true
 unfolding packet_sent
 sender-sends now None at is = absurd (none-some at (sym is))
 sender-sends now (Some f) at is = sends (sent f.codel now f.queue) _ at is
@@ -32,7 +34,8 @@ late-sends : (now : ℕ) (s : FqState) (at : ℕ) → Some at ≡ option_map (λ
 unfolding head_sent sent_from
 late-sends now s at is = sender-sends now (sender s) at is
 
-pub late-held : (now : ℕ) (s : FqState) (o : Option Descriptor) (place old : Descriptor) (at : ℕ) → o ≡ packet_of (sent_from now s) → place ≡ unwrap_or o old → Some at ≡ option_map (λ (s : Stamped). s.at) (head_sent now s)
+pub late-held : (now : ℕ) (s : FqState) (o : Option Descriptor) (place old : Descriptor) (at : ℕ) → o ≡ packet_of (sent_from now s)
+    → place ≡ unwrap_or o old → Some at ≡ option_map (λ (s : Stamped). s.at) (head_sent now s)
     → Some (record { packet = place; at = at }) ≡ held_with o (option_map_or (λ (s : Stamped). s.at) (head_sent now s) 0)
 late-held now s o place old at given is time =
     let there = some-there o (ap is_some given ∙ late-sends now s at time) in

@@ -94,8 +94,12 @@ module _ (now t : ℕ) where
   module _ (a b : Outlook) (A B : Option Descriptor) (ha : Foresees now t a A) (hb : Foresees now t b B) where
     joined-foreseen : (x y : ℕ) → a.at ≡ Some x → b.at ≡ Some y → Foresees now t (joined a b x y) (or_else A B)
     joined-foreseen x y ex ey = elim (cases_Bool (nat_lt y x)) [
-      | inl sooner_y ↦ subst (λ (o : Outlook). Foresees now t o (or_else A B)) (sym (cond-true (nat_lt y x) (record b { least = min a.least b.least; until = sooner (Some x) b.until }) (record a { least = min a.least b.least }) sooner_y)) (later-band (ltb-true y x sooner_y))
-      | inr not_sooner ↦ subst (λ (o : Outlook). Foresees now t o (or_else A B)) (sym (cond-false (nat_lt y x) (record b { least = min a.least b.least; until = sooner (Some x) b.until }) (record a { least = min a.least b.least }) not_sooner)) (first-band (ltb-false y x not_sooner))
+      | inl sooner_y ↦ subst (λ (o : Outlook). Foresees now t o (or_else A B))
+          (sym (cond-true (nat_lt y x) (record b { least = min a.least b.least; until = sooner (Some x) b.until })
+          (record a { least = min a.least b.least }) sooner_y)) (later-band (ltb-true y x sooner_y))
+      | inr not_sooner ↦ subst (λ (o : Outlook). Foresees now t o (or_else A B))
+          (sym (cond-false (nat_lt y x) (record b { least = min a.least b.least; until = sooner (Some x) b.until })
+          (record a { least = min a.least b.least }) not_sooner)) (first-band (ltb-false y x not_sooner))
     ]
       where
         later-band : y < x → Foresees now t (record b { least = min a.least b.least; until = sooner (Some x) b.until }) (or_else A B)
@@ -352,7 +356,8 @@ module _ (mtu now t : ℕ) (least : 1 ≤ mtu) (low : t ≤ 2 ^ 62) (order : now
   own-foreseen handle filters since None (FqCodel s) os below packets h quiet all =
       let own : Own = record { handle = handle; discipline = FqCodel s; held = None; since = since; filters = filters } in
       flows-foreseen now t (fq.packets_of s.flows) (ask_own t own below).shown order
-      (λ idle. quiet (ap (λ ps. beneath_own own ps) h.discipline.none ∙ ap (λ (queue : List Stamped). packets_of queue ++ []) (nil_from_length (fq.all_packets s.flows) (sym (count-sum (fq.all_packets s.flows)) ∙ sym (packets-all s.flows) ∙ idle))))
+      (λ idle. quiet (ap (λ ps. beneath_own own ps) h.discipline.none ∙ ap (λ (queue : List Stamped). packets_of queue ++ [])
+      (nil_from_length (fq.all_packets s.flows) (sym (count-sum (fq.all_packets s.flows)) ∙ sym (packets-all s.flows) ∙ idle))))
 
   pub forest-foreseen : (x : Forest (Unit {0})) → AllLawful mtu t x → AllForesee now t (each (outlook_own now) x) (each (ask_own t) x)
   forest-foreseen none h = tt
@@ -366,5 +371,6 @@ module _ (mtu now t : ℕ) (least : 1 ≤ mtu) (low : t ≤ 2 ^ 62) (order : now
   foreseen n lawful =
       let h = lawful-with_memory mtu t (λ m. tt) n lawful in
       subst (λ (o : Outlook). Foresees now t o (ask t (shape n)).shown) (ap (outlook_own now n.own) (each-each_memory (outlook_own now) (λ m. tt) n.below))
-      (own-foreseen n.own.handle n.own.filters n.own.since n.own.held n.own.discipline (each (outlook_own now) (shape n).below) (each (ask_own t) (shape n).below) (each beneath_own (shape n).below) h.0
+      (own-foreseen n.own.handle n.own.filters n.own.since n.own.held n.own.discipline (each (outlook_own now) (shape n).below)
+      (each (ask_own t) (shape n).below) (each beneath_own (shape n).below) h.0
       (silent (shape n) h) (forest-foreseen (shape n).below h.1))

@@ -7,7 +7,8 @@ use Rattle.q_model.specs.Node.{Forest, none, more, Node, nodes_in, side_by_side,
 use Rattle.q_model.specs.Work.{Worked, quiet, each_booked, booked}
 use Rattle.q_tree.specs.Kept.{Kept, kept}
 
-pub nodes-memory : {M N : Type 0} (f : M → N) (x : Forest M) → nodes_in (each_memory f x) ≡ map (λ (n : Node M). record { own = n.own; memory = f n.memory; below = each_memory f n.below }) (nodes_in x)
+pub nodes-memory : {M N : Type 0} (f : M → N) (x : Forest M)
+    → nodes_in (each_memory f x) ≡ map (λ (n : Node M). record { own = n.own; memory = f n.memory; below = each_memory f n.below }) (nodes_in x)
 nodes-memory f none = refl
 nodes-memory f (more own m below others) = ap (λ xs. record { own = own; memory = f m; below = each_memory f below } ∷ xs) (nodes-memory f others)
 

@@ -10,7 +10,8 @@ use Rattle.q_model.specs.Beneath.{packets_of, totals_in}
 use Rattle.q_model.specs.Tally.{no_totals}
 
 -- its length is what the call answered
-pub head-len : (o : Option Stamped) (len : ℕ) (old new : Descriptor) → 0 < len → len ≡ option_map_or (λ (s : Stamped). s.packet.len) o 0 → new ≡ option_map_or (λ (s : Stamped). s.packet) o old → len ≡ new.len
+pub head-len : (o : Option Stamped) (len : ℕ) (old new : Descriptor) → 0 < len → len ≡ option_map_or (λ (s : Stamped). s.packet.len) o 0
+    → new ≡ option_map_or (λ (s : Stamped). s.packet) o old → len ≡ new.len
 head-len None len old new some l is = absurd (omega (arith, some, l))
 head-len (Some s) len old new some l is = omega (arith, l, ap (λ (p : Descriptor). p.len) is)
 

@@ -70,7 +70,8 @@ module _ (class : ClassId) (root : Node Kept) where
   abbrev outcome : List ℕ → Option Shape → Result (List ℕ) Refusal
   outcome path parent = done_unless (class_checks parent) path
 
-  parent-is : (found : Option (List ℕ)) (o : Option (List ℕ × Node Kept)) → reached root found ≡ o → option_and_then (λ path. node_at path (shape root)) found ≡ option_map (λ (x : List ℕ × Node Kept). shape x.1) o
+  parent-is : (found : Option (List ℕ)) (o : Option (List ℕ × Node Kept)) → reached root found ≡ o
+      → option_and_then (λ path. node_at path (shape root)) found ≡ option_map (λ (x : List ℕ × Node Kept). shape x.1) o
   parent-is found o e = by found ∙ ap (option_map (λ (x : List ℕ × Node Kept). shape x.1)) e where
     at : (path : List ℕ) (p : Option (Node Kept)) → option_map shape p ≡ option_map (λ (x : List ℕ × Node Kept). shape x.1) (option_map {U = List ℕ × Node Kept} (λ (n : Node Kept). (path, n)) p)
     at path None = refl
@@ -110,11 +111,14 @@ module _ (class : ClassId) (root : Node Kept) where
 pub leaf-is : (d : Device) (path rest : List ℕ) (i : ℕ) (root : Node Kept) → path ≡ rest ++ i ∷ []
     → option_map_or (λ (parent : Node Kept). implicit_beneath d parent.own.discipline) (node_at rest root) (implicit_pfifo d) ≡ leaf_at d path (shape root)
 leaf-is d path rest i root is = by (node_at rest root) ∙ back ∙ at path is where
-  by : (o : Option (Node Kept)) → option_map_or (λ (parent : Node Kept). implicit_beneath d parent.own.discipline) o (implicit_pfifo d) ≡ option_map_or (λ (parent : Shape). implicit_beneath d parent.own.discipline) (option_map shape o) (implicit_pfifo d)
+  by : (o : Option (Node Kept))
+      → option_map_or (λ (parent : Node Kept). implicit_beneath d parent.own.discipline) o (implicit_pfifo d)
+      ≡ option_map_or (λ (parent : Shape). implicit_beneath d parent.own.discipline) (option_map shape o) (implicit_pfifo d)
   by None = refl
   by (Some n) = refl
 
-  back : option_map_or (λ (parent : Shape). implicit_beneath d parent.own.discipline) (option_map shape (node_at rest root)) (implicit_pfifo d) ≡ option_map_or (λ (parent : Shape). implicit_beneath d parent.own.discipline) (node_at rest (shape root)) (implicit_pfifo d)
+  back : option_map_or (λ (parent : Shape). implicit_beneath d parent.own.discipline) (option_map shape (node_at rest root)) (implicit_pfifo d)
+      ≡ option_map_or (λ (parent : Shape). implicit_beneath d parent.own.discipline) (node_at rest (shape root)) (implicit_pfifo d)
   back = ap (λ o. option_map_or (λ (parent : Shape). implicit_beneath d parent.own.discipline) o (implicit_pfifo d)) (sym (node_at-shape rest root))
 
   at : (way : List ℕ) → way ≡ rest ++ i ∷ [] → option_map_or (λ (parent : Shape). implicit_beneath d parent.own.discipline) (node_at rest (shape root)) (implicit_pfifo d) ≡ leaf_at d way (shape root)
@@ -129,14 +133,18 @@ leaf-is d path rest i root is = by (node_at rest root) ∙ back ∙ at path is w
 pub then-refused : {A B : Type 0} (xs ys : List Check) (a : A) (b : B) (refusal : Refusal) → done_unless xs b ≡ Err refusal → done_unless (xs ++ ys) a ≡ Err refusal
 then-refused {A} {B} [] ys a b refusal e = absurd cc
 then-refused {A} {B} (c ∷ xs) ys a b refusal e = by (λ h. then-refused xs ys a b refusal h) c.holds e where
-  by : (done_unless xs b ≡ Err refusal → done_unless (xs ++ ys) a ≡ Err refusal) → (t : Bool) → option_map_or (λ (r : Refusal). Err r) (if t then Some c.refusal else first_refusal xs) (Ok b) ≡ Err refusal → option_map_or (λ (r : Refusal). Err r) (if t then Some c.refusal else first_refusal (xs ++ ys)) (Ok a) ≡ Err refusal
+  by : (done_unless xs b ≡ Err refusal → done_unless (xs ++ ys) a ≡ Err refusal) → (t : Bool)
+      → option_map_or (λ (r : Refusal). Err r) (if t then Some c.refusal else first_refusal xs) (Ok b) ≡ Err refusal
+      → option_map_or (λ (r : Refusal). Err r) (if t then Some c.refusal else first_refusal (xs ++ ys)) (Ok a) ≡ Err refusal
   by rest true h = cc
   by rest false h = rest h
 
 pub then-passed : {A B : Type 0} (xs ys : List Check) (a : A) (b x : B) → done_unless xs b ≡ Ok x → done_unless (xs ++ ys) a ≡ done_unless ys a
 then-passed {A} {B} [] ys a b x e = refl
 then-passed {A} {B} (c ∷ xs) ys a b x e = by (λ h. then-passed xs ys a b x h) c.holds e where
-  by : (done_unless xs b ≡ Ok x → done_unless (xs ++ ys) a ≡ done_unless ys a) → (t : Bool) → option_map_or (λ (r : Refusal). Err r) (if t then Some c.refusal else first_refusal xs) (Ok b) ≡ Ok x → option_map_or (λ (r : Refusal). Err r) (if t then Some c.refusal else first_refusal (xs ++ ys)) (Ok a) ≡ done_unless ys a
+  by : (done_unless xs b ≡ Ok x → done_unless (xs ++ ys) a ≡ done_unless ys a) → (t : Bool)
+      → option_map_or (λ (r : Refusal). Err r) (if t then Some c.refusal else first_refusal xs) (Ok b) ≡ Ok x
+      → option_map_or (λ (r : Refusal). Err r) (if t then Some c.refusal else first_refusal (xs ++ ys)) (Ok a) ≡ done_unless ys a
   by rest true h = absurd cc
   by rest false h = rest h
 
@@ -184,7 +192,9 @@ module _ (root : Node Kept) (bounded : IsBounded root) (lawful : IsNumbered root
 
   same-checks : qdisc_add_checks p handle way (shape root) ++ sizes (length way + levels_made k) nodes ≡ place_checks p (shape root) ++ graft_checks handle k way root
   same-checks =
-      append_assoc (place_checks p (shape root)) (refuse Exists (is_explicit way (shape root)) ∷ refuse HandleTaken (is_so (λ h. has_handle h (shape root)) handle) ∷ []) (sizes (length way + levels_made k) nodes)
+      append_assoc (place_checks p (shape root))
+      (refuse Exists (is_explicit way (shape root)) ∷ refuse HandleTaken (is_so (λ h. has_handle h (shape root)) handle) ∷ [])
+      (sizes (length way + levels_made k) nodes)
       ∙ ap₂ (λ a b. place_checks p (shape root) ++ (refuse Exists a ∷ refuse HandleTaken b ∷ sizes (length way + levels_made k) nodes)) (explicit-shape way root) (taken handle) where
         taken : (o : Option ℕ) → is_so (λ h. has_handle h (shape root)) o ≡ is_so (λ h. has_handle h root) o
         taken None = refl
@@ -199,7 +209,8 @@ module _ (root : Node Kept) (bounded : IsBounded root) (lawful : IsNumbered root
   place-refused x refusal e = plan-is ∙ then-refused (place_checks p (shape root)) (graft_checks handle k way root) new_edit x refusal e
 
   module _ (x y : List ℕ) (passed : done_unless (place_checks p (shape root)) x ≡ Ok y) where
-    pub graft-refused : (refusal : Refusal) → ◌≡◌ {A = Result (Unit {0}) Refusal} (done_unless (graft_checks handle k way root) tt) (Err refusal) → plan d now (QdiscAdd p handle k) (shape root) ≡ Err refusal
+    pub graft-refused : (refusal : Refusal) → ◌≡◌ {A = Result (Unit {0}) Refusal} (done_unless (graft_checks handle k way root) tt) (Err refusal)
+        → plan d now (QdiscAdd p handle k) (shape root) ≡ Err refusal
     graft-refused refusal e =
         plan-is ∙ then-passed (place_checks p (shape root)) (graft_checks handle k way root) new_edit x y passed ∙ same-refusal (graft_checks handle k way root) tt new_edit refusal e
 
@@ -210,7 +221,8 @@ module _ (root : Node Kept) (bounded : IsBounded root) (lawful : IsNumbered root
 -- ---- a new node, where this way ends
 
 module _ (memory : Type 0) (device : Device) (root : Node Kept) (p : Planned) (new : Node Kept) (s : Shape) (is : IsNewNode new s) (mtu clock : ℕ) (fresh : Option ℕ) (made : IsNew mtu clock fresh s)
-    (command : Command) (ranges : IsCommand command) (now : ℕ) (plan-is : plan device now command (shape root) ≡ Ok (model.Graft p.path.items s)) (there : is_some (node_at p.path.items root) ≡ true) where
+    (command : Command) (ranges : IsCommand command) (now : ℕ) (plan-is : plan device now command (shape root) ≡ Ok (model.Graft p.path.items s))
+    (there : is_some (node_at p.path.items root) ≡ true) where
   removed-is : removed_at (Graft new) p.path.items root ≡ model.packets_removed (model.Graft p.path.items s) (shape root)
   removed-is = by (node_at p.path.items root) ∙ sym (ap (λ o. option_map_or (λ (n : Shape). beneath n) o []) (node_at-shape p.path.items root)) where
     by : (o : Option (Node Kept)) → option_map_or (removed (Graft new)) o [] ≡ option_map_or (λ (n : Shape). beneath n) (option_map shape o) []

@@ -31,7 +31,8 @@ drops-counted c [] =
     λ i. record c { dropped = record { packets = packets i; bytes = bytes i } }
 drops-counted c (p ∷ ps) =
     let packets : c.dropped.packets + 1 + length ps ≡ c.dropped.packets + length (p ∷ ps) = omega arith in
-    let bytes : c.dropped.bytes + p.len + sum_by (λ (p : Descriptor). p.len) ps ≡ c.dropped.bytes + sum_by (λ (p : Descriptor). p.len) (p ∷ ps) = omega (arith, sum_by-cons (λ (p : Descriptor). p.len) p ps) in
+    let bytes : c.dropped.bytes + p.len + sum_by (λ (p : Descriptor). p.len) ps ≡ c.dropped.bytes + sum_by (λ (p : Descriptor). p.len) (p ∷ ps) =
+    omega (arith, sum_by-cons (λ (p : Descriptor). p.len) p ps) in
     drops-counted (record c { dropped = record { packets = c.dropped.packets + 1; bytes = c.dropped.bytes + p.len } }) ps
     ∙ (λ i. record c { dropped = record { packets = packets i; bytes = bytes i } })
 

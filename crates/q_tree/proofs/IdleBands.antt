@@ -11,7 +11,8 @@ use Rattle.q_tree.proofs.AskBands.{AreBandsAsked, band-before, bands-go-on, peek
 use Rattle.q_tree.proofs.Asking.{set-same, still-there}
 use Rattle.q_tree.proofs.EmptyFifo.{idle-asked, idle-tells}
 
-module _ (now : ℕ) (ns ms : List (Node Kept)) (i : ℕ) (s : Shown) (each : CanAskEach now ns) (h : AreBandsAsked now ns ms i s) (c : Node Kept) (at : slice_get ns i ≡ Some c) (empty : IsEmptyFifo c) where
+module _ (now : ℕ) (ns ms : List (Node Kept)) (i : ℕ) (s : Shown) (each : CanAskEach now ns) (h : AreBandsAsked now ns ms i s) (c : Node Kept)
+    (at : slice_get ns i ≡ Some c) (empty : IsEmptyFifo c) where
   still : set ms i c ≡ ms
   still = set-same ms i c (still-there now ns ms (peeked_to i (answers now ns)) (told_to i (answers now ns)) h.asking i c at (band-before now ns ms i s each h c at))
 

@@ -34,7 +34,9 @@ nobody-at s r gone same = by (front_of s) refl (ap is_some (sym gone) ∙ same)
     by (Some n) is e = absurd (false≢true e)
 
 -- where no class is active, nobody is asked
-module _ {now : ℕ} {first s : Schedule} {ns ms : List (Node Kept)} {unasked : ℕ} {so_far : Shown} {sink sink2 : SinkState} (can : CanServe now first ns) (h : AreClassesAsked now first s ns ms unasked so_far sink sink2) (law : drr.IsLawful s) (r : Option ℕ) (gone : r ≡ None) (same : is_some r ≡ is_some (front_of s)) where
+module _ {now : ℕ} {first s : Schedule} {ns ms : List (Node Kept)} {unasked : ℕ} {so_far : Shown} {sink sink2 : SinkState}
+    (can : CanServe now first ns) (h : AreClassesAsked now first s ns ms unasked so_far sink sink2) (law : drr.IsLawful s) (r : Option ℕ)
+    (gone : r ≡ None) (same : is_some r ≡ is_some (front_of s)) where
   nobody : s.active ≡ []
   nobody = empty_front s (nobody-at s r gone same)
 

@@ -29,7 +29,8 @@ path-listed h [] = refl
 path-listed h (e ∷ es) =
     ap (λ b. option_map (λ (v : ArrayVec ℕ). v.items) (cond b (Some e.1) (lookup (nat_eq h) es))) (eqb_sym h e.0) ∙ by (e.0 == h) (path-listed h es) where
       by : (b : Bool) → option_map (λ (v : ArrayVec ℕ). v.items) (lookup (nat_eq h) es) ≡ path_among h (listed es)
-          → option_map (λ (v : ArrayVec ℕ). v.items) (cond b (Some e.1) (lookup (nat_eq h) es)) ≡ option_map (λ (a : Address). a.path) (cond b (Some (address_of e)) (find (λ (a : Address). a.handle == h) (listed es)))
+          → option_map (λ (v : ArrayVec ℕ). v.items) (cond b (Some e.1) (lookup (nat_eq h) es))
+          ≡ option_map (λ (a : Address). a.path) (cond b (Some (address_of e)) (find (λ (a : Address). a.handle == h) (listed es)))
       by true same = refl
       by false same = same
 
@@ -135,12 +136,15 @@ module _ (ns : List (Node Kept)) (i : ℕ) where
     pub length-next : (p : List ℕ) → length (addresses_from i (drop i ns)) ≡ length (own_address p n.own.handle) + length (addresses_beneath n) + length (addresses_from (i + 1) (drop (i + 1) ns))
     length-next p =
         ap length from-here ∙ length-append (map (lifted i) (addresses n)) (addresses_from (i + 1) (drop (i + 1) ns))
-        ∙ ap (λ k. k + length (addresses_from (i + 1) (drop (i + 1) ns))) (length-map (addresses n) (lifted i) ∙ ap length (addresses-all n) ∙ length-append (own_address [] n.own.handle) (addresses_beneath n) ∙ ap (λ k. k + length (addresses_beneath n)) (one n.own.handle)) where
+        ∙ ap (λ k. k + length (addresses_from (i + 1) (drop (i + 1) ns)))
+        (length-map (addresses n) (lifted i) ∙ ap length (addresses-all n) ∙ length-append (own_address [] n.own.handle) (addresses_beneath n)
+        ∙ ap (λ k. k + length (addresses_beneath n)) (one n.own.handle)) where
           one : (o : Option ℕ) → length (own_address [] o) ≡ length (own_address p o)
           one None = refl
           one (Some h) = refl
 
-    pub added-next : (path way : List ℕ) (before own after : List Address) → way ≡ path ++ i ∷ [] → own ≡ fold added before (own_address way n.own.handle) → after ≡ fold added own (map (under way) (addresses_beneath n))
+    pub added-next : (path way : List ℕ) (before own after : List Address) → way ≡ path ++ i ∷ []
+        → own ≡ fold added before (own_address way n.own.handle) → after ≡ fold added own (map (under way) (addresses_beneath n))
         → fold added after (map (under path) (addresses_from (i + 1) (drop (i + 1) ns))) ≡ fold added before (map (under path) (addresses_from i (drop i ns)))
     added-next path way before own after step first last =
         let rest : List Address = map (under path) (addresses_from (i + 1) (drop (i + 1) ns)) in
@@ -163,7 +167,8 @@ pub listed-insert : (es : List (ℕ × ArrayVec ℕ)) (k : ℕ) (v : ArrayVec �
 listed-insert [] k v = refl
 listed-insert (e ∷ es) k v = by (k == e.0) (listed-insert es k v) where
   by : (b : Bool) → listed (insert_entry nat_eq es k v) ≡ added (listed es) (address_of (k, v))
-      → listed (if b then (e.0, v) ∷ es else e ∷ insert_entry nat_eq es k v) ≡ (if b then record (address_of e) { path = v.items } ∷ listed es else address_of e ∷ added (listed es) (address_of (k, v)))
+      → listed (if b then (e.0, v) ∷ es else e ∷ insert_entry nat_eq es k v) ≡
+      (if b then record (address_of e) { path = v.items } ∷ listed es else address_of e ∷ added (listed es) (address_of (k, v)))
   by true same = refl
   by false same = ap (λ xs. address_of e ∷ xs) same
 
@@ -215,7 +220,9 @@ few-in k none = omega arith
 few-in k (more own m below others) =
     omega (
       arith,
-      length-append (map (lifted k) (addresses_own own (each addresses_own below))) (flat_map (λ child. map (λ (a : Address). record a { path = child.0 ∷ a.path }) child.1) (enumerate_from (k + 1) (each addresses_own others))),
+      length-append (map (lifted k) (addresses_own own (each addresses_own below)))
+          (flat_map (λ child. map (λ (a : Address). record a { path = child.0 ∷ a.path }) child.1)
+          (enumerate_from (k + 1) (each addresses_own others))),
       length-map (addresses_own own (each addresses_own below)) (lifted k),
       few-own own.handle own (each addresses_own below),
       few-in 0 below,

@@ -16,7 +16,8 @@ use Rattle.q_tree.specs.declared.filter_shape.FilterShape.{FilterShape}
 use Rattle.q_tree.proofs.ShapeLemmas.{parts-wanted}
 
 -- the element in the first place where it holds
-pub find-place : {A : Type 0} (P : A → Bool) (xs : List A) (n : ℕ) → n ≤ length xs → ((x : A) → n < length xs → slice_get xs n ≡ Some x → P x ≡ true) → ((j : ℕ) (x : A) → j < n → slice_get xs j ≡ Some x → P x ≡ false) → slice_get xs n ≡ find P xs
+pub find-place : {A : Type 0} (P : A → Bool) (xs : List A) (n : ℕ) → n ≤ length xs → ((x : A) → n < length xs → slice_get xs n ≡ Some x → P x ≡ true)
+    → ((j : ℕ) (x : A) → j < n → slice_get xs j ≡ Some x → P x ≡ false) → slice_get xs n ≡ find P xs
 find-place P [] n within there before = refl
 find-place P (x ∷ xs) zero within there before = sym (ap (λ b. if b then Some x else find P xs) (there x (omega arith) refl))
 find-place P (x ∷ xs) (suc n) within there before =
@@ -57,7 +58,8 @@ shapes-more filters shapes shapes2 place f shape there of_it added each i s is =
     by (inr new) = record { place = place; filter = f; there = there; is = new ∙ of_it }
 
 -- one filter more has its home, among shapes of which none is gone
-pub homes-more : (shapes shapes2 : List FilterShape) (filters : List Filter) (homes : List ℕ) (f : Filter) (home : ℕ) → ((i : ℕ) (s : FilterShape) → slice_get shapes i ≡ Some s → slice_get shapes2 i ≡ Some s)
+pub homes-more : (shapes shapes2 : List FilterShape) (filters : List Filter) (homes : List ℕ) (f : Filter) (home : ℕ)
+    → ((i : ℕ) (s : FilterShape) → slice_get shapes i ≡ Some s → slice_get shapes2 i ≡ Some s)
     → AreHomes shapes filters homes → slice_get filters (length homes) ≡ Some f → IsHome shapes2 f home → AreHomes shapes2 filters (homes ++ home ∷ [])
 homes-more shapes shapes2 filters homes f home stay each here new j h g of_filter of_home = by (push-cases homes home j h of_home)
   where
@@ -71,7 +73,8 @@ homes-more shapes shapes2 filters homes f home stay each here new j h g of_filte
 
 -- where no filter of the packet's bucket in any group takes it, none does
 pub none-before : (p : Descriptor) (shapes : List FilterShape) (filters : List Filter) (homes : List ℕ) (first : ℕ) → IsKey p.key → length homes ≡ length filters → AreHomes shapes filters homes
-    → ((g j : ℕ) (s : FilterShape) (f : Filter) → g < length shapes → slice_get shapes g ≡ Some s → j < first → slice_get homes j ≡ Some (home_of g (parts_of s p.key)) → slice_get filters j ≡ Some f → matches p f ≡ false)
+    → ((g j : ℕ) (s : FilterShape) (f : Filter) → g < length shapes → slice_get shapes g ≡ Some s → j < first → slice_get homes j
+    ≡ Some (home_of g (parts_of s p.key)) → slice_get filters j ≡ Some f → matches p f ≡ false)
     → (j : ℕ) (f : Filter) → j < first → slice_get filters j ≡ Some f → matches p f ≡ false
 none-before p shapes filters homes first key long each passed j f low is = by (matches p f) refl
   where
@@ -87,7 +90,8 @@ none-before p shapes filters homes first key long each passed j f low is = by (m
         passed of_f.group j (shape_of f) f (slice_get_within shapes of_f.group (shape_of f) of_f.shape) of_f.shape low (at_home ∙ ap Some there) is
 
 -- a home is among the buckets of the groups
-pub home-known : (shapes : List FilterShape) (filters : List Filter) (homes : List ℕ) → length homes ≡ length filters → ((q : Parts) → bucket q < 256) → AreHomes shapes filters homes → (j home : ℕ) → slice_get homes j ≡ Some home → home < length shapes * 256
+pub home-known : (shapes : List FilterShape) (filters : List Filter) (homes : List ℕ) → length homes ≡ length filters → ((q : Parts) → bucket q < 256)
+    → AreHomes shapes filters homes → (j home : ℕ) → slice_get homes j ≡ Some home → home < length shapes * 256
 home-known shapes filters homes long small each j home is = at (slice_get_cases filters j).1
   where
     at : ((f : Filter) × (j < length filters) × (slice_get filters j ≡ Some f) × (get_or filters j f ≡ f)) ⊎ ((length filters ≤ j) × (slice_get filters j ≡ None)) → home < length shapes * 256

@@ -98,9 +98,29 @@ module _ (d : Device) (now : ℕ) (handle : Option ℕ) (k : Kind) (a : Inside) 
     made-kept = record {
       queued = ap (λ (r : Row). r.queued) row ∙ sym (ap totals_in (nothing-beneath (seen a) (made d now handle k) made-is d.mtu now handle is_new));
       balanced = record {
-        packets = omega (arith, ap (λ (r : Row). r.arrived.packets) row, ap (λ (r : Row). r.sent.packets) row, ap (λ (r : Row). r.refused.packets) row, ap (λ (r : Row). r.dropped.packets) row, ap (λ (r : Row). r.queued.packets) row);
-        bytes = omega (arith, ap (λ (r : Row). r.arrived.bytes) row, ap (λ (r : Row). r.sent.bytes) row, ap (λ (r : Row). r.refused.bytes) row, ap (λ (r : Row). r.dropped.bytes) row, ap (λ (r : Row). r.queued.bytes) row);
+        packets =
+            omega (
+              arith,
+              ap (λ (r : Row). r.arrived.packets) row,
+              ap (λ (r : Row). r.sent.packets) row,
+              ap (λ (r : Row). r.refused.packets) row,
+              ap
+                  (λ (r : Row). r.dropped.packets) row,
+              ap (λ (r : Row). r.queued.packets) row,
+            );
+        bytes =
+            omega (
+              arith,
+              ap (λ (r : Row). r.arrived.bytes) row,
+              ap (λ (r : Row). r.sent.bytes) row,
+              ap (λ (r : Row). r.refused.bytes) row,
+              ap
+                  (λ (r : Row). r.dropped.bytes) row,
+              ap (λ (r : Row). r.queued.bytes) row,
+            );
       };
       marks = record { packets = omega (arith, ap (λ (r : Row). r.marked.packets) row); bytes = omega (arith, ap (λ (r : Row). r.marked.bytes) row) };
-      within = subst (λ t. All (λ (n : Node Kept). IsCountedWithin n.memory.counts.arrived t) (children_seen a.discipline)) (sym (ap (λ (r : Row). r.arrived) row)) (children-within (children_seen a.discipline) (children (made d now None k)) is.leaves);
+      within =
+          subst (λ t. All (λ (n : Node Kept). IsCountedWithin n.memory.counts.arrived t) (children_seen a.discipline))
+          (sym (ap (λ (r : Row). r.arrived) row)) (children-within (children_seen a.discipline) (children (made d now None k)) is.leaves);
     }

@@ -52,7 +52,8 @@ same-block w x y r s low less =
     (λ e. same_from_place x r y s w low less (eqb-true (x * w + r) (y * w + s) e), λ h. eq-eqb (x * w + r) (y * w + s) (ap₂ (λ a b. a * w + b) h.0 h.1))
     ((λ e. let both = and_parts (x == y) (r == s) e in (eqb-true x y both.0, eqb-true r s both.1)), λ h. and_from (x == y) (r == s) (eq-eqb x y h.0) (eq-eqb r s h.1))
 
-packed-and : (a b c d m n o q : ℕ) → a < 2 ^ 16 → b < 2 ^ 16 → c < 2 ^ 8 → m < 2 ^ 16 → n < 2 ^ 16 → o < 2 ^ 8 → bit_and (packed a b c d) (packed m n o q) ≡ packed (bit_and a m) (bit_and b n) (bit_and c o) (bit_and d q)
+packed-and : (a b c d m n o q : ℕ) → a < 2 ^ 16 → b < 2 ^ 16 → c < 2 ^ 8 → m < 2 ^ 16 → n < 2 ^ 16 → o < 2 ^ 8
+    → bit_and (packed a b c d) (packed m n o q) ≡ packed (bit_and a m) (bit_and b n) (bit_and c o) (bit_and d q)
 packed-and a b c d m n o q a-fits b-fits c-fits m-fits n-fits o-fits =
     and_block 16 ((d * 2 ^ 8 + c) * 2 ^ 16 + b) ((q * 2 ^ 8 + o) * 2 ^ 16 + n) a m a-fits m-fits
     ∙ ap (λ x. x * 2 ^ 16 + bit_and a m) (and_block 16 (d * 2 ^ 8 + c) (q * 2 ^ 8 + o) b n b-fits n-fits)
@@ -91,11 +92,14 @@ one-comparison f k range key =
     let dm = option_map_or (λ m. 65535) f.keys.dst_port 0 in
     let pm = option_map_or (λ m. 255) f.keys.ip_proto 0 in
     let fm = family_mask f.protocol in
-    ap (λ x. x == wanted_of f) (packed-and k.sport k.dport k.proto k.family sm dm pm fm key.sport key.dport key.proto (port-mask f.keys.src_port) (port-mask f.keys.dst_port) (proto-mask f.keys.ip_proto))
-    ∙ packed-same (bit_and k.sport sm) (bit_and k.dport dm) (bit_and k.proto pm) (bit_and k.family fm) (unwrap_or f.keys.src_port 0) (unwrap_or f.keys.dst_port 0) (unwrap_or f.keys.ip_proto 0) (family_wanted f.protocol)
+    ap (λ x. x == wanted_of f) (packed-and k.sport k.dport k.proto k.family sm dm pm fm key.sport key.dport key.proto (port-mask f.keys.src_port)
+    (port-mask f.keys.dst_port) (proto-mask f.keys.ip_proto))
+    ∙ packed-same (bit_and k.sport sm) (bit_and k.dport dm) (bit_and k.proto pm) (bit_and k.family fm) (unwrap_or f.keys.src_port 0)
+    (unwrap_or f.keys.dst_port 0) (unwrap_or f.keys.ip_proto 0) (family_wanted f.protocol)
     (below-and k.sport sm (2 ^ 16) key.sport) (below-and k.dport dm (2 ^ 16) key.dport) (below-and k.proto pm (2 ^ 8) key.proto)
     (port-wanted f.keys.src_port range.src_port) (port-wanted f.keys.dst_port range.dst_port) (proto-wanted f.keys.ip_proto range.ip_proto)
-    ∙ all-four (bit_and k.family fm == family_wanted f.protocol) (bit_and k.proto pm == unwrap_or f.keys.ip_proto 0) (bit_and k.dport dm == unwrap_or f.keys.dst_port 0) (bit_and k.sport sm == unwrap_or f.keys.src_port 0)
+    ∙ all-four (bit_and k.family fm == family_wanted f.protocol) (bit_and k.proto pm == unwrap_or f.keys.ip_proto 0)
+    (bit_and k.dport dm == unwrap_or f.keys.dst_port 0) (bit_and k.sport sm == unwrap_or f.keys.src_port 0)
     (is_of f.protocol k) (agrees f.keys.ip_proto (λ n. n == k.proto)) (agrees f.keys.src_port (λ n. n == k.sport)) (agrees f.keys.dst_port (λ n. n == k.dport))
     (family-masked f.protocol k fits.family) (proto-masked f.keys.ip_proto k.proto key.proto) (port-masked f.keys.dst_port k.dport key.dport) (port-masked f.keys.src_port k.sport key.sport)
   where

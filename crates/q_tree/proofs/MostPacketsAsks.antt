@@ -86,7 +86,8 @@ less-dequeued own below d here children = record {
   taken = less-worked own (record d.after { held = None; since = 0 }) [] (dequeued own below d).taken.memory (befores below) d.children here children;
 }
 
-less-showing : (below : List Asked) (s : Showing) → most_in s.own_taken.discipline ≤ most_in s.own.discipline → AreLess s.peeked (befores below) → AreLess s.taken (befores below) → IsLess (showing below s)
+less-showing : (below : List Asked) (s : Showing) → most_in s.own_taken.discipline ≤ most_in s.own.discipline → AreLess s.peeked (befores below)
+    → AreLess s.taken (befores below) → IsLess (showing below s)
 less-showing below s here peeked taken = record {
   peeked = less-worked s.own s.own [] (showing below s).peeked.memory (befores below) s.peeked (omega arith) peeked;
   taken = less-worked s.own s.own_taken [] (showing below s).taken.memory (befores below) s.taken here taken;
@@ -199,7 +200,15 @@ module _ (now : ℕ) (handle : Option ℕ) (filters : List Filter) (since : ℕ)
 
     less-nothing : IsLess (gives_nothing drr below service)
     less-nothing =
-        less-dequeued drr below (record { after = own_of (Drr service.schedule); children = service.below; rises = service.rises; mine = service.grants; packet = None; since = 0 }) (omega arith) looked
+        less-dequeued drr below (record {
+          after = own_of (Drr service.schedule);
+          children = service.below;
+          rises = service.rises;
+          mine =
+              service.grants;
+          packet = None;
+          since = 0;
+        }) (omega arith) looked
 
     less-gives : (i : ℕ) (a : Asked) (p : Descriptor) → slice_get below i ≡ Some a → IsLess (class_gives drr below service i a p)
     less-gives i a p at =

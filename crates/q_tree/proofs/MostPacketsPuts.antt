@@ -54,7 +54,8 @@ flows-bytes : (mtu : ℕ) (flows : List Flow) → All (HasLength mtu) (packets_o
 flows-bytes mtu [] h = All-nil HasBytes
 flows-bytes mtu (f ∷ flows) h =
     let bare = λ (x : Stamped). x.packet in
-    let parts : All (HasLength mtu) (packets_of f.queue ++ packets_of (all_packets flows)) = subst (All (HasLength mtu)) (ap packets_of (all_packets-cons f flows) ∙ map-append bare f.queue (all_packets flows)) h in
+    let parts : All (HasLength mtu) (packets_of f.queue ++ packets_of (all_packets flows)) =
+    subst (All (HasLength mtu)) (ap packets_of (all_packets-cons f flows) ∙ map-append bare f.queue (all_packets flows)) h in
     All-cons HasBytes f flows (queue-bytes mtu f.queue (All-front (HasLength mtu) (packets_of f.queue) (packets_of (all_packets flows)) parts))
     (flows-bytes mtu flows (All-back (HasLength mtu) (packets_of f.queue) (packets_of (all_packets flows)) parts))
 
@@ -74,16 +75,23 @@ module _ (mtu now : ℕ) (p : Descriptor) (fits : IsWithin 1 mtu p.len) where
   fifo-takes true e = refl
   fifo-takes false e = absurd (refused-ends OverLimit e)
 
-  queued-least : (own : Own) (below : List (List Descriptor)) (routes : List Route) (d : Discipline) → own.discipline ≡ d → way p own routes d ≡ ends → IsLawfulOwn mtu now own below → most_in (queued_in p now d) ≤ most_in d
+  queued-least : (own : Own) (below : List (List Descriptor)) (routes : List Route) (d : Discipline) → own.discipline ≡ d → way p own routes d ≡ ends
+      → IsLawfulOwn mtu now own below → most_in (queued_in p now d) ≤ most_in d
   queued-least own below routes (Fifo limit queue) is e h =
       let bytes : All (λ (x : Stamped). 1 ≤ x.packet.len) queue = queue-bytes mtu queue (subst (λ (x : Discipline). All (HasLength mtu) (packets_in x)) is (own-lengths mtu now own below h)) in
       omega (arith, fifo-put-least limit queue (record { packet = p; at = now }) fits.0 bytes (fifo-takes (takes limit queue p.len) e))
-  queued-least own below routes (FqCodel s) is e h = omega (arith, flows-least s (subst (λ (x : Discipline). IsLawfulDiscipline mtu now below x) is h.discipline) (subst (λ (x : Discipline). All (HasLength mtu) (packets_in x)) is (own-lengths mtu now own below h)))
+  queued-least own below routes (FqCodel s) is e h =
+      omega (
+        arith,
+        flows-least s (subst (λ (x : Discipline). IsLawfulDiscipline mtu now below x) is h.discipline)
+            (subst (λ (x : Discipline). All (HasLength mtu) (packets_in x)) is (own-lengths mtu now own below h)),
+      )
     where
       flows-least : (s : FqState) → IsLawfulFqCodel mtu now s below → All (HasLength mtu) (packets_of (all_packets s.flows))
           → max (after_put s p now).settings.limit (fq_codel.packets_of (after_put s p now).flows) ≤ max s.settings.limit (fq_codel.packets_of s.flows)
       flows-least s law lengths =
-          fq-put-least s p now (subst (λ n. flow_of s p < n) (sym law.lists.each_flow) (mod_below p.hash s.settings.flows (omega (arith, law.settings.flows_low)))) law.settings (flows-bytes mtu s.flows lengths) fits.0
+          fq-put-least s p now (subst (λ n. flow_of s p < n) (sym law.lists.each_flow)
+          (mod_below p.hash s.settings.flows (omega (arith, law.settings.flows_low)))) law.settings (flows-bytes mtu s.flows lengths) fits.0
   queued-least own below routes (Prio priomap) is e h = omega arith
   queued-least own below routes (Tbf b limit) is e h = omega arith
   queued-least own below routes (Drr s) is e h = omega arith
@@ -113,14 +121,18 @@ module _ (mtu now : ℕ) (p : Descriptor) (fits : IsWithin 1 mtu p.len) where
     most-worked (put_beneath p i s w).node.own (put_beneath p i s w).node.memory (set (map quiet (children s)) i w.node),
     settled-most i (is_empty w.node) s.own.discipline,
     less-summed (set (map quiet (children s)) i w.node) (map quiet (children s))
-        (less-set (map quiet (children s)) (map quiet (children s)) i w.node (quiet c) (less-same (map quiet (children s))) (slice_get-map quiet (children s) i ∙ ap (option_map quiet) there) (omega (arith, less, most-quiet c))),
+        (less-set (map quiet (children s)) (map quiet (children s)) i w.node (quiet c) (less-same (map quiet (children s)))
+        (slice_get-map quiet (children s) i ∙ ap (option_map quiet) there) (omega (arith, less, most-quiet c))),
     ap sum (most-quiets s.below),
   )
 
-  pub along-least : (path : List ℕ) (refusal : Option Cause) (s : Shape) → route p s ≡ record { path = path; refusal = refusal } → IsLawfulRoot mtu now s → most_packets (put_along now p refusal path s).node ≤ most_packets s
+  pub along-least : (path : List ℕ) (refusal : Option Cause) (s : Shape) → route p s ≡ record { path = path; refusal = refusal }
+      → IsLawfulRoot mtu now s → most_packets (put_along now p refusal path s).node ≤ most_packets s
   along-least [] refusal s e h = here-least refusal s e h
   along-least (i ∷ path) refusal s e h =
       let on = route-goes p s i path refusal e in
       let below = along-least path refusal on.child on.way (child-lawful mtu now s.below i on.child h.1 on.there) in
-      subst (λ (o : Option Shape). most_packets (option_map_or (λ (child : Shape). put_beneath p i s (put_along now p refusal path child)) o (put_here now p refusal s)).node ≤ most_packets s) (sym on.there)
+      subst (λ (o : Option Shape). most_packets
+      (option_map_or (λ (child : Shape). put_beneath p i s (put_along now p refusal path child)) o (put_here now p refusal s)).node
+      ≤ most_packets s) (sym on.there)
       (beneath-least i s on.child (put_along now p refusal path on.child) on.there below)

@@ -80,7 +80,8 @@ oldest-next ns i x first inside is =
     let rest : List (Node Kept) = drop (i + 1) ns in
     ap (λ (ms : List (Node Kept)). earlier first (oldest_of (map oldest ms))) (drop_more ns i x inside)
     ∙ ap (λ (y : Node Kept). earlier first (oldest_of (map oldest (y ∷ rest)))) (sym is)
-    ∙ ap (earlier first) (earliest-append (option_to_list (oldest x)) (flat_map (λ (o : Option ℕ). option_to_list o) (map oldest rest)) ∙ ap (λ (o : Option ℕ). earlier o (oldest_of (map oldest rest))) (earliest-one (oldest x)))
+    ∙ ap (earlier first) (earliest-append (option_to_list (oldest x)) (flat_map (λ (o : Option ℕ). option_to_list o) (map oldest rest))
+    ∙ ap (λ (o : Option ℕ). earlier o (oldest_of (map oldest rest))) (earliest-one (oldest x)))
     ∙ sym (earlier_assoc first (oldest x) (oldest_of (map oldest rest)))
 
 pub oldest-end : (ns : List (Node Kept)) (i : ℕ) (first : Option ℕ) → length ns ≤ i → earlier first (oldest_of (map oldest (drop i ns))) ≡ first

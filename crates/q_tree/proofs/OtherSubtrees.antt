@@ -42,7 +42,8 @@ same-children n =
     ∙ ap nodes_in (side-quiet kept (children n))
     ∙ nodes-side (children n)
 
-one-child-set : (n c : Node Kept) (i : ℕ) (w : Worked) → slice_get (children n) i ≡ Some c → nodes_in (each_booked kept n.below (side_by_side (set (map quiet (children (shape n))) i w))) ≡ set (children n) i (booked kept c w)
+one-child-set : (n c : Node Kept) (i : ℕ) (w : Worked) → slice_get (children n) i ≡ Some c
+    → nodes_in (each_booked kept n.below (side_by_side (set (map quiet (children (shape n))) i w))) ≡ set (children n) i (booked kept c w)
 one-child-set n c i w e =
     ap (λ ws. nodes_in (each_booked kept n.below (side_by_side (set (map quiet ws) i w)))) (children-shape n)
     ∙ ap (λ x. nodes_in (each_booked kept x (side_by_side (set (map quiet (map shape (children n))) i w)))) (sym (side-nodes n.below))
@@ -60,24 +61,34 @@ shape-at n i = ap (λ xs. slice_get xs i) (children-shape n) ∙ slice_get-map s
 nobody-there : (now : ℕ) (p : Descriptor) (refusal : Option Cause) (i : ℕ) (path : List ℕ) (n : Node Kept) → slice_get (children n) i ≡ None
     → children (booked kept n (put_along now p refusal (i ∷ path) (shape n)).node) ≡ children n
 nobody-there now p refusal i path n e =
-    ap (λ o. children (booked kept n (option_map_or (λ (child : Shape). put_beneath p i (shape n) (put_along now p refusal path child)) o (put_here now p refusal (shape n))).node)) (shape-at n i ∙ ap (option_map shape) e)
+    ap (λ o. children (booked kept n (option_map_or (λ (child : Shape). put_beneath p i (shape n) (put_along now p refusal path child)) o
+    (put_here now p refusal (shape n))).node)) (shape-at n i ∙ ap (option_map shape) e)
     ∙ here-children now p refusal n
 
 child-there : (now : ℕ) (p : Descriptor) (refusal : Option Cause) (i : ℕ) (path : List ℕ) (n c : Node Kept) → slice_get (children n) i ≡ Some c
     → children (booked kept n (put_along now p refusal (i ∷ path) (shape n)).node) ≡ set (children n) i (booked kept c (put_along now p refusal path (shape c)).node)
 child-there now p refusal i path n c e =
-    ap (λ o. children (booked kept n (option_map_or (λ (child : Shape). put_beneath p i (shape n) (put_along now p refusal path child)) o (put_here now p refusal (shape n))).node)) (shape-at n i ∙ ap (option_map shape) e)
+    ap (λ o. children (booked kept n (option_map_or (λ (child : Shape). put_beneath p i (shape n) (put_along now p refusal path child)) o
+    (put_here now p refusal (shape n))).node)) (shape-at n i ∙ ap (option_map shape) e)
     ∙ one-child-set n c i (put_along now p refusal path (shape c)).node e
 
 along : (now : ℕ) (p : Descriptor) (refusal : Option Cause) (shared rest below : List ℕ) (i j : ℕ) (n : Node Kept) → i ≢ j
     → node_at (shared ++ j ∷ below) (booked kept n (put_along now p refusal (shared ++ i ∷ rest) (shape n)).node) ≡ node_at (shared ++ j ∷ below) n
 along now p refusal [] rest below i j n differ = by (slice_get (children n) i) refl where
-  by : (o : Option (Node Kept)) → slice_get (children n) i ≡ o → option_and_then (node_at below) (slice_get (children (booked kept n (put_along now p refusal (i ∷ rest) (shape n)).node)) j) ≡ option_and_then (node_at below) (slice_get (children n) j)
+  by : (o : Option (Node Kept)) → slice_get (children n) i ≡ o
+      → option_and_then (node_at below) (slice_get (children (booked kept n (put_along now p refusal (i ∷ rest) (shape n)).node)) j)
+      ≡ option_and_then (node_at below) (slice_get (children n) j)
   by None e = ap (λ ns. option_and_then (node_at below) (slice_get ns j)) (nobody-there now p refusal i rest n e)
-  by (Some c) e = ap (λ ns. option_and_then (node_at below) (slice_get ns j)) (child-there now p refusal i rest n c e) ∙ ap (option_and_then (node_at below)) (other-set (children n) i j (booked kept c (put_along now p refusal rest (shape c)).node) differ)
+  by (Some c) e =
+      ap (λ ns. option_and_then (node_at below) (slice_get ns j)) (child-there now p refusal i rest n c e)
+      ∙ ap (option_and_then (node_at below)) (other-set (children n) i j (booked kept c (put_along now p refusal rest (shape c)).node) differ)
 along now p refusal (k ∷ shared) rest below i j n differ = by (slice_get (children n) k) refl (λ c. along now p refusal shared rest below i j c differ) where
-  by : (o : Option (Node Kept)) → slice_get (children n) k ≡ o → ((c : Node Kept) → node_at (shared ++ j ∷ below) (booked kept c (put_along now p refusal (shared ++ i ∷ rest) (shape c)).node) ≡ node_at (shared ++ j ∷ below) c)
-      → option_and_then (node_at (shared ++ j ∷ below)) (slice_get (children (booked kept n (put_along now p refusal (k ∷ shared ++ i ∷ rest) (shape n)).node)) k) ≡ option_and_then (node_at (shared ++ j ∷ below)) (slice_get (children n) k)
+  by : (o : Option (Node Kept)) → slice_get (children n) k ≡ o
+      → ((c : Node Kept) → node_at (shared ++ j ∷ below) (booked kept c (put_along now p refusal (shared ++ i ∷ rest) (shape c)).node)
+      ≡ node_at (shared ++ j ∷ below) c)
+      → option_and_then (node_at (shared ++ j ∷ below))
+      (slice_get (children (booked kept n (put_along now p refusal (k ∷ shared ++ i ∷ rest) (shape n)).node)) k)
+      ≡ option_and_then (node_at (shared ++ j ∷ below)) (slice_get (children n) k)
   by None e on = ap (λ ns. option_and_then (node_at (shared ++ j ∷ below)) (slice_get ns k)) (nobody-there now p refusal k (shared ++ i ∷ rest) n e)
   by (Some c) e on =
       ap (λ ns. option_and_then (node_at (shared ++ j ∷ below)) (slice_get ns k)) (child-there now p refusal k (shared ++ i ∷ rest) n c e)
@@ -94,7 +105,8 @@ put-leaves now p s r shared rest below i j route path differ =
 -- ---- places
 
 -- among the children of which one has worked
-same-places : (ns : List (Node Kept)) (i : ℕ) (c after : Node Kept) → slice_get ns i ≡ Some c → ((way : List ℕ) → places_at way after ≡ places_at way c) → (way : List ℕ) (j : ℕ) → places_under way j (set ns i after) ≡ places_under way j ns
+same-places : (ns : List (Node Kept)) (i : ℕ) (c after : Node Kept) → slice_get ns i ≡ Some c
+    → ((way : List ℕ) → places_at way after ≡ places_at way c) → (way : List ℕ) (j : ℕ) → places_under way j (set ns i after) ≡ places_under way j ns
 same-places [] i c after e same way j = refl
 same-places (n ∷ ns) zero c after e same way zero = same way ∙ ap (places_at way) (sym (same_Some n c e))
 same-places (n ∷ ns) zero c after e same way (suc j) = refl
@@ -119,16 +131,21 @@ put-places now p s way = put-root-places now p (device_route p s.device.mtu (sha
 
 -- ---- commands
 
-edited-along : (notes : List Note) (f : Node Kept → Node Kept) (shared rest below : List ℕ) (i j : ℕ) (n : Node Kept) → i ≢ j → node_at (shared ++ j ∷ below) (edited_at kept notes f (shared ++ i ∷ rest) n) ≡ node_at (shared ++ j ∷ below) n
+edited-along : (notes : List Note) (f : Node Kept → Node Kept) (shared rest below : List ℕ) (i j : ℕ) (n : Node Kept) → i ≢ j
+    → node_at (shared ++ j ∷ below) (edited_at kept notes f (shared ++ i ∷ rest) n) ≡ node_at (shared ++ j ∷ below) n
 edited-along notes f [] rest below i j n differ = by (slice_get (children n) i) where
-  by : (o : Option (Node Kept)) → option_and_then (node_at below) (slice_get (children (option_map_or (λ child. above kept notes i (edited_at kept notes f rest child) n) o n)) j) ≡ option_and_then (node_at below) (slice_get (children n) j)
+  by : (o : Option (Node Kept))
+      → option_and_then (node_at below) (slice_get (children (option_map_or (λ child. above kept notes i (edited_at kept notes f rest child) n) o n))
+      j) ≡ option_and_then (node_at below) (slice_get (children n) j)
   by None = refl
   by (Some c) =
       ap (λ ns. option_and_then (node_at below) (slice_get ns j)) (nodes-side (set (children n) i (edited_at kept notes f rest c)))
       ∙ ap (option_and_then (node_at below)) (other-set (children n) i j (edited_at kept notes f rest c) differ)
 edited-along notes f (k ∷ shared) rest below i j n differ = by (slice_get (children n) k) refl (λ c. edited-along notes f shared rest below i j c differ) where
   by : (o : Option (Node Kept)) → slice_get (children n) k ≡ o → ((c : Node Kept) → node_at (shared ++ j ∷ below) (edited_at kept notes f (shared ++ i ∷ rest) c) ≡ node_at (shared ++ j ∷ below) c)
-      → option_and_then (node_at (shared ++ j ∷ below)) (slice_get (children (option_map_or (λ child. above kept notes k (edited_at kept notes f (shared ++ i ∷ rest) child) n) o n)) k) ≡ option_and_then (node_at (shared ++ j ∷ below)) (slice_get (children n) k)
+      → option_and_then (node_at (shared ++ j ∷ below))
+      (slice_get (children (option_map_or (λ child. above kept notes k (edited_at kept notes f (shared ++ i ∷ rest) child) n) o n)) k)
+      ≡ option_and_then (node_at (shared ++ j ∷ below)) (slice_get (children n) k)
   by None e on = refl
   by (Some c) e on =
       ap (λ ns. option_and_then (node_at (shared ++ j ∷ below)) (slice_get ns k)) (nodes-side (set (children n) k (edited_at kept notes f (shared ++ i ∷ rest) c)))
@@ -142,4 +159,5 @@ edit-leaves (Graft path new) s shared rest below i j way differ =
     ap (λ w. node_at (shared ++ j ∷ below) (edited_at kept notes (λ old. blank kept new) w s.root)) way ∙ edited-along notes (λ old. blank kept new) shared rest below i j s.root differ
 edit-leaves (Remake path own children_of) s shared rest below i j way differ =
     let notes = lost_by (Remake path own children_of) (shape s.root) in
-    ap (λ w. node_at (shared ++ j ∷ below) (edited_at kept notes (remade kept own children_of notes) w s.root)) way ∙ edited-along notes (remade kept own children_of notes) shared rest below i j s.root differ
+    ap (λ w. node_at (shared ++ j ∷ below) (edited_at kept notes (remade kept own children_of notes) w s.root)) way
+    ∙ edited-along notes (remade kept own children_of notes) shared rest below i j s.root differ

@@ -24,12 +24,14 @@ no-held None h = refl
 no-held (Some p) h = absurd (h p refl)
 
 -- a node that holds nothing, by its discipline and its children
-pub outlook-is : (now : ℕ) (a : Inside) (n : Node Kept) (ns : List (Node Kept)) (d : Discipline) → seen a ≡ n → packet_held a.held ≡ None → discipline_seen a.discipline ≡ d → ns ≡ children_seen a.discipline
+pub outlook-is : (now : ℕ) (a : Inside) (n : Node Kept) (ns : List (Node Kept)) (d : Discipline) → seen a ≡ n → packet_held a.held ≡ None
+    → discipline_seen a.discipline ≡ d → ns ≡ children_seen a.discipline
     → outlook_in now (map (outlook now) ns) d ≡ outlook now n
 outlook-is now a n ns d view bare is kids =
     ap₂ (λ xs k. outlook_in now (map (outlook now) xs) k) kids (sym is)
     ∙ sym (ap (λ os. outlook_in now os (discipline_seen a.discipline)) (each-side (outlook_own now) (children_seen a.discipline)))
-    ∙ sym (ap (λ (o : Option Descriptor). option_map_or (λ (p : Descriptor). at_hand now p.len) o (outlook_in now (each (outlook_own now) (side_by_side (children_seen a.discipline))) (discipline_seen a.discipline))) bare)
+    ∙ sym (ap (λ (o : Option Descriptor). option_map_or (λ (p : Descriptor). at_hand now p.len) o
+    (outlook_in now (each (outlook_own now) (side_by_side (children_seen a.discipline))) (discipline_seen a.discipline))) bare)
     ∙ ap (outlook now) view
 
 -- the bands from this place on

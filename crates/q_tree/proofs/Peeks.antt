@@ -72,7 +72,8 @@ popped-asked now n m p can new shown =
     }
 
 -- a tbf whose bucket allows the packet of its child
-tbf-gave : (now : ℕ) (own : Own) (b : TokenBucket) (limit : ℕ) (n m c : Node Kept) (p : Descriptor) (s : Shown) → CanAsk now n → m ≡ booked kept n (ask now (shape n)).peeked → (ask now (shape n)).shown ≡ Some p
+tbf-gave : (now : ℕ) (own : Own) (b : TokenBucket) (limit : ℕ) (n m c : Node Kept) (p : Descriptor) (s : Shown) → CanAsk now n
+    → m ≡ booked kept n (ask now (shape n)).peeked → (ask now (shape n)).shown ≡ Some p
     → allows b now p.len ≡ true → c ≡ booked kept m (pop m).after → c.memory.counts.arrived ≡ n.memory.counts.arrived → s.packet ≡ (pop m).shown
     → s.dropped ≡ (counts_in (ask now (shape n)).rises).dropped → s.marked ≡ (counts_in (ask now (shape n)).rises).marked
     → AreAsked (ask_child now own (ask now (shape n) ∷ []) b limit (ask now (shape n))) (n ∷ []) (c ∷ []) s
@@ -91,7 +92,8 @@ tbf-gave now own b limit n m c p s can new shown may given arrived packet droppe
     })
 
 -- and one whose child shows nothing
-pub tbf-none : (now : ℕ) (own : Own) (b : TokenBucket) (limit : ℕ) (n m : Node Kept) (s : Shown) → m ≡ booked kept n (ask now (shape n)).peeked → m.memory.counts.arrived ≡ n.memory.counts.arrived → IsShown (ask now (shape n)) s → s.packet ≡ None
+pub tbf-none : (now : ℕ) (own : Own) (b : TokenBucket) (limit : ℕ) (n m : Node Kept) (s : Shown) → m ≡ booked kept n (ask now (shape n)).peeked
+    → m.memory.counts.arrived ≡ n.memory.counts.arrived → IsShown (ask now (shape n)) s → s.packet ≡ None
     → AreAsked (ask_child now own (ask now (shape n) ∷ []) b limit (ask now (shape n))) (n ∷ []) (m ∷ []) s
 tbf-none now own b limit n m s new arrived shown none =
     let a : Asked = ask now (shape n) in
@@ -107,7 +109,8 @@ tbf-none now own b limit n m s new arrived shown none =
     })
 
 -- when the packet arrived that a tbf then has
-tbf-gave-since : (now : ℕ) (own : Own) (b : TokenBucket) (limit : ℕ) (n m : Node Kept) (p : Descriptor) → CanAsk now n → m ≡ booked kept n (ask now (shape n)).peeked → (ask now (shape n)).shown ≡ Some p
+tbf-gave-since : (now : ℕ) (own : Own) (b : TokenBucket) (limit : ℕ) (n m : Node Kept) (p : Descriptor) → CanAsk now n
+    → m ≡ booked kept n (ask now (shape n)).peeked → (ask now (shape n)).shown ≡ Some p
     → allows b now p.len ≡ true → unwrap_or (at_hand_since m) 0 ≡ (ask_child now own (ask now (shape n) ∷ []) b limit (ask now (shape n))).peeked.own.since
 tbf-gave-since now own b limit n m p can new shown may =
     let a : Asked = ask now (shape n) in
@@ -123,10 +126,13 @@ pub tbf-none-since : (now : ℕ) (own : Own) (b : TokenBucket) (limit : ℕ) (n 
 tbf-none-since now own b limit n silent =
     let a : Asked = ask now (shape n) in
     let below : List Asked = a ∷ [] in
-    ap (λ (o : Option Descriptor). (option_map_or (λ (p : Descriptor). if allows b now p.len then spends own below b limit now a p else waits own below a) o (waits own below a)).peeked.own.since) (sym silent)
+    ap (λ (o : Option Descriptor). (option_map_or
+    (λ (p : Descriptor). if allows b now p.len then spends own below b limit now a p else waits own below a) o
+    (waits own below a)).peeked.own.since) (sym silent)
 
 -- the bucket allows what the child shows
-pub tbf-allowed : (now : ℕ) (b : TokenBucket) (n m : Node Kept) (counted : Signals) (s : Shown) → CanAsk now n → IsPeeked now n m counted s → (p q : Descriptor) → s.packet ≡ Some p → s.packet ≡ Some q → allows b now q.len ≡ true
+pub tbf-allowed : (now : ℕ) (b : TokenBucket) (n m : Node Kept) (counted : Signals) (s : Shown) → CanAsk now n → IsPeeked now n m counted s
+    → (p q : Descriptor) → s.packet ≡ Some p → s.packet ≡ Some q → allows b now q.len ≡ true
     → IsAllowed now p b n m s
 tbf-allowed now b n m counted s can peeked p q is shown may =
     let offered : (ask now (shape n)).shown ≡ Some q = sym peeked.shown.packet ∙ shown in
@@ -139,7 +145,8 @@ tbf-allowed now b n m counted s can peeked p q is shown may =
     }
 
 -- one whose bucket does not allow what its child shows
-tbf-waits : (now : ℕ) (own : Own) (b : TokenBucket) (limit : ℕ) (n m : Node Kept) (p : Descriptor) (r s : Shown) → m ≡ booked kept n (ask now (shape n)).peeked → m.memory.counts.arrived ≡ n.memory.counts.arrived → IsShown (ask now (shape n)) r
+tbf-waits : (now : ℕ) (own : Own) (b : TokenBucket) (limit : ℕ) (n m : Node Kept) (p : Descriptor) (r s : Shown)
+    → m ≡ booked kept n (ask now (shape n)).peeked → m.memory.counts.arrived ≡ n.memory.counts.arrived → IsShown (ask now (shape n)) r
     → (ask now (shape n)).shown ≡ Some p → allows b now p.len ≡ false → s.packet ≡ None → s.dropped ≡ r.dropped → s.marked ≡ r.marked
     → AreAsked (ask_child now own (ask now (shape n) ∷ []) b limit (ask now (shape n))) (n ∷ []) (m ∷ []) s
 tbf-waits now own b limit n m p r s new arrived told shown may none dropped marked =
@@ -161,10 +168,13 @@ tbf-waits-since now own b limit n p shown may =
     let a : Asked = ask now (shape n) in
     let below : List Asked = a ∷ [] in
     ap (λ (t : Bool). (if t then spends own below b limit now a p else waits own below a).peeked.own.since) (sym may)
-    ∙ ap (λ (o : Option Descriptor). (option_map_or (λ (p : Descriptor). if allows b now p.len then spends own below b limit now a p else waits own below a) o (waits own below a)).peeked.own.since) (sym shown)
+    ∙ ap (λ (o : Option Descriptor). (option_map_or
+    (λ (p : Descriptor). if allows b now p.len then spends own below b limit now a p else waits own below a) o
+    (waits own below a)).peeked.own.since) (sym shown)
 
 -- it does not allow what the child shows
-pub tbf-waiting : (now : ℕ) (own : Own) (b : TokenBucket) (limit : ℕ) (n m : Node Kept) (counted : Signals) (r s : Shown) → IsPeeked now n m counted r → (p : Descriptor) → r.packet ≡ Some p → allows b now p.len ≡ false
+pub tbf-waiting : (now : ℕ) (own : Own) (b : TokenBucket) (limit : ℕ) (n m : Node Kept) (counted : Signals) (r s : Shown) → IsPeeked now n m counted r
+    → (p : Descriptor) → r.packet ≡ Some p → allows b now p.len ≡ false
     → s.packet ≡ None → s.dropped ≡ r.dropped → s.marked ≡ r.marked → IsWaiting now own limit b n m s
 tbf-waiting now own b limit n m counted r s peeked p is may none dropped marked =
     let shown : (ask now (shape n)).shown ≡ Some p = sym peeked.shown.packet ∙ is in
@@ -211,15 +221,20 @@ items-are items new len is same =
     ap (λ xs. take len (new ++ xs)) (drop_all (length new) items (omega (arith, same))) ∙ ap (take len) (append-nil new) ∙ take_all len new (omega (arith, is, same))
 
 -- what a discipline answers, by what it is
-pub answer-is : (now : ℕ) (handle : Option ℕ) (filters : List Filter) (d : Discipline) (k : spec.Discipline) (ns : List (Node Kept)) → discipline_seen d ≡ k → children_seen d ≡ ns → answer_of now handle filters d ≡ ask_discipline now (own_of handle filters k) (answers now ns) k
+pub answer-is : (now : ℕ) (handle : Option ℕ) (filters : List Filter) (d : Discipline) (k : spec.Discipline) (ns : List (Node Kept))
+    → discipline_seen d ≡ k → children_seen d ≡ ns → answer_of now handle filters d ≡ ask_discipline now (own_of handle filters k) (answers now ns) k
 answer-is now handle filters d k ns is kids = ap₂ (λ x xs. ask_discipline now (own_of handle filters x) (answers now xs) x) is kids
 
 -- what a node with this discipline holds of the packet that it shows
-pub held-of : (now : ℕ) (handle : Option ℕ) (filters : List Filter) (d : Discipline) (k : spec.Discipline) (ns : List (Node Kept)) (held : Option Stamped) (o : Option Descriptor) → discipline_seen d ≡ k → children_seen d ≡ ns
+pub held-of : (now : ℕ) (handle : Option ℕ) (filters : List Filter) (d : Discipline) (k : spec.Discipline) (ns : List (Node Kept))
+    (held : Option Stamped) (o : Option Descriptor)
+    → discipline_seen d ≡ k → children_seen d ≡ ns
     → held ≡ held_with o (ask_discipline now (own_of handle filters k) (answers now ns) k).peeked.own.since → held ≡ held_with o (answer_of now handle filters d).peeked.own.since
 held-of now handle filters d k ns held o is kids holds = holds ∙ ap (λ (a : Asked). held_with o a.peeked.own.since) (sym (answer-is now handle filters d k ns is kids))
 
-pub asked-in : (now : ℕ) (handle : Option ℕ) (filters : List Filter) (before after : Discipline) (k k2 : spec.Discipline) (ns ns2 : List (Node Kept)) (s : Shown) → discipline_seen before ≡ k → children_seen before ≡ ns
+pub asked-in : (now : ℕ) (handle : Option ℕ) (filters : List Filter) (before after : Discipline) (k k2 : spec.Discipline) (ns ns2 : List (Node Kept))
+    (s : Shown)
+    → discipline_seen before ≡ k → children_seen before ≡ ns
     → discipline_seen after ≡ k2 → children_seen after ≡ ns2 → places_seen after ≡ places_seen before → k2 ≡ (ask_discipline now (own_of handle filters k) (answers now ns) k).peeked.own.discipline
     → AreAsked (ask_discipline now (own_of handle filters k) (answers now ns) k) ns ns2 s → IsAskedIn (answer_of now handle filters before) before after s
 asked-in now handle filters before after k k2 ns ns2 s is kids is2 kids2 places discipline asked =
@@ -232,13 +247,16 @@ asked-in now handle filters before after k k2 ns ns2 s is kids is2 kids2 places 
     })
 
 -- a fifo that shows its head
-pub fifo-asked : (now : ℕ) (handle : Option ℕ) (filters : List Filter) (d : Discipline) (limit : Limit) (queue : List Stamped) (s : Shown) → discipline_seen d ≡ spec.Fifo limit queue → children_seen d ≡ []
+pub fifo-asked : (now : ℕ) (handle : Option ℕ) (filters : List Filter) (d : Discipline) (limit : Limit) (queue : List Stamped) (s : Shown)
+    → discipline_seen d ≡ spec.Fifo limit queue → children_seen d ≡ []
     → s.packet ≡ slice_get (packets_of queue) 0 → s.dropped ≡ no_totals → s.marked ≡ no_totals → IsAskedIn (answer_of now handle filters d) d d s
 fifo-asked now handle filters d limit queue s is kids packet dropped marked =
     asked-in now handle filters d d (spec.Fifo limit queue) (spec.Fifo limit queue) [] [] s is kids is kids refl refl
     (record { long = refl; nodes = refl; within = λ t h. h; shown = record { packet = packet; dropped = dropped; marked = marked } })
 
-pub told-in : (now : ℕ) (handle : Option ℕ) (filters : List Filter) (d : Discipline) (k : spec.Discipline) (ns : List (Node Kept)) (sink sink2 : SinkState) → discipline_seen d ≡ k → children_seen d ≡ ns
+pub told-in : (now : ℕ) (handle : Option ℕ) (filters : List Filter) (d : Discipline) (k : spec.Discipline) (ns : List (Node Kept))
+    (sink sink2 : SinkState)
+    → discipline_seen d ≡ k → children_seen d ≡ ns
     → IsToldOf (ask_discipline now (own_of handle filters k) (answers now ns) k).rises sink sink2 → IsToldOf (answer_of now handle filters d).rises sink sink2
 told-in now handle filters d k ns sink sink2 is kids h = subst (λ (a : Asked). IsToldOf a.rises sink sink2) (sym (answer-is now handle filters d k ns is kids)) h
 
@@ -260,20 +278,35 @@ module _ (now : ℕ) (a : Inside) (n : Node Kept) (k : IsKept a) (view : seen a 
   can-here = subst (CanAsk now) (sym view) can
 
   same-waiting : beneath (seen a) ≡ option_to_list (packet_held a.held) ++ packets_in (discipline_seen a.discipline) ++ packets_beneath (children_seen a.discipline)
-  same-waiting = ap (λ (bs : List (List Descriptor)). option_to_list (packet_held a.held) ++ packets_in (discipline_seen a.discipline) ++ flat_map (λ packets. packets) bs) (each-side beneath_own (children_seen a.discipline))
+  same-waiting =
+      ap (λ (bs : List (List Descriptor)). option_to_list (packet_held a.held) ++ packets_in (discipline_seen a.discipline)
+      ++ flat_map (λ packets. packets) bs) (each-side beneath_own (children_seen a.discipline))
 
   within-packets : length (packets_within a.discipline) ≤ length (beneath (seen a))
   within-packets =
       let own : List Descriptor = packets_in (discipline_seen a.discipline) in
       let deep : List Descriptor = packets_beneath (children_seen a.discipline) in
-      omega (arith, ap (λ (xs : List Descriptor). length xs) same-waiting, length-append (option_to_list (packet_held a.held) ++ own) deep, length-append (option_to_list (packet_held a.held)) own, length-append own deep)
+      omega (
+        arith,
+        ap (λ (xs : List Descriptor). length xs) same-waiting,
+        length-append (option_to_list (packet_held a.held) ++ own) deep,
+        length-append (option_to_list (packet_held a.held)) own,
+        length-append own deep,
+      )
 
   within-bytes : (totals_in (packets_within a.discipline)).bytes ≤ (totals_in (beneath (seen a))).bytes
   within-bytes =
       let own : List Descriptor = packets_in (discipline_seen a.discipline) in
       let deep : List Descriptor = packets_beneath (children_seen a.discipline) in
       let len : Descriptor → ℕ = λ p. p.len in
-      omega (arith, ap (λ (xs : List Descriptor). (totals_in xs).bytes) same-waiting, sum_by-append len (option_to_list (packet_held a.held) ++ own) deep, sum_by-append len (option_to_list (packet_held a.held)) own, sum_by-append len own deep)
+      omega (
+        arith,
+        ap (λ (xs : List Descriptor). (totals_in xs).bytes) same-waiting,
+        sum_by-append len (option_to_list (packet_held a.held) ++ own)
+            deep,
+        sum_by-append len (option_to_list (packet_held a.held)) own,
+        sum_by-append len own deep,
+      )
 
   pub can-in : a.row.queued.packets < 2 ^ 64 → a.row.queued.bytes < 2 ^ 64 → CanAskIn now a.discipline
   can-in packets_fit bytes_fit =
@@ -313,7 +346,8 @@ module _ (now : ℕ) (a : Inside) (n : Node Kept) (k : IsKept a) (view : seen a 
 
     module _ (d : Discipline) (s : Shown) (q : IsAskedIn (answer_of now a.handle a.filters a.discipline) a.discipline d s) where
       pub peeked-done : (r : Row) (held : Option Stamped) → CanShow s a.row → r ≡ with_shown s a.row
-          → held ≡ held_with (held_in (discipline_seen d) s.packet) (answer_of now a.handle a.filters a.discipline).peeked.own.since → IsPeekedAs now n (record a { held = held; row = r; discipline = d })
+          → held ≡ held_with (held_in (discipline_seen d) s.packet) (answer_of now a.handle a.filters a.discipline).peeked.own.since
+          → IsPeekedAs now n (record a { held = held; row = r; discipline = d })
       peeked-done r held fit row holds =
           let x : Asked = ask now (shape (seen a)) in
           let w = asked-weighs now (seen a) can-here in
@@ -328,7 +362,8 @@ module _ (now : ℕ) (a : Inside) (n : Node Kept) (k : IsKept a) (view : seen a 
           }
 
     -- a fifo shows its head, and stays as it is
-    pub fifo-peeked : (limit : Limit) (queue : List Stamped) (s : Shown) → discipline_seen a.discipline ≡ spec.Fifo limit queue → IsAskedIn (answer_of now a.handle a.filters a.discipline) a.discipline a.discipline s
+    pub fifo-peeked : (limit : Limit) (queue : List Stamped) (s : Shown) → discipline_seen a.discipline ≡ spec.Fifo limit queue
+        → IsAskedIn (answer_of now a.handle a.filters a.discipline) a.discipline a.discipline s
         → CanShow s a.row → a.row ≡ with_shown s a.row → n ≡ booked kept n (ask now (shape n)).peeked
     fifo-peeked limit queue s is asked fit row =
         sym view

@@ -67,7 +67,8 @@ leads-on rest i before ns x h e is =
 
 pub has-place : {A B : Type 0} (r : Result A B) (rest : List ℕ) (i : ℕ) (ns : List (Node Kept)) (x : Node Kept) → i < length ns → OnOk r (HasPlace rest x) → OnOk r (HasPlaceAt rest i (set ns i x))
 has-place r rest i ns x inside h =
-    on-ok r (λ p. subst (λ (o : Option (Node Kept)). IfSome (option_and_then (node_at rest) o) (λ (end : Node Kept). HasPlaceIn end.memory.places end.own.discipline)) (sym (set-there ns i x inside)) p) h
+    on-ok r (λ p. subst (λ (o : Option (Node Kept)). IfSome (option_and_then (node_at rest) o)
+    (λ (end : Node Kept). HasPlaceIn end.memory.places end.own.discipline)) (sym (set-there ns i x inside)) p) h
 
 -- a node whose children have other places
 side-unplaced : (ns : List (Node Kept)) → each_memory (λ (k : Kept). k.counts) (side_by_side ns) ≡ side_by_side (map unplaced ns)
@@ -83,13 +84,15 @@ beneath-unplaced [] = refl
 beneath-unplaced (n ∷ ns) = ap₂ (λ x xs. x ∷ xs) (ap (beneath_own n.own) (each-each_memory beneath_own (λ (k : Kept). k.counts) n.below)) (beneath-unplaced ns)
 
 module _ (t : Totals) where
-  to-unplaced : (ns : List (Node Kept)) → All (λ (child : Node Kept). IsCountedWithin child.memory.counts.arrived t) ns → All (λ (child : Node Counts). IsCountedWithin child.memory.arrived t) (map unplaced ns)
+  to-unplaced : (ns : List (Node Kept)) → All (λ (child : Node Kept). IsCountedWithin child.memory.counts.arrived t) ns
+      → All (λ (child : Node Counts). IsCountedWithin child.memory.arrived t) (map unplaced ns)
   to-unplaced [] h = All-nil (λ (child : Node Counts). IsCountedWithin child.memory.arrived t)
   to-unplaced (n ∷ ns) h =
       All-cons (λ (child : Node Counts). IsCountedWithin child.memory.arrived t) (unplaced n) (map unplaced ns) (All-head (λ (child : Node Kept). IsCountedWithin child.memory.counts.arrived t) n ns h)
       (to-unplaced ns (All-tail (λ (child : Node Kept). IsCountedWithin child.memory.counts.arrived t) n ns h))
 
-  from-unplaced : (ns : List (Node Kept)) → All (λ (child : Node Counts). IsCountedWithin child.memory.arrived t) (map unplaced ns) → All (λ (child : Node Kept). IsCountedWithin child.memory.counts.arrived t) ns
+  from-unplaced : (ns : List (Node Kept)) → All (λ (child : Node Counts). IsCountedWithin child.memory.arrived t) (map unplaced ns)
+      → All (λ (child : Node Kept). IsCountedWithin child.memory.counts.arrived t) ns
   from-unplaced [] h = All-nil (λ (child : Node Kept). IsCountedWithin child.memory.counts.arrived t)
   from-unplaced (n ∷ ns) h =
       All-cons (λ (child : Node Kept). IsCountedWithin child.memory.counts.arrived t) n ns (All-head (λ (child : Node Counts). IsCountedWithin child.memory.arrived t) (unplaced n) (map unplaced ns) h)
@@ -98,25 +101,43 @@ module _ (t : Totals) where
 module _ (a : Inside) (d : Discipline) (same : discipline_seen d ≡ discipline_seen a.discipline) (kids : map unplaced (children_seen d) ≡ map unplaced (children_seen a.discipline)) where
   same-beneath : beneath (seen (record a { discipline = d })) ≡ beneath (seen a)
   same-beneath =
-      ap (λ x. beneath_own (record { handle = a.handle; discipline = x; held = packet_held a.held; since = since_held a.held; filters = a.filters }) (each beneath_own (side_by_side (children_seen d)))) same
-      ∙ ap (beneath_own (seen a).own) (each-side beneath_own (children_seen d) ∙ sym (beneath-unplaced (children_seen d)) ∙ ap (map beneath) kids ∙ beneath-unplaced (children_seen a.discipline) ∙ sym (each-side beneath_own (children_seen a.discipline)))
+      ap (λ x. beneath_own (record { handle = a.handle; discipline = x; held = packet_held a.held; since = since_held a.held; filters = a.filters })
+      (each beneath_own (side_by_side (children_seen d)))) same
+      ∙ ap (beneath_own (seen a).own) (each-side beneath_own (children_seen d) ∙ sym (beneath-unplaced (children_seen d)) ∙ ap (map beneath) kids ∙
+      beneath-unplaced (children_seen a.discipline) ∙ sym (each-side beneath_own (children_seen a.discipline)))
 
   same-held : held_beneath (seen (record a { discipline = d })) ≡ held_beneath (seen a)
-  same-held = ap (held_own (seen a).own) (each-side held_own (children_seen d) ∙ sym (held-unplaced (children_seen d)) ∙ ap (map held_beneath) kids ∙ held-unplaced (children_seen a.discipline) ∙ sym (each-side held_own (children_seen a.discipline)))
+  same-held =
+      ap (held_own (seen a).own) (each-side held_own (children_seen d) ∙ sym (held-unplaced (children_seen d)) ∙ ap (map held_beneath) kids ∙
+      held-unplaced (children_seen a.discipline) ∙ sym (each-side held_own (children_seen a.discipline)))
 
   pub kept-places : IsKept a → IsKept (record a { discipline = d })
   kept-places k = record {
     queued = k.queued ∙ ap totals_in (sym same-beneath);
     balanced = k.balanced;
     marks = subst (AreMarksBounded (seen a).memory.counts) (sym same-held) k.marks;
-    within = from-unplaced a.row.arrived (children_seen d) (subst (All (λ (child : Node Counts). IsCountedWithin child.memory.arrived a.row.arrived)) (sym kids) (to-unplaced a.row.arrived (children_seen a.discipline) k.within));
+    within =
+        from-unplaced a.row.arrived (children_seen d)
+        (subst (All (λ (child : Node Counts). IsCountedWithin child.memory.arrived a.row.arrived)) (sym kids)
+        (to-unplaced a.row.arrived (children_seen a.discipline) k.within));
   }
 
   pub same-places : (n : Node Kept) → seen a ≡ n → unplaced (seen (record a { discipline = d })) ≡ unplaced n
   same-places n view =
       let below : each_memory (λ (k : Kept). k.counts) (side_by_side (children_seen d)) ≡ each_memory (λ (k : Kept). k.counts) (side_by_side (children_seen a.discipline)) =
       side-unplaced (children_seen d) ∙ ap side_by_side kids ∙ sym (side-unplaced (children_seen a.discipline)) in
-      (λ j. record { own = record { handle = a.handle; discipline = same j; held = packet_held a.held; since = since_held a.held; filters = a.filters }; memory = (seen a).memory.counts; below = below j }) ∙ ap unplaced view
+      (λ j. record {
+        own = record {
+          handle = a.handle;
+          discipline = same j;
+          held = packet_held a.held;
+          since = since_held a.held;
+          filters =
+              a.filters;
+        };
+        memory = (seen a).memory.counts;
+        below = below j;
+      }) ∙ ap unplaced view
 
 -- the way of a node goes on in its children
 pub way-on : (i : ℕ) (rest path : List ℕ) (a : Inside) (n : Node Kept) → seen a ≡ n → path ≡ i ∷ rest → IsSome (node_at path n) → Leads rest i (children_seen a.discipline)
@@ -138,7 +159,8 @@ place-off i rest path a n view e h =
 -- ---- no queue has fewer places
 
 -- among the children of which one has changed
-pub set-places : (ns : List (Node Kept)) (i : ℕ) (x x2 : Node Kept) → x ≡ slice_index_or ns i x → ((way : List ℕ) → places_at way x ≤ places_at way x2) → (way : List ℕ) (j : ℕ) → places_under way j ns ≤ places_under way j (set ns i x2)
+pub set-places : (ns : List (Node Kept)) (i : ℕ) (x x2 : Node Kept) → x ≡ slice_index_or ns i x
+    → ((way : List ℕ) → places_at way x ≤ places_at way x2) → (way : List ℕ) (j : ℕ) → places_under way j ns ≤ places_under way j (set ns i x2)
 set-places [] i x x2 is grow way j = omega arith
 set-places (n ∷ ns) zero x x2 is grow way zero = omega (arith, grow way, ap (places_at way) is)
 set-places (n ∷ ns) zero x x2 is grow way (suc j) = omega arith
@@ -146,7 +168,8 @@ set-places (n ∷ ns) (suc i) x x2 is grow way zero = omega arith
 set-places (n ∷ ns) (suc i) x x2 is grow way (suc j) = set-places ns i x x2 is grow way j
 
 -- at a node and beneath it
-pub seen-places : (a : Inside) (d : Discipline) → places_seen a.discipline ≤ places_seen d → ((way : List ℕ) (i : ℕ) → places_under way i (children_seen a.discipline) ≤ places_under way i (children_seen d))
+pub seen-places : (a : Inside) (d : Discipline) → places_seen a.discipline ≤ places_seen d
+    → ((way : List ℕ) (i : ℕ) → places_under way i (children_seen a.discipline) ≤ places_under way i (children_seen d))
     → (n : Node Kept) → seen a ≡ n → (way : List ℕ) → places_at way n ≤ places_at way (seen (record a { discipline = d }))
 seen-places a d here under n view [] = subst (λ (m : Node Kept). m.memory.places ≤ places_seen d) view here
 seen-places a d here under n view (i ∷ way) =
@@ -165,13 +188,15 @@ more-places (spec.Drr s) k m le h = tt
 pub node_at-unplaced : (path : List ℕ) (n : Node Kept) → node_at path (unplaced n) ≡ option_map unplaced (node_at path n)
 node_at-unplaced [] n = refl
 node_at-unplaced (i ∷ path) n = ap (option_and_then (node_at path)) (child-with_memory (λ (k : Kept). k.counts) n i) ∙ beneath-child (slice_get (children n) i) (node_at-unplaced path) where
-  beneath-child : (o : Option (Node Kept)) → ((c : Node Kept) → node_at path (unplaced c) ≡ option_map unplaced (node_at path c)) → option_and_then (node_at path) (option_map unplaced o) ≡ option_map unplaced (option_and_then (node_at path) o)
+  beneath-child : (o : Option (Node Kept)) → ((c : Node Kept) → node_at path (unplaced c) ≡ option_map unplaced (node_at path c))
+      → option_and_then (node_at path) (option_map unplaced o) ≡ option_map unplaced (option_and_then (node_at path) o)
   beneath-child None rec = refl
   beneath-child (Some c) rec = rec c
 
 pub place-stays : (path : List ℕ) (n m : Node Kept) → unplaced m ≡ unplaced n → places_at path n ≤ places_at path m → HasPlace path n → HasPlace path m
 place-stays path n m same grow h = by (node_at path n) (node_at path m) (sym (node_at-unplaced path m) ∙ ap (node_at path) same ∙ node_at-unplaced path n) grow h where
-  by : (o o2 : Option (Node Kept)) → option_map unplaced o2 ≡ option_map unplaced o → option_map_or (λ (end : Node Kept). end.memory.places) o 0 ≤ option_map_or (λ (end : Node Kept). end.memory.places) o2 0
+  by : (o o2 : Option (Node Kept)) → option_map unplaced o2 ≡ option_map unplaced o
+      → option_map_or (λ (end : Node Kept). end.memory.places) o 0 ≤ option_map_or (λ (end : Node Kept). end.memory.places) o2 0
       → IfSome o (λ (end : Node Kept). HasPlaceIn end.memory.places end.own.discipline) → IfSome o2 (λ (end : Node Kept). HasPlaceIn end.memory.places end.own.discipline)
   by None None e le is = tt
   by (Some x) None e le is = tt

@@ -55,14 +55,16 @@ use Rattle.q_tree.proofs.TreePuts.{levels}
 -- ---- the answer
 
 -- a device that was edited is the one of the plan
-edited-is : (e : Edit) (path : List ℕ) (now : ℕ) (d : DeviceState Kept) (p : IsPlanned e path now d.tree.device d.tree.root) → device_edited e path now d ≡ record { clock = now; tree = with_edit kept p.edit d.tree }
+edited-is : (e : Edit) (path : List ℕ) (now : ℕ) (d : DeviceState Kept) (p : IsPlanned e path now d.tree.device d.tree.root)
+    → device_edited e path now d ≡ record { clock = now; tree = with_edit kept p.edit d.tree }
 edited-is e path now d p = λ i. record {
   clock = now;
   tree = record { device = d.tree.device; top = ap (λ ps. noted kept d.tree.top (losses_of Purged ps)) p.lost i; root = p.same i };
 }
 
 -- and its numbers are those of the plan
-pub done-numbers : (now : ℕ) (edit : model.Edit) (d after : DeviceState Kept) → after ≡ record { clock = now; tree = with_edit kept edit d.tree } → numbers after ≡ record { clock = now; tree = with_edit totals edit (tree_numbers d.tree) }
+pub done-numbers : (now : ℕ) (edit : model.Edit) (d after : DeviceState Kept) → after ≡ record { clock = now; tree = with_edit kept edit d.tree }
+    → numbers after ≡ record { clock = now; tree = with_edit totals edit (tree_numbers d.tree) }
 done-numbers now edit d after is = ap numbers is ∙ ap (λ t. record { clock = now; tree = t }) (with_edit-stands kept totals (λ (k : Kept). k.counts) stands edit d.tree)
 
 pub numbers-after : (e : Edit) (path : List ℕ) (now : ℕ) (d after : DeviceState Kept) (p : IsPlanned e path now d.tree.device d.tree.root) → after ≡ device_edited e path now d
@@ -106,10 +108,13 @@ module _ (memory : Type 0) (command : Command) (d : DeviceState Kept) (now : ℕ
     told-none : (why : Refusal) → told planned (shape d.tree.root) (Err why) ≡ []
     told-none why = ap (λ q. told q (shape d.tree.root) (Err why)) tree-plan
 
-    pub tree-told : (before after : SinkState) (result : Result (Unit {0}) Refusal) → OnOk result (IsTold (purged (removed_at p.edit p.path.items d.tree.root)) before after) → OnErr result (after ≡ before)
+    pub tree-told : (before after : SinkState) (result : Result (Unit {0}) Refusal)
+        → OnOk result (IsTold (purged (removed_at p.edit p.path.items d.tree.root)) before after) → OnErr result (after ≡ before)
         → IsTold (told planned (shape d.tree.root) result) before after
     tree-told before after (Ok done) ok err = subst (λ xs. IsTold xs before after) (sym told-done) ok
-    tree-told before after (Err why) ok err = subst (λ s. IsTold (told planned (shape d.tree.root) (Err why)) before s) (sym err) (subst (λ xs. IsTold xs before before) (sym (told-none why)) (told_nothing before))
+    tree-told before after (Err why) ok err =
+        subst (λ s. IsTold (told planned (shape d.tree.root) (Err why)) before s) (sym err)
+        (subst (λ xs. IsTold xs before before) (sym (told-none why)) (told_nothing before))
 
 -- an edit that loses nothing
 quiet-lost : (r : shapes.DisciplineChange) (d : Discipline) (ns : List (Node Kept)) → KeepsAll r → lost_with r d ns ≡ []
@@ -140,7 +145,8 @@ quiet-removed (DisciplineChange r) path n h = by (node_at path n) where
 -- ---- a node that is made anew
 
 -- an edit is told by what it makes of the node at the end of its way
-edited-end : {M : Type 0} (t : Tally M) (notes : List Note) (f g : Node M → Node M) (path : List ℕ) (root n : Node M) → node_at path root ≡ Some n → f n ≡ g n → edited_at t notes f path root ≡ edited_at t notes g path root
+edited-end : {M : Type 0} (t : Tally M) (notes : List Note) (f g : Node M → Node M) (path : List ℕ) (root n : Node M) → node_at path root ≡ Some n
+    → f n ≡ g n → edited_at t notes f path root ≡ edited_at t notes g path root
 edited-end t notes f g [] root n at same = ap f (same_Some root n at) ∙ same ∙ sym (ap g (same_Some root n at))
 edited-end {M} t notes f g (i ∷ path) root n at same = by (slice_get (children root) i) at (λ c there. edited-end t notes f g path c n there same) where
   by : (o : Option (Node M)) → option_and_then (node_at path) o ≡ Some n → ((c : Node M) → node_at path c ≡ Some n → edited_at t notes f path c ≡ edited_at t notes g path c)
@@ -265,7 +271,8 @@ own-kept r n nothing_lost all = λ i. record {
 }
 
 -- children that are named by what becomes of them
-pub change-does : (r : shapes.DisciplineChange) (n : Node Kept) (own : Own) (below : List model.Child) → ◌≡◌ {A = Own} (record n.own { discipline = discipline_after r n.own.discipline (children n) }) own
+pub change-does : (r : shapes.DisciplineChange) (n : Node Kept) (own : Own) (below : List model.Child)
+    → ◌≡◌ {A = Own} (record n.own { discipline = discipline_after r n.own.discipline (children n) }) own
     → children_after r n.own.discipline (children n) ≡ kids kept (children n) below → effect (DisciplineChange r) n ≡ remade kept own below (losses_of Purged (removed (DisciplineChange r) n)) n
 change-does r n own below own_is kids_is = λ i. record {
   own = own_is i;
@@ -273,7 +280,8 @@ change-does r n own below own_is kids_is = λ i. record {
   below = side_by_side (kids_is i);
 }
 
-pub own-planned : (device : Device) (root : Node Kept) (p : Planned) → IsReady p.edit → (n : Node Kept) → node_at p.path.items root ≡ Some n → (own : Own) → effect p.edit n ≡ record n { own = own } → removed p.edit n ≡ []
+pub own-planned : (device : Device) (root : Node Kept) (p : Planned) → IsReady p.edit → (n : Node Kept) → node_at p.path.items root ≡ Some n
+    → (own : Own) → effect p.edit n ≡ record n { own = own } → removed p.edit n ≡ []
     → (command : Command) → IsCommand command → (now : ℕ) → plan device now command (shape root) ≡ Ok (Remake p.path.items own (all_kept (shape n)))
     → (memory : Type 0) → (TakesMemory p.edit → memory) → IsPlannedFor memory command p now device root
 own-planned device root p ready n there own does nothing_lost command ranges now plan-is memory takes =

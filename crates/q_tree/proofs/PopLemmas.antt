@@ -99,8 +99,11 @@ pub none-there : {A : Type 0} (xs : List A) → slice_get xs (length xs) ≡ Non
 none-there [] = refl
 none-there (x ∷ xs) = none-there xs
 
-pub prio-kept : (ns : List (Node Kept)) → first_ready (map pop ns) ≡ length (map pop ns) → side_by_side ns ≡ each_booked kept (side_by_side ns) (side_by_side (popped_at (first_ready (map pop ns)) (map pop ns)))
-prio-kept ns is = sym (side-still ns) ∙ ap (λ (ws : List Worked). each_booked kept (side_by_side ns) (side_by_side ws)) (sym (past-all (map pop ns))) ∙ ap (λ n. each_booked kept (side_by_side ns) (side_by_side (popped_at n (map pop ns)))) (sym is)
+pub prio-kept : (ns : List (Node Kept)) → first_ready (map pop ns) ≡ length (map pop ns)
+    → side_by_side ns ≡ each_booked kept (side_by_side ns) (side_by_side (popped_at (first_ready (map pop ns)) (map pop ns)))
+prio-kept ns is =
+    sym (side-still ns) ∙ ap (λ (ws : List Worked). each_booked kept (side_by_side ns) (side_by_side ws)) (sym (past-all (map pop ns)))
+    ∙ ap (λ n. each_booked kept (side_by_side ns) (side_by_side (popped_at n (map pop ns)))) (sym is)
 
 pub nothing-shown : (ns : List (Node Kept)) → first_ready (map pop ns) ≡ length (map pop ns) → None ≡ first_shown (map pop ns)
 nothing-shown ns is = sym (ap (option_and_then (λ (b : Popping). b.shown)) (none-there (map pop ns))) ∙ ap (λ n. option_and_then (λ (b : Popping). b.shown) (slice_get (map pop ns) n)) (sym is)
@@ -182,13 +185,15 @@ module _ (a : Inside) (p : Descriptor) (e : packet_held a.held ≡ Some p) where
   held-after r row =
       let after : (pop (seen a)).after ≡ worked own_gone (Sent p ∷ []) (as_they_are (bands_of a)) =
       ap (λ (b : Popping). b.after) (pop-is a) ∙ ap (λ (o : Option Descriptor). (pop_own (own_with o) (bands_of a)).after) e in
-      let below : side_by_side (children_seen a.discipline) ≡ each_booked kept (side_by_side (children_seen a.discipline)) (side_by_side (as_they_are (bands_of a))) = sym (side-still (children_seen a.discipline)) in
+      let below : side_by_side (children_seen a.discipline) ≡ each_booked kept (side_by_side (children_seen a.discipline))
+      (side_by_side (as_they_are (bands_of a))) = sym (side-still (children_seen a.discipline)) in
       let counts : counts_in_row r ≡ counts_in_row (with_sent p a.row) = ap counts_in_row row in
       (λ i. record { own = own_gone; memory = record { counts = counts i; places = places_seen a.discipline }; below = below i })
       ∙ ap (λ (w : Worked). booked kept (seen a) w) (sym after)
 
 -- one that had it in its own queue, or beneath
-shown-is : (handle : Option ℕ) (filters : List Filter) (d : spec.Discipline) (bs : List Popping) → (pop_discipline (own_of handle filters d) bs d).shown ≡ (pop_discipline (own_of None [] d) bs d).shown
+shown-is : (handle : Option ℕ) (filters : List Filter) (d : spec.Discipline) (bs : List Popping)
+    → (pop_discipline (own_of handle filters d) bs d).shown ≡ (pop_discipline (own_of None [] d) bs d).shown
 shown-is handle filters (spec.Fifo limit queue) bs = refl
 shown-is handle filters (spec.Prio priomap) bs = refl
 shown-is handle filters (spec.Tbf b limit) bs = refl
@@ -211,9 +216,12 @@ module _ (a : Inside) (none : packet_held a.held ≡ None) (d : Discipline) (pac
   here o = record { handle = a.handle; discipline = discipline_seen a.discipline; held = packet_held o; since = since_held o; filters = a.filters }
 
   pub own-shown : (pop (seen a)).shown ≡ packet
-  own-shown = ap (λ (b : Popping). b.shown) (pop-is a) ∙ ap (λ (o : Option Stamped). (pop_own (here o) (bands_of a)).shown) nothing ∙ shown-is a.handle a.filters (discipline_seen a.discipline) (bands_of a) ∙ sym shown
+  own-shown =
+      ap (λ (b : Popping). b.shown) (pop-is a) ∙ ap (λ (o : Option Stamped). (pop_own (here o) (bands_of a)).shown) nothing
+      ∙ shown-is a.handle a.filters (discipline_seen a.discipline) (bands_of a) ∙ sym shown
 
-  pub own-after : (r : Row) → counts_in_row r ≡ noted totals (counts_in_row a.row) (map Sent (option_to_list packet)) → seen (record a { row = r; discipline = d }) ≡ booked kept (seen a) (pop (seen a)).after
+  pub own-after : (r : Row) → counts_in_row r ≡ noted totals (counts_in_row a.row) (map Sent (option_to_list packet))
+      → seen (record a { row = r; discipline = d }) ≡ booked kept (seen a) (pop (seen a)).after
   own-after r row =
       let notes : List Note = map Sent (option_to_list packet) in
       let b : Popping = popping_of a.discipline in
@@ -221,15 +229,27 @@ module _ (a : Inside) (none : packet_held a.held ≡ None) (d : Discipline) (pac
       let after : (pop (seen a)).after ≡ record { own = left; memory = notes; below = b.after.below } =
       ap (λ (b : Popping). b.after) (pop-is a) ∙ ap (λ (o : Option Stamped). (pop_own (here o) (bands_of a)).after) nothing ∙ after-is a.handle a.filters (discipline_seen a.discipline) (bands_of a)
       ∙ ap (λ (o : Option Descriptor). record { own = left; memory = map Sent (option_to_list o); below = b.after.below }) (sym shown) in
-      let memory : record { counts = counts_in_row r; places = places_seen d } ≡ noted kept (seen a).memory notes = (λ i. record { counts = row i; places = q.places i }) ∙ sym (noted-kept (seen a).memory notes) in
-      (λ i. record { own = record { handle = a.handle; discipline = q.discipline i; held = packet_held (nothing i); since = since_held (nothing i); filters = a.filters }; memory = memory i; below = q.children i })
+      let memory : record { counts = counts_in_row r; places = places_seen d } ≡ noted kept (seen a).memory notes =
+      (λ i. record { counts = row i; places = q.places i }) ∙ sym (noted-kept (seen a).memory notes) in
+      (λ i. record {
+        own = record {
+          handle = a.handle;
+          discipline = q.discipline i;
+          held = packet_held (nothing i);
+          since = since_held (nothing i);
+          filters = a.filters;
+        };
+        memory = memory i;
+        below = q.children i;
+      })
       ∙ ap (λ (w : Worked). booked kept (seen a) w) (sym after)
 
   -- where there is none, all stays
   pub still-kept : IsKept a → packet ≡ None → IsPoppedAs (seen a) (record a { discipline = d }) None
   still-kept k e =
       let hidden : (pop (seen a)).shown ≡ None = own-shown ∙ e in
-      let value : seen (record a { discipline = d }) ≡ booked kept (seen a) (pop (seen a)).after = own-after a.row (ap (λ (o : Option Descriptor). noted totals (counts_in_row a.row) (map Sent (option_to_list o))) (sym e)) in
+      let value : seen (record a { discipline = d }) ≡ booked kept (seen a) (pop (seen a)).after =
+      own-after a.row (ap (λ (o : Option Descriptor). noted totals (counts_in_row a.row) (map Sent (option_to_list o))) (sym e)) in
       record {
         shown = sym hidden;
         stays = kept-of (record a { discipline = d }) (subst (IsRowOf a.row) (sym value) (row-still (seen a) a.row (row-of a k) hidden)) (q.within a.row.arrived k.within);
@@ -264,7 +284,8 @@ none-popped d can = record {
     kids (spec.FqCodel s) can = refl
 
 -- a prio, before and after
-pub prio-popped : (before after : Discipline) (ns ns2 : List (Node Kept)) (priomap : List ℕ) → discipline_seen before ≡ spec.Prio priomap → discipline_seen after ≡ spec.Prio priomap → children_seen before ≡ ns → children_seen after ≡ ns2 → places_seen after ≡ places_seen before
+pub prio-popped : (before after : Discipline) (ns ns2 : List (Node Kept)) (priomap : List ℕ) → discipline_seen before ≡ spec.Prio priomap
+    → discipline_seen after ≡ spec.Prio priomap → children_seen before ≡ ns → children_seen after ≡ ns2 → places_seen after ≡ places_seen before
     → ArePopped ns ns2 → IsPoppedIn before after
 prio-popped before after ns ns2 priomap is is2 kids kids2 places popped =
     let b : Popping = pop_discipline (own_of None [] (spec.Prio priomap)) (map pop ns) (spec.Prio priomap) in
@@ -272,14 +293,18 @@ prio-popped before after ns ns2 priomap is is2 kids kids2 places popped =
     record {
       discipline = is2 ∙ ap (λ (x : Popping). x.after.own.discipline) (sym same);
       children = ap side_by_side kids2 ∙ popped.nodes ∙ sym (ap₂ (λ xs (x : Popping). each_booked kept (side_by_side xs) x.after.below) kids same);
-      within = λ t h. subst (All (λ (child : Node Kept). IsCountedWithin child.memory.counts.arrived t)) (sym kids2) (popped.within t (subst (All (λ (child : Node Kept). IsCountedWithin child.memory.counts.arrived t)) kids h));
+      within =
+          λ t h. subst (All (λ (child : Node Kept). IsCountedWithin child.memory.counts.arrived t)) (sym kids2)
+          (popped.within t (subst (All (λ (child : Node Kept). IsCountedWithin child.memory.counts.arrived t)) kids h));
       places = places;
     }
 
 pub set-within : (ns : List (Node Kept)) (k : ℕ) (c c2 : Node Kept) → slice_get ns k ≡ Some c → c2.memory.counts.arrived ≡ c.memory.counts.arrived → (t : Totals)
     → All (λ (child : Node Kept). IsCountedWithin child.memory.counts.arrived t) ns → All (λ (child : Node Kept). IsCountedWithin child.memory.counts.arrived t) (set ns k c2)
 set-within ns k c c2 at same t h =
-    All-set (λ (child : Node Kept). IsCountedWithin child.memory.counts.arrived t) ns k c2 (subst (λ (x : Totals). IsCountedWithin x t) (sym same) (All-at (λ (child : Node Kept). IsCountedWithin child.memory.counts.arrived t) ns k c h at)) h
+    All-set (λ (child : Node Kept). IsCountedWithin child.memory.counts.arrived t) ns k c2
+    (subst (λ (x : Totals). IsCountedWithin x t) (sym same)
+    (All-at (λ (child : Node Kept). IsCountedWithin child.memory.counts.arrived t) ns k c h at)) h
 
 -- the band that comes next, where all are as they were
 pub band-here : (ns ms : List (Node Kept)) (i : ℕ) (d : Node Kept) → ms ≡ ns → i < length ns → slice_get ns i ≡ Some (slice_index_or ms i d)

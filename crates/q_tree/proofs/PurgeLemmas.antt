@@ -24,11 +24,15 @@ use Rattle.q_tree.proofs.FlowCounts.{packets-all, packets-bare}
 use Rattle.q_tree.specs.Holding.{packet_held}
 
 -- the packets at a node and beneath it: the one that it holds, its own, and those of its children
-pub own-beneath : (a : Inside) (n : Node Kept) → seen a ≡ n → beneath n ≡ option_to_list (packet_held a.held) ++ packets_in (discipline_seen a.discipline) ++ packets_beneath (children_seen a.discipline)
+pub own-beneath : (a : Inside) (n : Node Kept) → seen a ≡ n
+    → beneath n ≡ option_to_list (packet_held a.held) ++ packets_in (discipline_seen a.discipline) ++ packets_beneath (children_seen a.discipline)
 own-beneath a n view =
-    ap beneath (sym view) ∙ ap (λ bs. option_to_list (packet_held a.held) ++ packets_in (discipline_seen a.discipline) ++ flat_map (λ packets. packets) bs) (each-side beneath_own (children_seen a.discipline))
+    ap beneath (sym view) ∙ ap (λ bs. option_to_list (packet_held a.held) ++ packets_in (discipline_seen a.discipline) ++ flat_map
+    (λ packets. packets) bs) (each-side beneath_own (children_seen a.discipline))
 
-pub own-count : (a : Inside) (n : Node Kept) → seen a ≡ n → length (beneath n) ≡ length (option_to_list (packet_held a.held)) + (length (packets_in (discipline_seen a.discipline)) + length (packets_beneath (children_seen a.discipline)))
+pub own-count : (a : Inside) (n : Node Kept) → seen a ≡ n
+    → length (beneath n) ≡ length (option_to_list (packet_held a.held)) +
+    (length (packets_in (discipline_seen a.discipline)) + length (packets_beneath (children_seen a.discipline)))
 own-count a n view =
     omega (
       arith,
@@ -66,7 +70,9 @@ pub node-told : (x : Inside) (n : Node Kept) → seen x ≡ n → (ps : List Des
     → (a b c : SinkState) → IsTold (purged (option_to_list (packet_held x.held))) a b → IsTold (purged ps) b c → IsTold (purged (beneath n)) a c
 node-told x n view ps is a b c h k =
     subst (λ qs. IsTold (purged qs) a c)
-    (ap (λ qs. option_to_list (packet_held x.held) ++ qs) (sym is) ∙ sym (append_assoc (option_to_list (packet_held x.held)) (packets_in (discipline_seen x.discipline)) (packets_beneath (children_seen x.discipline))) ∙ sym (own-beneath x n view))
+    (ap (λ qs. option_to_list (packet_held x.held) ++ qs) (sym is) ∙ sym
+    (append_assoc (option_to_list (packet_held x.held)) (packets_in (discipline_seen x.discipline))
+    (packets_beneath (children_seen x.discipline))) ∙ sym (own-beneath x n view))
     (told-both (option_to_list (packet_held x.held)) ps a b c h k)
 
 pub beneath-split : (xs ys : List (Node Kept)) → packets_beneath (xs ++ ys) ≡ packets_beneath xs ++ packets_beneath ys

@@ -79,7 +79,8 @@ module _ (now : ℕ) (p : Descriptor) (path : List ℕ) (refusal : Option Cause)
       }
 
   -- no packet is marked, and those held stay
-  pub marks-after : (r : Row) (o : Outcome) → AreMarksBounded (counts_in_row r) (held_beneath n) → AreMarksBounded (counts_in_row (with_arrival p o r)) (held_beneath (booked kept n (put_along now p refusal path (shape n)).node))
+  pub marks-after : (r : Row) (o : Outcome) → AreMarksBounded (counts_in_row r) (held_beneath n)
+      → AreMarksBounded (counts_in_row (with_arrival p o r)) (held_beneath (booked kept n (put_along now p refusal path (shape n)).node))
   marks-after r o h =
       let after : List Descriptor = held_beneath (booked kept n (put_along now p refusal path (shape n)).node) in
       let same = root-booked kept held_own n (put_along now p refusal path (shape n)).node told in
@@ -110,7 +111,9 @@ goes-on now p refusal i rest a kept_a h =
       };
     }
   where
-    child-within : (ns : List (Node Kept)) (k : ℕ) (c : Node Kept) → All (λ (child : Node Kept). IsCountedWithin child.memory.counts.arrived a.row.arrived) ns → slice_get ns k ≡ Some c → IsCountedWithin c.memory.counts.arrived a.row.arrived
+    child-within : (ns : List (Node Kept)) (k : ℕ) (c : Node Kept)
+        → All (λ (child : Node Kept). IsCountedWithin child.memory.counts.arrived a.row.arrived) ns → slice_get ns k ≡ Some c
+        → IsCountedWithin c.memory.counts.arrived a.row.arrived
     child-within ns k c all e = All-at (λ (child : Node Kept). IsCountedWithin child.memory.counts.arrived a.row.arrived) ns k c all e
 
 -- a part of what is queued
@@ -136,8 +139,12 @@ module _ (now : ℕ) (p : Descriptor) (a : Inside) (k : IsKept a) where
   -- the queue at the end takes the packet
   pub can-flow : (mtu : ℕ) (s : FqState) → discipline_seen a.discipline ≡ spec.FqCodel s → IsLawfulOwn mtu now (seen a).own (each beneath_own (seen a).below) → CanCount a.row.arrived p → CanFlow p s
   can-flow mtu s e h counts =
-      let lawful : IsLawfulOwn mtu now (record { handle = a.handle; discipline = spec.FqCodel s; held = packet_held a.held; since = since_held a.held; filters = a.filters }) (each beneath_own (seen a).below) =
-      subst (λ (d : spec.Discipline). IsLawfulOwn mtu now (record { handle = a.handle; discipline = d; held = packet_held a.held; since = since_held a.held; filters = a.filters }) (each beneath_own (seen a).below)) e h in
+      let lawful : IsLawfulOwn mtu now (record
+      { handle = a.handle; discipline = spec.FqCodel s; held = packet_held a.held; since = since_held a.held; filters = a.filters })
+      (each beneath_own (seen a).below) =
+      subst (λ (d : spec.Discipline). IsLawfulOwn mtu now
+      (record { handle = a.handle; discipline = d; held = packet_held a.held; since = since_held a.held; filters = a.filters })
+      (each beneath_own (seen a).below)) e h in
       let law = lawful.discipline in
       let balanced = k.balanced in
       record {
@@ -182,18 +189,23 @@ module _ (now : ℕ) (p : Descriptor) (path : List ℕ) (refusal : Option Cause)
     (out : IsOutcome (loss_at_end now p (shape (seen a)) (record { path = path; refusal = refusal })) (put_along now p refusal path (shape (seen a))).rises o) where
   pub lost-at : IsLostOf p o a.row.queued
   lost-at = lost-of p (put_along now p refusal path (shape (seen a))).rises o (beneath (seen a)) (beneath (booked kept (seen a) (put_along now p refusal path (shape (seen a))).node)) a.row.queued
-      (outcome-weighs (loss_at_end now p (shape (seen a)) (record { path = path; refusal = refusal })) (put_along now p refusal path (shape (seen a))).rises o out) (shifted now p path refusal (seen a) h) k.queued
+      (outcome-weighs (loss_at_end now p (shape (seen a)) (record { path = path; refusal = refusal }))
+      (put_along now p refusal path (shape (seen a))).rises o out) (shifted now p path refusal (seen a) h) k.queued
 
   pub done : (d : Discipline) (r : Row) → r ≡ with_arrival p o a.row → seen (record a { row = r; discipline = d }) ≡ booked kept (seen a) (put_along now p refusal path (shape (seen a))).node
-      → All (λ (child : Node Kept). IsCountedWithin child.memory.counts.arrived (with_packet a.row.arrived p)) (children_seen d) → IsDone now p path refusal (seen a) (record a { row = r; discipline = d }) o
+      → All (λ (child : Node Kept). IsCountedWithin child.memory.counts.arrived (with_packet a.row.arrived p)) (children_seen d)
+      → IsDone now p path refusal (seen a) (record a { row = r; discipline = d }) o
   done d r row value within = record {
     stays = record {
       queued = ap (λ (x : Row). x.queued) row
           ∙ queued-after p (put_along now p refusal path (shape (seen a))).rises o (beneath (seen a)) (beneath (booked kept (seen a) (put_along now p refusal path (shape (seen a))).node)) a.row
-          (outcome-weighs (loss_at_end now p (shape (seen a)) (record { path = path; refusal = refusal })) (put_along now p refusal path (shape (seen a))).rises o out) (shifted now p path refusal (seen a) h) k.queued
+          (outcome-weighs (loss_at_end now p (shape (seen a)) (record { path = path; refusal = refusal }))
+          (put_along now p refusal path (shape (seen a))).rises o out) (shifted now p path refusal (seen a) h) k.queued
           ∙ ap (λ (n : Node Kept). totals_in (beneath n)) (sym value);
       marks = subst (λ (m : Node Kept). AreMarksBounded (counts_in_row r) (held_beneath m)) (sym value)
-          (subst (λ (x : Row). AreMarksBounded (counts_in_row x) (held_beneath (booked kept (seen a) (put_along now p refusal path (shape (seen a))).node))) (sym row) (marks-after now p path refusal (seen a) h a.row o k.marks));
+          (subst (λ (x : Row). AreMarksBounded (counts_in_row x)
+          (held_beneath (booked kept (seen a) (put_along now p refusal path (shape (seen a))).node))) (sym row)
+          (marks-after now p path refusal (seen a) h a.row o k.marks));
       balanced = subst IsBalanced (sym row) (balanced-after p o a.row k.balanced lost-at);
       within = subst (λ (x : Row). All (λ (child : Node Kept). IsCountedWithin child.memory.counts.arrived x.arrived) (children_seen d)) (sym row) within;
     };
@@ -202,7 +214,8 @@ module _ (now : ℕ) (p : Descriptor) (path : List ℕ) (refusal : Option Cause)
   }
 
 -- no child has more arrivals than its parent, which has one more
-wider : (p : Descriptor) (t : Totals) (ns : List (Node Kept)) → All (λ (child : Node Kept). IsCountedWithin child.memory.counts.arrived t) ns → All (λ (child : Node Kept). IsCountedWithin child.memory.counts.arrived (with_packet t p)) ns
+wider : (p : Descriptor) (t : Totals) (ns : List (Node Kept)) → All (λ (child : Node Kept). IsCountedWithin child.memory.counts.arrived t) ns
+    → All (λ (child : Node Kept). IsCountedWithin child.memory.counts.arrived (with_packet t p)) ns
 wider p t [] h = All-nil (λ (child : Node Kept). IsCountedWithin child.memory.counts.arrived (with_packet t p))
 wider p t (n ∷ ns) h =
     let first = All-head (λ (child : Node Kept). IsCountedWithin child.memory.counts.arrived t) n ns h in
@@ -229,7 +242,9 @@ here-done now p refusal a d r o k h q row =
     (seen-after a r d (after_here now p refusal (discipline_seen a.discipline)) (Arrived p ∷ rises_here now p refusal (discipline_seen a.discipline)) (map quiet (children s)) q.discipline q.places
     (ap counts_in_row row ∙ counted-arrival p (loss_here now p refusal (discipline_seen a.discipline)) (rises_here now p refusal (discipline_seen a.discipline)) o a.row
     (subst AreLosses (ap (λ (x : Work). x.rises) w) (are-losses now p [] refusal (seen a) h)) q.outcome)
-    (ap side_by_side q.children ∙ sym (side-quiet kept (children_seen a.discipline)) ∙ ap (λ xs. each_booked kept (side_by_side (children_seen a.discipline)) (side_by_side (map quiet xs))) (sym (children-shape (seen a) ∙ ap (map shape) (nodes-side (children_seen a.discipline)))))
+    (ap side_by_side q.children ∙ sym (side-quiet kept (children_seen a.discipline))
+    ∙ ap (λ xs. each_booked kept (side_by_side (children_seen a.discipline)) (side_by_side (map quiet xs)))
+    (sym (children-shape (seen a) ∙ ap (map shape) (nodes-side (children_seen a.discipline)))))
     ∙ ap (λ (x : Work). booked kept (seen a) x.node) (sym w))
     (subst (All (λ (child : Node Kept). IsCountedWithin child.memory.counts.arrived (with_packet a.row.arrived p))) (sym q.children) (wider p a.row.arrived (children_seen a.discipline) k.within))
 
@@ -247,7 +262,8 @@ on-outcome now p refusal i rest n c o there out =
     subst (λ (l : Option Cause). IsOutcome l (put_along now p refusal (i ∷ rest) (shape n)).rises o) (sym (loss-on now p refusal i rest n c there))
     (subst (λ (x : Work). IsOutcome (loss_at_end now p (shape c) (record { path = rest; refusal = refusal })) x.rises o) (sym (on-is now p refusal i rest n c there)) out)
 
-pub beneath-done : (now : ℕ) (p : Descriptor) (refusal : Option Cause) (i : ℕ) (rest : List ℕ) (a : Inside) (d : Discipline) (r : Row) (o : Outcome) → IsKept a → CanPut now p (i ∷ rest) refusal (seen a)
+pub beneath-done : (now : ℕ) (p : Descriptor) (refusal : Option Cause) (i : ℕ) (rest : List ℕ) (a : Inside) (d : Discipline) (r : Row) (o : Outcome)
+    → IsKept a → CanPut now p (i ∷ rest) refusal (seen a)
     → (c : Node Kept) → slice_get (children_seen a.discipline) i ≡ Some c → IsPutInto now p refusal rest i a.discipline d c o → r ≡ with_arrival p o a.row
     → IsDone now p (i ∷ rest) refusal (seen a) (record a { row = r; discipline = d }) o
 beneath-done now p refusal i rest a d r o k h c at q row =
@@ -272,7 +288,9 @@ beneath-done now p refusal i rest a d r o k h c at q row =
 -- whether a child is empty is asked of it as it is stored
 pub is-empty-put : (now : ℕ) (p : Descriptor) (path : List ℕ) (refusal : Option Cause) (n : Node Kept) → CanPut now p path refusal n
     → is_empty (booked kept n (put_along now p refusal path (shape n)).node) ≡ is_empty (put_along now p refusal path (shape n)).node
-is-empty-put now p path refusal n h = ap (λ (packets : List Descriptor). length packets == 0) (root-booked kept beneath_own n (put_along now p refusal path (shape n)).node (told now p path refusal n h))
+is-empty-put now p path refusal n h =
+    ap (λ (packets : List Descriptor). length packets == 0)
+    (root-booked kept beneath_own n (put_along now p refusal path (shape n)).node (told now p path refusal n h))
 
 -- the child that is reached by its place
 pub same-child : (ns : List (Node Kept)) (i : ℕ) (x c : Node Kept) → x ≡ slice_index_or ns i x → slice_get ns i ≡ Some c → x ≡ c
@@ -285,10 +303,12 @@ child-packets (n ∷ ns) zero c e = omega (arith, ap (λ (x : Node Kept). length
 child-packets (n ∷ ns) (suc i) c e = omega (arith, child-packets ns i c e, length-append (beneath n) (packets_beneath ns))
 
 -- the same, for a node and a way as the code has them
-can-at : (now : ℕ) (p : Descriptor) (refusal : Option Cause) (a : Inside) (n : Node Kept) (path path2 : List ℕ) → seen a ≡ n → path ≡ path2 → CanPut now p path refusal n → CanPut now p path2 refusal (seen a)
+can-at : (now : ℕ) (p : Descriptor) (refusal : Option Cause) (a : Inside) (n : Node Kept) (path path2 : List ℕ) → seen a ≡ n → path ≡ path2
+    → CanPut now p path refusal n → CanPut now p path2 refusal (seen a)
 can-at now p refusal a n path path2 view e h = subst (CanPut now p path2 refusal) (sym view) (subst (λ xs. CanPut now p xs refusal n) e h)
 
-done-at : (now : ℕ) (p : Descriptor) (refusal : Option Cause) (a : Inside) (n : Node Kept) (path path2 : List ℕ) (b : Inside) (o : Outcome) → seen a ≡ n → path ≡ path2 → IsDone now p path2 refusal (seen a) b o → IsDone now p path refusal n b o
+done-at : (now : ℕ) (p : Descriptor) (refusal : Option Cause) (a : Inside) (n : Node Kept) (path path2 : List ℕ) (b : Inside) (o : Outcome)
+    → seen a ≡ n → path ≡ path2 → IsDone now p path2 refusal (seen a) b o → IsDone now p path refusal n b o
 done-at now p refusal a n path path2 b o view e h = subst (λ (m : Node Kept). IsDone now p path refusal m b o) view (subst (λ xs. IsDone now p xs refusal (seen a) b o) (sym e) h)
 
 module _ (now : ℕ) (p : Descriptor) (refusal : Option Cause) (a : Inside) (n : Node Kept) (path : List ℕ) (k : IsKept a) (view : seen a ≡ n) (h : CanPut now p path refusal n) where
@@ -313,7 +333,9 @@ module _ (now : ℕ) (p : Descriptor) (refusal : Option Cause) (a : Inside) (n :
     on-there = ap (λ xs. slice_get xs i) (nodes-side (children_seen a.discipline)) ∙ on-into.there
 
     pub on-lost : (d : Discipline) (o : Outcome) → ((c : Node Kept) → slice_get (children_seen a.discipline) i ≡ Some c → IsPutInto now p refusal rest i a.discipline d c o) → IsLostOf p o a.row.queued
-    on-lost d o q = lost-at now p (i ∷ rest) refusal a k (can-at now p refusal a n path (i ∷ rest) view e h) o (on-outcome now p refusal i rest (seen a) on-into.child o on-there (q on-into.child on-into.there).outcome)
+    on-lost d o q =
+        lost-at now p (i ∷ rest) refusal a k (can-at now p refusal a n path (i ∷ rest) view e h) o
+        (on-outcome now p refusal i rest (seen a) on-into.child o on-there (q on-into.child on-into.there).outcome)
 
     pub on-at : (d : Discipline) (r : Row) (o : Outcome) → ((c : Node Kept) → slice_get (children_seen a.discipline) i ≡ Some c → IsPutInto now p refusal rest i a.discipline d c o)
         → r ≡ with_arrival p o a.row → IsDone now p path refusal n (record a { row = r; discipline = d }) o

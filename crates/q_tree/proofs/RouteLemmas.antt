@@ -29,7 +29,8 @@ ends-refused w cause = ap (λ (path : List ℕ). record { path = path; refusal =
 pub through-some : (w : Route) (p : Descriptor) (ns : List (Node Kept)) (k : ℕ) (c : Node Kept) → slice_get ns k ≡ Some c → ahead (w.path ++ k ∷ []) (route p c) ≡ ahead w.path (through (ways p ns) k)
 through-some w p ns k c e =
     ap (λ (path : List ℕ). record { path = path; refusal = (route p c).refusal }) (append_assoc w.path (k ∷ []) (route p c).path)
-    ∙ ap (ahead w.path) (sym (ap (λ (o : Option Route). option_map_or (λ (r : Route). record r { path = k ∷ r.path }) o (refused NoClass)) (slice_get-map (route p) ns k ∙ ap (option_map (route p)) e)))
+    ∙ ap (ahead w.path) (sym (ap (λ (o : Option Route). option_map_or (λ (r : Route). record r { path = k ∷ r.path }) o (refused NoClass))
+    (slice_get-map (route p) ns k ∙ ap (option_map (route p)) e)))
 
 -- a child is smaller, and no deeper, than all children together
 pub child-size : (ns : List (Node Kept)) (k : ℕ) (c : Node Kept) → slice_get ns k ≡ Some c → node_size c < forest_size (side_by_side ns)

@@ -79,13 +79,15 @@ pub record IsShifted (p : Descriptor) (rises : List Note) (before after : List D
   pub packets : 1 + length before ≡ lost one rises + length after
   pub bytes : p.len + (totals_in before).bytes ≡ lost bytes rises + (totals_in after).bytes
 
-pub lost-of : (p : Descriptor) (rises : List Note) (o : Outcome) (before after : List Descriptor) (queued : Totals) → IsWeighed rises o → IsShifted p rises before after → queued ≡ totals_in before → IsLostOf p o queued
+pub lost-of : (p : Descriptor) (rises : List Note) (o : Outcome) (before after : List Descriptor) (queued : Totals) → IsWeighed rises o
+    → IsShifted p rises before after → queued ≡ totals_in before → IsLostOf p o queued
 lost-of p rises o before after queued w s is = record {
   packets = omega (arith, w.packets, s.packets, ap (λ (t : Totals). t.packets) is);
   bytes = omega (arith, w.bytes, s.bytes, ap (λ (t : Totals). t.bytes) is);
 }
 
-pub queued-after : (p : Descriptor) (rises : List Note) (o : Outcome) (before after : List Descriptor) (r : Row) → IsWeighed rises o → IsShifted p rises before after → r.queued ≡ totals_in before → (with_arrival p o r).queued ≡ totals_in after
+pub queued-after : (p : Descriptor) (rises : List Note) (o : Outcome) (before after : List Descriptor) (r : Row) → IsWeighed rises o
+    → IsShifted p rises before after → r.queued ≡ totals_in before → (with_arrival p o r).queued ≡ totals_in after
 queued-after p rises o before after r w s is = same-totals (with_arrival p o r).queued (totals_in after)
     (omega (arith, w.packets, s.packets, ap (λ (t : Totals). t.packets) is))
     (omega (arith, w.bytes, s.bytes, ap (λ (t : Totals). t.bytes) is))

@@ -119,8 +119,34 @@ module _ (n : Node Kept) (r : Row) (k : IsRowOf r n) where
           arrived_bytes = bytes_fit;
           packets = omega (arith, z.dropped_packets, is.quiet.all_dropped one, is.waits one, weigh-count (beneath n), queued_packets);
           bytes = omega (arith, z.dropped_bytes, is.quiet.all_dropped bytes, is.waits bytes, weigh-bytes (beneath n), queued_bytes);
-          marked_packets = omega (arith, packets_fit, z.marked_packets, k.marks.packets, k.balanced.packets, is.marks one, is.waits one, held-le-beneath one m, weigh-count (held_beneath n), weigh-count (beneath n), queued_packets);
-          marked_bytes = omega (arith, bytes_fit, z.marked_bytes, k.marks.bytes, k.balanced.bytes, is.marks bytes, is.waits bytes, held-le-beneath bytes m, weigh-bytes (held_beneath n), weigh-bytes (beneath n), queued_bytes);
+          marked_packets =
+              omega (
+                arith,
+                packets_fit,
+                z.marked_packets,
+                k.marks.packets,
+                k.balanced.packets,
+                is.marks one,
+                is.waits one,
+                held-le-beneath one m,
+                weigh-count (held_beneath n),
+                weigh-count (beneath n),
+                queued_packets,
+              );
+          marked_bytes =
+              omega (
+                arith,
+                bytes_fit,
+                z.marked_bytes,
+                k.marks.bytes,
+                k.balanced.bytes,
+                is.marks bytes,
+                is.waits bytes,
+                held-le-beneath bytes m,
+                weigh-bytes (held_beneath n),
+                weigh-bytes (beneath n),
+                queued_bytes,
+              );
         }
 
     pub row-shown : CanShow s r → IsRowOf (with_shown s r) m

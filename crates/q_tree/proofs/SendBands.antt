@@ -36,7 +36,8 @@ taken-next [] i a e = cc
 taken-next (b ∷ below) zero a e = ap (λ (x : Asked). x.taken ∷ befores below) (sym (same_Some b a e))
 taken-next (b ∷ below) (suc i) a e = ap (λ xs. b.peeked ∷ xs) (taken-next below i a e)
 
-taken-below : (own : Own) (below : List Asked) (k : ℕ) (p : Descriptor) → first_showing below ≡ k → (ask_prio own below).shown ≡ Some p → side_by_side (taken_at k below) ≡ (left_of (ask_prio own below)).below
+taken-below : (own : Own) (below : List Asked) (k : ℕ) (p : Descriptor) → first_showing below ≡ k → (ask_prio own below).shown ≡ Some p
+    → side_by_side (taken_at k below) ≡ (left_of (ask_prio own below)).below
 taken-below own below k p is some =
     let a : Asked = ask_prio own below in
     sym (ap (λ n. side_by_side (taken_at n below)) is) ∙ sym (ap (λ (o : Option Descriptor). (if is_some o then a.taken else a.peeked).below) some)

@@ -69,17 +69,23 @@ module _ (now : ℕ) (handle : Option ℕ) (filters : List Filter) (below : List
       waiting : (a : Asked) → IsGiven handle filters (waits (own_of handle filters (spec.Tbf b limit)) below a)
       waiting a = (record { own = refl; mine = []; silent = silent-nil; noted = refl }, record { discipline = refl; below = refl })
 
-      allowed : (a : Asked) (p : Descriptor) (may : Bool) → IsGiven handle filters (if may then spends (own_of handle filters (spec.Tbf b limit)) below b limit now a p else waits (own_of handle filters (spec.Tbf b limit)) below a)
+      allowed : (a : Asked) (p : Descriptor) (may : Bool)
+          → IsGiven handle filters (if may then spends (own_of handle filters (spec.Tbf b limit)) below b limit now a p else waits
+          (own_of handle filters (spec.Tbf b limit)) below a)
       allowed a p true = (record { own = refl; mine = Spent p.len ∷ []; silent = spent-note p.len; noted = refl }, record { discipline = refl; below = refl })
       allowed a p false = waiting a
 
       packet : (a : Asked) (o : Option Descriptor)
-          → IsGiven handle filters (option_map_or (λ (p : Descriptor). if allows b now p.len then spends (own_of handle filters (spec.Tbf b limit)) below b limit now a p else waits (own_of handle filters (spec.Tbf b limit)) below a) o (waits (own_of handle filters (spec.Tbf b limit)) below a))
+          → IsGiven handle filters (option_map_or
+          (λ (p : Descriptor). if allows b now p.len then spends (own_of handle filters (spec.Tbf b limit)) below b limit now a p else waits
+          (own_of handle filters (spec.Tbf b limit)) below a) o (waits (own_of handle filters (spec.Tbf b limit)) below a))
       packet a None = waiting a
       packet a (Some p) = allowed a p (allows b now p.len)
 
       child : (o : Option Asked)
-          → IsGiven handle filters (option_map_or (ask_child now (own_of handle filters (spec.Tbf b limit)) below b limit) o (dequeued (own_of handle filters (spec.Tbf b limit)) below (record { after = own_of handle filters (spec.Tbf b limit); children = []; rises = []; mine = []; packet = None; since = 0 })))
+          → IsGiven handle filters (option_map_or (ask_child now (own_of handle filters (spec.Tbf b limit)) below b limit) o
+          (dequeued (own_of handle filters (spec.Tbf b limit)) below
+          (record { after = own_of handle filters (spec.Tbf b limit); children = []; rises = []; mine = []; packet = None; since = 0 })))
       child None = (record { own = refl; mine = []; silent = silent-nil; noted = refl }, record { discipline = refl; below = refl })
       child (Some a) = packet a a.shown
 
@@ -89,16 +95,26 @@ module _ (now : ℕ) (handle : Option ℕ) (filters : List Filter) (below : List
       nothing : IsGiven handle filters (gives_nothing (own_of handle filters (spec.Drr s)) below (service_of s below))
       nothing = (record { own = refl; mine = (service_of s below).grants; silent = notes-silent (choice_of (head_of s below) s) s.active; noted = refl }, record { discipline = refl; below = refl })
 
-      serves : (i : ℕ) (a : Asked) (o : Option Descriptor) → IsGiven handle filters (option_map_or (class_gives (own_of handle filters (spec.Drr s)) below (service_of s below) i a) o (gives_nothing (own_of handle filters (spec.Drr s)) below (service_of s below)))
+      serves : (i : ℕ) (a : Asked) (o : Option Descriptor)
+          → IsGiven handle filters (option_map_or (class_gives (own_of handle filters (spec.Drr s)) below (service_of s below) i a) o
+          (gives_nothing (own_of handle filters (spec.Drr s)) below (service_of s below)))
       serves i a None = nothing
-      serves i a (Some p) = (record { own = refl; mine = (service_of s below).grants; silent = notes-silent (choice_of (head_of s below) s) s.active; noted = refl }, record { discipline = refl; below = refl })
+      serves i a (Some p) = (
+        record { own = refl; mine = (service_of s below).grants; silent = notes-silent (choice_of (head_of s below) s) s.active; noted = refl },
+        record { discipline = refl; below = refl },
+      )
 
-      child : (i : ℕ) (o : Option Asked) → IsGiven handle filters (option_map_or (class_serves (own_of handle filters (spec.Drr s)) below (service_of s below) i) o (gives_nothing (own_of handle filters (spec.Drr s)) below (service_of s below)))
+      child : (i : ℕ) (o : Option Asked)
+          → IsGiven handle filters (option_map_or (class_serves (own_of handle filters (spec.Drr s)) below (service_of s below) i) o
+          (gives_nothing (own_of handle filters (spec.Drr s)) below (service_of s below)))
       child i None = nothing
       child i (Some a) = serves i a a.shown
 
       by : (o : Option ℕ)
-          → IsGiven handle filters (option_map_or (λ i. option_map_or (class_serves (own_of handle filters (spec.Drr s)) below (service_of s below) i) (slice_get below i) (gives_nothing (own_of handle filters (spec.Drr s)) below (service_of s below))) o (gives_nothing (own_of handle filters (spec.Drr s)) below (service_of s below)))
+          → IsGiven handle filters (option_map_or
+          (λ i. option_map_or (class_serves (own_of handle filters (spec.Drr s)) below (service_of s below) i) (slice_get below i)
+          (gives_nothing (own_of handle filters (spec.Drr s)) below (service_of s below))) o
+          (gives_nothing (own_of handle filters (spec.Drr s)) below (service_of s below)))
       by None = nothing
       by (Some i) = child i (slice_get below i)
 
@@ -127,7 +143,8 @@ left-below a true h = h.below
 left-below a false h = refl
 
 -- a discipline that can hold a packet: once it was asked, whether the packet is held then or was given
-pub asked-sent-in : (now : ℕ) (handle : Option ℕ) (filters : List Filter) (before after : Discipline) (s : Shown) → CanHold (discipline_seen before) → IsAskedIn (answer_of now handle filters before) before after s → IsSentIn (answer_of now handle filters before) before after s
+pub asked-sent-in : (now : ℕ) (handle : Option ℕ) (filters : List Filter) (before after : Discipline) (s : Shown) → CanHold (discipline_seen before)
+    → IsAskedIn (answer_of now handle filters before) before after s → IsSentIn (answer_of now handle filters before) before after s
 asked-sent-in now handle filters before after s can q =
     let x : Asked = answer_of now handle filters before in
     let h = apart now handle filters (answers now (children_seen before)) (discipline_seen before) can in
@@ -142,7 +159,9 @@ asked-sent-in now handle filters before after s can q =
       places = q.places;
     }
 
-pub sent-in : (now : ℕ) (handle : Option ℕ) (filters : List Filter) (before after : Discipline) (k k2 : spec.Discipline) (ns ns2 : List (Node Kept)) (s : Shown) → discipline_seen before ≡ k → children_seen before ≡ ns
+pub sent-in : (now : ℕ) (handle : Option ℕ) (filters : List Filter) (before after : Discipline) (k k2 : spec.Discipline) (ns ns2 : List (Node Kept))
+    (s : Shown)
+    → discipline_seen before ≡ k → children_seen before ≡ ns
     → discipline_seen after ≡ k2 → children_seen after ≡ ns2 → places_seen after ≡ places_seen before → k2 ≡ (left_of (ask_discipline now (own_of handle filters k) (answers now ns) k)).own.discipline
     → AreSent (ask_discipline now (own_of handle filters k) (answers now ns) k) ns ns2 s → IsSentIn (answer_of now handle filters before) before after s
 sent-in now handle filters before after k k2 ns ns2 s is kids is2 kids2 places discipline sent =
@@ -155,7 +174,8 @@ sent-in now handle filters before after k k2 ns ns2 s is kids is2 kids2 places d
     })
 
 -- a prio keeps its own discipline
-pub prio-left : (now : ℕ) (handle : Option ℕ) (filters : List Filter) (below : List Asked) (priomap : List ℕ) → spec.Prio priomap ≡ (left_of (ask_discipline now (own_of handle filters (spec.Prio priomap)) below (spec.Prio priomap))).own.discipline
+pub prio-left : (now : ℕ) (handle : Option ℕ) (filters : List Filter) (below : List Asked) (priomap : List ℕ)
+    → spec.Prio priomap ≡ (left_of (ask_discipline now (own_of handle filters (spec.Prio priomap)) below (spec.Prio priomap))).own.discipline
 prio-left now handle filters below priomap = by (is_some a.shown)
   where
     a : Asked
@@ -166,8 +186,11 @@ prio-left now handle filters below priomap = by (is_some a.shown)
     by false = refl
 
 -- a fifo sends its head
-pub fifo-sent : (now : ℕ) (handle : Option ℕ) (filters : List Filter) (before after : Discipline) (limit : Limit) (queue : List Stamped) (s : Shown) → discipline_seen before ≡ spec.Fifo limit queue → children_seen before ≡ []
-    → discipline_seen after ≡ spec.Fifo limit (drop 1 queue) → children_seen after ≡ [] → places_seen after ≡ places_seen before → s.packet ≡ slice_get (packets_of queue) 0 → s.dropped ≡ no_totals → s.marked ≡ no_totals → IsSentIn (answer_of now handle filters before) before after s
+pub fifo-sent : (now : ℕ) (handle : Option ℕ) (filters : List Filter) (before after : Discipline) (limit : Limit) (queue : List Stamped) (s : Shown)
+    → discipline_seen before ≡ spec.Fifo limit queue → children_seen before ≡ []
+    → discipline_seen after ≡ spec.Fifo limit (drop 1 queue) → children_seen after ≡ [] → places_seen after ≡ places_seen before
+    → s.packet ≡ slice_get (packets_of queue) 0 → s.dropped ≡ no_totals → s.marked ≡ no_totals
+    → IsSentIn (answer_of now handle filters before) before after s
 fifo-sent now handle filters before after limit queue s is kids is2 kids2 places packet dropped marked =
     sent-in now handle filters before after (spec.Fifo limit queue) (spec.Fifo limit (drop 1 queue)) [] [] s is kids is2 kids2 places (left queue)
     (record { long = refl; nodes = alone queue; within = λ t h. h; shown = record { packet = packet; dropped = dropped; marked = marked } })
@@ -176,7 +199,9 @@ fifo-sent now handle filters before after limit queue s is kids is2 kids2 places
     left [] = refl
     left (x ∷ queue) = refl
 
-    alone : (queue : List Stamped) → side_by_side [] ≡ each_booked kept (side_by_side []) (left_of (ask_discipline now (own_of handle filters (spec.Fifo limit queue)) [] (spec.Fifo limit queue))).below
+    alone : (queue : List Stamped)
+        → side_by_side [] ≡ each_booked kept (side_by_side [])
+        (left_of (ask_discipline now (own_of handle filters (spec.Fifo limit queue)) [] (spec.Fifo limit queue))).below
     alone queue = refl
 
 -- a node that holds a packet answers with that one
@@ -189,7 +214,8 @@ held-answer now a n p view e =
     subst (λ (m : Node Kept). IsHeldAnswer now m p) view
     (record { packet = ap (λ (x : Asked). x.shown) (ask-holding now a p e); rises = ap (λ (x : Asked). x.rises) (ask-holding now a p e) })
 
-pub held-shows : (now : ℕ) (a : Inside) (n : Node Kept) (p : Descriptor) → seen a ≡ n → packet_held a.held ≡ Some p → (s : Shown) → s ≡ record { packet = Some p; dropped = no_totals; marked = no_totals } → IsShown (ask now (shape n)) s
+pub held-shows : (now : ℕ) (a : Inside) (n : Node Kept) (p : Descriptor) → seen a ≡ n → packet_held a.held ≡ Some p → (s : Shown)
+    → s ≡ record { packet = Some p; dropped = no_totals; marked = no_totals } → IsShown (ask now (shape n)) s
 held-shows now a n p view e s is =
     let h = held-answer now a n p view e in
     record {
@@ -209,7 +235,8 @@ pub record IsSentAs (now : ℕ) (n : Node Kept) (inside : Inside) : Type 0 where
   pub stays : IsKept inside
   pub after : seen inside ≡ booked kept n (take_from now (shape n)).node
 
-module _ (now : ℕ) (a : Inside) (n : Node Kept) (k : IsKept a) (view : seen a ≡ n) (can : CanAsk now n) (none : packet_held a.held ≡ None) (d : Discipline) (s : Shown) (q : IsSentIn (answer_of now a.handle a.filters a.discipline) a.discipline d s) where
+module _ (now : ℕ) (a : Inside) (n : Node Kept) (k : IsKept a) (view : seen a ≡ n) (can : CanAsk now n) (none : packet_held a.held ≡ None)
+    (d : Discipline) (s : Shown) (q : IsSentIn (answer_of now a.handle a.filters a.discipline) a.discipline d s) where
   here : CanAsk now (seen a)
   here = subst (CanAsk now) (sym view) can
 
@@ -233,7 +260,10 @@ module _ (now : ℕ) (a : Inside) (n : Node Kept) (k : IsKept a) (view : seen a 
           };
           places = q.places;
         } in
-        let done = peeked-done now a n k view can none d s asked r a.held fit row (empty-held a.held none ∙ ap (λ o. held_with o x.peeked.own.since) (sym (held-nothing (discipline_seen d)) ∙ ap (held_in (discipline_seen d)) (sym empty))) in
+        let done =
+        peeked-done now a n k view can none d s asked r a.held fit row
+        (empty-held a.held none ∙ ap (λ o. held_with o x.peeked.own.since)
+        (sym (held-nothing (discipline_seen d)) ∙ ap (held_in (discipline_seen d)) (sym empty))) in
         record { stays = done.stays; after = done.after ∙ ap (λ (w : Worked). booked kept n w) (sym (left-none now n (sym (shown-here now a n k view can none s q.children.shown).packet ∙ empty))) }
 
     -- where it sends a packet: first that was at hand
@@ -273,7 +303,14 @@ module _ (now : ℕ) (a : Inside) (n : Node Kept) (k : IsKept a) (view : seen a 
           (λ i. record { counts = counts i; places = q.places i }) ∙ sym (noted-kept (seen a).memory x.taken.memory) in
           let discipline : discipline_seen d ≡ x.taken.own.discipline = q.discipline ∙ ap (λ (w : Worked). w.own.discipline) left in
           let own : record { handle = a.handle; discipline = discipline_seen d; held = packet_held a.held; since = since_held a.held; filters = a.filters } ≡ x.taken.own =
-          (λ i. record { handle = a.handle; discipline = discipline i; held = packet_held (empty-held a.held none i); since = since_held (empty-held a.held none i); filters = a.filters }) ∙ sym form.own in
+          (λ i. record {
+            handle = a.handle;
+            discipline = discipline i;
+            held = packet_held (empty-held a.held none i);
+            since = since_held
+                (empty-held a.held none i);
+            filters = a.filters;
+          }) ∙ sym form.own in
           let below : side_by_side (children_seen d) ≡ each_booked kept (side_by_side (children_seen a.discipline)) x.taken.below =
           q.children.nodes ∙ ap (λ (w : Worked). each_booked kept (side_by_side (children_seen a.discipline)) w.below) left in
           let value : seen (record a { row = r2; discipline = d }) ≡ booked kept (seen a) (ask now (shape (seen a))).taken =

@@ -41,10 +41,12 @@ pub left-none : (now : ℕ) (n : Node Kept) → (ask now (shape n)).shown ≡ No
 left-none now n e = let a : Asked = ask now (shape n) in ap (λ (o : Option Descriptor). if is_some o then a.taken else a.peeked) e
 
 -- a node that was asked, and then gave its packet or had none
-pub gave-asked : (now : ℕ) (n m : Node Kept) (p : Descriptor) → CanAsk now n → m ≡ booked kept n (ask now (shape n)).peeked → (ask now (shape n)).shown ≡ Some p → booked kept m (pop m).after ≡ booked kept n (take_from now (shape n)).node
+pub gave-asked : (now : ℕ) (n m : Node Kept) (p : Descriptor) → CanAsk now n → m ≡ booked kept n (ask now (shape n)).peeked
+    → (ask now (shape n)).shown ≡ Some p → booked kept m (pop m).after ≡ booked kept n (take_from now (shape n)).node
 gave-asked now n m p can new shown = (popped-asked now n m p can new shown).left ∙ ap (λ (w : Worked). booked kept n w) (sym (left-some now n p shown))
 
-module _ (a : Inside) (k : IsKeptDevice a) (now : ℕ) (later : a.clock ≤ now) (low : now ≤ 2 ^ 62) (s : Shown) (shown : IsShown (ask now (shape a.root)) s) (root : Node Kept) (new : root ≡ booked kept a.root (take_from now (shape a.root)).node) where
+module _ (a : Inside) (k : IsKeptDevice a) (now : ℕ) (later : a.clock ≤ now) (low : now ≤ 2 ^ 62) (s : Shown)
+    (shown : IsShown (ask now (shape a.root)) s) (root : Node Kept) (new : root ≡ booked kept a.root (take_from now (shape a.root)).node) where
   -- where none was sent
   pub root-still : s.packet ≡ None → root ≡ booked kept a.root (ask now (shape a.root)).peeked
   root-still none = new ∙ ap (λ (w : Worked). booked kept a.root w) (left-none now a.root (sym shown.packet ∙ none))

@@ -148,7 +148,9 @@ module _ (a : Inside) (n : Node Kept) (h : IsNumbered n) (view : seen a ≡ n) w
   module _ (priomap : List ℕ) (bands : _) (is : a.discipline ≡ Prio priomap bands) where
     pub few-bands : length bands.items ≤ 16
     few-bands =
-        let law : IsLawfulPrio priomap (each beneath_own (side_by_side bands.items)) = subst (λ d. IsLawfulDiscipline h.mtu h.clock (each beneath_own (side_by_side (children_seen d))) (discipline_seen d)) is lawful-here.discipline in
+        let law : IsLawfulPrio priomap (each beneath_own (side_by_side bands.items)) =
+        subst (λ d. IsLawfulDiscipline h.mtu h.clock (each beneath_own (side_by_side (children_seen d))) (discipline_seen d)) is
+        lawful-here.discipline in
         omega (arith, law.most, ap length (each-side beneath_own bands.items), length-map bands.items (from_below beneath_own))
 
     pub minors-prio : minors (length (children n)) n.own.discipline ≡ range_with_len 1 (length bands.items)
@@ -171,7 +173,9 @@ module _ (a : Inside) (n : Node Kept) (h : IsNumbered n) (view : seen a ≡ n) w
 
     pub named-minor : (i k : ℕ) → name_at i s.classes ≡ Some k → IsMinor k
     named-minor i k e =
-        let law : IsLawfulDrr h.mtu s (each beneath_own (side_by_side classes.items)) = subst (λ d. IsLawfulDiscipline h.mtu h.clock (each beneath_own (side_by_side (children_seen d))) (discipline_seen d)) is lawful-here.discipline in
+        let law : IsLawfulDrr h.mtu s (each beneath_own (side_by_side classes.items)) =
+        subst (λ d. IsLawfulDiscipline h.mtu h.clock (each beneath_own (side_by_side (children_seen d))) (discipline_seen d)) is
+        lawful-here.discipline in
         by law (slice_get s.classes i) refl e where
           by : IsLawfulDrr h.mtu s (each beneath_own (side_by_side classes.items)) → (o : Option Class) → slice_get s.classes i ≡ o → option_map (λ (c : Class). c.name) o ≡ Some k → IsMinor k
           by law None at e = absurd (none-some k e)
@@ -183,7 +187,8 @@ there n j id e = by n.own.discipline n.own.handle (sym (by-handle with_major n.o
   with_major : ℕ → ℕ → ClassId
   with_major minor major = record { major = major; minor = minor }
 
-  found : (s : Schedule) (h : ℕ) (o : Option Class) → slice_get s.classes j ≡ o → option_map (λ m. with_major m h) (option_map (λ (c : Class). c.name) o) ≡ Some id → IsTrue (has_class id.minor s.classes)
+  found : (s : Schedule) (h : ℕ) (o : Option Class) → slice_get s.classes j ≡ o
+      → option_map (λ m. with_major m h) (option_map (λ (c : Class). c.name) o) ≡ Some id → IsTrue (has_class id.minor s.classes)
   found s h None at e = absurd (none-some id e)
   found s h (Some c) at e =
       passes-at (λ (d : Class). id.minor == d.name) s.classes j c at (eq-eqb id.minor c.name (ap (λ (i : ClassId). i.minor) (sym (same_Some (with_major c.name h) id e))))
@@ -212,7 +217,8 @@ class-awake s minor e = ap (class.Drr (quantum_of minor s.classes)) (awake s.act
   awake [] e = absurd (false≢true e)
   awake (x ∷ es) e = by (minor == x.class) (awake es) e where
     by : (b : Bool) → (is_active minor es ≡ true → Some (deficit_of minor es) ≡ option_map (λ (e : Entry). e.deficit) (find (λ (e : Entry). minor == e.class) es)) → (b || is_active minor es) ≡ true
-        → Some (option_map_or (λ (e : Entry). e.deficit) (cond b (Some x) (find (λ (e : Entry). minor == e.class) es)) 0) ≡ option_map (λ (e : Entry). e.deficit) (cond b (Some x) (find (λ (e : Entry). minor == e.class) es))
+        → Some (option_map_or (λ (e : Entry). e.deficit) (cond b (Some x) (find (λ (e : Entry). minor == e.class) es)) 0)
+        ≡ option_map (λ (e : Entry). e.deficit) (cond b (Some x) (find (λ (e : Entry). minor == e.class) es))
     by true rest e = refl
     by false rest e = rest e
 
@@ -220,7 +226,8 @@ class-awake s minor e = ap (class.Drr (quantum_of minor s.classes)) (awake s.act
 views-are : (places : List Place) (x : Forest Kept) → views_in kept places x ≡ map (λ (y : Place × Node Kept). node_view kept y.0 y.1) (standing_in places x)
 views-are places none = refl
 views-are places (more own m below others) =
-    ap₂ (λ (xs ys : List NodeView). node_view kept (unwrap_or (slice_get places 0) place.Root) (record { own = own; memory = m; below = below }) ∷ xs ++ ys) (views-are (places_below own below) below) (views-are (drop 1 places) others)
+    ap₂ (λ (xs ys : List NodeView). node_view kept (unwrap_or (slice_get places 0) place.Root) (record { own = own; memory = m; below = below }) ∷ xs
+    ++ ys) (views-are (places_below own below) below) (views-are (drop 1 places) others)
     ∙ ap (λ xs. node_view kept (unwrap_or (slice_get places 0) place.Root) (record { own = own; memory = m; below = below }) ∷ xs)
     (sym (map-append (λ (y : Place × Node Kept). node_view kept y.0 y.1) (standing_in (places_below own below) below) (standing_in (drop 1 places) others)))
 
@@ -235,7 +242,8 @@ nodes-are : (places : List Place) (x : Forest Kept) → nodes_of x ≡ map (λ (
 nodes-are places none = refl
 nodes-are places (more own m below others) =
     ap₂ (λ (xs ys : List (Node Kept)). record { own = own; memory = m; below = below } ∷ xs ++ ys) (nodes-are (places_below own below) below) (nodes-are (drop 1 places) others)
-    ∙ ap (λ xs. record { own = own; memory = m; below = below } ∷ xs) (sym (map-append (λ (y : Place × Node Kept). y.1) (standing_in (places_below own below) below) (standing_in (drop 1 places) others)))
+    ∙ ap (λ xs. record { own = own; memory = m; below = below } ∷ xs)
+    (sym (map-append (λ (y : Place × Node Kept). y.1) (standing_in (places_below own below) below) (standing_in (drop 1 places) others)))
 
 pub every-standing : (n : Node Kept) → map (λ (y : Place × Node Kept). y.1) (standing place.Root n) ≡ every_node n
 every-standing n = sym (ap (λ xs. n ∷ xs) (nodes-are (places_below n.own n.below) n.below))
@@ -244,7 +252,8 @@ pub every-node : (n : Node Kept) (i : ℕ) → option_map (λ (y : Place × Node
 every-node n i = sym (slice_get-map (λ (y : Place × Node Kept). y.1) (standing place.Root n) i) ∙ ap (λ ns. slice_get ns i) (every-standing n)
 
 -- what is found of the node that is looked for
-pub of-node : {A : Type 0} (f : Node Kept → Option A) (n : Node Kept) (i : ℕ) (o : Option (Place × Node Kept)) → o ≡ slice_get (standing place.Root n) i → option_and_then (λ (y : Place × Node Kept). f y.1) o ≡ option_and_then f (slice_get (every_node n) i)
+pub of-node : {A : Type 0} (f : Node Kept → Option A) (n : Node Kept) (i : ℕ) (o : Option (Place × Node Kept))
+    → o ≡ slice_get (standing place.Root n) i → option_and_then (λ (y : Place × Node Kept). f y.1) o ≡ option_and_then f (slice_get (every_node n) i)
 of-node f n i o e = apart o ∙ ap (λ x. option_and_then f (option_map (λ (y : Place × Node Kept). y.1) x)) e ∙ ap (option_and_then f) (every-node n i) where
   apart : (o : Option (Place × Node Kept)) → option_and_then (λ (y : Place × Node Kept). f y.1) o ≡ option_and_then f (option_map (λ (y : Place × Node Kept). y.1) o)
   apart None = refl

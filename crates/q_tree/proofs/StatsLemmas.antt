@@ -18,25 +18,32 @@ at-end [] i n parent e = last (slice_get (children n) i) ∙ ap (λ (m : Node Ke
   last None = refl
   last (Some m) = refl
 at-end (j ∷ path) i n parent e = by (slice_get (children n) j) (λ c. at-end path i c parent) e where
-  by : (o : Option (Node Kept)) → ((c : Node Kept) → node_at path c ≡ Some parent → node_at (path ++ i ∷ []) c ≡ slice_get (children parent) i) → option_and_then (node_at path) o ≡ Some parent → option_and_then (node_at (path ++ i ∷ [])) o ≡ slice_get (children parent) i
+  by : (o : Option (Node Kept)) → ((c : Node Kept) → node_at path c ≡ Some parent → node_at (path ++ i ∷ []) c ≡ slice_get (children parent) i)
+      → option_and_then (node_at path) o ≡ Some parent → option_and_then (node_at (path ++ i ∷ [])) o ≡ slice_get (children parent) i
   by None on there = absurd (none-some parent there)
   by (Some c) on there = on c there
 
 pub in-class : (id : ClassId) (n : Node Kept) → option_and_then (class_with id.minor) (qdisc_with id.major n) ≡ option_and_then (λ path. node_at path n) (class_path id n)
 in-class id n = by (path_of id.major n) where
-  class-at : (path : List ℕ) (o : Option (Node Kept)) → node_at path n ≡ o → option_and_then (class_with id.minor) o ≡ option_and_then (λ p. node_at p n) (option_and_then (λ parent. option_map (λ i. path ++ i ∷ []) (class_place id.minor parent)) o)
+  class-at : (path : List ℕ) (o : Option (Node Kept)) → node_at path n ≡ o
+      → option_and_then (class_with id.minor) o ≡ option_and_then (λ p. node_at p n)
+      (option_and_then (λ parent. option_map (λ i. path ++ i ∷ []) (class_place id.minor parent)) o)
   class-at path None e = refl
   class-at path (Some parent) e = child (class_place id.minor parent) where
     child : (o : Option ℕ) → option_and_then (slice_get (children parent)) o ≡ option_and_then (λ p. node_at p n) (option_map (λ i. path ++ i ∷ []) o)
     child None = refl
     child (Some i) = sym (at-end path i n parent e)
 
-  by : (o : Option (List ℕ)) → option_and_then (class_with id.minor) (option_and_then (λ path. node_at path n) o) ≡ option_and_then (λ path. node_at path n) (option_and_then (λ path. option_and_then (λ parent. option_map (λ i. path ++ i ∷ []) (class_place id.minor parent)) (node_at path n)) o)
+  by : (o : Option (List ℕ))
+      → option_and_then (class_with id.minor) (option_and_then (λ path. node_at path n) o)
+      ≡ option_and_then (λ path. node_at path n)
+      (option_and_then (λ path. option_and_then (λ parent. option_map (λ i. path ++ i ∷ []) (class_place id.minor parent)) (node_at path n)) o)
   by None = refl
   by (Some path) = class-at path (node_at path n) refl
 
 -- what is counted there
-pub class-stats : (s : TreeState Kept) (p : Place) (id : ClassId) (n : Node Kept) (m : Option (Node Kept)) → p ≡ place.Class id → qdisc_with id.major s.root ≡ Some n → class_with id.minor n ≡ m → option_map (row kept) m ≡ stats kept p s
+pub class-stats : (s : TreeState Kept) (p : Place) (id : ClassId) (n : Node Kept) (m : Option (Node Kept)) → p ≡ place.Class id
+    → qdisc_with id.major s.root ≡ Some n → class_with id.minor n ≡ m → option_map (row kept) m ≡ stats kept p s
 class-stats s p id n m is parent child =
     ap (option_map (row kept)) (sym (ap (option_and_then (class_with id.minor)) parent ∙ child) ∙ in-class id s.root)
     ∙ sym (ap (λ q. stats kept q s) is)

@@ -33,8 +33,10 @@ packet_of sent = option_map (λ (t : Taken). t.packet) sent
 
 -- packets and bytes that were queued, and those that were dropped, sent, and stay
 pub record IsCountedTake (now : ℕ) (s : FqState) : Type 0 where
-  pub packets : packets_of s.flows ≡ (totals_in (beneath.packets_of (dropped_from now (selected s)))).packets + length (option_to_list (packet_of (sent_from now (selected s)))) + packets_of (after_sending now (selected s)).flows
-  pub bytes : bytes_of s.flows ≡ (totals_in (beneath.packets_of (dropped_from now (selected s)))).bytes + (totals_in (option_to_list (packet_of (sent_from now (selected s))))).bytes + bytes_of (after_sending now (selected s)).flows
+  pub packets : packets_of s.flows ≡ (totals_in (beneath.packets_of (dropped_from now (selected s)))).packets
+      + length (option_to_list (packet_of (sent_from now (selected s)))) + packets_of (after_sending now (selected s)).flows
+  pub bytes : bytes_of s.flows ≡ (totals_in (beneath.packets_of (dropped_from now (selected s)))).bytes
+      + (totals_in (option_to_list (packet_of (sent_from now (selected s))))).bytes + bytes_of (after_sending now (selected s)).flows
 
 pub counted-take : (now : ℕ) (s : FqState) → IsCountedTake now s
 counted-take now s =
@@ -72,13 +74,15 @@ counted-take now s =
 pub late-packets : (now : ℕ) (s : FqState) → selected s ≡ s
     → packets_of s.flows ≡ (totals_in (beneath.packets_of (dropped_from now s))).packets + length (option_to_list (packet_of (sent_from now s))) + packets_of (after_sending now s).flows
 late-packets now s chosen =
-    subst (λ (t : FqState). packets_of s.flows ≡ (totals_in (beneath.packets_of (dropped_from now t))).packets + length (option_to_list (packet_of (sent_from now t))) + packets_of (after_sending now t).flows)
+    subst (λ (t : FqState). packets_of s.flows ≡ (totals_in (beneath.packets_of (dropped_from now t))).packets
+    + length (option_to_list (packet_of (sent_from now t))) + packets_of (after_sending now t).flows)
     chosen (counted-take now s).packets
 
 pub late-bytes : (now : ℕ) (s : FqState) → selected s ≡ s
     → bytes_of s.flows ≡ (totals_in (beneath.packets_of (dropped_from now s))).bytes + (totals_in (option_to_list (packet_of (sent_from now s)))).bytes + bytes_of (after_sending now s).flows
 late-bytes now s chosen =
-    subst (λ (t : FqState). bytes_of s.flows ≡ (totals_in (beneath.packets_of (dropped_from now t))).bytes + (totals_in (option_to_list (packet_of (sent_from now t)))).bytes + bytes_of (after_sending now t).flows)
+    subst (λ (t : FqState). bytes_of s.flows ≡ (totals_in (beneath.packets_of (dropped_from now t))).bytes
+    + (totals_in (option_to_list (packet_of (sent_from now t)))).bytes + bytes_of (after_sending now t).flows)
     chosen (counted-take now s).bytes
 
 -- what is marked by a take
@@ -106,7 +110,8 @@ marks-bytes (Some t) = by t.marked
     by true = omega (arith, marked-cons bytes (Marked t.packet) [], marked-nil bytes)
     by false = marked-nil bytes
 
-pub flow-shown : (now : ℕ) (q : FqState) (s : Shown) → s.packet ≡ packet_of (sent_from now (selected q)) → s.dropped ≡ totals_in (beneath.packets_of (dropped_from now (selected q))) → s.marked ≡ marked_of (sent_from now (selected q))
+pub flow-shown : (now : ℕ) (q : FqState) (s : Shown) → s.packet ≡ packet_of (sent_from now (selected q))
+    → s.dropped ≡ totals_in (beneath.packets_of (dropped_from now (selected q))) → s.marked ≡ marked_of (sent_from now (selected q))
     → (own : Own) (below : List Asked) → IsShown (ask_fq_codel now own below q) s
 flow-shown now q s packet gone marks own below =
     let sent : Option Taken = sent_from now (selected q) in
@@ -116,8 +121,24 @@ flow-shown now q s packet gone marks own below =
     record {
       packet = packet;
       dropped = gone ∙ same-totals (totals_in lost) (counts_in rises).dropped
-          (omega (arith, z.dropped_packets, dropped-append one (losses_of CoDel lost) (marks_of sent), dropped-losses one CoDel lost refl, (quiet-marks sent).all_dropped one, lost-marks one sent, weigh-count lost))
-          (omega (arith, z.dropped_bytes, dropped-append bytes (losses_of CoDel lost) (marks_of sent), dropped-losses bytes CoDel lost refl, (quiet-marks sent).all_dropped bytes, lost-marks bytes sent, weigh-bytes lost));
+          (omega (
+            arith,
+            z.dropped_packets,
+            dropped-append one (losses_of CoDel lost) (marks_of sent),
+            dropped-losses one CoDel lost refl,
+            (quiet-marks sent).all_dropped one,
+            lost-marks one sent,
+            weigh-count lost,
+          ))
+          (omega (
+            arith,
+            z.dropped_bytes,
+            dropped-append bytes (losses_of CoDel lost) (marks_of sent),
+            dropped-losses bytes CoDel lost refl,
+            (quiet-marks sent).all_dropped bytes,
+            lost-marks bytes sent,
+            weigh-bytes lost,
+          ));
       marked = marks ∙ same-totals (marked_of sent) (counts_in rises).marked
           (omega (arith, z.marked_packets, marked-append one (losses_of CoDel lost) (marks_of sent), marked-losses one CoDel lost, marks-packets sent))
           (omega (arith, z.marked_bytes, marked-append bytes (losses_of CoDel lost) (marks_of sent), marked-losses bytes CoDel lost, marks-bytes sent));
@@ -138,5 +159,6 @@ flow-losses now q own below =
     no-losses None = refl
     no-losses (Some t) = mark t.packet t.marked
 
-pub flow-told : (now : ℕ) (q : FqState) (own : Own) (below : List Asked) (sink sink2 : SinkState) → IsTold (codel.losses_of CoDel (dropped_from now (selected q))) sink sink2 → IsToldOf (ask_fq_codel now own below q).rises sink sink2
+pub flow-told : (now : ℕ) (q : FqState) (own : Own) (below : List Asked) (sink sink2 : SinkState)
+    → IsTold (codel.losses_of CoDel (dropped_from now (selected q))) sink sink2 → IsToldOf (ask_fq_codel now own below q).rises sink sink2
 flow-told now q own below sink sink2 told = subst (λ xs. IsTold xs sink sink2) (sym (flow-losses now q own below)) told

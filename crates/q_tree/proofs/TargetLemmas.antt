@@ -30,11 +30,16 @@ class_path-shape : (class : ClassId) (root : Node Kept) → class_path class (sh
 class_path-shape class root =
     ap (option_and_then (λ path. option_and_then (λ (parent : Shape). option_map (λ i. path ++ i ∷ []) (class_place class.minor parent)) (node_at path (shape root)))) (path-shape class.major root)
     ∙ by (path_of class.major root) where
-      at : (path : List ℕ) (o : Option (Node Kept)) → option_and_then (λ (parent : Shape). option_map (λ i. path ++ i ∷ []) (class_place class.minor parent)) (option_map shape o) ≡ option_and_then (λ (parent : Node Kept). option_map (λ i. path ++ i ∷ []) (class_place class.minor parent)) o
+      at : (path : List ℕ) (o : Option (Node Kept))
+          → option_and_then (λ (parent : Shape). option_map (λ i. path ++ i ∷ []) (class_place class.minor parent)) (option_map shape o)
+          ≡ option_and_then (λ (parent : Node Kept). option_map (λ i. path ++ i ∷ []) (class_place class.minor parent)) o
       at path None = refl
       at path (Some n) = ap (option_map (λ i. path ++ i ∷ [])) (class-shape class.minor n)
 
-      by : (o : Option (List ℕ)) → option_and_then (λ path. option_and_then (λ (parent : Shape). option_map (λ i. path ++ i ∷ []) (class_place class.minor parent)) (node_at path (shape root))) o ≡ option_and_then (λ path. option_and_then (λ (parent : Node Kept). option_map (λ i. path ++ i ∷ []) (class_place class.minor parent)) (node_at path root)) o
+      by : (o : Option (List ℕ))
+          → option_and_then (λ path. option_and_then (λ (parent : Shape). option_map (λ i. path ++ i ∷ []) (class_place class.minor parent))
+          (node_at path (shape root))) o ≡ option_and_then
+          (λ path. option_and_then (λ (parent : Node Kept). option_map (λ i. path ++ i ∷ []) (class_place class.minor parent)) (node_at path root)) o
       by None = refl
       by (Some path) = ap (option_and_then (λ (parent : Shape). option_map (λ i. path ++ i ∷ []) (class_place class.minor parent))) (node_at-shape path root) ∙ at path (node_at path root)
 
@@ -78,7 +83,8 @@ reached-at root (Some way) path n e = by (node_at way root) refl e where
       record { found_is = ap (λ (x : List ℕ × Node Kept). Some x.0) pair; there = ap (λ (x : List ℕ × Node Kept). node_at x.0 root) (sym pair) ∙ at ∙ ap (λ (x : List ℕ × Node Kept). Some x.1) pair }
 
 -- a qdisc that is named by its place and by its handle
-pub both-name : (p : Place) (h : ℕ) (root n : Node Kept) (path : List ℕ) (b : Bool) → reached root (explicit_at (Some p) (shape root)) ≡ Some (path, n) → b ≡ option_eq (λ a c. a == c) n.own.handle (Some h)
+pub both-name : (p : Place) (h : ℕ) (root n : Node Kept) (path : List ℕ) (b : Bool)
+    → reached root (explicit_at (Some p) (shape root)) ≡ Some (path, n) → b ≡ option_eq (λ a c. a == c) n.own.handle (Some h)
     → (if b then Some (path, n) else None) ≡ reached root (target (Some p) (Some h) (shape root))
 both-name p h root n path b e same =
     let is : IsReached root (explicit_at (Some p) (shape root)) path n = reached-at root (explicit_at (Some p) (shape root)) path n e in

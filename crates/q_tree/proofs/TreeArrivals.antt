@@ -31,7 +31,8 @@ use Rattle.q_tree.proofs.TreePuts.{arrives-still, can-put, loss-is, prepared-kep
 
 -- ---- above the root
 
-pub above-root : (now : ℕ) (p : Descriptor) (mtu : ℕ) (n m : Node Kept) (o : Outcome) → mtu < p.len → m ≡ n → (q : Descriptor) → q ≡ p → o ≡ record { loss = Some TooLong; refused = with_packet no_totals q; dropped = no_totals }
+pub above-root : (now : ℕ) (p : Descriptor) (mtu : ℕ) (n m : Node Kept) (o : Outcome) → mtu < p.len → m ≡ n → (q : Descriptor) → q ≡ p
+    → o ≡ record { loss = Some TooLong; refused = with_packet no_totals q; dropped = no_totals }
     → HasComeBelow now p (device_route p mtu n) n m o
 above-root now p mtu n m o long same q packet is = subst (λ b. HasComeBelow now p (if b then None else Some (route p n)) n m o) (sym (lt-true mtu p.len long)) (record {
   placed = n;
@@ -47,11 +48,15 @@ above-root now p mtu n m o long same q packet is = subst (λ b. HasComeBelow now
   in_place = λ there. refl;
 })
 
-pub above-told : (now : ℕ) (p : Descriptor) (mtu : ℕ) (n : Node Kept) (sink sink2 : SinkState) → mtu < p.len → (q : Descriptor) → q ≡ p → IsTold (record { packet = q; cause = TooLong } ∷ []) sink sink2
+pub above-told : (now : ℕ) (p : Descriptor) (mtu : ℕ) (n : Node Kept) (sink sink2 : SinkState) → mtu < p.len → (q : Descriptor) → q ≡ p
+    → IsTold (record { packet = q; cause = TooLong } ∷ []) sink sink2
     → IsToldOf (put_on now p (device_route p mtu n) (shape n)).rises sink sink2
-above-told now p mtu n sink sink2 long q packet told = subst (λ b. IsToldOf (put_on now p (if b then None else Some (route p n)) (shape n)).rises sink sink2) (sym (lt-true mtu p.len long)) (subst (λ (x : Descriptor). IsTold (record { packet = x; cause = TooLong } ∷ []) sink sink2) packet told)
+above-told now p mtu n sink sink2 long q packet told =
+    subst (λ b. IsToldOf (put_on now p (if b then None else Some (route p n)) (shape n)).rises sink sink2) (sym (lt-true mtu p.len long))
+    (subst (λ (x : Descriptor). IsTold (record { packet = x; cause = TooLong } ∷ []) sink sink2) packet told)
 
-pub at-root : (now : ℕ) (p : Descriptor) (mtu : ℕ) (n m : Node Kept) (res : Result Outcome AllocError) → p.len ≤ mtu → IfOk res (λ o. HasCome now p n m o) → IfOk res (λ o. HasComeBelow now p (device_route p mtu n) n m o)
+pub at-root : (now : ℕ) (p : Descriptor) (mtu : ℕ) (n m : Node Kept) (res : Result Outcome AllocError) → p.len ≤ mtu
+    → IfOk res (λ o. HasCome now p n m o) → IfOk res (λ o. HasComeBelow now p (device_route p mtu n) n m o)
 at-root now p mtu n m (Err e) short h = tt
 at-root now p mtu n m (Ok o) short h = subst (λ b. HasComeBelow now p (if b then None else Some (route p n)) n m o) (sym (lt-false mtu p.len short)) (record {
   placed = h.placed;
@@ -69,7 +74,8 @@ at-root-told now p mtu n (Err e) sink sink2 short h = tt
 at-root-told now p mtu n (Ok o) sink sink2 short h = subst (λ b. IsToldOf (put_on now p (if b then None else Some (route p n)) (shape n)).rises sink sink2) (sym (lt-false mtu p.len short)) h
 
 -- the place that is there for a packet which can arrive
-pub place-there : (p : Descriptor) (d : DeviceState Kept) → CanArrive (route_seen p d.tree.device.mtu d.tree.root) d → p.len ≤ d.tree.device.mtu → (route p d.tree.root).refusal ≡ None → HasPlace (route p d.tree.root).path d.tree.root
+pub place-there : (p : Descriptor) (d : DeviceState Kept) → CanArrive (route_seen p d.tree.device.mtu d.tree.root) d → p.len ≤ d.tree.device.mtu
+    → (route p d.tree.root).refusal ≡ None → HasPlace (route p d.tree.root).path d.tree.root
 place-there p d can short none = by (nat_lt d.tree.device.mtu p.len) refl can.place none
   where
     by : (long : Bool) → nat_lt d.tree.device.mtu p.len ≡ long → IfSome (if long then None else Some (route p d.tree.root)) (λ (way : Route). way.refusal ≡ None → HasPlace way.path d.tree.root)
@@ -131,24 +137,30 @@ module _ (a : Inside) (k : IsIndexedDevice a) (now : ℕ) (p : Descriptor) (late
     module _ (row : Row) (row_is : row ≡ with_arrival p o a.top) where
       pub tree-after : numbers (tree_seen (record a { clock = now; top = row; root = after })) ≡ record { clock = now; tree = put totals now p (tree_numbers (tree_seen a).tree) }
       tree-after =
-          ap numbers (put-tree (record a { root = h.placed }) mid-kept p now later low byte (device_route p a.mtu a.root) mid-route mid-ready o h.outcome row row_is after h.becomes (record a { clock = now; top = row; root = after }) refl)
+          ap numbers (put-tree (record a { root = h.placed }) mid-kept p now later low byte (device_route p a.mtu a.root) mid-route mid-ready o
+          h.outcome row row_is after h.becomes (record a { clock = now; top = row; root = after }) refl)
           ∙ ap (λ (t : TreeState Counts). record { clock = now; tree = t })
           (put-stands kept totals (λ (m : Kept). m.counts) stands now p (tree_seen (record a { root = h.placed })).tree
           ∙ ap (λ (d : DeviceState Counts). put totals now p d.tree) (placed-numbers a k h.placed h.is_placed))
 
       -- where the place was there, places are as they were
-      pub tree-exact : CanArrive (route_seen p a.mtu a.root) (tree_seen a) → tree_seen (record a { clock = now; top = row; root = after }) ≡ record { clock = now; tree = put kept now p (tree_seen a).tree }
+      pub tree-exact : CanArrive (route_seen p a.mtu a.root) (tree_seen a)
+          → tree_seen (record a { clock = now; top = row; root = after }) ≡ record { clock = now; tree = put kept now p (tree_seen a).tree }
       tree-exact can =
-          put-tree (record a { root = h.placed }) mid-kept p now later low byte (device_route p a.mtu a.root) mid-route mid-ready o h.outcome row row_is after h.becomes (record a { clock = now; top = row; root = after }) refl
+          put-tree (record a { root = h.placed }) mid-kept p now later low byte (device_route p a.mtu a.root) mid-route mid-ready o h.outcome row
+          row_is after h.becomes (record a { clock = now; top = row; root = after }) refl
           ∙ ap (λ (n : Node Kept). record { clock = now; tree = put kept now p (tree_seen (record a { root = n })).tree }) (h.in_place can.place)
 
       tree-form : IsSameForm a.root after
       tree-form =
           let made = placed-form a.root h.placed h.is_placed.same in
-          let done = put-form now p h.placed after (device_route p a.mtu a.root) (can-put (record a { root = h.placed }) mid-kept p now later low byte (device_route p a.mtu a.root) mid-route mid-ready) h.becomes in
+          let done =
+          put-form now p h.placed after (device_route p a.mtu a.root)
+          (can-put (record a { root = h.placed }) mid-kept p now later low byte (device_route p a.mtu a.root) mid-route mid-ready) h.becomes in
           record { handles = done.handles ∙ made.handles; nodes = done.nodes ∙ made.nodes }
 
       pub tree-indexed : IsIndexedDevice (record a { clock = now; top = row; root = after })
       tree-indexed = still-indexed a (record a { clock = now; top = row; root = after }) k
-          (put-device (record a { root = h.placed }) mid-kept p now later low byte (device_route p a.mtu a.root) mid-route mid-ready o h.outcome row row_is after h.becomes (record a { clock = now; top = row; root = after }) refl h.arrived)
+          (put-device (record a { root = h.placed }) mid-kept p now later low byte (device_route p a.mtu a.root) mid-route mid-ready o h.outcome row
+          row_is after h.becomes (record a { clock = now; top = row; root = after }) refl h.arrived)
           refl tree-form

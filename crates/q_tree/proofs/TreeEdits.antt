@@ -62,8 +62,30 @@ module _ (a : Inside) (k : IsKeptDevice a) (e : Edit) (path : List ℕ) (now : �
           ∙ sym (with_edit-stands history totals counts_in totals_for_history p.edit k.history);
       queued =
           same-totals r.queued (totals_in (beneath root))
-          (omega (arith, ap (λ (x : Row). x.queued.packets) row_is, ap (λ (t : Totals). t.packets) same, ap (λ (t : Totals). t.packets) k.queued, loses.conserved one, weigh-count (beneath a.root), weigh-count (beneath (edited_by e path a.root)), weigh-count (removed_at e path a.root), ap (λ (n : Node Kept). length (beneath n)) root_is))
-          (omega (arith, ap (λ (x : Row). x.queued.bytes) row_is, ap (λ (t : Totals). t.bytes) same, ap (λ (t : Totals). t.bytes) k.queued, loses.conserved bytes, weigh-bytes (beneath a.root), weigh-bytes (beneath (edited_by e path a.root)), weigh-bytes (removed_at e path a.root), ap (λ (n : Node Kept). (totals_in (beneath n)).bytes) root_is));
+          (omega (
+            arith,
+            ap (λ (x : Row). x.queued.packets) row_is,
+            ap (λ (t : Totals). t.packets) same,
+            ap (λ (t : Totals). t.packets) k.queued,
+            loses.conserved one,
+            weigh-count (beneath a.root),
+            weigh-count (beneath (edited_by e path a.root)),
+            weigh-count
+                (removed_at e path a.root),
+            ap (λ (n : Node Kept). length (beneath n)) root_is,
+          ))
+          (omega (
+            arith,
+            ap (λ (x : Row). x.queued.bytes) row_is,
+            ap (λ (t : Totals). t.bytes) same,
+            ap (λ (t : Totals). t.bytes) k.queued,
+            loses.conserved bytes,
+            weigh-bytes (beneath a.root),
+            weigh-bytes (beneath (edited_by e path a.root)),
+            weigh-bytes
+                (removed_at e path a.root),
+            ap (λ (n : Node Kept). (totals_in (beneath n)).bytes) root_is,
+          ));
       within = record {
         packets = omega (arith, ap (λ (x : Row). x.arrived.packets) row_is, ap (λ (n : Node Kept). n.memory.counts.arrived.packets) root_is, loses.arrived.packets, k.within.packets);
         bytes = omega (arith, ap (λ (x : Row). x.arrived.bytes) row_is, ap (λ (n : Node Kept). n.memory.counts.arrived.bytes) root_is, loses.arrived.bytes, k.within.bytes);

@@ -54,7 +54,8 @@ same-form : (n m k : Node Kept) → m ≡ k → IsSameForm n k → IsSameForm n 
 same-form n m k is h = record { handles = ap (λ (x : Node Kept). addresses x) is ∙ h.handles; nodes = ap (λ (x : Node Kept). count_nodes x) is ∙ h.nodes }
 
 -- an arrival
-pub put-form : (now : ℕ) (p : Descriptor) (n m : Node Kept) (o : Option Route) → IfSome o (λ (r : Route). CanPut now p r.path r.refusal n) → m ≡ booked kept n (put_on now p o (shape n)).node → IsSameForm n m
+pub put-form : (now : ℕ) (p : Descriptor) (n m : Node Kept) (o : Option Route) → IfSome o (λ (r : Route). CanPut now p r.path r.refusal n)
+    → m ≡ booked kept n (put_on now p o (shape n)).node → IsSameForm n m
 put-form now p n m None h is = same-form n m n (is ∙ still n) (record { handles = refl; nodes = refl })
 put-form now p n m (Some r) h is = same-form n m (booked kept n (put_on now p (Some r) (shape n)).node) is (told-form n (put_on now p (Some r) (shape n)).node (told now p r.path r.refusal n h))
 
@@ -144,7 +145,9 @@ none-after (SetOptions options) d e = refl
 none-after (AddClass class quantum leaf) d e = absurd (false≢true (sym e))
 none-after (SetQuantum class quantum) d e = refl
 none-after (RemoveClass class) d e = by (place_in class d) where
-  by : (o : Option ℕ) → option_map_or (λ (x : ℕ × Node Kept). remove {X = Node Kept} [] x.0) (option_and_then (λ i. option_map {U = ℕ × Node Kept} (λ (c : Node Kept). (i, c)) (slice_get [] i)) o) [] ≡ []
+  by : (o : Option ℕ)
+      → option_map_or (λ (x : ℕ × Node Kept). remove {X = Node Kept} [] x.0)
+      (option_and_then (λ i. option_map {U = ℕ × Node Kept} (λ (c : Node Kept). (i, c)) (slice_get [] i)) o) [] ≡ []
   by None = refl
   by (Some i) = ap (λ o. option_map_or (λ (x : ℕ × Node Kept). remove {X = Node Kept} [] x.0) (option_map {U = ℕ × Node Kept} (λ (c : Node Kept). (i, c)) o) []) (nothing-there i)
 
@@ -168,7 +171,8 @@ roomy (DisciplineChange r) [] root there none more = by (children root) refl whe
       absurd (omega (arith, more, none-beneath (effect (DisciplineChange r) root) after))
   by (c ∷ cs) is = some-beneath root c cs is
 
-module _ (a : Inside) (k : IsIndexedDevice a) (e : Edit) (path : List ℕ) (there : IsSome (node_at path a.root)) (i : Index) (more : a.handles.room ≤ i.room) (made : adds_nodes e ≡ true → most_nodes ≤ i.room + 1)
+module _ (a : Inside) (k : IsIndexedDevice a) (e : Edit) (path : List ℕ) (there : IsSome (node_at path a.root)) (i : Index)
+    (more : a.handles.room ≤ i.room) (made : adds_nodes e ≡ true → most_nodes ≤ i.room + 1)
     (root : Node Kept) (is : root ≡ edited_by e path a.root) where
   -- the room that was made
   pub has-room : 1 < count_nodes root → most_nodes ≤ i.room + 1
@@ -184,7 +188,8 @@ module _ (a : Inside) (k : IsIndexedDevice a) (e : Edit) (path : List ℕ) (ther
   ]
 
 -- an index that is renewed
-pub renewed-device : (a : Inside) (i : Index) (room : 1 < count_nodes a.root → most_nodes ≤ a.handles.room + 1) → IsKeptDevice a → i.addresses ≡ addresses a.root → a.handles.room ≤ i.room → IsIndexedDevice (record a { handles = i })
+pub renewed-device : (a : Inside) (i : Index) (room : 1 < count_nodes a.root → most_nodes ≤ a.handles.room + 1) → IsKeptDevice a
+    → i.addresses ≡ addresses a.root → a.handles.room ≤ i.room → IsIndexedDevice (record a { handles = i })
 renewed-device a i room k same grown = record {
   device = beside-index a i k;
   handles = same;

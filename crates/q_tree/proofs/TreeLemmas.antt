@@ -50,7 +50,12 @@ noted-push t m (x ∷ notes) n = noted-push t (t.more m x) notes n
 -- what a node remembers says nothing of whether it is lawful
 lawful-back : {A B : Type 0} (mtu clock : ℕ) (f : A → B) (x : Forest A) → AllLawful mtu clock (each_memory f x) → AllLawful mtu clock x
 lawful-back mtu clock f none h = tt
-lawful-back mtu clock f (more own m below others) h = (subst (IsLawfulOwn mtu clock own) (each-each_memory beneath_own f below) h.0, lawful-back mtu clock f below h.1, lawful-back mtu clock f others h.2)
+lawful-back mtu clock f (more own m below others) h = (
+  subst (IsLawfulOwn mtu clock own) (each-each_memory beneath_own f below) h.0,
+  lawful-back mtu clock f below h.1,
+  lawful-back mtu clock f others
+      h.2,
+)
 
 pub root-back : {A B : Type 0} (mtu clock : ℕ) (f : A → B) (n : Node A) → IsLawfulRoot mtu clock (with_memory f n) → IsLawfulRoot mtu clock n
 root-back mtu clock f n h = (subst (IsLawfulOwn mtu clock n.own) (each-each_memory beneath_own f n.below) h.0, lawful-back mtu clock f n.below h.1)
@@ -82,7 +87,8 @@ module _ (a : Inside) (k : IsKeptDevice a) where
   top-row =
       let waits : beneath (with_memory (λ (m : Kept). m.counts) a.root) ≡ beneath a.root = ap (beneath_own a.root.own) (each-each_memory beneath_own (λ (m : Kept). m.counts) a.root.below) in
       let holds : held_beneath (with_memory (λ (m : Kept). m.counts) a.root) ≡ held_beneath a.root = ap (held_own a.root.own) (each-each_memory held_own (λ (m : Kept). m.counts) a.root.below) in
-      let row : row_of (counts_in_row a.top) (beneath (with_memory (λ (m : Kept). m.counts) a.root)) ≡ a.top = ap (row_of (counts_in_row a.top)) waits ∙ ap (λ q. record a.top { queued = q }) (sym k.queued) in
+      let row : row_of (counts_in_row a.top) (beneath (with_memory (λ (m : Kept). m.counts) a.root)) ≡ a.top =
+      ap (row_of (counts_in_row a.top)) waits ∙ ap (λ q. record a.top { queued = q }) (sym k.queued) in
       record {
         queued = k.queued;
         balanced = subst IsBalanced row lawful-tree.device;
@@ -94,13 +100,15 @@ module _ (a : Inside) (k : IsKeptDevice a) where
     lawful-root =
         let mtu : ℕ = k.history.device.mtu in
         subst (λ m. IsLawfulRoot m now a.root) (ap (λ (s : TreeState Counts). s.device.mtu) (sym k.same))
-        (root-back mtu now (λ m. tt) a.root (subst (IsLawfulRoot mtu now) (sym same-shape) (lawful-with_memory mtu now (λ m. tt) k.history.root (root-later a.clock now later mtu k.history.root k.keeps.lawful))))
+        (root-back mtu now (λ m. tt) a.root (subst (IsLawfulRoot mtu now) (sym same-shape)
+        (lawful-with_memory mtu now (λ m. tt) k.history.root (root-later a.clock now later mtu k.history.root k.keeps.lawful))))
 
     pub can-ask-root : CanAsk now a.root
     can-ask-root = record { mtu = a.mtu; least = least-mtu; moment = low; lawful = lawful-root }
 
     -- what a take leaves is kept
-    pub taken-kept : (b : Inside) → b.clock ≡ now → (tree_seen b).tree ≡ take_packet kept now (tree_seen a).tree → b.top.queued ≡ totals_in (beneath b.root) → IsCountedWithin b.root.memory.counts.arrived b.top.arrived → IsKeptDevice b
+    pub taken-kept : (b : Inside) → b.clock ≡ now → (tree_seen b).tree ≡ take_packet kept now (tree_seen a).tree
+        → b.top.queued ≡ totals_in (beneath b.root) → IsCountedWithin b.root.memory.counts.arrived b.top.arrived → IsKeptDevice b
     taken-kept b clock tree queued within = record {
       history = take_packet history now k.history;
       keeps = subst (λ n. IsKeptTree n (take_packet history now k.history)) (sym clock) (take-kept a.clock now k.history k.keeps later low);
@@ -142,7 +150,8 @@ module _ (a : Inside) (k : IsKeptDevice a) where
           pub peeked-tree : tree_seen b ≡ record { clock = now; tree = peek_packet kept now (tree_seen a).tree }
           peeked-tree =
               let x : Asked = ask now (shape a.root) in
-              let top : record { counts = counts_in_row r; places = 0 } ≡ noted kept (tree_seen a).tree.top x.rises = ap (λ c. record { counts = c; places = 0 }) counts-shown ∙ sym (noted-kept (tree_seen a).tree.top x.rises) in
+              let top : record { counts = counts_in_row r; places = 0 } ≡ noted kept (tree_seen a).tree.top x.rises =
+              ap (λ c. record { counts = c; places = 0 }) counts-shown ∙ sym (noted-kept (tree_seen a).tree.top x.rises) in
               ap tree_seen is ∙ (λ i. record { clock = now; tree = record { device = (tree_seen a).tree.device; top = top i; root = new i } })
 
           pub peeked-device : root.memory.counts.arrived ≡ a.root.memory.counts.arrived → IsKeptDevice b
@@ -181,7 +190,8 @@ module _ (a : Inside) (k : IsKeptDevice a) where
           offered : (ask now (shape a.root)).shown ≡ Some p
           offered = sym shown.packet ∙ some
 
-          module _ (r2 : Row) (row2 : r2 ≡ with_sent p r) (root2 : Node Kept) (left : root2 ≡ booked kept root (pop root).after) (b : Inside) (is : b ≡ record a { clock = now; top = r2; root = root2 }) where
+          module _ (r2 : Row) (row2 : r2 ≡ with_sent p r) (root2 : Node Kept) (left : root2 ≡ booked kept root (pop root).after) (b : Inside)
+              (is : b ≡ record a { clock = now; top = r2; root = root2 }) where
             pub one-taken : tree_seen b ≡ record { clock = now; tree = take_packet kept now (tree_seen a).tree }
             one-taken =
                 let x : Asked = ask now (shape a.root) in

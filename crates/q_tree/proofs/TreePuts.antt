@@ -104,7 +104,8 @@ module _ (a : Inside) (k : IsKeptDevice a) where
         within = subst (λ (t : Totals). IsCountedWithin t a.top.arrived) (ap (λ (n : Node Counts). n.memory.arrived) (sym e)) k.within;
       }
 
-  module _ (p : Descriptor) (now : ℕ) (later : a.clock ≤ now) (low : now ≤ 2 ^ 62) (byte : 1 ≤ p.len) (r : Option Route) (is : r ≡ device_route p a.mtu a.root) (ready : CanArrive (record { len = p.len; route = r }) (tree_seen a)) where
+  module _ (p : Descriptor) (now : ℕ) (later : a.clock ≤ now) (low : now ≤ 2 ^ 62) (byte : 1 ≤ p.len) (r : Option Route)
+      (is : r ≡ device_route p a.mtu a.root) (ready : CanArrive (record { len = p.len; route = r }) (tree_seen a)) where
     pub can-put : IfSome r (λ (x : Route). CanPut now p x.path x.refusal a.root)
     can-put = by r is ready
       where
@@ -136,7 +137,8 @@ module _ (a : Inside) (k : IsKeptDevice a) where
     put-losses None h = refusal-alone
     put-losses (Some x) h = are-losses now p x.path x.refusal a.root h
 
-    put-shifted : (o : Option Route) → IfSome o (λ (x : Route). CanPut now p x.path x.refusal a.root) → IsShifted p (put_on now p o (shape a.root)).rises (beneath a.root) (beneath (booked kept a.root (put_on now p o (shape a.root)).node))
+    put-shifted : (o : Option Route) → IfSome o (λ (x : Route). CanPut now p x.path x.refusal a.root)
+        → IsShifted p (put_on now p o (shape a.root)).rises (beneath a.root) (beneath (booked kept a.root (put_on now p o (shape a.root)).node))
     put-shifted None h =
         let same = ap (λ (n : Node Kept). beneath n) (still a.root) in
         record {
@@ -157,10 +159,14 @@ module _ (a : Inside) (k : IsKeptDevice a) where
 
     module _ (o : Outcome) (out : IsOutcome (loss_on now p r (shape a.root)) (put_on now p r (shape a.root)).rises o) where
       pub put-lost : IsLostOf p o a.top.queued
-      put-lost = lost-of p (put_on now p r (shape a.root)).rises o (beneath a.root) (beneath (booked kept a.root (put_on now p r (shape a.root)).node)) a.top.queued (outcome-weighs (loss_on now p r (shape a.root)) (put_on now p r (shape a.root)).rises o out)
+      put-lost =
+          lost-of p (put_on now p r (shape a.root)).rises o (beneath a.root) (beneath (booked kept a.root (put_on now p r (shape a.root)).node))
+          a.top.queued (outcome-weighs (loss_on now p r (shape a.root)) (put_on now p r (shape a.root)).rises o out)
           (put-shifted r can-put) k.queued
 
-      module _ (row : Row) (row_is : row ≡ with_arrival p o a.top) (root : Node Kept) (new : root ≡ booked kept a.root (put_on now p r (shape a.root)).node) (b : Inside) (b_is : b ≡ record a { clock = now; top = row; root = root }) where
+      module _ (row : Row) (row_is : row ≡ with_arrival p o a.top) (root : Node Kept)
+          (new : root ≡ booked kept a.root (put_on now p r (shape a.root)).node) (b : Inside)
+          (b_is : b ≡ record a { clock = now; top = row; root = root }) where
         pub put-tree : tree_seen b ≡ record { clock = now; tree = put kept now p (tree_seen a).tree }
         put-tree =
             let w : Work = put_on now p r (shape a.root) in
@@ -184,7 +190,9 @@ module _ (a : Inside) (k : IsKeptDevice a) where
               ∙ ap (λ (n : Node Kept). totals_in (beneath n)) (sym new));
           within = subst (λ (y : Inside). IsCountedWithin y.root.memory.counts.arrived y.top.arrived) (sym b_is)
               (subst (λ (t : Totals). IsCountedWithin root.memory.counts.arrived t) (sym (ap (λ (x : Row). x.arrived) row_is)) (elim counted [
-                | inl more ↦ subst (λ (t : Totals). IsCountedWithin t (with_packet a.top.arrived p)) (sym more) (record { packets = omega (arith, k.within.packets); bytes = omega (arith, k.within.bytes) })
-                | inr same ↦ subst (λ (t : Totals). IsCountedWithin t (with_packet a.top.arrived p)) (sym same) (record { packets = omega (arith, k.within.packets); bytes = omega (arith, k.within.bytes) })
+                | inl more ↦ subst (λ (t : Totals). IsCountedWithin t (with_packet a.top.arrived p)) (sym more)
+                    (record { packets = omega (arith, k.within.packets); bytes = omega (arith, k.within.bytes) })
+                | inr same ↦ subst (λ (t : Totals). IsCountedWithin t (with_packet a.top.arrived p)) (sym same)
+                    (record { packets = omega (arith, k.within.packets); bytes = omega (arith, k.within.bytes) })
               ]));
         }

@@ -77,7 +77,8 @@ pub record IsShown (a : Asked) (s : Shown) : Type 0 where
 pub record AreAsked (a : Asked) (before after : List (spec.Node Kept)) (s : Shown) : Type 0 where
   pub long : length after ≡ length before
   pub nodes : side_by_side after ≡ each_booked kept (side_by_side before) a.peeked.below
-  pub within : (t : Totals) → All (λ (child : spec.Node Kept). IsCountedWithin child.memory.counts.arrived t) before → All (λ (child : spec.Node Kept). IsCountedWithin child.memory.counts.arrived t) after
+  pub within : (t : Totals) → All (λ (child : spec.Node Kept). IsCountedWithin child.memory.counts.arrived t) before
+      → All (λ (child : spec.Node Kept). IsCountedWithin child.memory.counts.arrived t) after
   pub shown : IsShown a s
 
 -- a sink that was told of the losses among these notes

@@ -20,7 +20,8 @@ use Rattle.q_tree.specs.declared.node.Discipline.{Discipline}
 pub record ArePopped (before after : List (spec.Node Kept)) : Type 0 where
   pub long : length after ≡ length before
   pub nodes : side_by_side after ≡ each_booked kept (side_by_side before) (side_by_side (popped_at (first_ready (map pop before)) (map pop before)))
-  pub within : (t : Totals) → All (λ (child : spec.Node Kept). IsCountedWithin child.memory.counts.arrived t) before → All (λ (child : spec.Node Kept). IsCountedWithin child.memory.counts.arrived t) after
+  pub within : (t : Totals) → All (λ (child : spec.Node Kept). IsCountedWithin child.memory.counts.arrived t) before
+      → All (λ (child : spec.Node Kept). IsCountedWithin child.memory.counts.arrived t) after
 
 -- what a node with this discipline has at hand that holds no packet, and what is left of it
 abbrev pub popping_of : Discipline → Popping
@@ -42,7 +43,8 @@ pub record HasHead (n : spec.Node Kept) : Type 0 where
 pub record IsPoppedIn (before after : Discipline) : Type 0 where
   pub discipline : discipline_seen after ≡ (popping_of before).after.own.discipline
   pub children : side_by_side (children_seen after) ≡ each_booked kept (side_by_side (children_seen before)) (popping_of before).after.below
-  pub within : (t : Totals) → All (λ (child : spec.Node Kept). IsCountedWithin child.memory.counts.arrived t) (children_seen before) → All (λ (child : spec.Node Kept). IsCountedWithin child.memory.counts.arrived t) (children_seen after)
+  pub within : (t : Totals) → All (λ (child : spec.Node Kept). IsCountedWithin child.memory.counts.arrived t) (children_seen before)
+      → All (λ (child : spec.Node Kept). IsCountedWithin child.memory.counts.arrived t) (children_seen after)
   pub places : places_seen after ≡ places_seen before
 
 -- a row once the packet was sent

@@ -22,7 +22,8 @@ left_of a = if is_some a.shown then a.taken else a.peeked
 pub record AreSent (a : Asked) (before after : List (spec.Node Kept)) (s : Shown) : Type 0 where
   pub long : length after ≡ length before
   pub nodes : side_by_side after ≡ each_booked kept (side_by_side before) (left_of a).below
-  pub within : (t : Totals) → All (λ (child : spec.Node Kept). IsCountedWithin child.memory.counts.arrived t) before → All (λ (child : spec.Node Kept). IsCountedWithin child.memory.counts.arrived t) after
+  pub within : (t : Totals) → All (λ (child : spec.Node Kept). IsCountedWithin child.memory.counts.arrived t) before
+      → All (λ (child : spec.Node Kept). IsCountedWithin child.memory.counts.arrived t) after
   pub shown : IsShown a s
 
 pub record IsSentIn (a : Asked) (before after : Discipline) (s : Shown) : Type 0 where

@@ -48,7 +48,8 @@ moments : List ℕ
 moments = 5 ∷ 15 ∷ 25 ∷ 31 ∷ 32 ∷ 37 ∷ 37 ∷ 37 ∷ []
 
 -- a target of 5 and an interval of 10: the gaps are 10, 7 and 5
-drops-sent : sent_by (at_first 5 10 1514 false) (ten NotEct) moments ≡ Some (1, false) ∷ Some (3, false) ∷ Some (5, false) ∷ Some (6, false) ∷ Some (8, false) ∷ Some (9, false) ∷ Some (10, false) ∷ None ∷ []
+drops-sent : sent_by (at_first 5 10 1514 false) (ten NotEct) moments ≡ Some (1, false) ∷ Some (3, false) ∷ Some (5, false) ∷ Some (6, false)
+    ∷ Some (8, false) ∷ Some (9, false) ∷ Some (10, false) ∷ None ∷ []
 unfolding sent_by ten put moments gap_of
 drops-sent = refl
 
@@ -56,7 +57,8 @@ drops-lost : lost_by (at_first 5 10 1514 false) (ten NotEct) moments ≡ 2 ∷ 4
 unfolding lost_by ten put moments gap_of
 drops-lost = refl
 
-marks-sent : sent_by (at_first 5 10 1514 true) (ten Ect0) moments ≡ Some (1, false) ∷ Some (2, true) ∷ Some (3, true) ∷ Some (4, false) ∷ Some (5, true) ∷ Some (6, true) ∷ Some (7, false) ∷ Some (8, false) ∷ []
+marks-sent : sent_by (at_first 5 10 1514 true) (ten Ect0) moments ≡ Some (1, false) ∷ Some (2, true) ∷ Some (3, true) ∷ Some (4, false)
+    ∷ Some (5, true) ∷ Some (6, true) ∷ Some (7, false) ∷ Some (8, false) ∷ []
 unfolding sent_by ten put moments gap_of
 marks-sent = refl
 

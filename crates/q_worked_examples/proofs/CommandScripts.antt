@@ -30,7 +30,10 @@ purge =
 purge_runs : seen (Root ∷ (in_class 1 1) ∷ []) (run purge) ≡ record {
   replies = ok ∷ ok ∷ ok ∷ ok ∷ kept ∷ kept ∷ kept ∷ ok ∷ idle ∷ [];
   losses = loss (packet 1 100) Purged ∷ loss (packet 2 200) Purged ∷ loss (packet 3 300) Purged ∷ [];
-  rows = Some (record { arrived = pb 3 600; sent = no_totals; refused = no_totals; dropped = pb 3 600; queued = no_totals; marked = no_totals }) ∷ Some (record { arrived = no_totals; sent = no_totals; refused = no_totals; dropped = no_totals; queued = no_totals; marked = no_totals }) ∷ [];
+  rows =
+      Some (record { arrived = pb 3 600; sent = no_totals; refused = no_totals; dropped = pb 3 600; queued = no_totals; marked = no_totals })
+      ∷ Some (record { arrived = no_totals; sent = no_totals; refused = no_totals; dropped = no_totals; queued = no_totals; marked = no_totals })
+      ∷ [];
 }
 unfolding purge shared_rules
 purge_runs = refl
@@ -45,7 +48,10 @@ drop_below =
 drop_below_runs : seen (Root ∷ (in_class 1 1) ∷ []) (run drop_below) ≡ record {
   replies = ok ∷ ok ∷ ok ∷ ok ∷ replicate 10 kept ++ sent (packet 1 1000) ∷ sent (packet 3 1000) ∷ [];
   losses = loss (packet 2 1000) CoDel ∷ [];
-  rows = Some (record { arrived = pb 10 10000; sent = pb 2 2000; refused = no_totals; dropped = pb 1 1000; queued = pb 7 7000; marked = no_totals }) ∷ Some (record { arrived = pb 10 10000; sent = pb 2 2000; refused = no_totals; dropped = pb 1 1000; queued = pb 7 7000; marked = no_totals }) ∷ [];
+  rows =
+      Some (record { arrived = pb 10 10000; sent = pb 2 2000; refused = no_totals; dropped = pb 1 1000; queued = pb 7 7000; marked = no_totals })
+      ∷ Some (record { arrived = pb 10 10000; sent = pb 2 2000; refused = no_totals; dropped = pb 1 1000; queued = pb 7 7000; marked = no_totals })
+      ∷ [];
 }
 unfolding drop_below shared_rules
 drop_below_runs = refl
@@ -84,7 +90,11 @@ deep =
 deep_runs : seen (Root ∷ (in_class 1 1) ∷ (in_class 2 2) ∷ []) (run deep) ≡ record {
   replies = ok ∷ ok ∷ ok ∷ ok ∷ ok ∷ kept ∷ kept ∷ ok ∷ kept ∷ sent (packet 3 300) ∷ idle ∷ [];
   losses = loss (packet 1 100) Purged ∷ loss (packet 2 200) Purged ∷ [];
-  rows = Some (record { arrived = pb 3 600; sent = pb 1 300; refused = no_totals; dropped = pb 2 300; queued = no_totals; marked = no_totals }) ∷ Some (record { arrived = pb 3 600; sent = pb 1 300; refused = no_totals; dropped = pb 2 300; queued = no_totals; marked = no_totals }) ∷ Some (record { arrived = pb 1 300; sent = pb 1 300; refused = no_totals; dropped = no_totals; queued = no_totals; marked = no_totals }) ∷ [];
+  rows =
+      Some (record { arrived = pb 3 600; sent = pb 1 300; refused = no_totals; dropped = pb 2 300; queued = no_totals; marked = no_totals })
+      ∷ Some (record { arrived = pb 3 600; sent = pb 1 300; refused = no_totals; dropped = pb 2 300; queued = no_totals; marked = no_totals })
+      ∷ Some (record { arrived = pb 1 300; sent = pb 1 300; refused = no_totals; dropped = no_totals; queued = no_totals; marked = no_totals })
+      ∷ [];
 }
 unfolding deep shared_rules
 deep_runs = refl

@@ -43,7 +43,9 @@ shares =
     ++ polls 0 6
 
 shares_runs : seen [] (run shares) ≡ record {
-  replies = ok ∷ ok ∷ ok ∷ ok ∷ ok ∷ replicate 20 kept ++ sent (from_port 1 1 500) ∷ sent (from_port 1 2 500) ∷ sent (from_port 2 11 500) ∷ sent (from_port 1 3 500) ∷ sent (from_port 1 4 500) ∷ sent (from_port 2 12 500) ∷ [];
+  replies =
+      ok ∷ ok ∷ ok ∷ ok ∷ ok ∷ replicate 20 kept ++ sent (from_port 1 1 500) ∷ sent (from_port 1 2 500) ∷ sent (from_port 2 11 500)
+      ∷ sent (from_port 1 3 500) ∷ sent (from_port 1 4 500) ∷ sent (from_port 2 12 500) ∷ [];
   losses = [];
   rows = [];
 }

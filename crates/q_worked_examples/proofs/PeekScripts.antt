@@ -59,8 +59,20 @@ peek_drops = refl
 
 -- node by node, class by class, filter by filter; none past the last
 nodes_shown : map (λ i. node totals i tree) (0 ∷ 1 ∷ 2 ∷ []) ≡
-    Some (record { handle = Some 1; place = Root; qdisc = qdisc.Drr; row = record { arrived = pb 1 600; sent = no_totals; refused = no_totals; dropped = no_totals; queued = pb 1 600; marked = no_totals } })
-    ∷ Some (record { handle = None; place = in_class 1 1; qdisc = qdisc.Pfifo 1000; row = record { arrived = pb 1 600; sent = no_totals; refused = no_totals; dropped = no_totals; queued = pb 1 600; marked = no_totals } })
+    Some (record {
+      handle = Some 1;
+      place = Root;
+      qdisc = qdisc.Drr;
+      row = record
+          { arrived = pb 1 600; sent = no_totals; refused = no_totals; dropped = no_totals; queued = pb 1 600; marked = no_totals };
+    })
+    ∷ Some (record {
+      handle = None;
+      place = in_class 1 1;
+      qdisc = qdisc.Pfifo 1000;
+      row = record
+          { arrived = pb 1 600; sent = no_totals; refused = no_totals; dropped = no_totals; queued = pb 1 600; marked = no_totals };
+    })
     ∷ None ∷ []
 unfolding tree shared_rules
 nodes_shown = refl

@@ -18,7 +18,9 @@ use Rattle.q_fqcodel.specs.Selection.{chosen, turned, first_ready, moved, with_r
 use Rattle.q_fqcodel.specs.Take.{selected, packet_sent, packets_dropped, flow_after, front, sender, sent_from, dropped_from, paid, with_sent, after_sending}
 
 unfoldable pub shared_rules : ℕ
-unfolding gap_of grants_for adjust clear packets_of bytes_of rested_flow retuned all_packets appended fattest shed_count overflow shed cut_back is_lost_itself need given stay leave chosen turned first_ready moved with_rest arranged selected packet_sent packets_dropped flow_after front sender sent_from dropped_from paid with_sent after_sending quanta_in visits quanta_turned passed_over old_list quanta_old quanta_given grants
+unfolding gap_of grants_for adjust clear packets_of bytes_of rested_flow retuned all_packets appended fattest shed_count overflow shed cut_back
+    is_lost_itself need given stay leave chosen turned first_ready moved with_rest arranged selected packet_sent packets_dropped flow_after front
+    sender sent_from dropped_from paid with_sent after_sending quanta_in visits quanta_turned passed_over old_list quanta_old quanta_given grants
 shared_rules = 0
 
 unfoldable pub value_rules : ℕ

@@ -52,7 +52,11 @@ bursts =
 bursts_runs : seen (Root ∷ (in_class 1 1) ∷ Top ∷ []) (run bursts) ≡ record {
   replies = ok ∷ lost TooLong ∷ lost TooLong ∷ not_done SmallBurst ∷ ok ∷ [];
   losses = loss (packet 1 1001) TooLong ∷ loss (packet 2 2000) TooLong ∷ [];
-  rows = Some (record { arrived = pb 1 1001; sent = no_totals; refused = pb 1 1001; dropped = no_totals; queued = no_totals; marked = no_totals }) ∷ Some (record { arrived = no_totals; sent = no_totals; refused = no_totals; dropped = no_totals; queued = no_totals; marked = no_totals }) ∷ Some (record { arrived = pb 2 3001; sent = no_totals; refused = pb 2 3001; dropped = no_totals; queued = no_totals; marked = no_totals }) ∷ [];
+  rows =
+      Some (record { arrived = pb 1 1001; sent = no_totals; refused = pb 1 1001; dropped = no_totals; queued = no_totals; marked = no_totals })
+      ∷ Some (record { arrived = no_totals; sent = no_totals; refused = no_totals; dropped = no_totals; queued = no_totals; marked = no_totals })
+      ∷ Some (record { arrived = pb 2 3001; sent = no_totals; refused = pb 2 3001; dropped = no_totals; queued = no_totals; marked = no_totals })
+      ∷ [];
 }
 unfolding bursts
 bursts_runs = refl

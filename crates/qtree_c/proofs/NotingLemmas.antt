@@ -26,7 +26,8 @@ arrival-more clock cs cs2 c l l1 l2 had more one =
     ∙ ap (λ (x : LastNoted). with_noted (event (descriptor c)) x) had
     ∙ sym (all_noted-push (map event (map descriptor cs)) (event (descriptor c)) l)
     ∙ ap (λ (es : List Event). all_noted es l)
-    (sym (ap (λ (xs : List StoredPacket). map event (map descriptor xs)) more ∙ ap (λ (ps : List Descriptor). map event ps) (map-more descriptor cs c) ∙ map-more event (map descriptor cs) (descriptor c)))
+    (sym (ap (λ (xs : List StoredPacket). map event (map descriptor xs)) more ∙ ap (λ (ps : List Descriptor). map event ps)
+    (map-more descriptor cs c) ∙ map-more event (map descriptor cs) (descriptor c)))
 
 replicate-push : {A : Type 0} (i : ℕ) (e : A) → replicate i e ++ e ∷ [] ≡ replicate (i + 1) e
 replicate-push i e = by i ∙ (let next : suc i ≡ i + 1 = omega arith in ap (λ (k : ℕ). replicate k e) next)

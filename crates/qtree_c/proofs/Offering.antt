@@ -82,7 +82,8 @@ batch-is-full r k packets read p p' is lt placed full =
 firsts : (m k : ℕ) (cs : List StoredPacket) → k ≤ length (take m cs) → take k (take m cs) ≡ take k cs
 firsts m k cs few = take-take k m cs (omega (arith, few, length-take m cs))
 
-pub offering-more : (i m k code : ℕ) (packets : List StoredPacket) (p p' p'' : PortSeen) → IsOffering i packets p p' → IsOffers (take m (drop i packets)) code k p' p'' → IsOffering (i + k) packets p p''
+pub offering-more : (i m k code : ℕ) (packets : List StoredPacket) (p p' p'' : PortSeen) → IsOffering i packets p p'
+    → IsOffers (take m (drop i packets)) code k p' p'' → IsOffering (i + k) packets p p''
 offering-more i m k code packets p p' p'' inv did =
     let part = take k (drop i packets) in
     let cut : take k (take m (drop i packets)) ≡ part = firsts m k (drop i packets) did.most in
@@ -98,7 +99,8 @@ offering-more i m k code packets p p' p'' inv did =
     }
 
 -- the batch was not placed whole
-pub offering-stops : (i m k code : ℕ) (packets : List StoredPacket) (p p' p'' : PortSeen) → IsOffering i packets p p' → IsOffers (take m (drop i packets)) code k p' p'' → code ≢ 0 → IsOffers packets code (i + k) p p''
+pub offering-stops : (i m k code : ℕ) (packets : List StoredPacket) (p p' p'' : PortSeen) → IsOffering i packets p p'
+    → IsOffers (take m (drop i packets)) code k p' p'' → code ≢ 0 → IsOffers packets code (i + k) p p''
 offering-stops i m k code packets p p' p'' inv did ne =
     let all = offering-more i m k code packets p p' p'' inv did in
     let few : k < length (take m (drop i packets)) = did.stopped ne in

@@ -51,7 +51,8 @@ polls-are told now answer count before after d n h = record {
 }
 
 -- where this is the answer
-pub polls-with : {A : Type 0} (told : Descriptor → A) (now : ℕ) (count : ℕ) (before after : List A) (d n : DeviceSeen) (x answer : Given) → x ≡ answer → bursts.IsPolls told now x count before after d n
+pub polls-with : {A : Type 0} (told : Descriptor → A) (now : ℕ) (count : ℕ) (before after : List A) (d n : DeviceSeen) (x answer : Given) → x ≡ answer
+    → bursts.IsPolls told now x count before after d n
     → bursts.IsPolls told now answer count before after d n
 polls-with told now count before after d n x answer is h = subst (λ (a : Given). bursts.IsPolls told now a count before after d n) is h
 

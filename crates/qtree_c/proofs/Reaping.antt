@@ -9,7 +9,9 @@ use Rattle.qtree_c.specs.declared.c_loss.CLoss.{CLoss}
 use Rattle.q_device.proofs.PlaceLemmas.{filled-more, next-taken, next-dropped, next-counted, some-left, none-left, map-more, length-taken, all-dropped}
 
 -- where none waits nothing is handed out
-nothing-more : (i : ℕ) (d : DeviceSeen) → length d.waiting ≤ i → reaped (record d { waiting = drop i d.waiting; handed_out = d.handed_out + i }) ≡ record d { waiting = drop i d.waiting; handed_out = d.handed_out + i }
+nothing-more : (i : ℕ) (d : DeviceSeen) → length d.waiting ≤ i
+    → reaped (record d { waiting = drop i d.waiting; handed_out = d.handed_out + i })
+    ≡ record d { waiting = drop i d.waiting; handed_out = d.handed_out + i }
 nothing-more i d le =
     let none : drop i d.waiting ≡ [] = all-dropped i d.waiting le in
     ap₂ (λ (ws : List Loss) (n : ℕ). record d { waiting = ws; handed_out = n }) (ap (λ (xs : List Loss). drop 1 xs) none ∙ sym none)

@@ -27,10 +27,17 @@ node::Node::at_hand-first_at_hand-requires t c =
 pub node::Node::at_hand-returns-in-Prio : goal.node::Node::at_hand-returns-in-Prio
 node::Node::at_hand-returns-in-Prio t c =
     c.first_at_hand.ensures
-    ∙ prio-shown c.self.inside c.args.self.now c.deref.result.now c.in-Prio.priomap c.self.view_is (none-kept c.self.inside.held c.if-is_some.ensures) (ap discipline_seen c.in-Prio.is) (c.deref.ensures.value ∙ sym (ap children_seen c.in-Prio.is))
+    ∙ prio-shown c.self.inside c.args.self.now c.deref.result.now c.in-Prio.priomap c.self.view_is
+    (none-kept c.self.inside.held c.if-is_some.ensures) (ap discipline_seen c.in-Prio.is)
+    (c.deref.ensures.value ∙ sym (ap children_seen c.in-Prio.is))
 
 pub disciplines::prio::first_at_hand-at_hand-requires : goal.disciplines::prio::first_at_hand-at_hand-requires
 disciplines::prio::first_at_hand-at_hand-requires t c = (
-  omega (arith, child-size c.args.bands.now c.loop-band.band-index c.band-item.result (there-at c.args.bands.now c.loop-band.band-index c.band-item.result c.loop-band-test.true c.band-item.is), c.decreases),
+  omega (
+    arith,
+    child-size c.args.bands.now c.loop-band.band-index c.band-item.result
+        (there-at c.args.bands.now c.loop-band.band-index c.band-item.result c.loop-band-test.true c.band-item.is),
+    c.decreases,
+  ),
   tt,
 )

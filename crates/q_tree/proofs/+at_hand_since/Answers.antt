@@ -25,7 +25,12 @@ disciplines::prio::first_since-returns t c = nobody-since c.args.bands.now c.loo
 
 pub disciplines::prio::first_since-at_hand_since-requires : goal.disciplines::prio::first_since-at_hand_since-requires
 disciplines::prio::first_since-at_hand_since-requires t c = (
-  omega (arith, child-size c.args.bands.now c.loop-band.band-index c.band-item.result (there-at c.args.bands.now c.loop-band.band-index c.band-item.result c.loop-band-test.true c.band-item.is), c.decreases),
+  omega (
+    arith,
+    child-size c.args.bands.now c.loop-band.band-index c.band-item.result
+        (there-at c.args.bands.now c.loop-band.band-index c.band-item.result c.loop-band-test.true c.band-item.is),
+    c.decreases,
+  ),
   tt,
 )
 

@@ -29,7 +29,9 @@ node::Discipline::dequeue_at_hand_further-returns-in-Drr-clause-after t c =
 
 pub node::Node::dequeue_at_hand-returns-then-is_some-clause-after : goal.node::Node::dequeue_at_hand-returns-then-is_some-clause-after
 node::Node::dequeue_at_hand-returns-then-is_some-clause-after t c =
-    ap (λ (h : Option Stamped). seen (record c.self.inside { held = h; row = c.book_sent.new.row })) c.release.ensures.none ∙ held-after c.self.inside c.release.new.out (sym c.release.ensures.packet) c.book_sent.new.row c.book_sent.ensures ∙ ap (λ n. booked kept n (pop n).after) c.self.view_is
+    ap (λ (h : Option Stamped). seen (record c.self.inside { held = h; row = c.book_sent.new.row })) c.release.ensures.none
+    ∙ held-after c.self.inside c.release.new.out (sym c.release.ensures.packet) c.book_sent.new.row c.book_sent.ensures
+    ∙ ap (λ n. booked kept n (pop n).after) c.self.view_is
 
 pub node::Node::dequeue_at_hand-returns-then-is_some-clause-given : goal.node::Node::dequeue_at_hand-returns-then-is_some-clause-given
 node::Node::dequeue_at_hand-returns-then-is_some-clause-given t c =
@@ -41,44 +43,89 @@ node::Node::dequeue_at_hand-returns-then-is_some-clause-packet t c =
 
 pub node::Node::dequeue_at_hand-invariant_of-self-then-not-dequeue_at_hand : goal.node::Node::dequeue_at_hand-invariant_of-self-then-not-dequeue_at_hand
 node::Node::dequeue_at_hand-invariant_of-self-then-not-dequeue_at_hand t c =
-    (still-kept c.self.inside (none-kept c.self.inside.held c.if-is_some.ensures) c.dequeue_at_hand.new.self (popping_of c.self.inside.discipline).shown refl c.dequeue_at_hand.ensures.after c.self.invariant (given-none (popping_of c.self.inside.discipline).shown c.args.out.now c.dequeue_at_hand.new.out (sym c.dequeue_at_hand.ensures.given ∙ c.if-not-dequeue_at_hand.true) c.dequeue_at_hand.ensures.packet).0).stays
+    (still-kept c.self.inside (none-kept c.self.inside.held c.if-is_some.ensures) c.dequeue_at_hand.new.self
+    (popping_of c.self.inside.discipline).shown refl c.dequeue_at_hand.ensures.after c.self.invariant
+    (given-none (popping_of c.self.inside.discipline).shown c.args.out.now c.dequeue_at_hand.new.out
+    (sym c.dequeue_at_hand.ensures.given ∙ c.if-not-dequeue_at_hand.true) c.dequeue_at_hand.ensures.packet).0).stays
 
 pub node::Node::dequeue_at_hand-returns-then-not-dequeue_at_hand-clause-given : goal.node::Node::dequeue_at_hand-returns-then-not-dequeue_at_hand-clause-given
 node::Node::dequeue_at_hand-returns-then-not-dequeue_at_hand-clause-given t c =
-    sym (ap is_some (sym ((still-kept c.self.inside (none-kept c.self.inside.held c.if-is_some.ensures) c.dequeue_at_hand.new.self (popping_of c.self.inside.discipline).shown refl c.dequeue_at_hand.ensures.after c.self.invariant (given-none (popping_of c.self.inside.discipline).shown c.args.out.now c.dequeue_at_hand.new.out (sym c.dequeue_at_hand.ensures.given ∙ c.if-not-dequeue_at_hand.true) c.dequeue_at_hand.ensures.packet).0).shown ∙ ap (λ n. (pop n).shown) c.self.view_is)))
+    sym (ap is_some (sym ((still-kept c.self.inside (none-kept c.self.inside.held c.if-is_some.ensures) c.dequeue_at_hand.new.self
+    (popping_of c.self.inside.discipline).shown refl c.dequeue_at_hand.ensures.after c.self.invariant
+    (given-none (popping_of c.self.inside.discipline).shown c.args.out.now c.dequeue_at_hand.new.out
+    (sym c.dequeue_at_hand.ensures.given ∙ c.if-not-dequeue_at_hand.true) c.dequeue_at_hand.ensures.packet).0).shown
+    ∙ ap (λ n. (pop n).shown) c.self.view_is)))
 
 pub node::Node::dequeue_at_hand-returns-then-not-dequeue_at_hand-clause-packet : goal.node::Node::dequeue_at_hand-returns-then-not-dequeue_at_hand-clause-packet
 node::Node::dequeue_at_hand-returns-then-not-dequeue_at_hand-clause-packet t c =
-    (given-none (popping_of c.self.inside.discipline).shown c.args.out.now c.dequeue_at_hand.new.out (sym c.dequeue_at_hand.ensures.given ∙ c.if-not-dequeue_at_hand.true) c.dequeue_at_hand.ensures.packet).1 ∙ ap (λ o. unwrap_or o c.args.out.now) ((still-kept c.self.inside (none-kept c.self.inside.held c.if-is_some.ensures) c.dequeue_at_hand.new.self (popping_of c.self.inside.discipline).shown refl c.dequeue_at_hand.ensures.after c.self.invariant (given-none (popping_of c.self.inside.discipline).shown c.args.out.now c.dequeue_at_hand.new.out (sym c.dequeue_at_hand.ensures.given ∙ c.if-not-dequeue_at_hand.true) c.dequeue_at_hand.ensures.packet).0).shown ∙ ap (λ n. (pop n).shown) c.self.view_is)
+    (given-none (popping_of c.self.inside.discipline).shown c.args.out.now c.dequeue_at_hand.new.out
+    (sym c.dequeue_at_hand.ensures.given ∙ c.if-not-dequeue_at_hand.true) c.dequeue_at_hand.ensures.packet).1
+    ∙ ap (λ o. unwrap_or o c.args.out.now) ((still-kept c.self.inside (none-kept c.self.inside.held c.if-is_some.ensures)
+    c.dequeue_at_hand.new.self (popping_of c.self.inside.discipline).shown refl c.dequeue_at_hand.ensures.after c.self.invariant
+    (given-none (popping_of c.self.inside.discipline).shown c.args.out.now c.dequeue_at_hand.new.out
+    (sym c.dequeue_at_hand.ensures.given ∙ c.if-not-dequeue_at_hand.true) c.dequeue_at_hand.ensures.packet).0).shown
+    ∙ ap (λ n. (pop n).shown) c.self.view_is)
 
 pub node::Node::dequeue_at_hand-returns-then-not-dequeue_at_hand-clause-after : goal.node::Node::dequeue_at_hand-returns-then-not-dequeue_at_hand-clause-after
 node::Node::dequeue_at_hand-returns-then-not-dequeue_at_hand-clause-after t c =
-    (still-kept c.self.inside (none-kept c.self.inside.held c.if-is_some.ensures) c.dequeue_at_hand.new.self (popping_of c.self.inside.discipline).shown refl c.dequeue_at_hand.ensures.after c.self.invariant (given-none (popping_of c.self.inside.discipline).shown c.args.out.now c.dequeue_at_hand.new.out (sym c.dequeue_at_hand.ensures.given ∙ c.if-not-dequeue_at_hand.true) c.dequeue_at_hand.ensures.packet).0).after ∙ ap (λ n. booked kept n (pop n).after) c.self.view_is
+    (still-kept c.self.inside (none-kept c.self.inside.held c.if-is_some.ensures) c.dequeue_at_hand.new.self
+    (popping_of c.self.inside.discipline).shown refl c.dequeue_at_hand.ensures.after c.self.invariant
+    (given-none (popping_of c.self.inside.discipline).shown c.args.out.now c.dequeue_at_hand.new.out
+    (sym c.dequeue_at_hand.ensures.given ∙ c.if-not-dequeue_at_hand.true) c.dequeue_at_hand.ensures.packet).0).after
+    ∙ ap (λ n. booked kept n (pop n).after) c.self.view_is
 
 pub node::Node::dequeue_at_hand-book_sent-requires-2-clause-among : goal.node::Node::dequeue_at_hand-book_sent-requires-2-clause-among
 node::Node::dequeue_at_hand-book_sent-requires-2-clause-among t c =
-    among (seen c.self.inside) c.self.inside.row (row-of c.self.inside c.self.invariant) c.dequeue_at_hand.new.out (own-shown c.self.inside (none-kept c.self.inside.held c.if-is_some.ensures) c.dequeue_at_hand.new.self (popping_of c.self.inside.discipline).shown refl c.dequeue_at_hand.ensures.after ∙ (given-some (popping_of c.self.inside.discipline).shown c.args.out.now c.dequeue_at_hand.new.out (sym c.dequeue_at_hand.ensures.given ∙ c.if-not-dequeue_at_hand.false) c.dequeue_at_hand.ensures.packet))
+    among (seen c.self.inside) c.self.inside.row (row-of c.self.inside c.self.invariant) c.dequeue_at_hand.new.out
+    (own-shown c.self.inside (none-kept c.self.inside.held c.if-is_some.ensures) c.dequeue_at_hand.new.self
+    (popping_of c.self.inside.discipline).shown refl c.dequeue_at_hand.ensures.after
+    ∙ (given-some (popping_of c.self.inside.discipline).shown c.args.out.now c.dequeue_at_hand.new.out
+    (sym c.dequeue_at_hand.ensures.given ∙ c.if-not-dequeue_at_hand.false) c.dequeue_at_hand.ensures.packet))
 
 pub node::Node::dequeue_at_hand-book_sent-requires-2-clause-room : goal.node::Node::dequeue_at_hand-book_sent-requires-2-clause-room
 node::Node::dequeue_at_hand-book_sent-requires-2-clause-room t c =
-    let had = (among (seen c.self.inside) c.self.inside.row (row-of c.self.inside c.self.invariant) c.dequeue_at_hand.new.out (own-shown c.self.inside (none-kept c.self.inside.held c.if-is_some.ensures) c.dequeue_at_hand.new.self (popping_of c.self.inside.discipline).shown refl c.dequeue_at_hand.ensures.after ∙ (given-some (popping_of c.self.inside.discipline).shown c.args.out.now c.dequeue_at_hand.new.out (sym c.dequeue_at_hand.ensures.given ∙ c.if-not-dequeue_at_hand.false) c.dequeue_at_hand.ensures.packet))) in
-    record { packets = omega (arith, c.self.invariant.balanced.packets, had.packets, c.self.ranges, c.fit.ensures.packets, c.fit.ensures.bytes); bytes = omega (arith, c.self.invariant.balanced.bytes, had.bytes, c.self.ranges, c.fit.ensures.packets, c.fit.ensures.bytes) }
+    let had =
+    (among (seen c.self.inside) c.self.inside.row (row-of c.self.inside c.self.invariant) c.dequeue_at_hand.new.out
+    (own-shown c.self.inside (none-kept c.self.inside.held c.if-is_some.ensures) c.dequeue_at_hand.new.self
+    (popping_of c.self.inside.discipline).shown refl c.dequeue_at_hand.ensures.after
+    ∙ (given-some (popping_of c.self.inside.discipline).shown c.args.out.now c.dequeue_at_hand.new.out
+    (sym c.dequeue_at_hand.ensures.given ∙ c.if-not-dequeue_at_hand.false) c.dequeue_at_hand.ensures.packet))) in
+    record {
+      packets = omega (arith, c.self.invariant.balanced.packets, had.packets, c.self.ranges, c.fit.ensures.packets, c.fit.ensures.bytes);
+      bytes = omega (arith, c.self.invariant.balanced.bytes, had.bytes, c.self.ranges, c.fit.ensures.packets, c.fit.ensures.bytes);
+    }
 
 pub node::Node::dequeue_at_hand-invariant_of-self-2 : goal.node::Node::dequeue_at_hand-invariant_of-self-2
 node::Node::dequeue_at_hand-invariant_of-self-2 t c =
-    (gave c.self.inside (none-kept c.self.inside.held c.if-is_some.ensures) c.dequeue_at_hand.new.self (popping_of c.self.inside.discipline).shown refl c.dequeue_at_hand.ensures.after c.self.invariant c.dequeue_at_hand.new.out (given-some (popping_of c.self.inside.discipline).shown c.args.out.now c.dequeue_at_hand.new.out (sym c.dequeue_at_hand.ensures.given ∙ c.if-not-dequeue_at_hand.false) c.dequeue_at_hand.ensures.packet) c.book_sent-2.new.row c.book_sent-2.ensures).stays
+    (gave c.self.inside (none-kept c.self.inside.held c.if-is_some.ensures) c.dequeue_at_hand.new.self (popping_of c.self.inside.discipline).shown
+    refl c.dequeue_at_hand.ensures.after c.self.invariant c.dequeue_at_hand.new.out
+    (given-some (popping_of c.self.inside.discipline).shown c.args.out.now c.dequeue_at_hand.new.out
+    (sym c.dequeue_at_hand.ensures.given ∙ c.if-not-dequeue_at_hand.false) c.dequeue_at_hand.ensures.packet) c.book_sent-2.new.row
+    c.book_sent-2.ensures).stays
 
 pub node::Node::dequeue_at_hand-returns-clause-given : goal.node::Node::dequeue_at_hand-returns-clause-given
 node::Node::dequeue_at_hand-returns-clause-given t c =
-    sym (ap is_some (sym ((gave c.self.inside (none-kept c.self.inside.held c.if-is_some.ensures) c.dequeue_at_hand.new.self (popping_of c.self.inside.discipline).shown refl c.dequeue_at_hand.ensures.after c.self.invariant c.dequeue_at_hand.new.out (given-some (popping_of c.self.inside.discipline).shown c.args.out.now c.dequeue_at_hand.new.out (sym c.dequeue_at_hand.ensures.given ∙ c.if-not-dequeue_at_hand.false) c.dequeue_at_hand.ensures.packet) c.book_sent-2.new.row c.book_sent-2.ensures).shown ∙ ap (λ n. (pop n).shown) c.self.view_is)))
+    sym (ap is_some (sym ((gave c.self.inside (none-kept c.self.inside.held c.if-is_some.ensures) c.dequeue_at_hand.new.self
+    (popping_of c.self.inside.discipline).shown refl c.dequeue_at_hand.ensures.after c.self.invariant c.dequeue_at_hand.new.out
+    (given-some (popping_of c.self.inside.discipline).shown c.args.out.now c.dequeue_at_hand.new.out
+    (sym c.dequeue_at_hand.ensures.given ∙ c.if-not-dequeue_at_hand.false) c.dequeue_at_hand.ensures.packet) c.book_sent-2.new.row
+    c.book_sent-2.ensures).shown ∙ ap (λ n. (pop n).shown) c.self.view_is)))
 
 pub node::Node::dequeue_at_hand-returns-clause-packet : goal.node::Node::dequeue_at_hand-returns-clause-packet
 node::Node::dequeue_at_hand-returns-clause-packet t c =
-    ap (λ o. unwrap_or o c.args.out.now) ((gave c.self.inside (none-kept c.self.inside.held c.if-is_some.ensures) c.dequeue_at_hand.new.self (popping_of c.self.inside.discipline).shown refl c.dequeue_at_hand.ensures.after c.self.invariant c.dequeue_at_hand.new.out (given-some (popping_of c.self.inside.discipline).shown c.args.out.now c.dequeue_at_hand.new.out (sym c.dequeue_at_hand.ensures.given ∙ c.if-not-dequeue_at_hand.false) c.dequeue_at_hand.ensures.packet) c.book_sent-2.new.row c.book_sent-2.ensures).shown ∙ ap (λ n. (pop n).shown) c.self.view_is)
+    ap (λ o. unwrap_or o c.args.out.now) ((gave c.self.inside (none-kept c.self.inside.held c.if-is_some.ensures) c.dequeue_at_hand.new.self
+    (popping_of c.self.inside.discipline).shown refl c.dequeue_at_hand.ensures.after c.self.invariant c.dequeue_at_hand.new.out
+    (given-some (popping_of c.self.inside.discipline).shown c.args.out.now c.dequeue_at_hand.new.out
+    (sym c.dequeue_at_hand.ensures.given ∙ c.if-not-dequeue_at_hand.false) c.dequeue_at_hand.ensures.packet) c.book_sent-2.new.row
+    c.book_sent-2.ensures).shown ∙ ap (λ n. (pop n).shown) c.self.view_is)
 
 pub node::Node::dequeue_at_hand-returns-clause-after : goal.node::Node::dequeue_at_hand-returns-clause-after
 node::Node::dequeue_at_hand-returns-clause-after t c =
-    (gave c.self.inside (none-kept c.self.inside.held c.if-is_some.ensures) c.dequeue_at_hand.new.self (popping_of c.self.inside.discipline).shown refl c.dequeue_at_hand.ensures.after c.self.invariant c.dequeue_at_hand.new.out (given-some (popping_of c.self.inside.discipline).shown c.args.out.now c.dequeue_at_hand.new.out (sym c.dequeue_at_hand.ensures.given ∙ c.if-not-dequeue_at_hand.false) c.dequeue_at_hand.ensures.packet) c.book_sent-2.new.row c.book_sent-2.ensures).after ∙ ap (λ n. booked kept n (pop n).after) c.self.view_is
+    (gave c.self.inside (none-kept c.self.inside.held c.if-is_some.ensures) c.dequeue_at_hand.new.self (popping_of c.self.inside.discipline).shown
+    refl c.dequeue_at_hand.ensures.after c.self.invariant c.dequeue_at_hand.new.out
+    (given-some (popping_of c.self.inside.discipline).shown c.args.out.now c.dequeue_at_hand.new.out
+    (sym c.dequeue_at_hand.ensures.given ∙ c.if-not-dequeue_at_hand.false) c.dequeue_at_hand.ensures.packet) c.book_sent-2.new.row
+    c.book_sent-2.ensures).after ∙ ap (λ n. booked kept n (pop n).after) c.self.view_is
 
 pub disciplines::prio::dequeue_first-loop-place-init : goal.disciplines::prio::dequeue_first-loop-place-init
 disciplines::prio::dequeue_first-loop-place-init t c = (refl, omega arith, refl)
@@ -101,14 +148,18 @@ disciplines::prio::dequeue_first-returns-then-dequeue_at_hand-clause-packet t c 
     let band = slice_index_or c.loop-place.bands c.loop-place.place c.index-bands-place.result in
     let at = band-here c.args.bands.now c.loop-place.bands c.loop-place.place c.index-bands-place.result c.loop-place.invariant.0 c.loop-place-test.true in
     let some = sym c.dequeue_at_hand.ensures.given ∙ c.if-dequeue_at_hand.true in
-    c.dequeue_at_hand.ensures.packet ∙ ap₂ unwrap_or (band-gave c.args.bands.now c.loop-place.place band c.dequeue_at_hand.new.self at c.loop-place.invariant.1 c.dequeue_at_hand.ensures.after some) c.loop-place.invariant.2
+    c.dequeue_at_hand.ensures.packet ∙ ap₂ unwrap_or
+    (band-gave c.args.bands.now c.loop-place.place band c.dequeue_at_hand.new.self at c.loop-place.invariant.1 c.dequeue_at_hand.ensures.after
+    some) c.loop-place.invariant.2
 
 pub disciplines::prio::dequeue_first-returns-then-dequeue_at_hand-clause-after : goal.disciplines::prio::dequeue_first-returns-then-dequeue_at_hand-clause-after
 disciplines::prio::dequeue_first-returns-then-dequeue_at_hand-clause-after t c =
     let band = slice_index_or c.loop-place.bands c.loop-place.place c.index-bands-place.result in
     let at = band-here c.args.bands.now c.loop-place.bands c.loop-place.place c.index-bands-place.result c.loop-place.invariant.0 c.loop-place-test.true in
     let some = sym c.dequeue_at_hand.ensures.given ∙ c.if-dequeue_at_hand.true in
-    subst (λ xs. ArePopped c.args.bands.now (set xs c.loop-place.place c.dequeue_at_hand.new.self)) (sym c.loop-place.invariant.0) (bands-popped c.args.bands.now c.loop-place.place band c.dequeue_at_hand.new.self at c.loop-place.invariant.1 c.dequeue_at_hand.ensures.after some c.dequeue_at_hand.ensures.arrived)
+    subst (λ xs. ArePopped c.args.bands.now (set xs c.loop-place.place c.dequeue_at_hand.new.self)) (sym c.loop-place.invariant.0)
+    (bands-popped c.args.bands.now c.loop-place.place band c.dequeue_at_hand.new.self at c.loop-place.invariant.1 c.dequeue_at_hand.ensures.after
+    some c.dequeue_at_hand.ensures.arrived)
 
 pub disciplines::prio::dequeue_first-loop-place-preserved : goal.disciplines::prio::dequeue_first-loop-place-preserved
 disciplines::prio::dequeue_first-loop-place-preserved t c =
@@ -116,24 +167,32 @@ disciplines::prio::dequeue_first-loop-place-preserved t c =
     let at = band-here c.args.bands.now c.loop-place.bands c.loop-place.place c.index-bands-place.result c.loop-place.invariant.0 c.loop-place-test.true in
     let nothing = sym c.dequeue_at_hand.ensures.given ∙ c.if-dequeue_at_hand.false in
     let none = none-held (pop band).shown (sym nothing) in (
-      ap (λ xs. set xs c.loop-place.place c.dequeue_at_hand.new.self) c.loop-place.invariant.0 ∙ band-still c.args.bands.now c.loop-place.place band c.dequeue_at_hand.new.self at c.loop-place.invariant.1 c.dequeue_at_hand.ensures.after none,
+      ap (λ xs. set xs c.loop-place.place c.dequeue_at_hand.new.self) c.loop-place.invariant.0
+          ∙ band-still c.args.bands.now c.loop-place.place band c.dequeue_at_hand.new.self at c.loop-place.invariant.1
+          c.dequeue_at_hand.ensures.after none,
       ready-next c.args.bands.now c.loop-place.place band at nothing c.loop-place.invariant.1,
       c.dequeue_at_hand.ensures.packet ∙ ap (λ o. unwrap_or o c.loop-place.out) none ∙ c.loop-place.invariant.2,
     )
 
 pub disciplines::prio::dequeue_first-returns-clause-given : goal.disciplines::prio::dequeue_first-returns-clause-given
 disciplines::prio::dequeue_first-returns-clause-given t c =
-    let none = ready-none c.args.bands.now c.loop-place.place (omega (arith, c.loop-place-test.false, ap (λ xs. length xs) c.loop-place.invariant.0)) (omega (arith, c.loop-place.auto.place-end, ap (λ xs. length xs) c.loop-place.invariant.0)) c.loop-place.invariant.1 in
+    let none =
+    ready-none c.args.bands.now c.loop-place.place (omega (arith, c.loop-place-test.false, ap (λ xs. length xs) c.loop-place.invariant.0))
+    (omega (arith, c.loop-place.auto.place-end, ap (λ xs. length xs) c.loop-place.invariant.0)) c.loop-place.invariant.1 in
     ap is_some (nothing-shown c.args.bands.now none)
 
 pub disciplines::prio::dequeue_first-returns-clause-packet : goal.disciplines::prio::dequeue_first-returns-clause-packet
 disciplines::prio::dequeue_first-returns-clause-packet t c =
-    let none = ready-none c.args.bands.now c.loop-place.place (omega (arith, c.loop-place-test.false, ap (λ xs. length xs) c.loop-place.invariant.0)) (omega (arith, c.loop-place.auto.place-end, ap (λ xs. length xs) c.loop-place.invariant.0)) c.loop-place.invariant.1 in
+    let none =
+    ready-none c.args.bands.now c.loop-place.place (omega (arith, c.loop-place-test.false, ap (λ xs. length xs) c.loop-place.invariant.0))
+    (omega (arith, c.loop-place.auto.place-end, ap (λ xs. length xs) c.loop-place.invariant.0)) c.loop-place.invariant.1 in
     c.loop-place.invariant.2 ∙ ap (λ o. unwrap_or o c.args.out.now) (nothing-shown c.args.bands.now none)
 
 pub disciplines::prio::dequeue_first-returns-clause-after : goal.disciplines::prio::dequeue_first-returns-clause-after
 disciplines::prio::dequeue_first-returns-clause-after t c =
-    let none = ready-none c.args.bands.now c.loop-place.place (omega (arith, c.loop-place-test.false, ap (λ xs. length xs) c.loop-place.invariant.0)) (omega (arith, c.loop-place.auto.place-end, ap (λ xs. length xs) c.loop-place.invariant.0)) c.loop-place.invariant.1 in
+    let none =
+    ready-none c.args.bands.now c.loop-place.place (omega (arith, c.loop-place-test.false, ap (λ xs. length xs) c.loop-place.invariant.0))
+    (omega (arith, c.loop-place.auto.place-end, ap (λ xs. length xs) c.loop-place.invariant.0)) c.loop-place.invariant.1 in
     subst (ArePopped c.args.bands.now) (sym c.loop-place.invariant.0) (bands-still c.args.bands.now none)
 
 pub node::Discipline::dequeue_at_hand_further-dequeue_first-requires : goal.node::Discipline::dequeue_at_hand_further-dequeue_first-requires

@@ -24,7 +24,8 @@ oldest::oldest_of-oldest-requires t c =
 
 pub oldest::oldest_of-loop-node-preserved : goal.oldest::oldest_of-loop-node-preserved
 oldest::oldest_of-loop-node-preserved t c =
-    ap (λ (o : Option ℕ). earlier o (oldest_of (map oldest (drop (c.loop-node.node-index + 1) c.args.nodes.now)))) (c.sooner-first.ensures ∙ sooner-earlier c.loop-node.first c.oldest.result ∙ ap (earlier c.loop-node.first) c.oldest.ensures)
+    ap (λ (o : Option ℕ). earlier o (oldest_of (map oldest (drop (c.loop-node.node-index + 1) c.args.nodes.now))))
+    (c.sooner-first.ensures ∙ sooner-earlier c.loop-node.first c.oldest.result ∙ ap (earlier c.loop-node.first) c.oldest.ensures)
     ∙ sym (oldest-next c.args.nodes.now c.loop-node.node-index c.node-item.result c.loop-node.first c.loop-node-test.true c.node-item.is)
     ∙ c.loop-node.invariant
 
@@ -35,13 +36,15 @@ oldest::oldest_of-returns t c = sym (oldest-end c.args.nodes.now c.loop-node.nod
 pub node::Discipline::oldest-returns-in-Fifo : goal.node::Discipline::oldest-returns-in-Fifo
 node::Discipline::oldest-returns-in-Fifo t c =
     c.first_arrival.ensures
-    ∙ fifo-oldest c.args.self.now c.in-Fifo.fifo.limit c.in-Fifo.fifo.packets c.requires.mtu c.requires.clock (map beneath (children_seen c.args.self.now)) (ap discipline_seen c.in-Fifo.is) (ap children_seen c.in-Fifo.is) c.requires.own
+    ∙ fifo-oldest c.args.self.now c.in-Fifo.fifo.limit c.in-Fifo.fifo.packets c.requires.mtu c.requires.clock
+    (map beneath (children_seen c.args.self.now)) (ap discipline_seen c.in-Fifo.is) (ap children_seen c.in-Fifo.is) c.requires.own
 
 pub node::Discipline::oldest-returns-in-FqCodel : goal.node::Discipline::oldest-returns-in-FqCodel
 node::Discipline::oldest-returns-in-FqCodel t c =
     c.oldest-in-FqCodel.ensures
     ∙ ap (λ (q : FqView). earliest (first_arrivals q.state.flows)) c.deref-in-FqCodel.ensures
-    ∙ fq-oldest c.args.self.now c.in-FqCodel.queue.value.state c.requires.mtu c.requires.clock (map beneath (children_seen c.args.self.now)) (ap discipline_seen c.in-FqCodel.is) (ap children_seen c.in-FqCodel.is) c.requires.own
+    ∙ fq-oldest c.args.self.now c.in-FqCodel.queue.value.state c.requires.mtu c.requires.clock (map beneath (children_seen c.args.self.now))
+    (ap discipline_seen c.in-FqCodel.is) (ap children_seen c.in-FqCodel.is) c.requires.own
 
 -- a node
 pub node::Node::oldest-oldest-requires : goal.node::Node::oldest-oldest-requires

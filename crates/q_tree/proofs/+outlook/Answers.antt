@@ -15,7 +15,9 @@ node::Node::outlook-of_bands-requires t c =
 pub node::Node::outlook-returns-in-Prio : goal.node::Node::outlook-returns-in-Prio
 node::Node::outlook-returns-in-Prio t c =
     c.of_bands.ensures
-    ∙ outlook-is c.args.now c.self.inside c.args.self.now c.deref.result.now (spec.Prio c.in-Prio.priomap) c.self.view_is (sym c.packet.ensures ∙ no-held c.packet.result c.in_default.not-Some) (ap discipline_seen c.in-Prio.is) (c.deref.ensures.value ∙ sym (ap children_seen c.in-Prio.is))
+    ∙ outlook-is c.args.now c.self.inside c.args.self.now c.deref.result.now (spec.Prio c.in-Prio.priomap) c.self.view_is
+    (sym c.packet.ensures ∙ no-held c.packet.result c.in_default.not-Some) (ap discipline_seen c.in-Prio.is)
+    (c.deref.ensures.value ∙ sym (ap children_seen c.in-Prio.is))
 
 pub node::Node::outlook-of_front-requires : goal.node::Node::outlook-of_front-requires
 node::Node::outlook-of_front-requires t c =
@@ -25,7 +27,9 @@ node::Node::outlook-of_front-requires t c =
 pub node::Node::outlook-returns-in-Drr : goal.node::Node::outlook-returns-in-Drr
 node::Node::outlook-returns-in-Drr t c =
     c.of_front.ensures
-    ∙ outlook-is c.args.now c.self.inside c.args.self.now c.deref-in-Drr.result.now (spec.Drr c.in-Drr.active) c.self.view_is (sym c.packet.ensures ∙ no-held c.packet.result c.in_default.not-Some) (ap discipline_seen c.in-Drr.is) (c.deref-in-Drr.ensures.value ∙ sym (ap children_seen c.in-Drr.is))
+    ∙ outlook-is c.args.now c.self.inside c.args.self.now c.deref-in-Drr.result.now (spec.Drr c.in-Drr.active) c.self.view_is
+    (sym c.packet.ensures ∙ no-held c.packet.result c.in_default.not-Some) (ap discipline_seen c.in-Drr.is)
+    (c.deref-in-Drr.ensures.value ∙ sym (ap children_seen c.in-Drr.is))
 
 pub disciplines::drr::of_front-deficit-deficit-requires : goal.disciplines::drr::of_front-deficit-deficit-requires
 disciplines::drr::of_front-deficit-deficit-requires t c =
@@ -38,19 +42,30 @@ disciplines::drr::of_front-returns-in_default-place_of t c =
 
 pub disciplines::drr::of_front-outlook-requires : goal.disciplines::drr::of_front-outlook-requires
 disciplines::drr::of_front-outlook-requires t c = (
-  omega (arith, child-size c.args.classes.now c.in-Some-place_of.place c.index-classes-place.result (there-at c.args.classes.now c.in-Some-place_of.place c.index-classes-place.result (omega arith) c.index-classes-place.is), c.decreases),
+  omega (
+    arith,
+    child-size c.args.classes.now c.in-Some-place_of.place c.index-classes-place.result
+        (there-at c.args.classes.now c.in-Some-place_of.place c.index-classes-place.result (omega arith) c.index-classes-place.is),
+    c.decreases,
+  ),
   tt,
 )
 
 pub disciplines::drr::of_front-returns : goal.disciplines::drr::of_front-returns
 disciplines::drr::of_front-returns t c =
     c.paid.ensures ∙ ap₂ paid c.deficit-deficit.ensures.value c.outlook.ensures
-    ∙ sym (at-front c.args.now c.args.active.now c.in-Some.class c.args.classes.now (sym c.front.ensures.front ∙ c.in-Some.is) c.in-Some-place_of.place (sym c.place_of.ensures.value ∙ c.in-Some-place_of.is)
+    ∙ sym (at-front c.args.now c.args.active.now c.in-Some.class c.args.classes.now (sym c.front.ensures.front ∙ c.in-Some.is)
+    c.in-Some-place_of.place (sym c.place_of.ensures.value ∙ c.in-Some-place_of.is)
     (Some c.index-classes-place.result) (there-at c.args.classes.now c.in-Some-place_of.place c.index-classes-place.result (omega arith) c.index-classes-place.is))
 
 pub disciplines::prio::of_bands-outlook-requires : goal.disciplines::prio::of_bands-outlook-requires
 disciplines::prio::of_bands-outlook-requires t c = (
-  omega (arith, child-size c.args.bands.now c.loop-band.band-index c.band-item.result (there-at c.args.bands.now c.loop-band.band-index c.band-item.result c.loop-band-test.true c.band-item.is), c.decreases),
+  omega (
+    arith,
+    child-size c.args.bands.now c.loop-band.band-index c.band-item.result
+        (there-at c.args.bands.now c.loop-band.band-index c.band-item.result c.loop-band-test.true c.band-item.is),
+    c.decreases,
+  ),
   tt,
 )
 

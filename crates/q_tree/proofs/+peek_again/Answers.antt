@@ -14,7 +14,12 @@ disciplines::prio::peek_bands_again-loop-band-init t c = (refl, refl)
 
 pub disciplines::prio::peek_bands_again-peek_again-shown-requires : goal.disciplines::prio::peek_bands_again-peek_again-shown-requires
 disciplines::prio::peek_bands_again-peek_again-shown-requires t c = (
-  omega (arith, child-size c.args.bands.now c.loop-band.band-index c.band-item.result (there-at c.args.bands.now c.loop-band.band-index c.band-item.result c.loop-band-test.true c.band-item.is), c.decreases),
+  omega (
+    arith,
+    child-size c.args.bands.now c.loop-band.band-index c.band-item.result
+        (there-at c.args.bands.now c.loop-band.band-index c.band-item.result c.loop-band-test.true c.band-item.is),
+    c.decreases,
+  ),
   tt,
 )
 
@@ -51,4 +56,5 @@ pub node::Node::peek_again-returns-in-Prio : goal.node::Node::peek_again-returns
 node::Node::peek_again-returns-in-Prio t c =
     c.peek_bands_again.ensures
     ∙ ap (λ (o : Option Descriptor). record c.args.so_far { packet = o })
-    (prio-shown c.self.inside c.args.self.now c.deref.result.now c.in-Prio.priomap c.self.view_is (none-kept c.self.inside.held c.if-is_some.ensures) (ap discipline_seen c.in-Prio.is) (c.deref.ensures.value ∙ sym (ap children_seen c.in-Prio.is)))
+    (prio-shown c.self.inside c.args.self.now c.deref.result.now c.in-Prio.priomap c.self.view_is (none-kept c.self.inside.held c.if-is_some.ensures)
+    (ap discipline_seen c.in-Prio.is) (c.deref.ensures.value ∙ sym (ap children_seen c.in-Prio.is)))

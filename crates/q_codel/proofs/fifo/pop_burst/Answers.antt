@@ -9,7 +9,9 @@ pub loop-i-init : goal.loop-i-init
 loop-i-init g c = popping-begins g.T.Told.told c.args.places.now c.args.ring.now
 
 pub pop-front-requires : goal.pop-front-requires
-pop-front-requires g c = popping-left g.T.Told.told c.loop-i.i c.loop-i.bytes c.args.places.now c.loop-i.places c.args.ring.now c.loop-i.ring c.loop-i.invariant (omega (arith, c.loop-i-test.true, c.requires.queued))
+pop-front-requires g c =
+    popping-left g.T.Told.told c.loop-i.i c.loop-i.bytes c.args.places.now c.loop-i.places c.args.ring.now c.loop-i.ring c.loop-i.invariant
+    (omega (arith, c.loop-i-test.true, c.requires.queued))
 
 pub overflow_add-bytes : goal.overflow_add-bytes
 overflow_add-bytes g c = omega (arith, c.loop-i.invariant.bound, c.loop-i-test.true, c.requires.few, c.from-bytes.ensures, c.len.type_inv)

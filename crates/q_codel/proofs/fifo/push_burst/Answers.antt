@@ -26,7 +26,9 @@ pub returns-then-not-is_short-clause-next : goal.returns-then-not-is_short-claus
 returns-then-not-is_short-clause-next c = next-not (IsShort c.args.longest) c.args.packets.now c.loop-i.i _ c.loop-i-test.true (c.is_short.ensures.comes c.if-not-is_short.true)
 
 pub push_stored-requires-clause-place : goal.push_stored-requires-clause-place
-push_stored-requires-clause-place c = pushing-room c.loop-i.i c.args.now c.args.longest c.args.packets.now c.loop-i.bytes c.args.ring.now c.loop-i.ring c.loop-i.invariant c.loop-i-test.true c.requires.places
+push_stored-requires-clause-place c =
+    pushing-room c.loop-i.i c.args.now c.args.longest c.args.packets.now c.loop-i.bytes c.args.ring.now c.loop-i.ring c.loop-i.invariant
+    c.loop-i-test.true c.requires.places
 
 pub overflow_add-bytes : goal.overflow_add-bytes
 overflow_add-bytes c = omega (arith, c.loop-i.invariant.bound, c.loop-i-test.true, c.requires.few, c.from-bytes.ensures, c.is_short.ensures.widths.len)

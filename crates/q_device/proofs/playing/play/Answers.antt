@@ -43,7 +43,9 @@ loop-event-preserved c =
     record {
       so_far =
           ap (λ (rs : List Reply). replay_from totals (record { device = new.device; replies = rs; losses = new.waiting }) (drop (c.loop-event.event-index + 1) c.args.events.now)) items
-          ∙ played-on (record { device = d.device; replies = c.loop-event.replies.items; losses = d.waiting }) c.args.events.now c.loop-event.event-index e c.loop-event-test.true c.event-item.is _ c.loop-event.invariant.so_far new.device c.match-event.reply new.waiting h;
+          ∙ played-on (record { device = d.device; replies = c.loop-event.replies.items; losses = d.waiting }) c.args.events.now
+          c.loop-event.event-index e c.loop-event-test.true c.event-item.is _ c.loop-event.invariant.so_far new.device c.match-event.reply
+          new.waiting h;
       each = omega (arith, ap (λ (rs : List Reply). length rs) items, length-append c.loop-event.replies.items (c.match-event.reply ∷ []), c.loop-event.invariant.each);
       room = omega (arith, c.push_reserved.ensures.capacity, c.loop-event.invariant.room);
     }

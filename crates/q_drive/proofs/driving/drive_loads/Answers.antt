@@ -7,14 +7,18 @@ pub returns-in-Ok-clause-all : goal.returns-in-Ok-clause-all
 returns-in-Ok-clause-all g c =
     let opened = c.in-Some.ensures in
     let driven = c.in-Ok in
-    let a = accounted c.args.settings.now c.in-Some.ports.items (map packets_of c.args.loads.items) driven.driven.settled driven.driven.given_up c.ranges-2.ensures opened.count opened.placed c.requires.loads driven.ensures.driven in
+    let a =
+    accounted c.args.settings.now c.in-Some.ports.items (map packets_of c.args.loads.items) driven.driven.settled driven.driven.given_up
+    c.ranges-2.ensures opened.count opened.placed c.requires.loads driven.ensures.driven in
     a.all
 
 pub returns-in-Ok-clause-bytes : goal.returns-in-Ok-clause-bytes
 returns-in-Ok-clause-bytes g c =
     let opened = c.in-Some.ensures in
     let driven = c.in-Ok in
-    let a = accounted c.args.settings.now c.in-Some.ports.items (map packets_of c.args.loads.items) driven.driven.settled driven.driven.given_up c.ranges-2.ensures opened.count opened.placed c.requires.loads driven.ensures.driven in
+    let a =
+    accounted c.args.settings.now c.in-Some.ports.items (map packets_of c.args.loads.items) driven.driven.settled driven.driven.given_up
+    c.ranges-2.ensures opened.count opened.placed c.requires.loads driven.ensures.driven in
     a.bytes
 
 pub returns-in-Ok-clause-paced : goal.returns-in-Ok-clause-paced

@@ -19,4 +19,5 @@ returns-clause-left_replayed g c = subst IsReplayed c.settled-settled.ensures.sa
 
 pub returns-clause-drained : goal.returns-clause-drained
 returns-clause-drained g c =
-    subst (λ (d : DeviceSeen). IsDrainedIf c.args.until_idle d c.drain_if-drained.new.device c.drain_if-drained.result) (c.into_device-device.ensures ∙ c.settled-settled.ensures.same.0) c.drain_if-drained.ensures.drained
+    subst (λ (d : DeviceSeen). IsDrainedIf c.args.until_idle d c.drain_if-drained.new.device c.drain_if-drained.result)
+    (c.into_device-device.ensures ∙ c.settled-settled.ensures.same.0) c.drain_if-drained.ensures.drained

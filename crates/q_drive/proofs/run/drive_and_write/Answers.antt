@@ -11,7 +11,8 @@ use Rattle.q_drive.specs.declared.driving.Driven.{Driven}
 use Rattle.q_drive.proofs.run.drive_and_write.Goals as goal
 
 module _ {E : Type 0} (s : Drive) (driven : Option Driven) (show : Bool) (old new : Option (List ℕ)) (has : IfSome driven (HasDriven s)) (is : show ≡ s.show) where
-  ended : (before : Outcome) (r : Result Outcome E) → OnOk r (Appends old new (ending_text show driven)) → IfOk r (λ told. told ≡ outcome_with driven before) → IfOk r (λ told. IsEnded s before told old new)
+  ended : (before : Outcome) (r : Result Outcome E) → OnOk r (Appends old new (ending_text show driven))
+      → IfOk r (λ told. told ≡ outcome_with driven before) → IfOk r (λ told. IsEnded s before told old new)
   ended before (Ok told) text outcome = record { driven = driven; has_driven = has; text = subst (λ (b : Bool). Appends old new (ending_text b driven)) is text; outcome_is = outcome }
   ended before (Err e) text outcome = tt
 

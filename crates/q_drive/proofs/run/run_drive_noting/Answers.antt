@@ -42,7 +42,8 @@ returns-clause-partly g c = λ kind told.
     let ended = c.in-Err.ensures.err in
     told-ending (g.R.Read.remaining c.args.source.now.reader.now) c.args.settings ended.driven c.in_ok-outcome.outcome (g.W.Write.contents c.args.target.now.writer.now)
     (g.W.Write.contents c.run_between.new.target.writer.now) (g.W.Write.contents c.drive_and_write.new.target.writer.now)
-    c.exchange_notes.new.self c.run_between.new.session (c.exchange_notes.ensures.same ∙ c.in-Ok-open.ensures.new ∙ ap opened c.device.ensures) ended.has_driven ended.text c.in_ok-outcome.ensures.report
+    c.exchange_notes.new.self c.run_between.new.session (c.exchange_notes.ensures.same ∙ c.in-Ok-open.ensures.new ∙ ap opened c.device.ensures)
+    ended.has_driven ended.text c.in_ok-outcome.ensures.report
 
 pub returns-in-Ok-drive_and_write-clause-report : goal.returns-in-Ok-drive_and_write-clause-report
 returns-in-Ok-drive_and_write-clause-report g c =

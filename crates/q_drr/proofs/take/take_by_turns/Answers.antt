@@ -60,7 +60,9 @@ loop-class-preserved c =
       same = ap (prepared heads) c.turn.ensures.after
           ∙ prepared_granted heads s c.in-Some.class c.in-Some-heads.len f c.in-Some-heads.is (front_quantum s c.in-Some.class f c.in-Some.ensures.lawful) short
           ∙ c.loop-class.invariant.same;
-      named = subst (λ v. All (λ e. e.class < length c.args.heads.now) v.active) (sym c.turn.ensures.after) (named_after (length c.args.heads.now) c.in-Some-heads.len s c.in-Some.class f short c.loop-class.invariant.named);
+      named =
+          subst (λ v. All (λ e. e.class < length c.args.heads.now) v.active) (sym c.turn.ensures.after)
+          (named_after (length c.args.heads.now) c.in-Some-heads.len s c.in-Some.class f short c.loop-class.invariant.named);
       max_len = ap (λ v. v.max_len) c.turn.ensures.after ∙ c.loop-class.invariant.max_len;
     }
 

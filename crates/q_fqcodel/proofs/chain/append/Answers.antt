@@ -99,7 +99,8 @@ heavier_led c = len_led c ∙ sym (ap (λ (s : Stamped). s.packet.len) (holds_le
 added : (c : After-link) → IsAppended led_to (used c.args.nodes.now) (used c.link.new.self) c.args.list.tail c.claim-key.result (node_led c)
 added c =
     let x = tail_there (used c.args.nodes.now) c.requires.linked.0 _ c.args.list c.requires.linked.1 c.if-list-eq0.false in
-    claimed_next (used c.args.nodes.now) (used c.claim-key.new.self) (used c.link.new.self) c.args.list.tail c.claim-key.result (node_led c) x.0 c.claim-key.ensures.vacant (stored_led c) c.claim-key.ensures.same x.1 c.link.ensures.led c.link.ensures.same
+    claimed_next (used c.args.nodes.now) (used c.claim-key.new.self) (used c.link.new.self) c.args.list.tail c.claim-key.result (node_led c) x.0
+    c.claim-key.ensures.vacant (stored_led c) c.claim-key.ensures.same x.1 c.link.ensures.led c.link.ensures.same
 
 pub overflow_add-result-2 : goal.overflow_add-result-2
 overflow_add-result-2 c =
@@ -116,7 +117,8 @@ returns-clause-queue c =
 pub returns-clause-linked : goal.returns-clause-linked
 returns-clause-linked c w linked =
     let e = (goal.at.returns-clause-linked c).After-link in
-    next_list (used c.args.nodes.now) (used c.link.new.self) w _ c.args.list c.claim-key.result (node_led e) (own_led e w) linked _ (ap (λ (n : ℕ). c.args.list.bytes + n) (heavier_led e)) c.if-list-eq0.false (added e)
+    next_list (used c.args.nodes.now) (used c.link.new.self) w _ c.args.list c.claim-key.result (node_led e) (own_led e w) linked _
+    (ap (λ (n : ℕ). c.args.list.bytes + n) (heavier_led e)) c.if-list-eq0.false (added e)
 
 pub returns-clause-others : goal.returns-clause-others
 returns-clause-others c w linked =

@@ -20,13 +20,15 @@ overflow_sub-result-2 c =
     omega (
       arith,
       ap (λ (p : Descriptor). p.len) c.packet.view_is,
-      rest_bytes (used c.args.nodes.now) (used c.vacate.new.self) c.requires.linked.0 c.requires.linked.1 c.args.list c.at-node.result.now c.requires.linked.2 c.requires.some c.at-node.ensures c.vacate.ensures.same,
+      rest_bytes (used c.args.nodes.now) (used c.vacate.new.self) c.requires.linked.0 c.requires.linked.1 c.args.list c.at-node.result.now
+          c.requires.linked.2 c.requires.some c.at-node.ensures c.vacate.ensures.same,
     )
 
 pub returns-clause-queue : goal.returns-clause-queue
 returns-clause-queue c =
     ap (drop 1)
-    (sym (rest_queue (used c.args.nodes.now) (used c.vacate.new.self) c.requires.linked.0 c.requires.linked.1 c.args.list c.at-node.result.now c.requires.linked.2 c.requires.some c.at-node.ensures c.vacate.ensures.same))
+    (sym (rest_queue (used c.args.nodes.now) (used c.vacate.new.self) c.requires.linked.0 c.requires.linked.1 c.args.list c.at-node.result.now
+    c.requires.linked.2 c.requires.some c.at-node.ensures c.vacate.ensures.same))
 
 pub returns-clause-linked : goal.returns-clause-linked
 returns-clause-linked c w f linked =

@@ -36,7 +36,8 @@ overflow_sub-result-2 c =
     omega (
       arith,
       len d,
-      rest_bytes (used c.args.nodes.now) (used c.release_into-next.new.self) c.requires.linked.0 c.requires.linked.1 c.args.list (head d) c.requires.linked.2 c.requires.some (read d) c.release_into-next.ensures.same,
+      rest_bytes (used c.args.nodes.now) (used c.release_into-next.new.self) c.requires.linked.0 c.requires.linked.1 c.args.list (head d)
+          c.requires.linked.2 c.requires.some (read d) c.release_into-next.ensures.same,
     )
 
 pub returns-clause-given : goal.returns-clause-given
@@ -44,7 +45,8 @@ returns-clause-given c =
     let d = (goal.at.returns-clause-given c).After-release_into-next in
     ap (λ (p : Descriptor). Some p) (given d)
     ∙ ap (λ (q : List Stamped). option_map (λ s. s.packet) (slice_get q 0))
-    (sym (rest_queue (used c.args.nodes.now) (used c.release_into-next.new.self) c.requires.linked.0 c.requires.linked.1 c.args.list (head d) c.requires.linked.2 c.requires.some (read d) c.release_into-next.ensures.same))
+    (sym (rest_queue (used c.args.nodes.now) (used c.release_into-next.new.self) c.requires.linked.0 c.requires.linked.1 c.args.list (head d)
+    c.requires.linked.2 c.requires.some (read d) c.release_into-next.ensures.same))
 
 pub returns-clause-bytes : goal.returns-clause-bytes
 returns-clause-bytes c =
@@ -53,20 +55,26 @@ returns-clause-bytes c =
       arith,
       c.release_into-next.ensures.len,
       len d,
-      rest_bytes (used c.args.nodes.now) (used c.release_into-next.new.self) c.requires.linked.0 c.requires.linked.1 c.args.list (head d) c.requires.linked.2 c.requires.some (read d) c.release_into-next.ensures.same,
+      rest_bytes (used c.args.nodes.now) (used c.release_into-next.new.self) c.requires.linked.0 c.requires.linked.1 c.args.list (head d)
+          c.requires.linked.2 c.requires.some (read d) c.release_into-next.ensures.same,
     )
 
 pub returns-clause-queue : goal.returns-clause-queue
 returns-clause-queue c =
     let d = (goal.at.returns-clause-queue c).After-release_into-next in
-    ap (λ (n : ℕ). queue_in (used c.release_into-next.new.self) (record { head = n; tail = c.args.list.tail; count = c.args.list.count - 1; bytes = c.args.list.bytes - c.release_into-next.result.1 })) (next d)
+    ap (λ (n : ℕ). queue_in (used c.release_into-next.new.self)
+    (record { head = n; tail = c.args.list.tail; count = c.args.list.count - 1; bytes = c.args.list.bytes - c.release_into-next.result.1 }))
+    (next d)
     ∙ ap (drop 1)
-    (sym (rest_queue (used c.args.nodes.now) (used c.release_into-next.new.self) c.requires.linked.0 c.requires.linked.1 c.args.list (head d) c.requires.linked.2 c.requires.some (read d) c.release_into-next.ensures.same))
+    (sym (rest_queue (used c.args.nodes.now) (used c.release_into-next.new.self) c.requires.linked.0 c.requires.linked.1 c.args.list (head d)
+    c.requires.linked.2 c.requires.some (read d) c.release_into-next.ensures.same))
 
 pub returns-clause-linked : goal.returns-clause-linked
 returns-clause-linked c w f linked =
     let d = (goal.at.returns-clause-linked c).After-release_into-next in
-    subst (λ (n : ℕ). IsList (used c.release_into-next.new.self) w f (record { head = n; tail = c.args.list.tail; count = c.args.list.count - 1; bytes = c.args.list.bytes - c.release_into-next.result.1 })) (sym (next d))
+    subst (λ (n : ℕ). IsList (used c.release_into-next.new.self) w f
+    (record { head = n; tail = c.args.list.tail; count = c.args.list.count - 1; bytes = c.args.list.bytes - c.release_into-next.result.1 }))
+    (sym (next d))
     (rest_list (used c.args.nodes.now) (used c.release_into-next.new.self) w f c.args.list (head d) linked c.requires.some (read d) c.release_into-next.ensures.same _
     (ap (λ (n : ℕ). c.args.list.bytes - n) (len d)))
 

@@ -62,6 +62,7 @@ loop-i-preserved g c =
           ∙ ap (λ (l : List Stamped). set qs n l) (drop-drop 1 i q);
       places = c.take_of.ensures.places ∙ c.loop-i.invariant.places;
       lost = subst (λ (k : ℕ). AreLost c.args.cause (take k q) (g.S.Sink.state c.args.sink.now) (g.S.Sink.state c.lost.new.self)) (sym (add-one i))
-          (lost_next c.args.cause q i c.unwrap-stamped.result (g.S.Sink.state c.args.sink.now) (g.S.Sink.state c.loop-i.sink) (g.S.Sink.state c.lost.new.self) read c.loop-i.invariant.lost c.lost.ensures.told);
+          (lost_next c.args.cause q i c.unwrap-stamped.result (g.S.Sink.state c.args.sink.now) (g.S.Sink.state c.loop-i.sink)
+          (g.S.Sink.state c.lost.new.self) read c.loop-i.invariant.lost c.lost.ensures.told);
       kept = g.met.S.Sink.keeps_on c.args.sink.now c.loop-i.sink c.lost.new.self c.loop-i.invariant.kept c.lost.ensures.kept;
     }

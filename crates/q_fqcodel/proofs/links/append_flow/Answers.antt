@@ -37,19 +37,24 @@ pub write_next-requires : goal.write_next-requires
 write_next-requires c = inside (goal.at.write_next-requires c).After-write c.if-list-eq0.false
 
 -- both writes
-written : (c : After-write_next) (one : c.write.new.links.items ≡ set c.args.links.now.items c.args.flow (record { credits = c.args.credits; next = 0; place = c.args.place })) → c.write_next.new.links.items ≡ set (set c.args.links.now.items c.args.flow (record { credits = c.args.credits; next = 0; place = c.args.place })) c.args.list.tail
+written : (c : After-write_next) (one : c.write.new.links.items ≡ set c.args.links.now.items c.args.flow
+    (record { credits = c.args.credits; next = 0; place = c.args.place }))
+    → c.write_next.new.links.items ≡ set (set c.args.links.now.items c.args.flow
+    (record { credits = c.args.credits; next = 0; place = c.args.place })) c.args.list.tail
     (led_on c.args.flow (link_of (set c.args.links.now.items c.args.flow (record { credits = c.args.credits; next = 0; place = c.args.place })) c.args.list.tail))
 written c one =
     c.write_next.ensures ∙ ap (λ (l : List Link). set l c.args.list.tail (led_on c.args.flow (link_of l c.args.list.tail))) one
 
 pub returns-clause-entries : goal.returns-clause-entries
 returns-clause-entries c =
-    ap (λ (l : List Link). entries_in l (record { head = c.args.list.head; tail = c.args.flow; count = c.args.list.count + 1 })) (written (goal.at.returns-clause-entries c).After-write_next (alone (goal.at.returns-clause-entries c).After-write))
+    ap (λ (l : List Link). entries_in l (record { head = c.args.list.head; tail = c.args.flow; count = c.args.list.count + 1 }))
+    (written (goal.at.returns-clause-entries c).After-write_next (alone (goal.at.returns-clause-entries c).After-write))
     ∙ next_entries c.args.links.now.items c.args.place c.args.list c.args.flow c.args.credits 0 c.requires.within c.requires.free c.requires.listed c.requires.linked c.if-list-eq0.false
 
 pub returns-clause-linked : goal.returns-clause-linked
 returns-clause-linked c =
-    subst (λ (l : List Link). IsLine l c.args.place (record { head = c.args.list.head; tail = c.args.flow; count = c.args.list.count + 1 })) (sym (written (goal.at.returns-clause-linked c).After-write_next (alone (goal.at.returns-clause-linked c).After-write)))
+    subst (λ (l : List Link). IsLine l c.args.place (record { head = c.args.list.head; tail = c.args.flow; count = c.args.list.count + 1 }))
+    (sym (written (goal.at.returns-clause-linked c).After-write_next (alone (goal.at.returns-clause-linked c).After-write)))
     (next_line c.args.links.now.items c.args.place c.args.list c.args.flow c.args.credits 0 c.requires.within c.requires.free c.requires.listed c.requires.linked c.if-list-eq0.false)
 
 pub returns-clause-others : goal.returns-clause-others

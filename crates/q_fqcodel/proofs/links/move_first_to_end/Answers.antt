@@ -37,7 +37,8 @@ abbrev first : After-write_next → List Link
 first c = set c.args.links.now.items c.args.list.head (record (front c) { credits = c.args.entry.credits })
 
 -- both writes
-written : (c : After-write_next) (one : c.write_credits.new.links.items ≡ first c) → c.write_next.new.links.items ≡ set (first c) c.args.list.tail (led_on c.args.list.head (link_of (first c) c.args.list.tail))
+written : (c : After-write_next) (one : c.write_credits.new.links.items ≡ first c)
+    → c.write_next.new.links.items ≡ set (first c) c.args.list.tail (led_on c.args.list.head (link_of (first c) c.args.list.tail))
 written c one = c.write_next.ensures ∙ ap (λ (l : List Link). set l c.args.list.tail (led_on c.args.list.head (link_of l c.args.list.tail))) one
 
 -- the ends of the list then

@@ -38,4 +38,5 @@ returns-clause-free c =
 
 pub returns-clause-others : goal.returns-clause-others
 returns-clause-others c place line =
-    subst (λ (l : List Link). KeepsLines place c.args.links.now.items l) (sym (written (goal.at.returns-clause-others c).After-write)) (removed_keeps c.args.links.now.items place c.args.list c.requires.some line)
+    subst (λ (l : List Link). KeepsLines place c.args.links.now.items l) (sym (written (goal.at.returns-clause-others c).After-write))
+    (removed_keeps c.args.links.now.items place c.args.list c.requires.some line)

@@ -7,7 +7,9 @@ use Rattle.q_line.proofs.filter_head.filter_head.Given as goal
 
 -- what is left to read says what all of it says
 abbrev pub invariant-loop-word : goal.invariant-loop-word
-invariant-loop-word l = rest_of (head (of_filter l.verb) l.head) (suc l.words.taken) (words_in l.words.rest.now) ≡ rest_of (head (of_filter l.fn.verb) no_head) (suc l.fn.words.taken) (words_in l.fn.words.rest.now)
+invariant-loop-word l =
+    rest_of (head (of_filter l.verb) l.head) (suc l.words.taken) (words_in l.words.rest.now)
+    ≡ rest_of (head (of_filter l.fn.verb) no_head) (suc l.fn.words.taken) (words_in l.fn.words.rest.now)
 
 abbrev pub decreases-loop-word : goal.decreases-loop-word
 decreases-loop-word l = length (words_in l.words.rest.now)

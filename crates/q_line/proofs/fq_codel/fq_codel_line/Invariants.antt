@@ -9,7 +9,9 @@ use Rattle.q_line.proofs.fq_codel.fq_codel_line.Given as goal
 
 -- what is left to read says what all of it says
 abbrev pub invariant-loop-word : goal.invariant-loop-word
-invariant-loop-word l = rest_of (options l.verb l.head FqCodel (fq_draft l.options)) (suc l.words.taken) (words_in l.words.rest.now) ≡ rest_of (options l.fn.verb l.fn.head FqCodel no_options) (suc l.fn.words.taken) (words_in l.fn.words.rest.now)
+invariant-loop-word l =
+    rest_of (options l.verb l.head FqCodel (fq_draft l.options)) (suc l.words.taken) (words_in l.words.rest.now)
+    ≡ rest_of (options l.fn.verb l.fn.head FqCodel no_options) (suc l.fn.words.taken) (words_in l.fn.words.rest.now)
 
 abbrev pub decreases-loop-word : goal.decreases-loop-word
 decreases-loop-word l = length (words_in l.words.rest.now)

@@ -8,7 +8,9 @@ use Rattle.q_line.proofs.pfifo.pfifo_line.Given as goal
 
 -- what is left to read says what all of it says
 abbrev pub invariant-loop-word : goal.invariant-loop-word
-invariant-loop-word l = rest_of (options l.verb l.head Pfifo (record no_options { limit = l.limit })) (suc l.words.taken) (words_in l.words.rest.now) ≡ rest_of (options l.fn.verb l.fn.head Pfifo no_options) (suc l.fn.words.taken) (words_in l.fn.words.rest.now)
+invariant-loop-word l =
+    rest_of (options l.verb l.head Pfifo (record no_options { limit = l.limit })) (suc l.words.taken) (words_in l.words.rest.now)
+    ≡ rest_of (options l.fn.verb l.fn.head Pfifo no_options) (suc l.fn.words.taken) (words_in l.fn.words.rest.now)
 
 abbrev pub decreases-loop-word : goal.decreases-loop-word
 decreases-loop-word l = length (words_in l.words.rest.now)

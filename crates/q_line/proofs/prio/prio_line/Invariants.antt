@@ -10,7 +10,13 @@ use Rattle.q_line.proofs.prio.prio_line.Given as goal
 
 -- what is left to read says what all of it says
 abbrev pub invariant-loop-word : goal.invariant-loop-word
-invariant-loop-word l = record { same : rest_of (options l.verb l.head Prio (prio_draft l.bands None)) (suc l.words.taken) (words_in l.words.rest.now) ≡ rest_of (options l.fn.verb l.fn.head Prio no_options) (suc l.fn.words.taken) (words_in l.fn.words.rest.now); few : IfSome l.bands (IsWithin 2 16) }
+invariant-loop-word l =
+    record {
+      same : rest_of (options l.verb l.head Prio (prio_draft l.bands None)) (suc l.words.taken) (words_in l.words.rest.now)
+          ≡ rest_of (options l.fn.verb l.fn.head Prio no_options) (suc l.fn.words.taken) (words_in l.fn.words.rest.now);
+      few : IfSome l.bands
+          (IsWithin 2 16);
+    }
 
 abbrev pub decreases-loop-word : goal.decreases-loop-word
 decreases-loop-word l = length (words_in l.words.rest.now)

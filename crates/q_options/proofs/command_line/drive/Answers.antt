@@ -34,7 +34,8 @@ returns-clause-app c =
     let show = arg_makes c.flag-2.result (flag_rule (codes "show")) c.with-drive.result c.with-drive-2.result c.flag-2.ensures.rule c.flag-2.ensures.local c.with-drive-2.ensures in
     let explain = arg_makes c.explain_flag.result (flag_rule (codes "explain")) c.with_device-drive.result c.with.result c.explain_flag.ensures.rule c.explain_flag.ensures.local c.with.ensures in
     made_app all c.after_help-drive.result (new_app (codes "drive")) c.with.result command
-    (whole (Ok c.after_help-drive.result) c.with_load-drive.result c.with-drive.result c.with-drive-2.result c.with_device-drive.result c.with.result c.with_load-drive.ensures idle show c.with_device-drive.ensures explain)
+    (whole (Ok c.after_help-drive.result) c.with_load-drive.result c.with-drive.result c.with-drive-2.result c.with_device-drive.result c.with.result
+    c.with_load-drive.ensures idle show c.with_device-drive.ensures explain)
 
 pub returns-clause-local : goal.returns-clause-local
 returns-clause-local c =
@@ -43,4 +44,5 @@ returns-clause-local c =
     let show = arg_makes c.flag-2.result (flag_rule (codes "show")) c.with-drive.result c.with-drive-2.result c.flag-2.ensures.rule c.flag-2.ensures.local c.with-drive-2.ensures in
     let explain = arg_makes c.explain_flag.result (flag_rule (codes "explain")) c.with_device-drive.result c.with.result c.explain_flag.ensures.rule c.explain_flag.ensures.local c.with.ensures in
     made_local all c.after_help-drive.result c.with.result command
-    (whole (Ok c.after_help-drive.result) c.with_load-drive.result c.with-drive.result c.with-drive-2.result c.with_device-drive.result c.with.result c.with_load-drive.ensures idle show c.with_device-drive.ensures explain)
+    (whole (Ok c.after_help-drive.result) c.with_load-drive.result c.with-drive.result c.with-drive-2.result c.with_device-drive.result c.with.result
+    c.with_load-drive.ensures idle show c.with_device-drive.ensures explain)

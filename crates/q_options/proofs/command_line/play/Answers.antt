@@ -14,7 +14,8 @@ explained x = with_rule x (flag_rule (codes "explain"))
 abbrev of_file : App → App
 of_file x = with_rule x file_rule
 
-whole : (first device explain file : Result Command AllocError) → Makes spec.with_device first device → Makes explained device explain → Makes of_file explain file → Makes (λ x. of_file (explained (spec.with_device x))) first file
+whole : (first device explain file : Result Command AllocError) → Makes spec.with_device first device → Makes explained device explain
+    → Makes of_file explain file → Makes (λ x. of_file (explained (spec.with_device x))) first file
 whole first device explain file d e f = then (λ x. explained (spec.with_device x)) of_file first explain file (then spec.with_device explained first device explain d e) f
 
 pub returns-clause-app : goal.returns-clause-app

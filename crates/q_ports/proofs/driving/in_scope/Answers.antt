@@ -13,5 +13,6 @@ returns-clause-drove g c =
       count = sent.ensures.count ∙ (sym (length-map started.result.items promised_port) ∙ ap (λ (ps : List PortSeen). length ps) started.ensures.ports);
       each =
           subst (λ (ps : List PortSeen). AllOffered c.args.tries ps (map packets_of c.args.loads.items) sent.result.items) started.ensures.ports
-          (subst (λ (ls : List (List Descriptor)). AllOffered c.args.tries (map promised_port started.result.items) ls sent.result.items) started.ensures.loads (sent.ensures.each c.args.tries started.ensures.kept));
+          (subst (λ (ls : List (List Descriptor)). AllOffered c.args.tries (map promised_port started.result.items) ls sent.result.items)
+          started.ensures.loads (sent.ensures.each c.args.tries started.ensures.kept));
     }

@@ -25,7 +25,8 @@ loop-sender-preserved g c =
       each =
           λ tries all.
           subst (λ (ss : List Sent). AllOffered tries (map promised_port hs) (map promised_load hs) ss) (sym pushed)
-          (offered-next tries hs sent h rest c.join.result (at.each tries all) first (c.join.ensures tries (subst (λ (ss : List Started). All (HasKept tries) ss) step (at.kept tries all) 0 h (omega arith))));
+          (offered-next tries hs sent h rest c.join.result (at.each tries all) first
+          (c.join.ensures tries (subst (λ (ss : List Started). All (HasKept tries) ss) step (at.kept tries all) 0 h (omega arith))));
       left = subst (λ (n : ℕ). drop n hs ≡ rest) (sym one) (next-rest hs (length sent) h rest first);
       kept = λ tries all. All-rest (HasKept tries) h rest (into_iter_items c.loop-sender.sender-iterator) step (at.kept tries all);
       count = omega (arith, at.count, fewer, one);

@@ -9,14 +9,22 @@ pub loop-packet-init : goal.loop-packet-init
 loop-packet-init g c = record { offered = offered-none c.args.tries true c.args.port; few = omega arith }
 
 pub overflow_add-given_up : goal.overflow_add-given_up
-overflow_add-given_up g c = let small = c.args.load.small in omega (arith, c.loop-packet.invariant.few, c.count_given_up-given_up.ensures.few, c.loop-packet-test.true, c.deref-packet-items.ensures.len)
+overflow_add-given_up g c =
+    let small = c.args.load.small in omega (
+      arith,
+      c.loop-packet.invariant.few,
+      c.count_given_up-given_up.ensures.few,
+      c.loop-packet-test.true,
+      c.deref-packet-items.ensures.len,
+    )
 
 pub loop-packet-preserved : goal.loop-packet-preserved
 loop-packet-preserved g c =
     let one = c.count_given_up-given_up in
     record {
       offered =
-          offered-more c.args.tries true c.args.port c.loop-packet.port one.new.port c.deref-packet-items.result.now c.loop-packet.packet-index c.packet-item.result c.loop-packet.given_up one.result c.loop-packet.invariant.offered c.loop-packet-test.true
+          offered-more c.args.tries true c.args.port c.loop-packet.port one.new.port c.deref-packet-items.result.now c.loop-packet.packet-index
+          c.packet-item.result c.loop-packet.given_up one.result c.loop-packet.invariant.offered c.loop-packet-test.true
           c.packet-item.is one.ensures.offered one.ensures.full;
       few = omega (arith, c.loop-packet.invariant.few, one.ensures.few);
     }

@@ -13,16 +13,19 @@ returns-in-Err-clause-beginnings g c = received-begins c.empty_all.new.self (map
 
 pub returns-clause-share : goal.returns-clause-share
 returns-clause-share g c =
-    let all : map received_from c.empty_all.new.self ≡ map placed_by c.args.ports.items = received-all c.empty_all.new.self c.in-Ok.ensures.empty ∙ (c.empty_all.ensures.all ∙ c.look_all.ensures.all) in
+    let all : map received_from c.empty_all.new.self ≡ map placed_by c.args.ports.items =
+    received-all c.empty_all.new.self c.in-Ok.ensures.empty ∙ (c.empty_all.ensures.all ∙ c.look_all.ensures.all) in
     c.settle.ensures.share ∙ ap (λ (ps : List (List Descriptor)). share_of ps) all
 
 pub returns-clause-arrived : goal.returns-clause-arrived
 returns-clause-arrived g c =
     let collected = c.empty_all.ensures.collected in
     let before : map received_from c.look_all.new.self ≡ map received_from c.args.drain.rings = c.look_all.ensures.received ∙ ap (λ (d : DrainSeen). map received_from d.rings) c.drain.view_is in
-    let all : map received_from c.empty_all.new.self ≡ map placed_by c.args.ports.items = received-all c.empty_all.new.self c.in-Ok.ensures.empty ∙ (c.empty_all.ensures.all ∙ c.look_all.ensures.all) in (
+    let all : map received_from c.empty_all.new.self ≡ map placed_by c.args.ports.items =
+    received-all c.empty_all.new.self c.in-Ok.ensures.empty ∙ (c.empty_all.ensures.all ∙ c.look_all.ensures.all) in (
       collected.0,
-      collects-same c.args.now (map received_from c.look_all.new.self) (map received_from c.args.drain.rings) (map received_from c.empty_all.new.self) (map placed_by c.args.ports.items) c.args.booked.now c.empty_all.new.booked c.settle.new.booked
+      collects-same c.args.now (map received_from c.look_all.new.self) (map received_from c.args.drain.rings)
+          (map received_from c.empty_all.new.self) (map placed_by c.args.ports.items) c.args.booked.now c.empty_all.new.booked c.settle.new.booked
           collected.0 before all (sym c.settle.ensures.same) collected.1,
     )
 

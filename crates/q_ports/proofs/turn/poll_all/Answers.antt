@@ -29,7 +29,8 @@ loop-poll-preserved g c =
     let is = poll-is now d d' c.poll_into.ensures.event c.poll_into.ensures.memory in
     let push = c.push_reserved.ensures in
     let long : length old ≡ c.loop-poll.poll = omega (arith, inv.count, c.loop-poll.sent.ok.0) in
-    let there : set c.push_reserved.new.self.items c.loop-poll.poll p ≡ old ++ p ∷ [] = ap (λ (xs : List Descriptor). set xs c.loop-poll.poll p) push.items ∙ written-there old _ p c.loop-poll.poll long in
+    let there : set c.push_reserved.new.self.items c.loop-poll.poll p ≡ old ++ p ∷ [] =
+    ap (λ (xs : List Descriptor). set xs c.loop-poll.poll p) push.items ∙ written-there old _ p c.loop-poll.poll long in
     let n = c.args.most - (c.loop-poll.poll + 1) in
     let left : c.args.most - c.loop-poll.poll ≡ suc n = omega (arith, c.loop-poll-test.true) in
     let gives : given_at now d ≡ Some p = ap (λ (r : Reply). given_in r) (sym c.poll_into.ensures.reply) ∙ ap (λ (v : Given). given_in (reply.Polled (polled_in p v))) c.in-Packet.is in
@@ -54,7 +55,10 @@ returns-in-Idle g c =
     let none : given_at now d ≡ None = ap (λ (r : Reply). given_in r) (sym c.poll_into.ensures.reply) ∙ none-given c.poll_into.new.out c.poll_into.result c.in-Idle.is in
     let last : polled_by (c.args.most - c.loop-poll.poll) now d ≡ _ = ap (λ (k : ℕ). polled_by k now d) left ∙ polled-none n now d none in
     record {
-      sent = c.truncate.ensures.items ∙ ap (λ (xs : List Descriptor). take c.loop-poll.poll (set xs c.loop-poll.poll c.poll_into.new.out)) c.push_reserved.ensures.items ∙ cut-off items _ c.poll_into.new.out c.loop-poll.poll long ∙ sym (append-nil items) ∙ (ap (λ (xs : List Descriptor). items ++ xs) (sym (ap (λ (k : ℕ). given_by k now d) left ∙ given-none n now d none)) ∙ inv.sent);
+      sent =
+          c.truncate.ensures.items ∙ ap (λ (xs : List Descriptor). take c.loop-poll.poll (set xs c.loop-poll.poll c.poll_into.new.out))
+          c.push_reserved.ensures.items ∙ cut-off items _ c.poll_into.new.out c.loop-poll.poll long ∙ sym (append-nil items)
+          ∙ (ap (λ (xs : List Descriptor). items ++ xs) (sym (ap (λ (k : ℕ). given_by k now d) left ∙ given-none n now d none)) ∙ inv.sent);
       few = omega (arith, inv.count, c.loop-poll.sent.ok.0, c.loop-poll-test.true);
       polled = poll-is now d d' c.poll_into.ensures.event c.poll_into.ensures.memory ∙ (sym last ∙ inv.polled);
     }

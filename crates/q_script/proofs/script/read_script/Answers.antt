@@ -11,7 +11,14 @@ returns-in-Ok-eq0-clause-script g c =
 pub returns-in-Ok-clause-too_long : goal.returns-in-Ok-clause-too_long
 returns-in-Ok-clause-too_long g c =
     let whole = Consumes-trans _ _ _ c.loop.script.items _ c.loop.invariant.consumed c.in-Ok.ensures.bytes.0 in
-    λ told. read-long _ _ _ 16777216 whole (omega (arith, length-append c.loop.script.items (take c.in-Ok.n c.read.new.chunk), c.in-Ok.ensures.bound.1, c.if-n-len.true, c.len.ensures, c.loop.script.ok))
+    λ told. read-long _ _ _ 16777216 whole (omega (
+      arith,
+      length-append c.loop.script.items (take c.in-Ok.n c.read.new.chunk),
+      c.in-Ok.ensures.bound.1,
+      c.if-n-len.true,
+      c.len.ensures,
+      c.loop.script.ok,
+    ))
 
 pub loop-preserved : goal.loop-preserved
 loop-preserved g c =

@@ -15,7 +15,9 @@ loop-node-init g c =
     let s = c.args.tree.now.tree in
     record {
       same_writer = refl;
-      text = writing-start _ c.args.output.now (listed_text g.L.Listed.line g.L.Listed.of_node (tree_numbers s)) _ (text-listed s c.nodes-nodes.result c.nodes-nodes.ensures.every g.L.Listed.line g.L.Listed.of_node);
+      text =
+          writing-start _ c.args.output.now (listed_text g.L.Listed.line g.L.Listed.of_node (tree_numbers s)) _
+          (text-listed s c.nodes-nodes.result c.nodes-nodes.ensures.every g.L.Listed.line g.L.Listed.of_node);
       lawful = all-lawful s c.nodes-nodes.result c.nodes-nodes.ensures.every c.requires.lawful;
       going = c.requires.going;
     }

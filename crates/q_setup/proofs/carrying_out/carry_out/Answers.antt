@@ -20,7 +20,8 @@ planned c =
 
 pub rebuild-requires-clause-trial : goal.rebuild-requires-clause-trial
 rebuild-requires-clause-trial c =
-    trial_then c.args.now (take c.do_commands-done.result.0 c.deref.result.now) c.args.device.now c.do_commands-done.new.device (seen c.args.trial.now) c.do_commands-done.ensures.after c.requires.trial
+    trial_then c.args.now (take c.do_commands-done.result.0 c.deref.result.now) c.args.device.now c.do_commands-done.new.device
+    (seen c.args.trial.now) c.do_commands-done.ensures.after c.requires.trial
 
 pub returns-clause-commands : goal.returns-clause-commands
 returns-clause-commands c =
@@ -29,10 +30,13 @@ returns-clause-commands c =
 pub returns-clause-accepted : goal.returns-clause-accepted
 returns-clause-accepted c =
     accepted_both c.args.now c.truncate.new.self.items c.rebuild.new.commands.items c.args.device.now c.do_commands-done.new.device c.rebuild.new.device (planned c) c.rebuild.ensures.commands
-    (subst (λ (xs : List Command). AreAccepted c.args.now xs c.args.device.now) (ap (take c.do_commands-done.result.0) c.deref.ensures.value ∙ sym c.truncate.ensures.items) c.do_commands-done.ensures.accepted)
+    (subst (λ (xs : List Command). AreAccepted c.args.now xs c.args.device.now)
+    (ap (take c.do_commands-done.result.0) c.deref.ensures.value ∙ sym c.truncate.ensures.items) c.do_commands-done.ensures.accepted)
 
 -- where nothing is planned nothing was done, and so a tree that was alike is alike
-not_alike : (c : goal.After-rebuild) → AreAlike (not c.args.trial.now.names_chosen) (entries c.args.trial.now.device.device.tree) (entries c.args.device.now.device.tree) → c.args.commands.now.items ≡ [] → ⊥
+not_alike : (c : goal.After-rebuild)
+    → AreAlike (not c.args.trial.now.names_chosen) (entries c.args.trial.now.device.device.tree) (entries c.args.device.now.device.tree)
+    → c.args.commands.now.items ≡ [] → ⊥
 not_alike c alike none =
     let nothing : take c.do_commands-done.result.0 [] ≡ [] = take_all c.do_commands-done.result.0 [] (omega arith) in
     let device : c.do_commands-done.new.device.device ≡ c.args.device.now.device =

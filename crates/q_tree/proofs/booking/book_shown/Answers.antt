@@ -16,7 +16,15 @@ pub book_signals-requires-clause-marked_bytes : goal.book_signals-requires-claus
 book_signals-requires-clause-marked_bytes c = omega (arith, c.requires.room.marked_bytes, ap (λ (t : Signals). t.marked.bytes) c.requires.told)
 
 pub book_signals-requires-clause-dropped_packets : goal.book_signals-requires-clause-dropped_packets
-book_signals-requires-clause-dropped_packets c = omega (arith, c.requires.balanced.packets, c.requires.room.packets, c.requires.room.arrived_packets, ap (λ (t : Signals). t.dropped.packets) c.requires.told)
+book_signals-requires-clause-dropped_packets c =
+    omega (
+      arith,
+      c.requires.balanced.packets,
+      c.requires.room.packets,
+      c.requires.room.arrived_packets,
+      ap (λ (t : Signals). t.dropped.packets)
+          c.requires.told,
+    )
 
 pub book_signals-requires-clause-dropped_bytes : goal.book_signals-requires-clause-dropped_bytes
 book_signals-requires-clause-dropped_bytes c = omega (arith, c.requires.balanced.bytes, c.requires.room.bytes, c.requires.room.arrived_bytes, ap (λ (t : Signals). t.dropped.bytes) c.requires.told)

@@ -24,7 +24,8 @@ returns-clause-after g c =
 pub returns-clause-told : goal.returns-clause-told
 returns-clause-told g c =
     let short : c.args.packet.now.len ≤ c.args.mtu = omega (arith, c.if-packet-mtu.false, ap (λ (q : Descriptor). q.len) c.packet.view_is) in
-    at-root-told c.args.now c.args.packet.now c.args.mtu c.args.root.now c.enqueue_further.result (g.S.Sink.state c.args.sink.now) (g.S.Sink.state c.enqueue_further.new.sink) short c.enqueue_further.ensures.told
+    at-root-told c.args.now c.args.packet.now c.args.mtu c.args.root.now c.enqueue_further.result (g.S.Sink.state c.args.sink.now)
+    (g.S.Sink.state c.enqueue_further.new.sink) short c.enqueue_further.ensures.told
 
 pub returns-clause-succeeds : goal.returns-clause-succeeds
 returns-clause-succeeds g c = λ h. c.enqueue_further.ensures.succeeds (h (omega (arith, c.if-packet-mtu.false, ap (λ (q : Descriptor). q.len) c.packet.view_is)))

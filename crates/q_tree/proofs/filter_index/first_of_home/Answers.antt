@@ -12,7 +12,9 @@ loop-place-preserved c =
     let place = c.loop-place.place in
     let kept = c.loop-place.invariant in
     let inside : place < length chains = omega (arith, c.loop-place-test.true, c.requires.within, c.requires.long) in
-    let here : slice_get filters place ≡ Some c.index-filters-place.result = slice_get_read filters (length filters) place c.index-filters-place.result refl (omega (arith, inside, c.requires.long)) c.index-filters-place.is in
+    let here : slice_get filters place ≡ Some c.index-filters-place.result =
+    slice_get_read filters (length filters) place c.index-filters-place.result refl (omega (arith, inside, c.requires.long))
+    c.index-filters-place.is in
     let next : IsNext chains c.args.home (suc place) c.next-place.result = c.next-place.ensures c.args.home (kept.there inside) in
     record {
       within = next.within;

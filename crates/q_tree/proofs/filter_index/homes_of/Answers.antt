@@ -20,7 +20,13 @@ loop-filter-preserved c =
       groups = omega (arith, kept.groups, c.in_ok-group.ensures.few);
       each = subst (λ hs. AreHomes c.group_of.new.shapes.items c.args.filters.now hs) (sym pushed)
           (homes-more c.loop-filter.shapes.items c.group_of.new.shapes.items c.args.filters.now c.loop-filter.homes.items f home c.in_ok-group.ensures.kept kept.each there
-          record { group = c.in_ok-group.group; shape = c.in_ok-group.ensures.there ∙ ap Some c.of.ensures.shape; is = ap (λ n. c.in_ok-group.group * 256 + n) c.bucket_of.ensures.value; range = c.of.ensures.range });
+          record {
+            group = c.in_ok-group.group;
+            shape = c.in_ok-group.ensures.there ∙ ap Some c.of.ensures.shape;
+            is = ap
+                (λ n. c.in_ok-group.group * 256 + n) c.bucket_of.ensures.value;
+            range = c.of.ensures.range;
+          });
       distinct = c.in_ok-group.ensures.distinct kept.distinct;
       shapes = shapes-more c.args.filters.now c.loop-filter.shapes.items c.group_of.new.shapes.items (length c.loop-filter.homes.items) f c.of.result there c.of.ensures.shape
           c.in_ok-group.ensures.added kept.shapes;

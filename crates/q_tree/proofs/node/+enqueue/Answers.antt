@@ -40,31 +40,55 @@ pub Discipline::enqueue-enqueue_in_fifo-requires-clause-sink : goal.Discipline::
 Discipline::enqueue-enqueue_in_fifo-requires-clause-sink g t c = omega (arith, c.requires.sink)
 
 pub Discipline::enqueue-returns-in-Fifo-clause-after : goal.Discipline::enqueue-returns-in-Fifo-clause-after
-Discipline::enqueue-returns-in-Fifo-clause-after g t c = subst (λ (d : Discipline). IfOk c.enqueue_in_fifo.result (λ (o : Outcome). HasComeIn c.args.now c.args.packet.now c.args.filters.now d (code.Fifo c.enqueue_in_fifo.new.fifo) o (g.S.Sink.state c.args.sink.now) (g.S.Sink.state c.enqueue_in_fifo.new.sink))) (sym c.in-Fifo.is) (c.enqueue_in_fifo.ensures.after c.args.filters.now)
+Discipline::enqueue-returns-in-Fifo-clause-after g t c =
+    subst (λ (d : Discipline). IfOk c.enqueue_in_fifo.result
+    (λ (o : Outcome). HasComeIn c.args.now c.args.packet.now c.args.filters.now d (code.Fifo c.enqueue_in_fifo.new.fifo) o
+    (g.S.Sink.state c.args.sink.now) (g.S.Sink.state c.enqueue_in_fifo.new.sink))) (sym c.in-Fifo.is)
+    (c.enqueue_in_fifo.ensures.after c.args.filters.now)
 
 pub Discipline::enqueue-returns-in-Fifo-clause-same : goal.Discipline::enqueue-returns-in-Fifo-clause-same
-Discipline::enqueue-returns-in-Fifo-clause-same g t c = subst (λ (d : Discipline). OnErr c.enqueue_in_fifo.result (IsPlacedIn d (code.Fifo c.enqueue_in_fifo.new.fifo))) (sym c.in-Fifo.is) c.enqueue_in_fifo.ensures.same
+Discipline::enqueue-returns-in-Fifo-clause-same g t c =
+    subst (λ (d : Discipline). OnErr c.enqueue_in_fifo.result (IsPlacedIn d (code.Fifo c.enqueue_in_fifo.new.fifo))) (sym c.in-Fifo.is)
+    c.enqueue_in_fifo.ensures.same
 
 pub Discipline::enqueue-returns-in-Fifo-clause-succeeds : goal.Discipline::enqueue-returns-in-Fifo-clause-succeeds
 Discipline::enqueue-returns-in-Fifo-clause-succeeds g t c = λ h. c.enqueue_in_fifo.ensures.succeeds (fifo-place c.args.packet.now c.args.filters.now c.args.self.now c.in-Fifo.fifo c.in-Fifo.is h)
 
 pub Discipline::enqueue-enqueue_in_flows-requires-clause-flow : goal.Discipline::enqueue-enqueue_in_flows-requires-clause-flow
-Discipline::enqueue-enqueue_in_flows-requires-clause-flow g t c = c.requires.ready.flow c.deref_mut.result.now.state (ap discipline_seen c.in-FqCodel.is ∙ ap (λ (q : FqView). spec.FqCodel q.state) (sym c.deref_mut.ensures.value))
+Discipline::enqueue-enqueue_in_flows-requires-clause-flow g t c =
+    c.requires.ready.flow c.deref_mut.result.now.state
+    (ap discipline_seen c.in-FqCodel.is ∙ ap (λ (q : FqView). spec.FqCodel q.state) (sym c.deref_mut.ensures.value))
 
 pub Discipline::enqueue-enqueue_in_flows-requires-clause-sink : goal.Discipline::enqueue-enqueue_in_flows-requires-clause-sink
-Discipline::enqueue-enqueue_in_flows-requires-clause-sink g t c = omega (arith, c.requires.sink, flow-packets c.args.self.now c.deref_mut.result.now.state (ap discipline_seen c.in-FqCodel.is ∙ ap (λ (q : FqView). spec.FqCodel q.state) (sym c.deref_mut.ensures.value)), own-room c.args.self.now)
+Discipline::enqueue-enqueue_in_flows-requires-clause-sink g t c =
+    omega (
+      arith,
+      c.requires.sink,
+      flow-packets c.args.self.now c.deref_mut.result.now.state
+          (ap discipline_seen c.in-FqCodel.is ∙ ap (λ (q : FqView). spec.FqCodel q.state) (sym c.deref_mut.ensures.value)),
+      own-room c.args.self.now,
+    )
 
 pub Discipline::enqueue-returns-in-FqCodel-clause-after : goal.Discipline::enqueue-returns-in-FqCodel-clause-after
 Discipline::enqueue-returns-in-FqCodel-clause-after g t c =
     let e = c.enqueue_in_flows.ensures in
-    let is : discipline_seen c.args.self.now ≡ spec.FqCodel c.deref_mut.result.now.state = ap discipline_seen c.in-FqCodel.is ∙ ap (λ (q : FqView). spec.FqCodel q.state) (sym c.deref_mut.ensures.value) in
+    let is : discipline_seen c.args.self.now ≡ spec.FqCodel c.deref_mut.result.now.state =
+    ap discipline_seen c.in-FqCodel.is ∙ ap (λ (q : FqView). spec.FqCodel q.state) (sym c.deref_mut.ensures.value) in
     let places : places_seen c.args.self.now ≡ c.deref_mut.result.now.places = (ap places_seen c.in-FqCodel.is ∙ ap (λ (q : FqView). q.places) (sym c.deref_mut.ensures.value)) in
-    flows-after c.args.now c.args.packet.now c.args.filters.now c.args.self.now (code.FqCodel (with_value c.in-FqCodel.queue (record { state = c.deref_mut.result.now.state; places = c.enqueue_in_flows.new.queue.places }))) (code.FqCodel (with_value c.in-FqCodel.queue c.enqueue_in_flows.new.queue))
-    c.deref_mut.result.now.state c.enqueue_in_flows.new.queue.state c.enqueue_in_flows.new.queue.places c.enqueue_in_flows.result (g.S.Sink.state c.args.sink.now) (g.S.Sink.state c.enqueue_in_flows.new.sink)
+    flows-after c.args.now c.args.packet.now c.args.filters.now c.args.self.now
+    (code.FqCodel (with_value c.in-FqCodel.queue
+    (record { state = c.deref_mut.result.now.state; places = c.enqueue_in_flows.new.queue.places })))
+    (code.FqCodel (with_value c.in-FqCodel.queue c.enqueue_in_flows.new.queue))
+    c.deref_mut.result.now.state c.enqueue_in_flows.new.queue.state c.enqueue_in_flows.new.queue.places c.enqueue_in_flows.result
+    (g.S.Sink.state c.args.sink.now) (g.S.Sink.state c.enqueue_in_flows.new.sink)
     is (ap children_seen c.in-FqCodel.is) (omega (arith, places, e.grows)) refl refl refl refl refl refl e.place (λ there. e.stays (omega (arith, there, places)) ∙ sym places) e.put
 
 pub Discipline::enqueue-returns-in-FqCodel-clause-succeeds : goal.Discipline::enqueue-returns-in-FqCodel-clause-succeeds
-Discipline::enqueue-returns-in-FqCodel-clause-succeeds g t c = λ h. c.enqueue_in_flows.ensures.succeeds (flows-place c.args.packet.now c.args.filters.now c.args.self.now c.deref_mut.result.now.state c.deref_mut.result.now.places (ap discipline_seen c.in-FqCodel.is ∙ ap (λ (q : FqView). spec.FqCodel q.state) (sym c.deref_mut.ensures.value)) (ap places_seen c.in-FqCodel.is ∙ ap (λ (q : FqView). q.places) (sym c.deref_mut.ensures.value)) h)
+Discipline::enqueue-returns-in-FqCodel-clause-succeeds g t c =
+    λ h. c.enqueue_in_flows.ensures.succeeds
+    (flows-place c.args.packet.now c.args.filters.now c.args.self.now c.deref_mut.result.now.state c.deref_mut.result.now.places
+    (ap discipline_seen c.in-FqCodel.is ∙ ap (λ (q : FqView). spec.FqCodel q.state) (sym c.deref_mut.ensures.value))
+    (ap places_seen c.in-FqCodel.is ∙ ap (λ (q : FqView). q.places) (sym c.deref_mut.ensures.value)) h)
 
 pub Discipline::enqueue-enqueue-requires : goal.Discipline::enqueue-enqueue-requires
 Discipline::enqueue-enqueue-requires g t c κs within =
@@ -132,7 +156,8 @@ Discipline::enqueue-returns-in-Child-clause-after g t c =
     same) inside c.index_mut.ensures.value to
     (λ m. code.Prio c.in-Prio-self-2.priomap (with_item c.in-Prio-self-2.bands c.in-Child.place m)) (λ m. refl) (λ m. sym (ap discipline_seen same))
     (λ m. sym (ap places_seen same)) refl (sym (ap places_seen same))
-    (λ b. sym (ap (λ (d : Discipline). settled_in c.in-Child.place b (discipline_seen d)) same)) c.enqueue.result (g.S.Sink.state c.args.sink.now) (g.S.Sink.state c.enqueue.new.sink) c.enqueue.ensures.after
+    (λ b. sym (ap (λ (d : Discipline). settled_in c.in-Child.place b (discipline_seen d)) same)) c.enqueue.result (g.S.Sink.state c.args.sink.now)
+    (g.S.Sink.state c.enqueue.new.sink) c.enqueue.ensures.after
     c.enqueue.ensures.told
 
 pub Discipline::enqueue-returns-in-Child-clause-same : goal.Discipline::enqueue-returns-in-Child-clause-same
@@ -186,7 +211,8 @@ Discipline::enqueue-returns-in-Refused-clause-after g t c =
     (λ minor. minor - 1) (named_class c.args.filters.now c.args.packet.now) (slice_index c.in-Prio-self.priomap c.args.packet.now.prio)) (omega
     (arith, why.1, all))) ∙ ap refused (sym why.0) in
     subst (λ (d : Discipline). HasComeIn c.args.now c.args.packet.now c.args.filters.now c.args.self.now d c.refuse.result (g.S.Sink.state c.args.sink.now) (g.S.Sink.state c.refuse.new.sink)) same
-    (refused-in c.args.now c.args.packet.now c.in-Refused.cause c.args.filters.now c.args.self.now c.refuse.result (g.S.Sink.state c.args.sink.now) (g.S.Sink.state c.refuse.new.sink) (subst (λ (x : Cause). is_refusal x ≡
+    (refused-in c.args.now c.args.packet.now c.in-Refused.cause c.args.filters.now c.args.self.now c.refuse.result (g.S.Sink.state c.args.sink.now)
+    (g.S.Sink.state c.refuse.new.sink) (subst (λ (x : Cause). is_refusal x ≡
     true) (sym why.0) refl) to _ refl c.refuse.ensures.outcome c.refuse.ensures.told)
 
 pub Discipline::enqueue-enqueue-requires-in-Child-choose : goal.Discipline::enqueue-enqueue-requires-in-Child-choose
@@ -237,7 +263,9 @@ Discipline::enqueue-returns-in-Child-choose-clause-after g t c =
     c.enqueue-in-Child-choose.new.self kids (omega arith) refl to
     (λ m. code.Tbf c.in-Tbf.bucket c.in-Tbf.limit (with_value c.in-Tbf.child m)) (λ m. refl) (λ m. sym (ap discipline_seen c.in-Tbf.is)) (λ m. sym
     (ap places_seen c.in-Tbf.is)) refl (sym (ap places_seen c.in-Tbf.is))
-    (λ b. sym (ap (λ (d : Discipline). settled_in 0 b (discipline_seen d)) c.in-Tbf.is)) c.enqueue-in-Child-choose.result (g.S.Sink.state c.args.sink.now) (g.S.Sink.state c.enqueue-in-Child-choose.new.sink) c.enqueue-in-Child-choose.ensures.after c.enqueue-in-Child-choose.ensures.told
+    (λ b. sym (ap (λ (d : Discipline). settled_in 0 b (discipline_seen d)) c.in-Tbf.is)) c.enqueue-in-Child-choose.result
+    (g.S.Sink.state c.args.sink.now) (g.S.Sink.state c.enqueue-in-Child-choose.new.sink) c.enqueue-in-Child-choose.ensures.after
+    c.enqueue-in-Child-choose.ensures.told
 
 pub Discipline::enqueue-returns-in-Child-choose-clause-succeeds : goal.Discipline::enqueue-returns-in-Child-choose-clause-succeeds
 Discipline::enqueue-returns-in-Child-choose-clause-succeeds g t c =
@@ -393,22 +421,37 @@ pub Node::enqueue_further-invariant_of-self : goal.Node::enqueue_further-invaria
 Node::enqueue_further-invariant_of-self g t c = placed-kept c.self.inside c.args.self.now c.self.invariant c.self.view_is c.enqueue.new.self c.in_err-outcome.ensures.same
 
 pub Node::enqueue_further-returns-in_err-outcome-clause-same : goal.Node::enqueue_further-returns-in_err-outcome-clause-same
-Node::enqueue_further-returns-in_err-outcome-clause-same g t c = on-err c.from_residual.result (placed-after c.self.inside c.args.self.now c.self.invariant c.self.view_is c.enqueue.new.self c.in_err-outcome.ensures.same)
+Node::enqueue_further-returns-in_err-outcome-clause-same g t c =
+    on-err c.from_residual.result (placed-after c.self.inside c.args.self.now c.self.invariant c.self.view_is c.enqueue.new.self
+    c.in_err-outcome.ensures.same)
 
 pub Node::enqueue_further-returns-in_err-outcome-clause-succeeds : goal.Node::enqueue_further-returns-in_err-outcome-clause-succeeds
-Node::enqueue_further-returns-in_err-outcome-clause-succeeds g t c = λ h. absurd (false≢true (c.in_err-outcome.ensures.succeeds (place-within c.args.now c.args.packet.now c.self.inside c.args.self.now c.self.invariant c.self.view_is c.requires.ready c.self.inside.filters refl h)))
+Node::enqueue_further-returns-in_err-outcome-clause-succeeds g t c =
+    λ h. absurd (false≢true (c.in_err-outcome.ensures.succeeds
+    (place-within c.args.now c.args.packet.now c.self.inside c.args.self.now c.self.invariant c.self.view_is c.requires.ready c.self.inside.filters
+    refl h)))
 
 pub Node::enqueue_further-book_arrival-requires-clause-room : goal.Node::enqueue_further-book_arrival-requires-clause-room
 Node::enqueue_further-book_arrival-requires-clause-room g t c = subst (λ (m : Node Kept). CanCount m.memory.counts.arrived c.args.packet.now) (sym c.self.view_is) c.requires.ready.counts
 
 pub Node::enqueue_further-book_arrival-requires-clause-lost : goal.Node::enqueue_further-book_arrival-requires-clause-lost
-Node::enqueue_further-book_arrival-requires-clause-lost g t c = come-lost c.args.now c.args.packet.now c.self.inside c.args.self.now c.self.invariant c.self.view_is c.requires.ready c.self.inside.filters refl c.enqueue.new.self c.in_ok-outcome.outcome (g.S.Sink.state c.args.sink.now) (g.S.Sink.state c.enqueue.new.sink) c.in_ok-outcome.ensures.after
+Node::enqueue_further-book_arrival-requires-clause-lost g t c =
+    come-lost c.args.now c.args.packet.now c.self.inside c.args.self.now c.self.invariant c.self.view_is c.requires.ready c.self.inside.filters refl
+    c.enqueue.new.self c.in_ok-outcome.outcome (g.S.Sink.state c.args.sink.now) (g.S.Sink.state c.enqueue.new.sink) c.in_ok-outcome.ensures.after
 
 pub Node::enqueue_further-invariant_of-self-2 : goal.Node::enqueue_further-invariant_of-self-2
-Node::enqueue_further-invariant_of-self-2 g t c = come-kept c.args.now c.args.packet.now c.self.inside c.args.self.now c.self.invariant c.self.view_is c.requires.ready c.self.inside.filters refl c.enqueue.new.self c.in_ok-outcome.outcome (g.S.Sink.state c.args.sink.now) (g.S.Sink.state c.enqueue.new.sink) c.in_ok-outcome.ensures.after c.book_arrival.new.row c.book_arrival.ensures
+Node::enqueue_further-invariant_of-self-2 g t c =
+    come-kept c.args.now c.args.packet.now c.self.inside c.args.self.now c.self.invariant c.self.view_is c.requires.ready c.self.inside.filters refl
+    c.enqueue.new.self c.in_ok-outcome.outcome (g.S.Sink.state c.args.sink.now) (g.S.Sink.state c.enqueue.new.sink) c.in_ok-outcome.ensures.after
+    c.book_arrival.new.row c.book_arrival.ensures
 
 pub Node::enqueue_further-returns-clause-after : goal.Node::enqueue_further-returns-clause-after
-Node::enqueue_further-returns-clause-after g t c = come-after c.args.now c.args.packet.now c.self.inside c.args.self.now c.self.invariant c.self.view_is c.requires.ready c.self.inside.filters refl c.enqueue.new.self c.in_ok-outcome.outcome (g.S.Sink.state c.args.sink.now) (g.S.Sink.state c.enqueue.new.sink) c.in_ok-outcome.ensures.after c.book_arrival.new.row c.book_arrival.ensures
+Node::enqueue_further-returns-clause-after g t c =
+    come-after c.args.now c.args.packet.now c.self.inside c.args.self.now c.self.invariant c.self.view_is c.requires.ready c.self.inside.filters refl
+    c.enqueue.new.self c.in_ok-outcome.outcome (g.S.Sink.state c.args.sink.now) (g.S.Sink.state c.enqueue.new.sink) c.in_ok-outcome.ensures.after
+    c.book_arrival.new.row c.book_arrival.ensures
 
 pub Node::enqueue_further-returns-clause-told : goal.Node::enqueue_further-returns-clause-told
-Node::enqueue_further-returns-clause-told g t c = come-told c.args.now c.args.packet.now c.self.inside c.args.self.now c.self.invariant c.self.view_is c.requires.ready c.self.inside.filters refl c.enqueue.new.self c.in_ok-outcome.outcome (g.S.Sink.state c.args.sink.now) (g.S.Sink.state c.enqueue.new.sink) c.in_ok-outcome.ensures.after
+Node::enqueue_further-returns-clause-told g t c =
+    come-told c.args.now c.args.packet.now c.self.inside c.args.self.now c.self.invariant c.self.view_is c.requires.ready c.self.inside.filters refl
+    c.enqueue.new.self c.in_ok-outcome.outcome (g.S.Sink.state c.args.sink.now) (g.S.Sink.state c.enqueue.new.sink) c.in_ok-outcome.ensures.after

@@ -30,7 +30,8 @@ Discipline::prepare_beneath-prepare-requires-in-Drr t c = (
 pub Discipline::prepare_beneath-returns-in-Drr-clause-children :
     goal.Discipline::prepare_beneath-returns-in-Drr-clause-children
 Discipline::prepare_beneath-returns-in-Drr-clause-children t c =
-    set-unplaced c.in-Drr.classes.items c.args.place c.index_mut-in-Drr.result.now c.prepare-in-Drr.new.self c.index_mut-in-Drr.ensures.value c.prepare-in-Drr.ensures.same ∙ ap (map unplaced) (sym (ap children_seen c.in-Drr.is))
+    set-unplaced c.in-Drr.classes.items c.args.place c.index_mut-in-Drr.result.now c.prepare-in-Drr.new.self c.index_mut-in-Drr.ensures.value
+    c.prepare-in-Drr.ensures.same ∙ ap (map unplaced) (sym (ap children_seen c.in-Drr.is))
 
 pub Discipline::prepare_beneath-returns-in-Drr-clause-ok :
     goal.Discipline::prepare_beneath-returns-in-Drr-clause-ok
@@ -52,7 +53,8 @@ Node::prepare-returns-clause-same t c = same-places c.self.inside c.prepare_bene
 
 pub Node::prepare-returns-clause-ok : goal.Node::prepare-returns-clause-ok
 Node::prepare-returns-clause-ok t c =
-    place-on c.prepare_beneath.result c.in-Some.field-0-0.now c.in-Some.rest.now c.args.path.now (record c.self.inside { discipline = c.prepare_beneath.new.self }) c.in-Some.ensures.cases.0 c.prepare_beneath.ensures.ok
+    place-on c.prepare_beneath.result c.in-Some.field-0-0.now c.in-Some.rest.now c.args.path.now
+    (record c.self.inside { discipline = c.prepare_beneath.new.self }) c.in-Some.ensures.cases.0 c.prepare_beneath.ensures.ok
 
 pub Node::prepare-returns-clause-succeeds : goal.Node::prepare-returns-clause-succeeds
 Node::prepare-returns-clause-succeeds t c = λ there.
@@ -77,4 +79,6 @@ Node::prepare-returns-clause-places t c =
 pub Node::prepare-returns-in_default-clause-places :
     goal.Node::prepare-returns-in_default-clause-places
 Node::prepare-returns-in_default-clause-places t c =
-    seen-places c.self.inside c.reserve.new.self c.reserve.ensures.grows (λ way i. subst (λ ns. places_under way i ns ≤ places_under way i (children_seen c.reserve.new.self)) c.reserve.ensures.children (omega arith)) c.args.self.now c.self.view_is
+    seen-places c.self.inside c.reserve.new.self c.reserve.ensures.grows
+    (λ way i. subst (λ ns. places_under way i ns ≤ places_under way i (children_seen c.reserve.new.self)) c.reserve.ensures.children
+    (omega arith)) c.args.self.now c.self.view_is

@@ -12,6 +12,9 @@ quantum-requires c =
 pub loop-place-preserved : goal.loop-place-preserved
 loop-place-preserved c =
     let classes = c.args.active.now.classes in
-    let next = sum-next classes c.loop-place.place c.in-Some.class (differ_from_pairs (λ (k : Class). k.name) classes c.class_at.ensures.lawful.classes_differ) (sym c.class_at.ensures.value ∙ c.in-Some.is) in
+    let next =
+    sum-next classes c.loop-place.place c.in-Some.class
+    (differ_from_pairs (λ (k : Class). k.name) classes c.class_at.ensures.lawful.classes_differ)
+    (sym c.class_at.ensures.value ∙ c.in-Some.is) in
     let fits : c.quantum.result < 2 ^ 32 = c.quantum.type_inv in
     (omega (arith, next, c.from-quanta.ensures, c.quantum.ensures, c.loop-place.invariant.0), omega (arith, c.loop-place.invariant.1, c.from-quanta.ensures, fits))

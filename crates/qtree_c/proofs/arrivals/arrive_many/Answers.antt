@@ -12,7 +12,8 @@ pub returns-in_default-clause-arrivals : goal.returns-in_default-clause-arrivals
 returns-in_default-clause-arrivals c =
     let done = c.arrive_many-done.result.0 in
     all-arrived c.args.now c.args.packets.now done c.args.codes.now c.arrive_many-done.new.fates c.args.opened.now.device c.arrive_many-done.new.self
-    (subst (λ (o : Option Stopped). bursts.IsArrivals fate_number c.args.now c.args.packets.now o done c.args.codes.now c.arrive_many-done.new.fates c.args.opened.now.device c.arrive_many-done.new.self) c.in_default.is
+    (subst (λ (o : Option Stopped). bursts.IsArrivals fate_number c.args.now c.args.packets.now o done c.args.codes.now c.arrive_many-done.new.fates
+    c.args.opened.now.device c.arrive_many-done.new.self) c.in_default.is
     c.arrive_many-done.ensures)
 
 pub returns-in_default-clause-noted : goal.returns-in_default-clause-noted
@@ -24,7 +25,8 @@ pub returns-in-OutOfRange-clause-arrivals : goal.returns-in-OutOfRange-clause-ar
 returns-in-OutOfRange-clause-arrivals c =
     let done = c.arrive_many-done.result.0 in
     bad-next c.args.now c.args.packets.now done c.args.codes.now c.arrive_many-done.new.fates c.args.opened.now.device c.arrive_many-done.new.self
-    (subst (λ (o : Option Stopped). bursts.IsArrivals fate_number c.args.now c.args.packets.now o done c.args.codes.now c.arrive_many-done.new.fates c.args.opened.now.device c.arrive_many-done.new.self)
+    (subst (λ (o : Option Stopped). bursts.IsArrivals fate_number c.args.now c.args.packets.now o done c.args.codes.now c.arrive_many-done.new.fates
+    c.args.opened.now.device c.arrive_many-done.new.self)
     (c.in-Some.is ∙ ap Some c.in-OutOfRange.is) c.arrive_many-done.ensures)
     c.out_of_range.ensures.packet c.out_of_range.result c.out_of_range.ensures.code
 
@@ -37,7 +39,8 @@ pub returns-in-Memory-clause-arrivals : goal.returns-in-Memory-clause-arrivals
 returns-in-Memory-clause-arrivals c =
     let done = c.arrive_many-done.result.0 in
     no_room-next c.args.now c.args.packets.now done c.args.codes.now c.arrive_many-done.new.fates c.args.opened.now.device c.arrive_many-done.new.self
-    (subst (λ (o : Option Stopped). bursts.IsArrivals fate_number c.args.now c.args.packets.now o done c.args.codes.now c.arrive_many-done.new.fates c.args.opened.now.device c.arrive_many-done.new.self)
+    (subst (λ (o : Option Stopped). bursts.IsArrivals fate_number c.args.now c.args.packets.now o done c.args.codes.now c.arrive_many-done.new.fates
+    c.args.opened.now.device c.arrive_many-done.new.self)
     (c.in-Some.is ∙ ap Some c.in-Memory.is) c.arrive_many-done.ensures)
 
 pub returns-in-Memory-clause-noted : goal.returns-in-Memory-clause-noted

@@ -26,5 +26,7 @@ returns-clause-chosen g c =
     let s = split _ _ c.requires.front in
     let behind = behind_is _ _ _ _ _ c.bytes.ensures s.is (ap (λ (f : Front). f.len) s.front_is) in
     let looked = c.if-not-should_drop.ensures in
-    let same = unmoved c.args.parameters.now c.args.self.now c.should_drop.new.self c.args.now s.head s.rest (sym (looked.late s.head s.rest s.front_is behind)) (looked.noted s.head s.rest s.front_is behind) in
+    let same =
+    unmoved c.args.parameters.now c.args.self.now c.should_drop.new.self c.args.now s.head s.rest
+    (sym (looked.late s.head s.rest s.front_is behind)) (looked.noted s.head s.rest s.front_is behind) in
     chosen_from _ _ _ _ _ _ _ _ same c.choose_late.ensures.chosen

@@ -10,7 +10,9 @@ use Rattle.q_codel.proofs.control_state.ControlState.drop_or_mark.Goals as goal
 pub drop_head-next-requires-clause-some : goal.drop_head-next-requires-clause-some
 drop_head-next-requires-clause-some g c =
     let s = split _ _ c.requires.front in
-    let more = late_has_two (joined c.args.parameters.now c.args.self.now) c.args.now s.head s.rest (sym (ap (is_late (joined c.args.parameters.now c.args.self.now) c.args.now) s.is) ∙ c.requires.late) in
+    let more =
+    late_has_two (joined c.args.parameters.now c.args.self.now) c.args.now s.head s.rest
+    (sym (ap (is_late (joined c.args.parameters.now c.args.self.now) c.args.now) s.is) ∙ c.requires.late) in
     let n = ap (λ (q : List Stamped). count q) s.is in
     omega arith
 

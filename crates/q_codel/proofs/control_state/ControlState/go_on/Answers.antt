@@ -44,7 +44,8 @@ pub returns-then-marks : goal.returns-then-marks
 returns-then-marks g c =
     let i = c.loop-self.invariant in
     let due : c.self.inside.drop_next ≤ c.args.now = let t = c.loop-self-test.true in let n = c.ns.ensures.value in omega arith in
-    let length : c.gap.result ≡ gap_of c.args.parameters.now.interval c.saturating_add-self-inside.result = c.gap.ensures.value ∙ ap (λ (p : CodelParams). gap_of p.interval c.saturating_add-self-inside.result) c.parameters.view_is in
+    let length : c.gap.result ≡ gap_of c.args.parameters.now.interval c.saturating_add-self-inside.result =
+    c.gap.ensures.value ∙ ap (λ (p : CodelParams). gap_of p.interval c.saturating_add-self-inside.result) c.parameters.view_is in
     let markable = sym (c.if-marks.ensures ∙ ap (λ (f : Front). c.args.parameters.now.ecn && is_capable f.ecn) i.3.front) in
     let ends = turn_marks _ _ _ i.0 _ i.1 _ _ _ _ i.3.way (ap (joined c.args.parameters.now) c.self.view_is) due c.saturating_add-self-inside.ensures _ c.requires.dropping markable length in
     record {
@@ -68,7 +69,10 @@ returns-then-not-should_drop g c =
     let n = next _ _ _ _ _ i.3.packets c.drop_head-front.ensures.rest c.drop_head-front.ensures.front in
     let behind = behind_is _ _ _ _ _ c.bytes.ensures n.here (ap (λ (f : Front). f.len) n.front_is) in
     let plain = sym (c.if-marks.ensures ∙ ap (λ (f : Front). c.args.parameters.now.ecn && is_capable f.ecn) i.3.front) in
-    let ends = turn_ends _ _ _ i.0 _ i.1 _ _ _ _ i.3.way (ap (joined c.args.parameters.now) c.self.view_is) due c.saturating_add-self-inside.ensures _ _ _ plain n.rest_is (c.self-in-loop-self.view_is ∙ c.if-not-should_drop.ensures.noted n.head n.behind n.front_is behind) c.requires.dropping (sym (c.if-not-should_drop.ensures.late n.head n.behind n.front_is behind)) in
+    let ends =
+    turn_ends _ _ _ i.0 _ i.1 _ _ _ _ i.3.way (ap (joined c.args.parameters.now) c.self.view_is) due c.saturating_add-self-inside.ensures _ _ _
+    plain n.rest_is (c.self-in-loop-self.view_is ∙ c.if-not-should_drop.ensures.noted n.head n.behind n.front_is behind) c.requires.dropping
+    (sym (c.if-not-should_drop.ensures.late n.head n.behind n.front_is behind)) in
     let lost = losses_more _ _ i.0 _ _ _ _ _ i.3.way.place i.3.lost (head_lost _ _ _ _ _ _ i.3.packets c.drop_head-front.ensures.lost) in
     record {
       chosen = chosen_at _ _ _ _ _ _ _ _ ends.chosen n.here;
@@ -85,8 +89,12 @@ loop-self-preserved g c =
     let n = next _ _ _ _ _ i.3.packets c.drop_head-front.ensures.rest c.drop_head-front.ensures.front in
     let behind = behind_is _ _ _ _ _ c.bytes.ensures n.here (ap (λ (f : Front). f.len) n.front_is) in
     let plain = sym (c.if-marks.ensures ∙ ap (λ (f : Front). c.args.parameters.now.ecn && is_capable f.ecn) i.3.front) in
-    let length : c.gap-in-loop-self.result ≡ gap_of c.args.parameters.now.interval c.self-in-loop-self.inside.count = c.gap-in-loop-self.ensures.value ∙ ap (λ (p : CodelParams). gap_of p.interval c.self-in-loop-self.inside.count) c.parameters.view_is in
-    let way = turn_goes_on _ _ _ i.0 _ i.1 _ _ _ _ i.3.way (ap (joined c.args.parameters.now) c.self.view_is) due c.saturating_add-self-inside.ensures _ _ _ plain n.rest_is (c.self-in-loop-self.view_is ∙ c.if-not-should_drop.ensures.noted n.head n.behind n.front_is behind) _ length (sym (c.if-not-should_drop.ensures.late n.head n.behind n.front_is behind)) in (
+    let length : c.gap-in-loop-self.result ≡ gap_of c.args.parameters.now.interval c.self-in-loop-self.inside.count =
+    c.gap-in-loop-self.ensures.value ∙ ap (λ (p : CodelParams). gap_of p.interval c.self-in-loop-self.inside.count) c.parameters.view_is in
+    let way =
+    turn_goes_on _ _ _ i.0 _ i.1 _ _ _ _ i.3.way (ap (joined c.args.parameters.now) c.self.view_is) due c.saturating_add-self-inside.ensures _ _
+    _ plain n.rest_is (c.self-in-loop-self.view_is ∙ c.if-not-should_drop.ensures.noted n.head n.behind n.front_is behind) _ length
+    (sym (c.if-not-should_drop.ensures.late n.head n.behind n.front_is behind)) in (
       suc i.0,
       n.head,
       n.behind,
@@ -95,7 +103,10 @@ loop-self-preserved g c =
         front = n.front_is;
         way = way;
         lost = losses_more _ _ i.0 _ _ _ _ _ i.3.way.place i.3.lost (head_lost _ _ _ _ _ _ i.3.packets c.drop_head-front.ensures.lost);
-        enough = let a = ap (λ (q : List Stamped). count q) i.3.packets in let b = ap (λ (q : List Stamped). count q) n.here in let d = ap (λ (q : List Stamped). count q) n.rest_is in let k = (head_lost _ _ _ _ _ _ i.3.packets c.drop_head-front.ensures.lost).room in let e = i.3.enough in omega arith;
+        enough =
+            let a = ap (λ (q : List Stamped). count q) i.3.packets in let b = ap (λ (q : List Stamped). count q) n.here in let d = ap
+            (λ (q : List Stamped). count q) n.rest_is in let k = (head_lost _ _ _ _ _ _ i.3.packets c.drop_head-front.ensures.lost).room in let e =
+            i.3.enough in omega arith;
         kept = g.met.Q.Queue.keeps_on _ _ _ i.3.kept c.drop_head-front.ensures.kept;
         sink_kept = g.met.S.Sink.keeps_on _ _ _ i.3.sink_kept c.drop_head-front.ensures.sink_kept;
       },

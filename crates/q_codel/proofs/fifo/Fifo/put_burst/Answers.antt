@@ -9,7 +9,15 @@ use Rattle.q_codel.proofs.fifo.Fifo.put_burst.Goals as goal
 
 pub push_burst-taken-requires-clause-places : goal.push_burst-taken-requires-clause-places
 push_burst-taken-requires-clause-places c =
-    omega (arith, c.room.ensures.within, c.min-most.ensures, length-take c.min-most.result c.args.packets.now, ap (λ (f : FifoState). length f.packets) c.self.view_is, ap (λ (f : FifoState). f.places) c.self.view_is)
+    omega (
+      arith,
+      c.room.ensures.within,
+      c.min-most.ensures,
+      length-take c.min-most.result c.args.packets.now,
+      ap
+          (λ (f : FifoState). length f.packets) c.self.view_is,
+      ap (λ (f : FifoState). f.places) c.self.view_is,
+    )
 
 more : (c : After-push_burst-taken) → IsKept (c.self.inside.bytes + c.push_burst-taken.result.1) c.push_burst-taken.new.ring.packets c.push_burst-taken.new.ring.places
 more c =
@@ -34,4 +42,6 @@ pub invariant_of-self : goal.invariant_of-self
 invariant_of-self c = more (goal.at.invariant_of-self c).After-push_burst-taken
 
 pub returns-clause-next : goal.returns-clause-next
-returns-clause-next c = λ lt. get-first _ c.min-most.result c.push_burst-taken.result.0 c.room.result c.args.packets.now c.min-most.ensures c.push_burst-taken.ensures.next (omega (arith, lt, c.room.ensures.value))
+returns-clause-next c =
+    λ lt. get-first _ c.min-most.result c.push_burst-taken.result.0 c.room.result c.args.packets.now c.min-most.ensures
+    c.push_burst-taken.ensures.next (omega (arith, lt, c.room.ensures.value))

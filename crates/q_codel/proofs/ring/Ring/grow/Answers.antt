@@ -20,12 +20,16 @@ returns-then-places-eq0-clause-packets c =
 pub invariant_of-self-2 : goal.invariant_of-self-2
 invariant_of-self-2 c =
     let r = c.self.inside in
-    (doubled r.cells.items r.first r.next c.self.invariant (omega (arith, c.len-places.ensures, r.cells.ok.0, c.if-places-eq0.false)) (omega (arith, c.len-places.ensures, r.cells.ok.0, c.if-places-ge-MOST_PLACES.false)) _ _ _ (omega (arith, r.cells.ok.0)) c.extend_from_within.ensures.items).0
+    (doubled r.cells.items r.first r.next c.self.invariant (omega (arith, c.len-places.ensures, r.cells.ok.0, c.if-places-eq0.false))
+    (omega (arith, c.len-places.ensures, r.cells.ok.0, c.if-places-ge-MOST_PLACES.false)) _ _ _ (omega (arith, r.cells.ok.0))
+    c.extend_from_within.ensures.items).0
 
 pub returns-clause-packets : goal.returns-clause-packets
 returns-clause-packets c =
     let r = c.self.inside in
-    (doubled r.cells.items r.first r.next c.self.invariant (omega (arith, c.len-places.ensures, r.cells.ok.0, c.if-places-eq0.false)) (omega (arith, c.len-places.ensures, r.cells.ok.0, c.if-places-ge-MOST_PLACES.false)) _ _ _ (omega (arith, r.cells.ok.0)) c.extend_from_within.ensures.items).1
+    (doubled r.cells.items r.first r.next c.self.invariant (omega (arith, c.len-places.ensures, r.cells.ok.0, c.if-places-eq0.false))
+    (omega (arith, c.len-places.ensures, r.cells.ok.0, c.if-places-ge-MOST_PLACES.false)) _ _ _ (omega (arith, r.cells.ok.0))
+    c.extend_from_within.ensures.items).1
     ∙ ap (λ (s : RingState). s.packets) c.self.view_is
 
 pub returns-then-places-ge-MOST_PLACES-clause-within : goal.returns-then-places-ge-MOST_PLACES-clause-within
@@ -37,4 +41,6 @@ pub returns-clause-within : goal.returns-clause-within
 returns-clause-within c =
     let r = c.self.inside in
     ring_few c.extend_from_within.new.self.items r.first r.next
-    (doubled r.cells.items r.first r.next c.self.invariant (omega (arith, c.len-places.ensures, r.cells.ok.0, c.if-places-eq0.false)) (omega (arith, c.len-places.ensures, r.cells.ok.0, c.if-places-ge-MOST_PLACES.false)) _ _ _ (omega (arith, r.cells.ok.0)) c.extend_from_within.ensures.items).0
+    (doubled r.cells.items r.first r.next c.self.invariant (omega (arith, c.len-places.ensures, r.cells.ok.0, c.if-places-eq0.false))
+    (omega (arith, c.len-places.ensures, r.cells.ok.0, c.if-places-ge-MOST_PLACES.false)) _ _ _ (omega (arith, r.cells.ok.0))
+    c.extend_from_within.ensures.items).0

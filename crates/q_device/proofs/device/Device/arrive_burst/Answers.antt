@@ -48,7 +48,9 @@ here c =
     let same : cs ≡ came c = take-take k c.min-most.result c.args.packets.now (few c) in
     let made = c.arrive_burst-kept.ensures in
     let all : (a.spare - k) + length cs ≡ a.spare = omega (arith, counted c, ap (λ (xs : List StoredPacket). length xs) same, few c, c.min-most.ensures) in
-    let each = arrive-here c.args.now c.later-at.result cs a (a.spare - k) keeps c.later-at.ensures c.moment_range.ensures all (burst-fields a.tree.tree.device.mtu cs made.taken made.widths) made.kept in
+    let each =
+    arrive-here c.args.now c.later-at.result cs a (a.spare - k) keeps c.later-at.ensures c.moment_range.ensures all
+    (burst-fields a.tree.tree.device.mtu cs made.taken made.widths) made.kept in
     let found = subst (λ (xs : List StoredPacket). ArriveHere c.args.now xs a (after c)) same
     (subst (λ (x : DeviceState code.Kept). ArriveHere c.args.now cs a (record a { tree = x; spare = a.spare - k })) (sym made.after) each) in
     record { keeps = found.keeps; seen = found.seen; fates = found.fates; places = found.places }
@@ -82,10 +84,13 @@ next-here c budget room =
     let a : Inside = c.self.inside in
     let k = c.arrive_burst-kept.result in
     let some = budget-of k (device_seen a) budget in
-    let low = subst (λ n. k < min (min (a.losses.places - length a.losses.waiting - n) (2 ^ 64 - 1 - a.tree.tree.top.counts.arrived.packets)) ((2 ^ 64 - 1 - a.tree.tree.top.counts.arrived.bytes) / longest))
+    let low =
+    subst (λ n. k < min (min (a.losses.places - length a.losses.waiting - n) (2 ^ 64 - 1 - a.tree.tree.top.counts.arrived.packets))
+    ((2 ^ 64 - 1 - a.tree.tree.top.counts.arrived.bytes) / longest))
     (ap (λ (ps : List Descriptor). length ps) (waits-numbers a.tree)) some.1 in
     let within = within-budget k (length c.args.packets.now) c.min-most.result c.renewed-spare.result
-    (min (min (a.losses.places - length a.losses.waiting - length (beneath a.tree.tree.root)) (2 ^ 64 - 1 - a.tree.tree.top.counts.arrived.packets)) ((2 ^ 64 - 1 - a.tree.tree.top.counts.arrived.bytes) / longest))
+    (min (min (a.losses.places - length a.losses.waiting - length (beneath a.tree.tree.root)) (2 ^ 64 - 1 - a.tree.tree.top.counts.arrived.packets))
+    ((2 ^ 64 - 1 - a.tree.tree.top.counts.arrived.bytes) / longest))
     (few c) c.min-most.ensures low (c.renewed-spare.ensures.least some.0) in
     next-of (λ (p : StoredPacket). IsShort a.tree.tree.device.mtu p → ⊥) c.args.packets.now c.min-most.result k within (c.arrive_burst-kept.ensures.next room)
 
@@ -93,4 +98,5 @@ pub returns-clause-next : goal.returns-clause-next
 returns-clause-next c =
     let d = (goal.at.returns-clause-next c).After-arrive_burst-kept in
     let k = c.arrive_burst-kept.result in
-    subst (λ (x : DeviceSeen). k < budget_at x → k < room_at x.memory.tree.tree.root → IfSome (slice_get c.args.packets.now k) (λ (p : StoredPacket). IsShort x.memory.tree.tree.device.mtu p → ⊥)) c.self.view_is (next-here d)
+    subst (λ (x : DeviceSeen). k < budget_at x → k < room_at x.memory.tree.tree.root
+    → IfSome (slice_get c.args.packets.now k) (λ (p : StoredPacket). IsShort x.memory.tree.tree.device.mtu p → ⊥)) c.self.view_is (next-here d)

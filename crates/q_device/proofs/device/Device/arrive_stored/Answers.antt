@@ -61,7 +61,9 @@ happened c =
     let b = after c in
     let p = (descriptor c.args.packet.now) in
     let e = event.Arrive p c.args.now in
-    let counted = events-after a c.self.invariant e b (c.stored_ranges.ensures.fields, c.moment_range.ensures) (arrived-device a b p c.args.now c.later-at.result c.later-at.ensures c.in-Ok.ensures.after) refl in
+    let counted =
+    events-after a c.self.invariant e b (c.stored_ranges.ensures.fields, c.moment_range.ensures)
+    (arrived-device a b p c.args.now c.later-at.result c.later-at.ensures c.in-Ok.ensures.after) refl in
     let unrecorded = full a.settings.recorder (event.Arrive p c.later-at.result) a.recorded.items (c.self.invariant.full some) in
     arrived a b p c.args.now c.later-at.result c.later-at.ensures refl c.in-Ok.ensures.after c.in-Ok.ensures.lost.lost refl unrecorded refl counted
 

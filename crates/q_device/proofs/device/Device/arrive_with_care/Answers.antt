@@ -21,7 +21,9 @@ use Rattle.q_device.proofs.device.Device.arrive_with_care.Goals as goal
 
 -- memory was refused for the loss: the lost list alone may have more places
 pub invariant_of-self : goal.invariant_of-self
-invariant_of-self c = room-kept c.self.inside c.self.invariant c.self.inside.tree c.make_room.new.losses c.self.inside.spare refl c.make_room.ensures.same (omega arith) (omega (arith, c.self.invariant.room, c.make_room.ensures.grows))
+invariant_of-self c =
+    room-kept c.self.inside c.self.invariant c.self.inside.tree c.make_room.new.losses c.self.inside.spare refl c.make_room.ensures.same
+    (omega arith) (omega (arith, c.self.invariant.room, c.make_room.ensures.grows))
 
 pub returns-in_default-clause-succeeds : goal.returns-in_default-clause-succeeds
 returns-in_default-clause-succeeds c there =
@@ -76,13 +78,16 @@ happened c n =
     let p = c.args.packet.now in
     let e = event.Arrive p c.args.now in
     let lost = c.in-Ok-arrive.ensures.lost.lost ∙ ap (λ (l : LossList). l.waiting ++ losses_in (noted_by_put c.later-at.result p a.tree.tree)) c.make_room.ensures.same in
-    let counted = events-after a c.self.invariant e b ((subst HasPacketFields c.packet.view_is c.stored_ranges.ensures.fields), c.moment_range.ensures) (arrived-device a b p c.args.now c.later-at.result c.later-at.ensures c.in-Ok-arrive.ensures.after) refl in
+    let counted =
+    events-after a c.self.invariant e b ((subst HasPacketFields c.packet.view_is c.stored_ranges.ensures.fields), c.moment_range.ensures)
+    (arrived-device a b p c.args.now c.later-at.result c.later-at.ensures c.in-Ok-arrive.ensures.after) refl in
     arrived a b p c.args.now c.later-at.result c.later-at.ensures refl c.in-Ok-arrive.ensures.after lost refl c.record_arrival.ensures.items c.record_arrival.ensures.capacity counted
 
 -- before more may, there is room for what is queued
 still_kept : (c : After-record_arrival) → IsKeptDevice (after c 0)
 still_kept c =
-    event-kept c.self.inside c.self.invariant (event.Arrive c.args.packet.now c.args.now) (after c 0) (happened c 0) ((subst HasPacketFields c.packet.view_is c.stored_ranges.ensures.fields), c.moment_range.ensures) (omega arith)
+    event-kept c.self.inside c.self.invariant (event.Arrive c.args.packet.now c.args.now) (after c 0) (happened c 0)
+    ((subst HasPacketFields c.packet.view_is c.stored_ranges.ensures.fields), c.moment_range.ensures) (omega arith)
     (omega (arith, c.in-Ok-arrive.ensures.counted.packets))
     (omega (arith, c.in-Ok-arrive.ensures.counted.bytes))
     (omega (arith, c.in-Ok.ensures.room, ap (λ (l : LossList). l.places) c.arrive.ensures.kept))
@@ -99,7 +104,8 @@ budget-self-inside-requires-clause-bytes_fit c = omega (arith, (still_kept (goal
 pub invariant_of-self-2 : goal.invariant_of-self-2
 invariant_of-self-2 c =
     let d = (goal.at.invariant_of-self-2 c).After-record_arrival in
-    spared-kept (after d 0) (still_kept d) c.budget-self-inside.result c.budget-self-inside.ensures.room c.budget-self-inside.ensures.packets c.budget-self-inside.ensures.bytes c.budget-self-inside.ensures.full
+    spared-kept (after d 0) (still_kept d) c.budget-self-inside.result c.budget-self-inside.ensures.room c.budget-self-inside.ensures.packets
+    c.budget-self-inside.ensures.bytes c.budget-self-inside.ensures.full
 
 pub returns-clause-event : goal.returns-clause-event
 returns-clause-event c =

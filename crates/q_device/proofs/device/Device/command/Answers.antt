@@ -24,7 +24,10 @@ use Rattle.q_device.proofs.device.Device.command.Goals as goal
 pub invariant_of-self : goal.invariant_of-self
 invariant_of-self c =
     let a = c.self.inside in
-    let nothing = c.in_err-command.ensures.lost.lost ∙ ap (λ (ls : List Loss). a.losses.waiting ++ ls) (told-nothing (plan_of c.args.command c.later-at.result a.tree) (shape a.tree.tree.root) c.in_err-command.field-0.0) ∙ append-nil a.losses.waiting in
+    let nothing =
+    c.in_err-command.ensures.lost.lost ∙ ap (λ (ls : List Loss). a.losses.waiting ++ ls)
+    (told-nothing (plan_of c.args.command c.later-at.result a.tree) (shape a.tree.tree.root) c.in_err-command.field-0.0)
+    ∙ append-nil a.losses.waiting in
     let sink = c.in_err-command.ensures.kept ∙ ap (λ (ls : List Loss). record a.losses { waiting = ls }) nothing in
     subst IsKeptDevice (λ i. record a { tree = sym c.in_err-command.ensures.answer.1 i; losses = sym sink i }) c.self.invariant
 
@@ -44,7 +47,9 @@ returns-in_err-command-clause-refused c =
 pub returns-in_err-command-clause-memory : goal.returns-in_err-command-clause-memory
 returns-in_err-command-clause-memory c =
     let a = c.self.inside in
-    let refused = subst (λ t. IsRefused (WantsMemory c.args.command (plan_of c.args.command t a.tree)) (plan_of c.args.command t a.tree) c.in_err-command.field-0.0) c.later-at.ensures c.in_err-command.ensures.answer.0 in
+    let refused =
+    subst (λ t. IsRefused (WantsMemory c.args.command (plan_of c.args.command t a.tree)) (plan_of c.args.command t a.tree)
+    c.in_err-command.field-0.0) c.later-at.ensures c.in_err-command.ensures.answer.0 in
     subst (λ (d : DeviceSeen). IfErr c.from_residual.result (IsRefusedAt c.args.command c.args.now d)) c.self.view_is
     (passed_on c.from_residual.result c.in_err-command.field-0.0 (IsRefusedAt c.args.command c.args.now (device_seen a)) c.from_residual.ensures.1 refused)
 
@@ -56,8 +61,12 @@ happened : (c : After-count_other) → Happened c.self.inside (event.Command c.a
 happened c =
     let a = c.self.inside in
     let b = after c in
-    let counted = events-after a c.self.invariant (event.Command c.args.command c.args.now) b (c.ranges-2.ensures, c.moment_range.ensures) (commanded-device a b c.args.command c.args.now c.later-at.result c.later-at.ensures c.in_ok-command.ensures.answer) c.count_other.ensures in
-    commanded a b c.args.command c.args.now c.later-at.result c.later-at.ensures refl c.in_ok-command.ensures.answer c.in_ok-command.ensures.lost.lost refl c.record_command.ensures.items c.record_command.ensures.capacity counted
+    let counted =
+    events-after a c.self.invariant (event.Command c.args.command c.args.now) b (c.ranges-2.ensures, c.moment_range.ensures)
+    (commanded-device a b c.args.command c.args.now c.later-at.result c.later-at.ensures c.in_ok-command.ensures.answer)
+    c.count_other.ensures in
+    commanded a b c.args.command c.args.now c.later-at.result c.later-at.ensures refl c.in_ok-command.ensures.answer
+    c.in_ok-command.ensures.lost.lost refl c.record_command.ensures.items c.record_command.ensures.capacity counted
 
 pub invariant_of-self-2 : goal.invariant_of-self-2
 invariant_of-self-2 c =

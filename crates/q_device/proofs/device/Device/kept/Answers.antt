@@ -13,7 +13,13 @@ pub returns-clause-memory : goal.returns-clause-memory
 returns-clause-memory c =
     let a = c.self.inside in
     let k = c.self.invariant in
-    subst HasItsMemory c.self.view_is (record { tree = refl; clock = omega arith; losses = omega (arith, k.room, ap (λ (ps : List Descriptor). length ps) (waits-numbers a.tree)); events = k.recorder })
+    subst HasItsMemory c.self.view_is (record {
+      tree = refl;
+      clock = omega arith;
+      losses = omega (arith, k.room, ap (λ (ps : List Descriptor). length ps) (waits-numbers a.tree));
+      events =
+          k.recorder;
+    })
 
 pub returns-clause-settings : goal.returns-clause-settings
 returns-clause-settings c = subst (λ (d : DeviceSeen). IsInRange d.settings) c.self.view_is c.self.invariant.settings

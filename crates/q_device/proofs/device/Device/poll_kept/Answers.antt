@@ -33,7 +33,9 @@ happened c =
     let a = c.self.inside in
     let b = after c in
     let others = polled-others a c.args.now c.later-at.result c.count_poll.new.others c.send-sent.result c.later-at.ensures c.send-sent.ensures.sent c.count_poll.ensures in
-    let counted = events-after a c.self.invariant (event.Poll c.args.now) b c.moment_range.ensures (polled-device a b c.args.now c.later-at.result c.later-at.ensures c.send-sent.ensures.after) others in
+    let counted =
+    events-after a c.self.invariant (event.Poll c.args.now) b c.moment_range.ensures
+    (polled-device a b c.args.now c.later-at.result c.later-at.ensures c.send-sent.ensures.after) others in
     polled a b c.args.now c.later-at.result c.later-at.ensures refl c.send-sent.ensures.after c.send-sent.ensures.lost.lost refl c.record_poll.ensures.items c.record_poll.ensures.capacity counted
 
 pub invariant_of-self : goal.invariant_of-self
@@ -66,7 +68,9 @@ returns-clause-reply c =
     let e = event.Poll c.args.now in
     let left = ap (λ (d : DeviceState Kept). is_empty (shape d.tree.root)) c.send-sent.ensures.after in
     ap (λ g. reply.Polled (polled_in c.send-sent.new.out g)) (c.given_of.ensures ∙ ap₂ given_of c.send-sent.ensures.sent left)
-    ∙ ap (λ (p : Descriptor). reply.Polled (polled_in p (given_of (is_some (given c.later-at.result tree)) (is_empty (shape (take_packet kept c.later-at.result tree).root))))) c.send-sent.ensures.packet
+    ∙ ap (λ (p : Descriptor). reply.Polled (polled_in p
+    (given_of (is_some (given c.later-at.result tree)) (is_empty (shape (take_packet kept c.later-at.result tree).root)))))
+    c.send-sent.ensures.packet
     ∙ ap reply.Polled (told-poll (given c.later-at.result tree) c.args.out.now (is_empty (shape (take_packet kept c.later-at.result tree).root)))
     ∙ ap (λ t. reply.Polled (polled_of (given t tree) (is_empty (shape (take_packet kept t tree).root)))) c.later-at.ensures
     ∙ reply-step (numbers a.tree) a.tree refl e
@@ -77,7 +81,9 @@ returns-clause-gives c =
     let a = c.self.inside in
     let tree = a.tree.tree in
     let e = event.Poll c.args.now in
-    let gives = sym (given-numbers c.later-at.result tree) ∙ ap (λ (d : DeviceSeen). given c.later-at.result d.device.tree) c.self.view_is ∙ ap (λ t. given t c.args.self.now.device.tree) (sym (ap (λ (d : DeviceState Kept). d.clock) c.send-sent.ensures.after)) in
+    let gives =
+    sym (given-numbers c.later-at.result tree) ∙ ap (λ (d : DeviceSeen). given c.later-at.result d.device.tree) c.self.view_is
+    ∙ ap (λ t. given t c.args.self.now.device.tree) (sym (ap (λ (d : DeviceState Kept). d.clock) c.send-sent.ensures.after)) in
     sym (ap given_in (ap (λ t. reply.Polled (polled_of (given t tree) (is_empty (shape (take_packet kept t tree).root)))) c.later-at.ensures
     ∙ reply-step (numbers a.tree) a.tree refl e
     ∙ ap (λ (d : DeviceSeen). (step totals d.device e).reply) c.self.view_is))

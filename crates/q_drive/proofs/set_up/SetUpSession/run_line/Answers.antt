@@ -27,5 +27,10 @@ returns-in-Ok-Show-clause-err g c =
     let s = c.args.self.now in
     let is = sym c.read_set_up_line.ensures ∙ c.in-Ok-Show.is ∙ ap Ok c.in-Ok-Show.field-0-is in
     on_err_weaker c.show.result
-    (λ w. (false, subst (λ (l : Result SetUpLine LineFault). AppendsFront (g.W.Write.contents c.args.target.now.writer.now) (g.W.Write.contents c.show.new.target.writer.now) (c.args.output.now ++ (done false c.args.number l s.state).text)) (sym is) (rw (← c.self.view_is) w)))
+    (λ w. (
+      false,
+      subst (λ (l : Result SetUpLine LineFault). AppendsFront (g.W.Write.contents c.args.target.now.writer.now)
+          (g.W.Write.contents c.show.new.target.writer.now) (c.args.output.now ++ (done false c.args.number l s.state).text)) (sym is)
+          (rw (← c.self.view_is) w),
+    ))
     c.show.ensures.err

@@ -13,7 +13,8 @@ returns-then-contains-clause-value c =
     let s = c.self.inside in
     let stands = stands_found s.max_len s.turns s.table s.ring c.self.invariant c.args.class c.find-place.result c.find-place.ensures in
     ap (λ k. k.deficit) (state_at s.max_len s.turns s.table s.ring c.self.invariant c.find-place.result c.args.class _ stands c.get.ensures)
-    ∙ sym (deficit_in c.args.class s.table (names_in s.table s.ring.order) (among s.max_len s.turns s.table s.ring c.self.invariant c.find-place.result c.args.class stands ∙ sym c.if-contains.ensures))
+    ∙ sym (deficit_in c.args.class s.table (names_in s.table s.ring.order)
+    (among s.max_len s.turns s.table s.ring c.self.invariant c.find-place.result c.args.class stands ∙ sym c.if-contains.ensures))
     ∙ ap (λ v. deficit_of c.args.class v.active) c.self.view_is
 
 pub returns-then-contains-clause-bound : goal.returns-then-contains-clause-bound
@@ -28,5 +29,6 @@ pub returns-else-contains-clause-value : goal.returns-else-contains-clause-value
 returns-else-contains-clause-value c =
     let s = c.self.inside in
     let stands = stands_found s.max_len s.turns s.table s.ring c.self.invariant c.args.class c.find-place.result c.find-place.ensures in
-    sym (deficit_asleep c.args.class s.table (names_in s.table s.ring.order) (among s.max_len s.turns s.table s.ring c.self.invariant c.find-place.result c.args.class stands ∙ sym c.if-contains.ensures))
+    sym (deficit_asleep c.args.class s.table (names_in s.table s.ring.order)
+    (among s.max_len s.turns s.table s.ring c.self.invariant c.find-place.result c.args.class stands ∙ sym c.if-contains.ensures))
     ∙ ap (λ v. deficit_of c.args.class v.active) c.self.view_is

@@ -13,12 +13,14 @@ returns-then-contains c =
     let s = c.self.inside in
     let stands = stands_found s.max_len s.turns s.table s.ring c.self.invariant c.args.class c.find-place.result c.find-place.ensures in
     ap (λ k. k.granted) (state_at s.max_len s.turns s.table s.ring c.self.invariant c.find-place.result c.args.class _ stands c.get.ensures)
-    ∙ sym (granted_in c.args.class s.table (names_in s.table s.ring.order) (among s.max_len s.turns s.table s.ring c.self.invariant c.find-place.result c.args.class stands ∙ sym c.if-contains.ensures))
+    ∙ sym (granted_in c.args.class s.table (names_in s.table s.ring.order)
+    (among s.max_len s.turns s.table s.ring c.self.invariant c.find-place.result c.args.class stands ∙ sym c.if-contains.ensures))
     ∙ ap (λ v. granted_of c.args.class v.active) c.self.view_is
 
 pub returns-else-contains : goal.returns-else-contains
 returns-else-contains c =
     let s = c.self.inside in
     let stands = stands_found s.max_len s.turns s.table s.ring c.self.invariant c.args.class c.find-place.result c.find-place.ensures in
-    sym (granted_asleep c.args.class s.table (names_in s.table s.ring.order) (among s.max_len s.turns s.table s.ring c.self.invariant c.find-place.result c.args.class stands ∙ sym c.if-contains.ensures))
+    sym (granted_asleep c.args.class s.table (names_in s.table s.ring.order)
+    (among s.max_len s.turns s.table s.ring c.self.invariant c.find-place.result c.args.class stands ∙ sym c.if-contains.ensures))
     ∙ ap (λ v. granted_of c.args.class v.active) c.self.view_is

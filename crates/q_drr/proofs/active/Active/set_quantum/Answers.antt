@@ -24,7 +24,8 @@ invariant_of-self c =
       bounded = omega (arith, c.min.ensures, c.from.ensures, c.from-2.ensures, c.requires.positive);
       in_range = omega (arith, old.in_range, ap (λ k. k.granted) read);
     } in
-    subst (λ t. IsSound s.max_len s.turns t s.ring) (sym c.put.ensures) (sound_put s.max_len s.turns s.table s.ring c.self.invariant c.find-place.result n s.turns new stands kept c.self.invariant.counted_turns)
+    subst (λ t. IsSound s.max_len s.turns t s.ring) (sym c.put.ensures)
+    (sound_put s.max_len s.turns s.table s.ring c.self.invariant c.find-place.result n s.turns new stands kept c.self.invariant.counted_turns)
 
 pub returns : goal.returns
 returns c =

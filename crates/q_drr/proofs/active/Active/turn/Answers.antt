@@ -52,13 +52,16 @@ invariant_of-self c =
     let p : IsState s.max_len (named (front_name a) new) =
     kept a new refl (omega (arith, old.bounded, ap (λ k. k.deficit) (read a), ap (λ k. k.quantum) (read a))) (omega (arith, old.in_range, ap (λ k. k.granted) (read a))) in
     subst (λ t. IsSound s.max_len c.saturating_add-self-inside.result t s.ring) (sym c.put.ensures)
-    (sound_put s.max_len s.turns s.table s.ring c.self.invariant c.in-Some.place (front_name a) c.saturating_add-self-inside.result new (stands a) p (omega (arith, c.saturating_add-self-inside.ensures)))
+    (sound_put s.max_len s.turns s.table s.ring c.self.invariant c.in-Some.place (front_name a) c.saturating_add-self-inside.result new (stands a) p
+    (omega (arith, c.saturating_add-self-inside.ensures)))
 
 pub returns-then-head_len-state-clause-answer : goal.returns-then-head_len-state-clause-answer
 returns-then-head_len-state-clause-answer c =
     let a = (goal.at.returns-then-head_len-state-clause-answer c).After-get-state in
     let deficit = ap (λ k. k.deficit) (read a) in
-    sym (answer_is a ∙ ap (λ (t : Bool). if t then Send else Granted) (le-leb c.args.head_len (state_of (front_name a) c.self.inside.table).deficit (omega (arith, deficit, c.from-head_len.ensures, c.if-head_len-state.true))))
+    sym (answer_is a ∙ ap (λ (t : Bool). if t then Send else Granted)
+    (le-leb c.args.head_len (state_of (front_name a) c.self.inside.table).deficit
+    (omega (arith, deficit, c.from-head_len.ensures, c.if-head_len-state.true))))
 
 pub returns-then-head_len-state-clause-after : goal.returns-then-head_len-state-clause-after
 returns-then-head_len-state-clause-after c =
@@ -80,9 +83,19 @@ invariant_of-self-2 c =
     let r = c.get-state.result in
     let new : ClassState = record { quantum = r.quantum; deficit = r.deficit + c.from-quantum.result; granted = c.saturating_add.result } in
     let p : IsState s.max_len (named (front_name a) new) =
-    kept a new refl (omega (arith, c.from-head_len.ensures, c.if-head_len-state.false, c.from-quantum.ensures, c.requires.in_range, ap (λ v. v.max_len) c.self.view_is)) (omega (arith, c.saturating_add.ensures)) in
+    kept a new refl (omega (
+      arith,
+      c.from-head_len.ensures,
+      c.if-head_len-state.false,
+      c.from-quantum.ensures,
+      c.requires.in_range,
+      ap
+          (λ v. v.max_len) c.self.view_is,
+    )) (omega (arith, c.saturating_add.ensures)) in
     let turned_ring : Circle = record s.ring { order = drop 1 s.ring.order ++ take 1 s.ring.order } in
-    let put = sound_put s.max_len s.turns s.table turned_ring (sound_rotated s.max_len s.turns s.table s.ring c.self.invariant) c.in-Some.place (front_name a) c.saturating_add-self-inside.result new (stands a) p (omega (arith, c.saturating_add-self-inside.ensures)) in
+    let put =
+    sound_put s.max_len s.turns s.table turned_ring (sound_rotated s.max_len s.turns s.table s.ring c.self.invariant) c.in-Some.place
+    (front_name a) c.saturating_add-self-inside.result new (stands a) p (omega (arith, c.saturating_add-self-inside.ensures)) in
     subst (IsSound s.max_len c.saturating_add-self-inside.result c.put-2.new.self) (sym c.rotate.ensures)
     (subst (λ t. IsSound s.max_len c.saturating_add-self-inside.result t turned_ring) (sym c.put-2.ensures) put)
 
@@ -90,7 +103,9 @@ pub returns-clause-answer : goal.returns-clause-answer
 returns-clause-answer c =
     let a = (goal.at.returns-clause-answer c).After-get-state in
     let deficit = ap (λ k. k.deficit) (read a) in
-    sym (answer_is a ∙ ap (λ (t : Bool). if t then Send else Granted) (lt-leb c.args.head_len (state_of (front_name a) c.self.inside.table).deficit (omega (arith, deficit, c.from-head_len.ensures, c.if-head_len-state.false))))
+    sym (answer_is a ∙ ap (λ (t : Bool). if t then Send else Granted)
+    (lt-leb c.args.head_len (state_of (front_name a) c.self.inside.table).deficit
+    (omega (arith, deficit, c.from-head_len.ensures, c.if-head_len-state.false))))
 
 pub returns-clause-after : goal.returns-clause-after
 returns-clause-after c =

@@ -14,7 +14,8 @@ returns-then-contains c = λ class so.
     let s = c.self.inside in
     let stands = stands_named s.max_len s.turns s.table s.ring c.self.invariant c.args.self.now class c.args.place c.self.view_is so in
     awake_stays c.args.self.now class
-    (ap (λ v. is_active class v.active) (sym c.self.view_is) ∙ active_in class s.table (names_in s.table s.ring.order) ∙ among s.max_len s.turns s.table s.ring c.self.invariant c.args.place class stands ∙ sym c.if-contains.ensures)
+    (ap (λ v. is_active class v.active) (sym c.self.view_is) ∙ active_in class s.table (names_in s.table s.ring.order)
+    ∙ among s.max_len s.turns s.table s.ring c.self.invariant c.args.place class stands ∙ sym c.if-contains.ensures)
 
 pub invariant_of-self : goal.invariant_of-self
 invariant_of-self c =

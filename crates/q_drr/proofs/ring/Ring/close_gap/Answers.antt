@@ -28,14 +28,18 @@ closed old cut links moved new gap count front first inside is_cut is_links down
 pub invariant_of-self : goal.invariant_of-self
 invariant_of-self c =
     let s = c.self.inside in
-    (closed s.links.items c.remove.new.self.items _ c.move_links_down.new.links _ c.args.gap s.count s.front _ (omega (arith, c.requires.inside, ap (λ v. v.room) c.self.view_is)) c.remove.ensures.items c.deref_mut.ensures.value c.move_links_down.ensures
+    (closed s.links.items c.remove.new.self.items _ c.move_links_down.new.links _ c.args.gap s.count s.front _
+    (omega (arith, c.requires.inside, ap (λ v. v.room) c.self.view_is)) c.remove.ensures.items c.deref_mut.ensures.value c.move_links_down.ensures
     (with_items_is c.remove.new.self c.move_links_down.new.links (c.move_links_down.ensures.len ∙ c.deref_mut.ensures.len)) c.move_down-self-inside.ensures
     (ap (λ v. is_among c.args.gap v.order) c.self.view_is ∙ c.requires.empty) c.self.invariant).circle
 
 pub returns : goal.returns
 returns c =
     let s = c.self.inside in
-    let done = closed s.links.items c.remove.new.self.items _ c.move_links_down.new.links _ c.args.gap s.count s.front _ (omega (arith, c.requires.inside, ap (λ v. v.room) c.self.view_is)) c.remove.ensures.items c.deref_mut.ensures.value c.move_links_down.ensures
+    let done =
+    closed s.links.items c.remove.new.self.items _ c.move_links_down.new.links _ c.args.gap s.count s.front _
+    (omega (arith, c.requires.inside, ap (λ v. v.room) c.self.view_is)) c.remove.ensures.items c.deref_mut.ensures.value
+    c.move_links_down.ensures
     (with_items_is c.remove.new.self c.move_links_down.new.links (c.move_links_down.ensures.len ∙ c.deref_mut.ensures.len)) c.move_down-self-inside.ensures
     (ap (λ v. is_among c.args.gap v.order) c.self.view_is ∙ c.requires.empty) c.self.invariant in
     same_circle _ _ _ _ (done.order ∙ ap (λ v. map (moved_down c.args.gap) v.order) c.self.view_is) (done.room ∙ ap (λ v. v.room - 1) c.self.view_is)

@@ -15,17 +15,26 @@ last_inside links (suc k) front h some = (near links front (walk (next_of links)
 
 pub append-requires-clause-last : goal.append-requires-clause-last
 append-requires-clause-last c =
-    subst (λ ls. before_of ls c.self.inside.front < length ls) (sym c.deref_mut-2.ensures.value) (last_inside c.self.inside.links.items c.self.inside.count c.self.inside.front c.self.invariant (omega arith))
+    subst (λ ls. before_of ls c.self.inside.front < length ls) (sym c.deref_mut-2.ensures.value)
+    (last_inside c.self.inside.links.items c.self.inside.count c.self.inside.front c.self.invariant (omega arith))
 
 pub overflow_add-self : goal.overflow_add-self
 overflow_add-self c =
     let s = c.self.inside in
-    omega (arith, length_le_from_differ (walk (next_of s.links.items) s.count s.front) (length s.links.items) (numbers_apart (walk (next_of s.links.items) s.count s.front) c.self.invariant.differ) c.self.invariant.inside, length-walk (next_of s.links.items) s.count s.front, c.self.invariant.room)
+    omega (
+      arith,
+      length_le_from_differ (walk (next_of s.links.items) s.count s.front) (length s.links.items)
+          (numbers_apart (walk (next_of s.links.items) s.count s.front) c.self.invariant.differ) c.self.invariant.inside,
+      length-walk
+          (next_of s.links.items) s.count s.front,
+      c.self.invariant.room,
+    )
 
 fresh : (c : goal.After-self-3-1) → is_among c.args.place (walk (next_of c.self.inside.links.items) c.self.inside.count c.self.inside.front) ≡ false
 fresh c = ap (λ v. is_among c.args.place v.order) c.self.view_is ∙ c.requires.fresh
 
-grown : (c : goal.After-self-3-1) (others : List ℕ) → IsCircle c.self.inside.links.items (c.self.inside.front ∷ others) → is_among c.args.place (c.self.inside.front ∷ others) ≡ false → IsCircle c.append.new.links (c.self.inside.front ∷ others ++ c.args.place ∷ [])
+grown : (c : goal.After-self-3-1) (others : List ℕ) → IsCircle c.self.inside.links.items (c.self.inside.front ∷ others)
+    → is_among c.args.place (c.self.inside.front ∷ others) ≡ false → IsCircle c.append.new.links (c.self.inside.front ∷ others ++ c.args.place ∷ [])
 grown c others h absent = c.append.ensures.circle others (subst (λ ls. IsCircle ls (c.self.inside.front ∷ others)) (sym c.deref_mut-2.ensures.value) h) absent
 
 items_are : (c : goal.After-self-3-1) → (with_items c.self.inside.links c.append.new.links).items ≡ c.append.new.links

@@ -54,7 +54,8 @@ circle c front same other =
 
 shown : (c : After-detach-next) (front : ℕ) → (c.self.inside.front ≡ c.args.place → front ≡ c.detach-next.result) → (c.self.inside.front ≢ c.args.place → front ≡ c.self.inside.front)
     → let links = (with_items c.self.inside.links c.detach-next.new.links).items in
-    ◌≡◌ {A = Circle} (record { order = walk (next_of links) (c.self.inside.count - 1) front; room = length links }) (record { order = without c.args.place c.args.self.now.order; room = c.args.self.now.room })
+    ◌≡◌ {A = Circle} (record { order = walk (next_of links) (c.self.inside.count - 1) front; room = length links })
+    (record { order = without c.args.place c.args.self.now.order; room = c.args.self.now.room })
 shown c front same other =
     same_circle _ _ _ _
     (ap (λ ls. walk (next_of ls) (c.self.inside.count - 1) front) (items_are c) ∙ (left c front same other).0 ∙ ap (λ v. without c.args.place v.order) c.self.view_is)

@@ -5,7 +5,9 @@ use Rattle.q_drr.proofs.ring.Ring.reserve.Goals.{In_ok-resize}
 use Rattle.q_drr.proofs.ring.Ring.reserve.Goals as goal
 
 roomier : (c : In_ok-resize) → IsCircle c.resize.new.self.items (walk (next_of c.self.inside.links.items) c.self.inside.count c.self.inside.front)
-roomier c = circle_resized _ c.self.inside.links.items c.resize.new.self.items (c.args.place + 1) (vec_len c.self.inside.links) _ (omega arith) (omega arith) c.self.inside.links.ok.0 c.resize.ensures.items c.self.invariant
+roomier c =
+    circle_resized _ c.self.inside.links.items c.resize.new.self.items (c.args.place + 1) (vec_len c.self.inside.links) _ (omega arith) (omega arith)
+    c.self.inside.links.ok.0 c.resize.ensures.items c.self.invariant
 
 pub invariant_of-self : goal.invariant_of-self
 invariant_of-self c =

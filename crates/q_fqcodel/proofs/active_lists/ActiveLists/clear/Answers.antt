@@ -11,7 +11,8 @@ items c = c.fill.ensures.items (λ y h. h) ∙ ap (λ (x : Link). replicate (vec
 pub invariant_of-self : goal.invariant_of-self
 invariant_of-self c =
     let d = (goal.at.invariant_of-self c).After-fill in
-    empty_lists (vec_len c.self.inside.links) c.fill.new.self.items c.none-self-inside.result c.none-self-inside-2.result (items d) c.none-self-inside.ensures c.none-self-inside-2.ensures (omega (arith, c.self.invariant.room, c.self.inside.links.ok.0))
+    empty_lists (vec_len c.self.inside.links) c.fill.new.self.items c.none-self-inside.result c.none-self-inside-2.result (items d)
+    c.none-self-inside.ensures c.none-self-inside-2.ensures (omega (arith, c.self.invariant.room, c.self.inside.links.ok.0))
 
 pub returns : goal.returns
 returns c =

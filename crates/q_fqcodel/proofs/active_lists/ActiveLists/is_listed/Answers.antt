@@ -22,7 +22,9 @@ pub returns-in-New : goal.returns-in-New
 returns-in-New c =
     let d = (goal.at.returns-in-New c).After-index in
     ⊎_elim
-    (λ (new : c.index.result.now.place ≡ New). listed_new c.self.inside.links.items c.self.inside.new_flows c.self.inside.old_flows c.self.invariant c.args.flow (ap (λ (x : Link). x.place) (sym (read d)) ∙ new))
-    (λ (old : c.index.result.now.place ≡ Old). listed_old c.self.inside.links.items c.self.inside.new_flows c.self.inside.old_flows c.self.invariant c.args.flow (ap (λ (x : Link). x.place) (sym (read d)) ∙ old))
+    (λ (new : c.index.result.now.place ≡ New). listed_new c.self.inside.links.items c.self.inside.new_flows c.self.inside.old_flows c.self.invariant
+    c.args.flow (ap (λ (x : Link). x.place) (sym (read d)) ∙ new))
+    (λ (old : c.index.result.now.place ≡ Old). listed_old c.self.inside.links.items c.self.inside.new_flows c.self.inside.old_flows c.self.invariant
+    c.args.flow (ap (λ (x : Link). x.place) (sym (read d)) ∙ old))
     c.in-New.is
     ∙ ap (λ (v : ListsState). is_listed c.args.flow (v.new_flows ++ v.old_flows)) c.self.view_is

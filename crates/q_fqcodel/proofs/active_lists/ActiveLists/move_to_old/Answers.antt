@@ -64,6 +64,7 @@ returns c =
     ∙ ap₂ (λ (l : List Entry) (e : Entry). l ++ e ∷ [])
     ((c.remove_first-self-inside.ensures.others New c.self.invariant.new).same Old c.self.inside.old_flows (λ e. new_or_old (sym e)) c.self.invariant.old
     ∙ ap (λ (v : ListsState). v.old_flows) c.self.view_is)
-    (ap (λ (z : ℤ). record { flow = c.entry.inside.flow; credits = z }) (to_z-of_z w64 c.entry.inside.credits (record { sfits = (goal.at.returns c).After-entry.type_inv.entry-inside.1.0.1 })) ∙ c.entry.view_is) in
+    (ap (λ (z : ℤ). record { flow = c.entry.inside.flow; credits = z })
+    (to_z-of_z w64 c.entry.inside.credits (record { sfits = (goal.at.returns c).After-entry.type_inv.entry-inside.1.0.1 })) ∙ c.entry.view_is) in
     let room = c.append_flow-self-inside.ensures.len ∙ c.remove_first-self-inside.ensures.len ∙ ap (λ (v : ListsState). v.room) c.self.view_is in
     cc

@@ -14,7 +14,14 @@ move_first_to_end-self-inside-requires-clause-several c =
 -- the flow that moves is the one in front
 pub move_first_to_end-self-inside-requires-clause-own : goal.move_first_to_end-self-inside-requires-clause-own
 move_first_to_end-self-inside-requires-clause-own c =
-    let some : 0 < c.self.inside.old_flows.count = omega (arith, c.requires.some, ap (λ (v : ListsState). length v.old_flows) c.self.view_is, counted c.self.inside.links.items Old c.self.inside.old_flows c.self.invariant.old) in
+    let some : 0 < c.self.inside.old_flows.count =
+    omega (
+      arith,
+      c.requires.some,
+      ap (λ (v : ListsState). length v.old_flows) c.self.view_is,
+      counted c.self.inside.links.items Old
+          c.self.inside.old_flows c.self.invariant.old,
+    ) in
     front_flow c.self.inside.links.items Old c.self.inside.old_flows c.args.entry.flow c.self.invariant.old some
     (subst (λ (v : ListsState). IfSome (slice_get v.old_flows 0) (λ e. e.flow ≡ c.args.entry.flow)) (sym c.self.view_is) c.requires.own)
 

@@ -63,4 +63,5 @@ returns-clause-flows g c =
 pub returns-clause-lost : goal.returns-clause-lost
 returns-clause-lost g c =
     let q : List Stamped = queue_of c.args.self.now.flows c.args.flow in
-    subst (λ (l : List Stamped). AreLost Purged l (g.S.Sink.state c.args.sink.now) (g.S.Sink.state c.lose.new.sink)) (take_all c.count_of-count.result q (omega (arith, c.count_of-count.ensures))) c.lose.ensures.lost
+    subst (λ (l : List Stamped). AreLost Purged l (g.S.Sink.state c.args.sink.now) (g.S.Sink.state c.lose.new.sink))
+    (take_all c.count_of-count.result q (omega (arith, c.count_of-count.ensures))) c.lose.ensures.lost

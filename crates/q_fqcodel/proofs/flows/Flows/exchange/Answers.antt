@@ -17,7 +17,14 @@ use Rattle.q_fqcodel.proofs.flows.Flows.exchange.Goals.{After-push}
 pub push-requires-clause-place : goal.push-requires-clause-place
 push-requires-clause-place g c =
     let same = ap (λ (f : FlowsState). f.flows) c.self.view_is in
-    omega (arith, c.requires.place, ap packets_of same, ap (λ (f : FlowsState). f.places) c.self.view_is, packets_pooled c.self.inside.pool.queues (codels_in c.self.inside.parameters c.self.inside.states.items) c.self.invariant.0)
+    omega (
+      arith,
+      c.requires.place,
+      ap packets_of same,
+      ap (λ (f : FlowsState). f.places) c.self.view_is,
+      packets_pooled c.self.inside.pool.queues
+          (codels_in c.self.inside.parameters c.self.inside.states.items) c.self.invariant.0,
+    )
 
 pub push-requires-clause-few : goal.push-requires-clause-few
 push-requires-clause-few g c =
@@ -27,18 +34,38 @@ push-requires-clause-few g c =
 pub push-requires-clause-in_range : goal.push-requires-clause-in_range
 push-requires-clause-in_range g c =
     let same = ap (λ (f : FlowsState). f.flows) c.self.view_is in
-    omega (arith, c.requires.in_range, ap length same, length-flows_from c.self.inside.pool.queues (codels_in c.self.inside.parameters c.self.inside.states.items) c.self.invariant.0, c.self.invariant.0)
+    omega (
+      arith,
+      c.requires.in_range,
+      ap length same,
+      length-flows_from c.self.inside.pool.queues
+          (codels_in c.self.inside.parameters c.self.inside.states.items) c.self.invariant.0,
+      c.self.invariant.0,
+    )
 
 pub push-requires-clause-own : goal.push-requires-clause-own
 push-requires-clause-own g c =
     let count : length c.self.inside.pool.queues ≡ length c.args.self.now.flows =
-    omega (arith, ap (λ (f : FlowsState). length f.flows) c.self.view_is, length-flows_from c.self.inside.pool.queues (codels_in c.self.inside.parameters c.self.inside.states.items) c.self.invariant.0, c.self.invariant.0) in
+    omega (
+      arith,
+      ap (λ (f : FlowsState). length f.flows) c.self.view_is,
+      length-flows_from c.self.inside.pool.queues
+          (codels_in c.self.inside.parameters c.self.inside.states.items) c.self.invariant.0,
+      c.self.invariant.0,
+    ) in
     ap (λ (n : ℕ). c.args.packet.now.hash % n) count ∙ c.requires.own
 
 within : (g : _) (c : After-push g) → c.args.flow < length c.self.inside.pool.queues
 within g c =
     let same = ap (λ (f : FlowsState). f.flows) c.self.view_is in
-    omega (arith, c.requires.in_range, ap length same, length-flows_from c.self.inside.pool.queues (codels_in c.self.inside.parameters c.self.inside.states.items) c.self.invariant.0, c.self.invariant.0)
+    omega (
+      arith,
+      c.requires.in_range,
+      ap length same,
+      length-flows_from c.self.inside.pool.queues
+          (codels_in c.self.inside.parameters c.self.inside.states.items) c.self.invariant.0,
+      c.self.invariant.0,
+    )
 
 abbrev codels : (g : _) → After-push g → List CodelState
 codels g c = codels_in c.self.inside.parameters c.self.inside.states.items
@@ -81,7 +108,8 @@ invariant_of-self g c =
     ∙ sym (ap (λ (l : List ℕ). set l n c.bytes_of-kept.result) (ap sizes c.push.ensures.queues ∙ sizes-set qs n q) ∙ set-set (sizes qs) n (size q) c.bytes_of-kept.result) in (
       ap length c.lose_from.ensures.queues ∙ length-set more n rest ∙ longer g d ∙ c.self.invariant.0,
       c.self.invariant.1,
-      sizes_renewed more c.lose_from.new.pool.queues n rest c.renew.new.self c.bytes_of-kept.result c.lose_from.ensures.queues (omega (arith, within g d, longer g d)) told c.bytes_of-kept.ensures.value,
+      sizes_renewed more c.lose_from.new.pool.queues n rest c.renew.new.self c.bytes_of-kept.result c.lose_from.ensures.queues
+          (omega (arith, within g d, longer g d)) told c.bytes_of-kept.ensures.value,
       c.self.invariant.3,
     )
 

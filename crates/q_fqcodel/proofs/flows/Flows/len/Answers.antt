@@ -6,4 +6,6 @@ use Rattle.q_fqcodel.proofs.flows.Flows.len.Goals as goal
 
 pub returns-clause-value : goal.returns-clause-value
 returns-clause-value c =
-    c.len.ensures ∙ c.self.inside.states.ok.0 ∙ sym (length-codels_in c.self.inside.parameters c.self.inside.states.items) ∙ sym (length-flows_from c.self.inside.pool.queues (codels_in c.self.inside.parameters c.self.inside.states.items) c.self.invariant.0) ∙ ap (λ (f : FlowsState). length f.flows) c.self.view_is
+    c.len.ensures ∙ c.self.inside.states.ok.0 ∙ sym (length-codels_in c.self.inside.parameters c.self.inside.states.items)
+    ∙ sym (length-flows_from c.self.inside.pool.queues (codels_in c.self.inside.parameters c.self.inside.states.items) c.self.invariant.0)
+    ∙ ap (λ (f : FlowsState). length f.flows) c.self.view_is

@@ -20,7 +20,8 @@ returns-then-lost-eq0-clause-flows g c =
 -- the flow's queue, as the pool has it
 own : (g : _) (c : After-lose_from g) → queue_of c.args.self.now.flows c.args.flow ≡ get_or c.self.inside.pool.queues c.args.flow []
 own g c =
-    ap (λ (f : FlowsState). queue_of f.flows c.args.flow) (sym c.self.view_is) ∙ queue_there c.args.flow c.self.inside.pool.queues (codels_in c.self.inside.parameters c.self.inside.states.items) c.self.invariant.0
+    ap (λ (f : FlowsState). queue_of f.flows c.args.flow) (sym c.self.view_is) ∙ queue_there c.args.flow c.self.inside.pool.queues
+    (codels_in c.self.inside.parameters c.self.inside.states.items) c.self.invariant.0
 
 pub lose_from-requires-clause-held : goal.lose_from-requires-clause-held
 lose_from-requires-clause-held g c =
@@ -45,7 +46,8 @@ invariant_of-self g c =
     let rest : List Stamped = drop c.args.lost (get_or qs n []) in (
       ap length c.lose_from.ensures.queues ∙ length-set qs n rest ∙ c.self.invariant.0,
       c.self.invariant.1,
-      sizes_renewed qs c.lose_from.new.pool.queues n rest c.renew.new.self c.bytes_of-rest.result c.lose_from.ensures.queues (within g (goal.at.invariant_of-self g c).After-lose_from c.if-lost-eq0.false)
+      sizes_renewed qs c.lose_from.new.pool.queues n rest c.renew.new.self c.bytes_of-rest.result c.lose_from.ensures.queues
+          (within g (goal.at.invariant_of-self g c).After-lose_from c.if-lost-eq0.false)
           (c.renew.ensures ∙ ap (λ (l : List ℕ). set l n c.bytes_of-rest.result) c.self.invariant.2) c.bytes_of-rest.ensures.value,
       c.self.invariant.3,
     )

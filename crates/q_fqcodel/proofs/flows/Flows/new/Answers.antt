@@ -28,6 +28,7 @@ pub returns-clause-flows : goal.returns-clause-flows
 returns-clause-flows c =
     let n : ℕ = c.settings.inside.flows in
     let r : CodelParams = c.parameters_of.result in
-    ap₂ (λ (q : List (List Stamped)) (l : List CodelState). flows_from q l) c.in_ok-pool.ensures.queues (ap (codels_in r) (states (goal.at.returns-clause-flows c).After-parameters_of) ∙ codels_first r n)
+    ap₂ (λ (q : List (List Stamped)) (l : List CodelState). flows_from q l) c.in_ok-pool.ensures.queues
+    (ap (codels_in r) (states (goal.at.returns-clause-flows c).After-parameters_of) ∙ codels_first r n)
     ∙ flows_first (joined r vars_at_first) n
     ∙ ap₂ (λ (m : ℕ) (k : CodelParams). replicate m (record { queue = []; codel = joined k vars_at_first })) (ap (λ (s : FqSettings). s.flows) c.settings.view_is) c.parameters_of.ensures

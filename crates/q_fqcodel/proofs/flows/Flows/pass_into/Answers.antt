@@ -30,7 +30,16 @@ overflow_sub-behind c = front_within _ c.peek-front.result.0 c.peek-front.result
 pub index-codel-requires : goal.index-codel-requires
 index-codel-requires c =
     let same = ap (λ (f : FlowsState). f.flows) c.self.view_is in
-    omega (arith, c.requires.in_range, ap length same, length-flows_from c.self.inside.pool.queues (codels_in c.self.inside.parameters c.self.inside.states.items) c.self.invariant.0, length-codels_in c.self.inside.parameters c.self.inside.states.items, c.self.inside.states.ok.0)
+    omega (
+      arith,
+      c.requires.in_range,
+      ap length same,
+      length-flows_from c.self.inside.pool.queues
+          (codels_in c.self.inside.parameters c.self.inside.states.items) c.self.invariant.0,
+      length-codels_in c.self.inside.parameters
+          c.self.inside.states.items,
+      c.self.inside.states.ok.0,
+    )
 
 within : (c : After-index-codel) → c.args.flow < length (codels_in c.self.inside.parameters c.self.inside.states.items)
 within c =
@@ -87,7 +96,8 @@ pub returns-in_default-clause-late : goal.returns-in_default-clause-late
 returns-in_default-clause-late c =
     let d = (goal.at.returns-in_default-clause-late c).After-index-codel in
     subst (λ (o : Option Flow). IfSome o (λ f. is_late f.codel c.args.now f.queue ≡ true)) (sym (there d))
-    (late (was d) c.args.now (get_or c.self.inside.pool.queues c.args.flow []) c.peek-front.result.0 c.peek-front.result.1 c.peek-front.ensures.front c.peek-front.ensures.bytes c.in_default.ensures.late)
+    (late (was d) c.args.now (get_or c.self.inside.pool.queues c.args.flow []) c.peek-front.result.0 c.peek-front.result.1 c.peek-front.ensures.front
+    c.peek-front.ensures.bytes c.in_default.ensures.late)
 
 pub invariant_of-self : goal.invariant_of-self
 invariant_of-self c =

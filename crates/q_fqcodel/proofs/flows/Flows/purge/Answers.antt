@@ -83,7 +83,8 @@ all_cleared g c =
 
 pub returns-clause-lost : goal.returns-clause-lost
 returns-clause-lost g c =
-    subst (λ (fs : List Flow). AreLost Purged (all_packets fs) (g.S.Sink.state c.args.sink.now) (g.S.Sink.state c.loop-flow.sink)) (whole g (goal.at.returns-clause-lost g c).After-loop-flow) c.loop-flow.invariant.lost
+    subst (λ (fs : List Flow). AreLost Purged (all_packets fs) (g.S.Sink.state c.args.sink.now) (g.S.Sink.state c.loop-flow.sink))
+    (whole g (goal.at.returns-clause-lost g c).After-loop-flow) c.loop-flow.invariant.lost
 
 pub invariant_of-self : goal.invariant_of-self
 invariant_of-self g c =

@@ -15,7 +15,14 @@ use Rattle.q_fqcodel.proofs.flows.Flows.push.Goals.{After-push-held}
 pub push-held-requires-clause-place : goal.push-held-requires-clause-place
 push-held-requires-clause-place c =
     let same = ap (λ (f : FlowsState). f.flows) c.self.view_is in
-    omega (arith, c.requires.place, ap packets_of same, ap (λ (f : FlowsState). f.places) c.self.view_is, packets_pooled c.self.inside.pool.queues (codels_in c.self.inside.parameters c.self.inside.states.items) c.self.invariant.0)
+    omega (
+      arith,
+      c.requires.place,
+      ap packets_of same,
+      ap (λ (f : FlowsState). f.places) c.self.view_is,
+      packets_pooled c.self.inside.pool.queues
+          (codels_in c.self.inside.parameters c.self.inside.states.items) c.self.invariant.0,
+    )
 
 pub push-held-requires-clause-few : goal.push-held-requires-clause-few
 push-held-requires-clause-few c =
@@ -25,18 +32,38 @@ push-held-requires-clause-few c =
 pub push-held-requires-clause-in_range : goal.push-held-requires-clause-in_range
 push-held-requires-clause-in_range c =
     let same = ap (λ (f : FlowsState). f.flows) c.self.view_is in
-    omega (arith, c.requires.in_range, ap length same, length-flows_from c.self.inside.pool.queues (codels_in c.self.inside.parameters c.self.inside.states.items) c.self.invariant.0, c.self.invariant.0)
+    omega (
+      arith,
+      c.requires.in_range,
+      ap length same,
+      length-flows_from c.self.inside.pool.queues
+          (codels_in c.self.inside.parameters c.self.inside.states.items) c.self.invariant.0,
+      c.self.invariant.0,
+    )
 
 pub push-held-requires-clause-own : goal.push-held-requires-clause-own
 push-held-requires-clause-own c =
     let count : length c.self.inside.pool.queues ≡ length c.args.self.now.flows =
-    omega (arith, ap (λ (f : FlowsState). length f.flows) c.self.view_is, length-flows_from c.self.inside.pool.queues (codels_in c.self.inside.parameters c.self.inside.states.items) c.self.invariant.0, c.self.invariant.0) in
+    omega (
+      arith,
+      ap (λ (f : FlowsState). length f.flows) c.self.view_is,
+      length-flows_from c.self.inside.pool.queues
+          (codels_in c.self.inside.parameters c.self.inside.states.items) c.self.invariant.0,
+      c.self.invariant.0,
+    ) in
     ap (λ (n : ℕ). c.args.packet.now.hash % n) count ∙ c.requires.own
 
 within : (c : After-push-held) → c.args.flow < length c.self.inside.pool.queues
 within c =
     let same = ap (λ (f : FlowsState). f.flows) c.self.view_is in
-    omega (arith, c.requires.in_range, ap length same, length-flows_from c.self.inside.pool.queues (codels_in c.self.inside.parameters c.self.inside.states.items) c.self.invariant.0, c.self.invariant.0)
+    omega (
+      arith,
+      c.requires.in_range,
+      ap length same,
+      length-flows_from c.self.inside.pool.queues
+          (codels_in c.self.inside.parameters c.self.inside.states.items) c.self.invariant.0,
+      c.self.invariant.0,
+    )
 
 pub renew-requires-clause-in_range : goal.renew-requires-clause-in_range
 renew-requires-clause-in_range c =
@@ -64,7 +91,8 @@ invariant_of-self c =
     let qs : List (List Stamped) = c.self.inside.pool.queues in (
       ap length c.push-held.ensures.queues ∙ length-set qs _ _ ∙ c.self.invariant.0,
       c.self.invariant.1,
-      sizes_renewed qs c.push-held.new.self.queues c.args.flow (get_or qs c.args.flow [] ++ (stamp c.args.packet.now c.args.now) ∷ []) c.renew.new.self c.push-held.result c.push-held.ensures.queues (within (goal.at.invariant_of-self c).After-push-held)
+      sizes_renewed qs c.push-held.new.self.queues c.args.flow (get_or qs c.args.flow [] ++ (stamp c.args.packet.now c.args.now) ∷ [])
+          c.renew.new.self c.push-held.result c.push-held.ensures.queues (within (goal.at.invariant_of-self c).After-push-held)
           (c.renew.ensures ∙ ap (λ (l : List ℕ). set l c.args.flow c.push-held.result) c.self.invariant.2) c.push-held.ensures.bytes,
       c.self.invariant.3,
     )

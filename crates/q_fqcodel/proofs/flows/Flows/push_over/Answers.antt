@@ -62,7 +62,8 @@ pub returns-then-sheds_one-clause-answer : goal.returns-then-sheds_one-clause-an
 returns-then-sheds_one-clause-answer g c =
     let d = (goal.at.returns-then-sheds_one-clause-answer g c).After-sheds_one in
     let e = (goal.at.returns-then-sheds_one-clause-answer g c).After-fattest_with-fat in
-    sym (answer_one c.args.self.now.flows (stamp c.args.packet.now c.args.now) c.args.flow c.fattest_with-fat.result _ c.requires.in_range (fat_is g e) (c.sheds_one.ensures.held c.if-sheds_one.true) (one_is g d c.if-sheds_one.true))
+    sym (answer_one c.args.self.now.flows (stamp c.args.packet.now c.args.now) c.args.flow c.fattest_with-fat.result _ c.requires.in_range
+    (fat_is g e) (c.sheds_one.ensures.held c.if-sheds_one.true) (one_is g d c.if-sheds_one.true))
 
 pub returns-then-sheds_one-clause-flows : goal.returns-then-sheds_one-clause-flows
 returns-then-sheds_one-clause-flows g c =
@@ -103,7 +104,12 @@ own_fat g c = sym c.if-fat-flow.false ∙ c.fattest_with-fat.ensures.value (stam
 held_is : (g : _) (c : After-min-lost g) → c.count_of-held.result + 1 ≡ count (queue_of (adjust (joined (stamp c.args.packet.now c.args.now)) c.args.flow c.args.self.now.flows) c.args.flow)
 held_is g c =
     let flows : List Flow = c.args.self.now.flows in
-    omega (arith, c.count_of-held.ensures, ap count (own_queue (stamp c.args.packet.now c.args.now) c.args.flow flows c.requires.in_range), length-append (queue_of flows c.args.flow) ((stamp c.args.packet.now c.args.now) ∷ []))
+    omega (
+      arith,
+      c.count_of-held.ensures,
+      ap count (own_queue (stamp c.args.packet.now c.args.now) c.args.flow flows c.requires.in_range),
+      length-append (queue_of flows c.args.flow) ((stamp c.args.packet.now c.args.now) ∷ []),
+    )
 
 lost_is : (g : _) (c : After-min-lost g) → c.min-lost.result ≡ shed_count (adjust (joined (stamp c.args.packet.now c.args.now)) c.args.flow c.args.self.now.flows) c.args.batch
 unfolding shed_count
@@ -136,4 +142,5 @@ pub returns-clause-lost : goal.returns-clause-lost
 returns-clause-lost g c =
     let d = (goal.at.returns-clause-lost g c).After-min-lost in
     let a : List Flow = adjust (joined (stamp c.args.packet.now c.args.now)) c.args.flow c.args.self.now.flows in
-    subst (λ (q : List Stamped). AreLost FatFlow q (g.S.Sink.state c.args.sink.now) (g.S.Sink.state c.exchange.new.sink)) (ap₂ (λ (l m : ℕ). take l (queue_of a m)) (lost_is g d) (own_fat g d)) c.exchange.ensures.lost
+    subst (λ (q : List Stamped). AreLost FatFlow q (g.S.Sink.state c.args.sink.now) (g.S.Sink.state c.exchange.new.sink))
+    (ap₂ (λ (l m : ℕ). take l (queue_of a m)) (lost_is g d) (own_fat g d)) c.exchange.ensures.lost

@@ -14,12 +14,20 @@ on_ok (Err e) P Q f p = p
 pub returns-clause-ok : goal.returns-clause-ok
 returns-clause-ok c =
     let all = ap length c.reserve.ensures.queues ∙ c.self.invariant.0 in
-    on_ok c.reserve.result _ _ (λ (p : packets_in c.reserve.new.self.queues < c.reserve.new.self.places). omega (arith, p, packets_pooled c.reserve.new.self.queues (codels_in c.self.inside.parameters c.self.inside.states.items) all)) c.reserve.ensures.ok
+    on_ok c.reserve.result _ _ (λ (p : packets_in c.reserve.new.self.queues < c.reserve.new.self.places). omega
+    (arith, p, packets_pooled c.reserve.new.self.queues (codels_in c.self.inside.parameters c.self.inside.states.items) all)) c.reserve.ensures.ok
 
 pub returns-clause-succeeds : goal.returns-clause-succeeds
 returns-clause-succeeds c h =
     let same = ap (λ (f : FlowsState). f.flows) c.self.view_is in
-    c.reserve.ensures.succeeds (omega (arith, h, ap packets_of same, ap (λ (f : FlowsState). f.places) c.self.view_is, packets_pooled c.self.inside.pool.queues (codels_in c.self.inside.parameters c.self.inside.states.items) c.self.invariant.0))
+    c.reserve.ensures.succeeds (omega (
+      arith,
+      h,
+      ap packets_of same,
+      ap (λ (f : FlowsState). f.places) c.self.view_is,
+      packets_pooled
+          c.self.inside.pool.queues (codels_in c.self.inside.parameters c.self.inside.states.items) c.self.invariant.0,
+    ))
 
 pub returns-clause-had_room : goal.returns-clause-had_room
 returns-clause-had_room c h =

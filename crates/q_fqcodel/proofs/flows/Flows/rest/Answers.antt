@@ -13,7 +13,15 @@ pub index_mut-requires : goal.index_mut-requires
 index_mut-requires c =
     let p = c.self.inside.parameters in
     let vs = c.self.inside.states.items in
-    omega (arith, c.requires, ap (λ (f : FlowsState). length f.flows) c.self.view_is, length-flows_from c.self.inside.pool.queues (codels_in p vs) c.self.invariant.0, length-codels_in p vs, c.self.inside.states.ok.0)
+    omega (
+      arith,
+      c.requires,
+      ap (λ (f : FlowsState). length f.flows) c.self.view_is,
+      length-flows_from c.self.inside.pool.queues (codels_in p vs)
+          c.self.invariant.0,
+      length-codels_in p vs,
+      c.self.inside.states.ok.0,
+    )
 
 pub invariant_of-self : goal.invariant_of-self
 invariant_of-self c =

@@ -21,7 +21,16 @@ use Rattle.q_fqcodel.proofs.flows.Flows.send_late_into.Goals.{After-index_mut-co
 pub index_mut-codel-requires : goal.index_mut-codel-requires
 index_mut-codel-requires g c =
     let same = ap (λ (f : FlowsState). f.flows) c.self.view_is in
-    omega (arith, c.requires.in_range, ap length same, length-flows_from c.self.inside.pool.queues (codels_in c.self.inside.parameters c.self.inside.states.items) c.self.invariant.0, length-codels_in c.self.inside.parameters c.self.inside.states.items, c.self.inside.states.ok.0)
+    omega (
+      arith,
+      c.requires.in_range,
+      ap length same,
+      length-flows_from c.self.inside.pool.queues
+          (codels_in c.self.inside.parameters c.self.inside.states.items) c.self.invariant.0,
+      length-codels_in c.self.inside.parameters
+          c.self.inside.states.items,
+      c.self.inside.states.ok.0,
+    )
 
 omega_within : (g : _) (c : After-index_mut-codel g) → c.args.flow < length (codels_in c.self.inside.parameters c.self.inside.states.items)
 omega_within g c =
@@ -29,14 +38,17 @@ omega_within g c =
     omega (arith, c.requires.in_range, ap length same, length-flows_from c.self.inside.pool.queues (codels_in c.self.inside.parameters c.self.inside.states.items) c.self.invariant.0)
 
 -- what CoDel knows of the flow
-read : (g : _) (c : After-index_mut-codel g) → joined c.self.inside.parameters c.index_mut-codel.result.now ≡ get_or (codels_in c.self.inside.parameters c.self.inside.states.items) c.args.flow (joined c.self.inside.parameters c.index_mut-codel.result.now)
+read : (g : _) (c : After-index_mut-codel g)
+    → joined c.self.inside.parameters c.index_mut-codel.result.now ≡ get_or (codels_in c.self.inside.parameters c.self.inside.states.items)
+    c.args.flow (joined c.self.inside.parameters c.index_mut-codel.result.now)
 read g c = ap (joined c.self.inside.parameters) c.index_mut-codel.ensures.value ∙ sym (codel_at c.self.inside.parameters c.self.inside.states.items c.args.flow c.index_mut-codel.result.now)
 
 -- the flow, as the model has it
 there : (g : _) (c : After-index_mut-codel g)
     → slice_get c.args.self.now.flows c.args.flow ≡ Some (record { queue = get_or c.self.inside.pool.queues c.args.flow []; codel = joined c.self.inside.parameters c.index_mut-codel.result.now })
 there g c =
-    flow_read c.args.flow c.self.inside.pool.queues (codels_in c.self.inside.parameters c.self.inside.states.items) (joined c.self.inside.parameters c.index_mut-codel.result.now) c.args.self.now.flows c.self.invariant.0
+    flow_read c.args.flow c.self.inside.pool.queues (codels_in c.self.inside.parameters c.self.inside.states.items)
+    (joined c.self.inside.parameters c.index_mut-codel.result.now) c.args.self.now.flows c.self.invariant.0
     (omega_within g c) (read g c) (ap (λ (f : FlowsState). f.flows) c.self.view_is)
 
 pub peek-front-requires : goal.peek-front-requires
@@ -52,7 +64,14 @@ peek-front-requires g c =
 pub count_at-held-requires : goal.count_at-held-requires
 count_at-held-requires g c =
     let same = ap (λ (f : FlowsState). f.flows) c.self.view_is in
-    omega (arith, c.requires.in_range, ap length same, length-flows_from c.self.inside.pool.queues (codels_in c.self.inside.parameters c.self.inside.states.items) c.self.invariant.0, c.self.invariant.0)
+    omega (
+      arith,
+      c.requires.in_range,
+      ap length same,
+      length-flows_from c.self.inside.pool.queues
+          (codels_in c.self.inside.parameters c.self.inside.states.items) c.self.invariant.0,
+      c.self.invariant.0,
+    )
 
 pub count_at-rest-requires : goal.count_at-rest-requires
 count_at-rest-requires g c =
@@ -162,7 +181,8 @@ invariant_of-self g c =
     let n : ℕ = c.args.flow in
     let d = (goal.at.invariant_of-self g c).After-index_mut-codel in
     let new : List (List Stamped) = c.send_late_from-leaving.new.pool.queues in (
-      ap length c.send_late_from-leaving.ensures.others ∙ length-set qs n (get_or new n []) ∙ c.self.invariant.0 ∙ length-codels_in p vs ∙ sym (length-set vs n v) ∙ sym (length-codels_in p (set vs n v)),
+      ap length c.send_late_from-leaving.ensures.others ∙ length-set qs n (get_or new n []) ∙ c.self.invariant.0 ∙ length-codels_in p vs
+          ∙ sym (length-set vs n v) ∙ sym (length-codels_in p (set vs n v)),
       omega (arith, c.self.invariant.1, length-set vs n v),
       sizes_renewed qs new n (get_or new n []) c.renew.new.self c.bytes_at-bytes.result c.send_late_from-leaving.ensures.others (omega (arith, omega_within g d, c.self.invariant.0))
           (c.renew.ensures ∙ ap (λ (l : List ℕ). set l n c.bytes_at-bytes.result) c.self.invariant.2) c.bytes_at-bytes.ensures.value,

@@ -11,7 +11,9 @@ use Rattle.q_fqcodel.proofs.flows.Flows.set_params.Goals.{After-unwrap-self-insi
 -- the settings that are written
 tuned : (c : After-unwrap-self-inside) → c.unwrap-self-inside.result ≡ record c.self.inside.parameters { target = c.args.target; interval = c.args.interval; ecn = c.args.ecn }
 tuned c =
-    subst (λ (o : Option CodelParams). IfSome o (λ p. p ≡ record { target = c.args.target; interval = c.args.interval; mtu = c.self.inside.mtu; ecn = c.args.ecn })) c.unwrap-self-inside.ensures c.new.ensures.value
+    subst (λ (o : Option CodelParams). IfSome o
+    (λ p. p ≡ record { target = c.args.target; interval = c.args.interval; mtu = c.self.inside.mtu; ecn = c.args.ecn }))
+    c.unwrap-self-inside.ensures c.new.ensures.value
     ∙ ap (λ (m : ℕ). record { target = c.args.target; interval = c.args.interval; mtu = m; ecn = c.args.ecn }) (sym c.self.invariant.3)
 
 pub invariant_of-self : goal.invariant_of-self

@@ -18,18 +18,38 @@ use Rattle.q_fqcodel.proofs.flows.Flows.swap.Goals.{After-replace-own, After-ren
 pub replace-own-requires-clause-in_range : goal.replace-own-requires-clause-in_range
 replace-own-requires-clause-in_range g c =
     let same = ap (λ (f : FlowsState). f.flows) c.self.view_is in
-    omega (arith, c.requires.in_range, ap length same, length-flows_from c.self.inside.pool.queues (codels_in c.self.inside.parameters c.self.inside.states.items) c.self.invariant.0, c.self.invariant.0)
+    omega (
+      arith,
+      c.requires.in_range,
+      ap length same,
+      length-flows_from c.self.inside.pool.queues
+          (codels_in c.self.inside.parameters c.self.inside.states.items) c.self.invariant.0,
+      c.self.invariant.0,
+    )
 
 pub replace-own-requires-clause-own : goal.replace-own-requires-clause-own
 replace-own-requires-clause-own g c =
     let count : length c.self.inside.pool.queues ≡ length c.args.self.now.flows =
-    omega (arith, ap (λ (f : FlowsState). length f.flows) c.self.view_is, length-flows_from c.self.inside.pool.queues (codels_in c.self.inside.parameters c.self.inside.states.items) c.self.invariant.0, c.self.invariant.0) in
+    omega (
+      arith,
+      ap (λ (f : FlowsState). length f.flows) c.self.view_is,
+      length-flows_from c.self.inside.pool.queues
+          (codels_in c.self.inside.parameters c.self.inside.states.items) c.self.invariant.0,
+      c.self.invariant.0,
+    ) in
     ap (λ (n : ℕ). c.args.packet.now.hash % n) count ∙ c.requires.own
 
 pub replace-own-requires-clause-place : goal.replace-own-requires-clause-place
 replace-own-requires-clause-place g c =
     let same = ap (λ (f : FlowsState). f.flows) c.self.view_is in
-    omega (arith, c.requires.place, ap packets_of same, ap (λ (f : FlowsState). f.places) c.self.view_is, packets_pooled c.self.inside.pool.queues (codels_in c.self.inside.parameters c.self.inside.states.items) c.self.invariant.0)
+    omega (
+      arith,
+      c.requires.place,
+      ap packets_of same,
+      ap (λ (f : FlowsState). f.places) c.self.view_is,
+      packets_pooled c.self.inside.pool.queues
+          (codels_in c.self.inside.parameters c.self.inside.states.items) c.self.invariant.0,
+    )
 
 pub replace-own-requires-clause-few : goal.replace-own-requires-clause-few
 replace-own-requires-clause-few g c =
@@ -81,7 +101,9 @@ longer g c = length-set c.self.inside.pool.queues c.args.flow (get_or c.self.ins
 queue_is : (g : _) (c : After-replace-own g) → queue_of (adjust (joined (stamp c.args.packet.now c.args.now)) c.args.flow c.args.self.now.flows) c.args.fat ≡ get_or (more g c) c.args.fat []
 queue_is g c = ap (λ (f : List Flow). queue_of f c.args.fat) (sym (joined_is g c)) ∙ queue_there c.args.fat (more g c) (codels g c) (longer g c)
 
-flows_are : (g : _) (c : After-replace-own g) → flows_from c.replace-own.new.self.queues (codels g c) ≡ adjust (shortened 1) c.args.fat (adjust (joined (stamp c.args.packet.now c.args.now)) c.args.flow c.args.self.now.flows)
+flows_are : (g : _) (c : After-replace-own g)
+    → flows_from c.replace-own.new.self.queues (codels g c) ≡ adjust (shortened 1) c.args.fat
+    (adjust (joined (stamp c.args.packet.now c.args.now)) c.args.flow c.args.self.now.flows)
 flows_are g c =
     let qs : List (List Stamped) = c.self.inside.pool.queues in
     ap (λ (l : List (List Stamped)). flows_from l (codels g c)) (c.replace-own.ensures.queues ∙ moved_is qs c.args.fat c.args.flow (stamp c.args.packet.now c.args.now) (some g c) (within g c))
@@ -131,7 +153,8 @@ renew-requires-2-clause-rose g c _ =
       arith,
       ap (λ (l : List ℕ). get_or l c.args.flow 0) c.self.invariant.2,
       sizes_at qs c.args.flow,
-      grown qs c.args.fat c.args.flow (stamp c.args.packet.now c.args.now) (some g d) (within g d) c.replace-own.new.self.queues c.replace-own.ensures.queues c.replace-own.result c.replace-own.ensures.bytes c.if-fat-flow.false,
+      grown qs c.args.fat c.args.flow (stamp c.args.packet.now c.args.now) (some g d) (within g d) c.replace-own.new.self.queues
+          c.replace-own.ensures.queues c.replace-own.result c.replace-own.ensures.bytes c.if-fat-flow.false,
     )
 
 told : (g : _) (c : After-renew-2 g) → c.renew-2.new.self ≡ set (sizes c.self.inside.pool.queues) c.args.flow c.replace-own.result
@@ -164,7 +187,8 @@ renew-requires-3-clause-fell g c _ =
       ap (λ (l : List ℕ). get_or l c.args.fat 0) (told g e),
       get_or-set_other (sizes qs) c.args.flow c.args.fat c.replace-own.result 0 c.if-fat-flow.false,
       sizes_at qs c.args.fat,
-      fallen qs c.args.fat c.args.flow (stamp c.args.packet.now c.args.now) (some g d) (within g d) c.replace-own.new.self.queues c.replace-own.ensures.queues c.bytes_at-rest.result c.bytes_at-rest.ensures.value c.if-fat-flow.false,
+      fallen qs c.args.fat c.args.flow (stamp c.args.packet.now c.args.now) (some g d) (within g d) c.replace-own.new.self.queues
+          c.replace-own.ensures.queues c.bytes_at-rest.result c.bytes_at-rest.ensures.value c.if-fat-flow.false,
     )
 
 pub invariant_of-self-2 : goal.invariant_of-self-2

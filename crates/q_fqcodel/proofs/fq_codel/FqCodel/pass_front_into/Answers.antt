@@ -158,7 +158,8 @@ returns-clause-marked c = sym (ap (λ (o : Option Taken). option_map_or (λ (t :
 pub returns-clause-dropped : goal.returns-clause-dropped
 returns-clause-dropped c =
     subst (λ (s : FqState). dropped_from c.args.now s ≡ []) (opened_is (met c))
-    (dropped_is (opened (met c)) (sender (met c)) (behind (met c)) c.args.now (λ l. l ≡ []) (first (met c)) (within (met c)) (of_sender (met c) (λ f. packets_dropped c.args.now f ≡ []) c.in_ok-passed.ensures.dropped))
+    (dropped_is (opened (met c)) (sender (met c)) (behind (met c)) c.args.now (λ l. l ≡ []) (first (met c)) (within (met c))
+    (of_sender (met c) (λ f. packets_dropped c.args.now f ≡ []) c.in_ok-passed.ensures.dropped))
 
 pub returns-clause-after : goal.returns-clause-after
 returns-clause-after c = after c ∙ ap (after_sending c.args.now) (opened_is (met c))

@@ -104,7 +104,9 @@ in_limit g c =
     let below = ltb-true _ _ (sym c.fits-fits.ensures.value ∙ c.if-fits.true) in
     omega (arith, below, more g at, ap (λ (x : FqState). packets_of x.flows) (opened_is g at), ap (λ (x : FqState). x.settings.limit) (opened_is g at))
 
-stays : (g : _) (c : After-push g) → state_of c.self.inside.settings c.push.new.self c.enlist.new.self.new_flows c.enlist.new.self.old_flows ≡ after_put c.args.self.now.state c.args.packet.now c.args.now
+stays : (g : _) (c : After-push g)
+    → state_of c.self.inside.settings c.push.new.self c.enlist.new.self.new_flows c.enlist.new.self.old_flows
+    ≡ after_put c.args.self.now.state c.args.packet.now c.args.now
 unfolding before
 stays g c =
     let a = fuller g (before g c) in
@@ -191,7 +193,8 @@ cut g c =
     ∙ ap cut_back (fuller_is g at)
 
 shed_is : (g : _) (c : After-bytes-bytes_after g)
-    → take (shed_count (joins g (opening g c)) c.settings.inside.drop_batch) (queue_of (joins g (opening g c)) (fattest (joins g (opening g c)))) ≡ lost_by_put c.args.self.now.state c.args.packet.now c.args.now
+    → take (shed_count (joins g (opening g c)) c.settings.inside.drop_batch) (queue_of (joins g (opening g c)) (fattest (joins g (opening g c))))
+    ≡ lost_by_put c.args.self.now.state c.args.packet.now c.args.now
 unfolding opening
 shed_is g c =
     let at = opening g c in

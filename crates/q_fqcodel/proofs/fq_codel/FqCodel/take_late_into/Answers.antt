@@ -115,7 +115,9 @@ write_front-requires-clause-own g c =
     (sym (ap (λ (e : Entry). e.flow) c.charged.ensures))
 
 -- the state after
-after : (g : _) (c : After-write_front g) → state_of c.self.inside.settings c.send_late_into-sent.new.self c.write_front.new.self.new_flows c.write_front.new.self.old_flows ≡ after_sending c.args.now (opened g (met g c))
+after : (g : _) (c : After-write_front g)
+    → state_of c.self.inside.settings c.send_late_into-sent.new.self c.write_front.new.self.new_flows c.write_front.new.self.old_flows
+    ≡ after_sending c.args.now (opened g (met g c))
 after g c =
     let s = opened g (met g c) in
     let flows : List Flow = adjust (flow_after c.args.now) (sender g (met g c)).flow s.flows in

@@ -65,7 +65,9 @@ move_to_old-requires-clause-few c =
       ap (λ (v : FqView). length v.state.new_flows) c.self.view_is,
     )
 
-spent : (c : After-move_to_old) → LeadsOn (opened (goal.at.invariant_of-self c).After-unwrap-entry) (state_of c.self.inside.settings c.self.inside.flows c.move_to_old.new.self.new_flows c.move_to_old.new.self.old_flows)
+spent : (c : After-move_to_old)
+    → LeadsOn (opened (goal.at.invariant_of-self c).After-unwrap-entry)
+    (state_of c.self.inside.settings c.self.inside.flows c.move_to_old.new.self.new_flows c.move_to_old.new.self.old_flows)
 spent c =
     let at = (goal.at.invariant_of-self c).After-unwrap-entry in
     let s = opened at in
@@ -102,7 +104,9 @@ move_to_old-requires-then-is_idle-clause-few c =
       ap (λ (v : FqView). length v.state.new_flows) c.self.view_is,
     )
 
-emptied : (c : After-move_to_old-then-is_idle) → LeadsOn (opened (goal.at.invariant_of-self-then-is_idle c).After-unwrap-entry) (state_of c.self.inside.settings c.rest.new.self c.move_to_old-then-is_idle.new.self.new_flows c.move_to_old-then-is_idle.new.self.old_flows)
+emptied : (c : After-move_to_old-then-is_idle)
+    → LeadsOn (opened (goal.at.invariant_of-self-then-is_idle c).After-unwrap-entry)
+    (state_of c.self.inside.settings c.rest.new.self c.move_to_old-then-is_idle.new.self.new_flows c.move_to_old-then-is_idle.new.self.old_flows)
 emptied c =
     let positive : pos 0 <ℤ c.entry.inside.credits = grind (arith, ints, c.if-entry-le0.false) in
     let at = (goal.at.invariant_of-self-then-is_idle c).After-unwrap-entry in

@@ -66,7 +66,9 @@ rotate-requires-clause-few c =
       ap (λ (x : FqSettings). x.flows) c.settings.view_is,
     )
 
-spent : (c : After-rotate) → LeadsOn (opened (goal.at.invariant_of-self c).After-unwrap-entry) (state_of c.self.inside.settings c.self.inside.flows c.rotate.new.self.new_flows c.rotate.new.self.old_flows)
+spent : (c : After-rotate)
+    → LeadsOn (opened (goal.at.invariant_of-self c).After-unwrap-entry)
+    (state_of c.self.inside.settings c.self.inside.flows c.rotate.new.self.new_flows c.rotate.new.self.old_flows)
 spent c =
     let at = (goal.at.invariant_of-self c).After-unwrap-entry in
     let s = opened at in
@@ -91,7 +93,9 @@ returns-then-entry-le0-clause-no_new c = ap (λ (v : ListsState). v.new_flows) c
 pub remove_old-requires : goal.remove_old-requires
 remove_old-requires c = omega (arith, c.requires.waiting, ap (λ (v : FqView). length v.state.old_flows) c.self.view_is)
 
-emptied : (c : After-remove_old) → LeadsOn (opened (goal.at.invariant_of-self-then-is_idle c).After-unwrap-entry) (state_of c.self.inside.settings c.rest.new.self c.remove_old.new.self.new_flows c.remove_old.new.self.old_flows)
+emptied : (c : After-remove_old)
+    → LeadsOn (opened (goal.at.invariant_of-self-then-is_idle c).After-unwrap-entry)
+    (state_of c.self.inside.settings c.rest.new.self c.remove_old.new.self.new_flows c.remove_old.new.self.old_flows)
 emptied c =
     let positive : pos 0 <ℤ c.entry.inside.credits = grind (arith, ints, c.if-entry-le0.false) in
     let at = (goal.at.invariant_of-self-then-is_idle c).After-unwrap-entry in
@@ -100,7 +104,9 @@ emptied c =
     let look = looks at _ c.entry.view_is in
     let high : pos 0 <ℤ e.credits = has_credits look positive in
     let empty = idle_is look _ true c.is_idle.ensures c.if-is_idle.true in
-    subst (λ (f : List Flow). LeadsOn s (record s { flows = f; new_flows = c.remove_old.new.self.new_flows; old_flows = c.remove_old.new.self.old_flows })) (sym (rested_is look _ c.rest.ensures.flows))
+    subst (λ (f : List Flow). LeadsOn s (record s
+    { flows = f; new_flows = c.remove_old.new.self.new_flows; old_flows = c.remove_old.new.self.old_flows }))
+    (sym (rested_is look _ c.rest.ensures.flows))
     (subst₂ (λ (k l : List Entry). LeadsOn s (record s { flows = adjust rested_flow e.flow s.flows; new_flows = k; old_flows = l }))
     (sym (ap (λ (v : ListsState). v.new_flows) c.remove_old.ensures)) (sym (ap (λ (v : ListsState). v.old_flows) c.remove_old.ensures))
     (old_leaves s c.self.invariant.0 e (behind at) (none_new at) (at_front at) high empty))

@@ -23,12 +23,14 @@ there c = subst (λ (s : NodesState). IsSome (used s c.args.key)) (sym c.self.vi
 pub invariant_of-self : goal.invariant_of-self
 invariant_of-self c =
     let d = (goal.at.invariant_of-self c).After-index_mut-node in
-    vacate_nodes (state d) c.self.invariant c.args.key c.index_mut-node.result.now (written d) (there d) c.index_mut-node.ensures.value refl (omega (arith, c.requires.some, ap (λ (s : NodesState). s.count) c.self.view_is))
+    vacate_nodes (state d) c.self.invariant c.args.key c.index_mut-node.result.now (written d) (there d) c.index_mut-node.ensures.value refl
+    (omega (arith, c.requires.some, ap (λ (s : NodesState). s.count) c.self.view_is))
 
 pub returns-clause-same : goal.returns-clause-same
 returns-clause-same c j ne =
     let d = (goal.at.returns-clause-same c).After-index_mut-node in
-    vacate_same (state d) c.self.invariant c.args.key c.index_mut-node.result.now (written d) (there d) c.index_mut-node.ensures.value refl (omega (arith, c.requires.some, ap (λ (s : NodesState). s.count) c.self.view_is)) j ne
+    vacate_same (state d) c.self.invariant c.args.key c.index_mut-node.result.now (written d) (there d) c.index_mut-node.ensures.value refl
+    (omega (arith, c.requires.some, ap (λ (s : NodesState). s.count) c.self.view_is)) j ne
     ∙ ap (λ (s : NodesState). used s j) c.self.view_is
 
 -- the node that was there is the one that was read

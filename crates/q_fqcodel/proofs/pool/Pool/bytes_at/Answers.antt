@@ -10,7 +10,8 @@ list_at-requires c = omega (arith, c.requires, ap (λ (s : PoolState). length s.
 pub returns-clause-value : goal.returns-clause-value
 returns-clause-value c =
     let p = c.self.inside in
-    bytes_read (used p.nodes) p.nodes.count p.lists.items p.bytes c.self.invariant.0 c.args.self.now.queues (ap (λ (s : PoolState). s.queues) c.self.view_is) c.args.flow c.list_at.result c.list_at.ensures
+    bytes_read (used p.nodes) p.nodes.count p.lists.items p.bytes c.self.invariant.0 c.args.self.now.queues
+    (ap (λ (s : PoolState). s.queues) c.self.view_is) c.args.flow c.list_at.result c.list_at.ensures
 
 pub returns-clause-few : goal.returns-clause-few
 returns-clause-few c = bytes_below _ _ _ _ c.self.invariant.0 _ (ap (λ (s : PoolState). s.queues) c.self.view_is) c.args.flow _ c.list_at.ensures

@@ -10,4 +10,5 @@ list_at-requires c = omega (arith, c.requires, ap (λ (s : PoolState). length s.
 pub returns : goal.returns
 returns c =
     let p = c.self.inside in
-    count_read (used p.nodes) p.nodes.count p.lists.items p.bytes c.self.invariant.0 c.args.self.now.queues (ap (λ (s : PoolState). s.queues) c.self.view_is) c.args.flow c.list_at.result c.list_at.ensures
+    count_read (used p.nodes) p.nodes.count p.lists.items p.bytes c.self.invariant.0 c.args.self.now.queues
+    (ap (λ (s : PoolState). s.queues) c.self.view_is) c.args.flow c.list_at.result c.list_at.ensures

@@ -21,16 +21,19 @@ write_rest-requires-clause-tail c = c.drop_head-rest.ensures.tail ∙ ap (λ (l 
 pub invariant_of-self : goal.invariant_of-self
 invariant_of-self c =
     let e = c.drop_head-rest.ensures in (
-      pool_gone _ _ _ _ c.self.invariant.0 _ (ap (λ (s : PoolState). s.queues) c.self.view_is) c.args.flow _ c.list_at-list.ensures _ _ _ _ c.write_rest.ensures c.requires e.linked e.others e.queue e.count e.bytes e.len,
+      pool_gone _ _ _ _ c.self.invariant.0 _ (ap (λ (s : PoolState). s.queues) c.self.view_is) c.args.flow _ c.list_at-list.ensures _ _ _ _
+          c.write_rest.ensures c.requires e.linked e.others e.queue e.count e.bytes e.len,
       omega (arith, c.self.invariant.1, e.capacity),
     )
 
 pub returns-clause-packets : goal.returns-clause-packets
 returns-clause-packets c =
     let e = c.drop_head-rest.ensures in
-    packets_gone _ _ _ _ c.self.invariant.0 _ (ap (λ (s : PoolState). s.queues) c.self.view_is) c.args.flow _ c.list_at-list.ensures _ _ _ _ c.write_rest.ensures c.requires e.linked e.others e.queue e.count e.bytes e.len
+    packets_gone _ _ _ _ c.self.invariant.0 _ (ap (λ (s : PoolState). s.queues) c.self.view_is) c.args.flow _ c.list_at-list.ensures _ _ _ _
+    c.write_rest.ensures c.requires e.linked e.others e.queue e.count e.bytes e.len
 
 pub returns-clause-queues : goal.returns-clause-queues
 returns-clause-queues c =
     let e = c.drop_head-rest.ensures in
-    queues_gone _ _ _ _ c.self.invariant.0 _ (ap (λ (s : PoolState). s.queues) c.self.view_is) c.args.flow _ c.list_at-list.ensures _ _ _ _ c.write_rest.ensures c.requires e.linked e.others e.queue e.count e.bytes e.len
+    queues_gone _ _ _ _ c.self.invariant.0 _ (ap (λ (s : PoolState). s.queues) c.self.view_is) c.args.flow _ c.list_at-list.ensures _ _ _ _
+    c.write_rest.ensures c.requires e.linked e.others e.queue e.count e.bytes e.len

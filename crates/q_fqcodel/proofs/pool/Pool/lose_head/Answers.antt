@@ -10,4 +10,5 @@ unwrap-gone-requires g c =
 
 pub returns-clause-lost : goal.returns-clause-lost
 returns-clause-lost g c =
-    lost_head c.args.cause (get_or c.args.self.now.queues c.args.flow []) c.unwrap-gone.result (g.S.Sink.state c.args.sink.now) (g.S.Sink.state c.lost.new.self) (sym c.head_of.ensures ∙ c.unwrap-gone.ensures) c.lost.ensures.told
+    lost_head c.args.cause (get_or c.args.self.now.queues c.args.flow []) c.unwrap-gone.result (g.S.Sink.state c.args.sink.now)
+    (g.S.Sink.state c.lost.new.self) (sym c.head_of.ensures ∙ c.unwrap-gone.ensures) c.lost.ensures.told

@@ -23,7 +23,8 @@ pub returns-clause-front : goal.returns-clause-front
 returns-clause-front c =
     ap (λ (x : Front). Some x) c.front.ensures
     ∙ ap (λ (o : Option Stamped). option_map front_of o)
-    (front_there _ _ _ _ c.self.invariant.0 _ (ap (λ (s : PoolState). s.queues) c.self.view_is) c.args.flow _ c.list_at-list.ensures _ (some (goal.at.returns-clause-front c).After-list_at-list) c.at-node.ensures)
+    (front_there _ _ _ _ c.self.invariant.0 _ (ap (λ (s : PoolState). s.queues) c.self.view_is) c.args.flow _ c.list_at-list.ensures _
+    (some (goal.at.returns-clause-front c).After-list_at-list) c.at-node.ensures)
 
 pub returns-clause-bytes : goal.returns-clause-bytes
 returns-clause-bytes c = bytes_read _ _ _ _ c.self.invariant.0 _ (ap (λ (s : PoolState). s.queues) c.self.view_is) c.args.flow _ c.list_at-list.ensures

@@ -18,7 +18,14 @@ pub append-longer-requires-clause-room : goal.append-longer-requires-clause-room
 append-longer-requires-clause-room c =
     let p = c.self.inside in
     let d = (goal.at.append-longer-requires-clause-room c).After-list_at-list in
-    omega (arith, c.requires.place, ap (λ (s : PoolState). s.places) c.self.view_is, c.self.invariant.1, packets_read (used p.nodes) p.nodes.count p.lists.items p.bytes c.self.invariant.0 c.args.self.now.queues (same d) c.args.flow c.list_at-list.result c.list_at-list.ensures)
+    omega (
+      arith,
+      c.requires.place,
+      ap (λ (s : PoolState). s.places) c.self.view_is,
+      c.self.invariant.1,
+      packets_read (used p.nodes) p.nodes.count
+          p.lists.items p.bytes c.self.invariant.0 c.args.self.now.queues (same d) c.args.flow c.list_at-list.result c.list_at-list.ensures,
+    )
 
 -- the flow that the packet's hash tells, of as many as there are lists
 flow_is : (c : After-list_at-list) → c.args.packet.now.hash % length c.self.inside.lists.items ≡ c.args.flow
@@ -96,7 +103,9 @@ within2 c =
     within_read (used p.nodes) p.nodes.count p.lists.items p.bytes c.self.invariant.0 c.args.self.now.queues (same2 c) c.args.flow c.list_at-list.result c.list_at-list.ensures c.requires.in_range
 
 -- the pool with one packet more, of so many bytes
-pool2 : (c : After-append-longer) (len : ℕ) → len ≡ c.args.packet.now.len → IsPool (used c.append-longer.new.nodes) c.append-longer.new.nodes.count (set c.self.inside.lists.items c.args.flow c.append-longer.result) (c.self.inside.bytes + len)
+pool2 : (c : After-append-longer) (len : ℕ) → len ≡ c.args.packet.now.len
+    → IsPool (used c.append-longer.new.nodes) c.append-longer.new.nodes.count (set c.self.inside.lists.items c.args.flow c.append-longer.result)
+    (c.self.inside.bytes + len)
 pool2 c len is =
     let p = c.self.inside in
     let count = ap (λ (l : FlowList). l.count) c.list_at-list.ensures in
@@ -138,4 +147,6 @@ returns-clause-queues c =
     ap (queues_in (used c.append-longer.new.nodes)) c.write_longer.ensures
     ∙ written (used p.nodes) (used c.append-longer.new.nodes) p.nodes.count p.lists.items p.bytes c.self.invariant.0 n c.append-longer.result (within2 d) (others d) (linked d)
     ∙ ap₂ (λ (l : List (List Stamped)) (q : List Stamped). set l n q) (same2 d)
-    (c.append-longer.ensures.queue ∙ ap (λ (q : List Stamped). q ++ more) (queue_read (used p.nodes) p.nodes.count p.lists.items p.bytes c.self.invariant.0 qs (same2 d) n c.list_at-list.result c.list_at-list.ensures))
+    (c.append-longer.ensures.queue ∙ ap (λ (q : List Stamped). q ++ more)
+    (queue_read (used p.nodes) p.nodes.count p.lists.items p.bytes c.self.invariant.0 qs (same2 d) n c.list_at-list.result
+    c.list_at-list.ensures))

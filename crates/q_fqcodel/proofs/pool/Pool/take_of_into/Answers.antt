@@ -24,17 +24,20 @@ pub invariant_of-self : goal.invariant_of-self
 invariant_of-self c =
     let e = c.take_head_into-rest.ensures in
     let lighter : c.take_head_into-rest.result.bytes ≤ c.list_at-list.result.bytes = omega (arith, e.bytes) in (
-      pool_gone _ _ _ _ c.self.invariant.0 _ (ap (λ (s : PoolState). s.queues) c.self.view_is) c.args.flow _ c.list_at-list.ensures _ _ _ _ c.write_rest.ensures c.requires e.linked e.others e.queue e.count lighter e.len,
+      pool_gone _ _ _ _ c.self.invariant.0 _ (ap (λ (s : PoolState). s.queues) c.self.view_is) c.args.flow _ c.list_at-list.ensures _ _ _ _
+          c.write_rest.ensures c.requires e.linked e.others e.queue e.count lighter e.len,
       omega (arith, c.self.invariant.1, e.capacity),
     )
 
 pub returns-clause-given : goal.returns-clause-given
 returns-clause-given c =
     c.take_head_into-rest.ensures.given
-    ∙ ap (λ (q : List Stamped). option_map (λ s. s.packet) (slice_get q 0)) (queue_read _ _ _ _ c.self.invariant.0 _ (ap (λ (s : PoolState). s.queues) c.self.view_is) c.args.flow _ c.list_at-list.ensures)
+    ∙ ap (λ (q : List Stamped). option_map (λ s. s.packet) (slice_get q 0))
+    (queue_read _ _ _ _ c.self.invariant.0 _ (ap (λ (s : PoolState). s.queues) c.self.view_is) c.args.flow _ c.list_at-list.ensures)
 
 pub returns-clause-queues : goal.returns-clause-queues
 returns-clause-queues c =
     let e = c.take_head_into-rest.ensures in
     let lighter : c.take_head_into-rest.result.bytes ≤ c.list_at-list.result.bytes = omega (arith, e.bytes) in
-    queues_gone _ _ _ _ c.self.invariant.0 _ (ap (λ (s : PoolState). s.queues) c.self.view_is) c.args.flow _ c.list_at-list.ensures _ _ _ _ c.write_rest.ensures c.requires e.linked e.others e.queue e.count lighter e.len
+    queues_gone _ _ _ _ c.self.invariant.0 _ (ap (λ (s : PoolState). s.queues) c.self.view_is) c.args.flow _ c.list_at-list.ensures _ _ _ _
+    c.write_rest.ensures c.requires e.linked e.others e.queue e.count lighter e.len

@@ -74,7 +74,8 @@ invariant_of-self c =
     let leaf : ℕ = c.self.inside.leaves + c.args.flow in
     let v : ℕ = c.rank_of.result in
     subst (λ (l : List ℕ). IsTournament l × (length l ≤ 131072) × (c.self.inside.leaves ≡ length l / 2)) (sym (all_written e)) (
-      tree_written xs c.climb.new.ranks c.args.flow c.args.bytes v leaf c.self.invariant.0 (within d) (omega (arith, within d, c.self.invariant.1)) c.requires.few c.rank_of.ensures (place d) (len_is e) (leaves_are e) c.climb.ensures.past c.climb.ensures.each,
+      tree_written xs c.climb.new.ranks c.args.flow c.args.bytes v leaf c.self.invariant.0 (within d) (omega (arith, within d, c.self.invariant.1))
+          c.requires.few c.rank_of.ensures (place d) (len_is e) (leaves_are e) c.climb.ensures.past c.climb.ensures.each,
       omega (arith, len_is e, length-set xs leaf v, c.self.invariant.1),
       c.self.invariant.2 ∙ ap (λ (n : ℕ). n / 2) (sym (len_is e ∙ length-set xs leaf v)),
     )
@@ -86,5 +87,6 @@ returns c =
     let xs : List ℕ = c.self.inside.ranks.items in
     let leaf : ℕ = c.self.inside.leaves + c.args.flow in
     ap bytes_in (all_written e)
-    ∙ bytes_renewed xs c.climb.new.ranks c.args.flow c.args.bytes c.rank_of.result leaf c.self.invariant.0 (within d) (omega (arith, within d, c.self.invariant.1)) c.requires.few c.rank_of.ensures (place d) (len_is e) (leaves_are e)
+    ∙ bytes_renewed xs c.climb.new.ranks c.args.flow c.args.bytes c.rank_of.result leaf c.self.invariant.0 (within d)
+    (omega (arith, within d, c.self.invariant.1)) c.requires.few c.rank_of.ensures (place d) (len_is e) (leaves_are e)
     ∙ ap (λ (l : List ℕ). set l c.args.flow c.args.bytes) c.self.view_is

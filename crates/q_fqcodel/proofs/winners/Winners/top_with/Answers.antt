@@ -27,7 +27,8 @@ leads c =
     let same : bytes_in xs ≡ c.args.self.now = c.self.view_is in
     let lot : length c.args.self.now ≡ length xs / 2 = omega (arith, ap length same, length-bytes_in xs, c.self.invariant.0.even) in
     let t =
-    top_leads xs c.self.invariant.0 c.self.invariant.1 c.args.flow c.args.bytes (omega (arith, ap length same, c.requires.in_range)) (omega (arith, ap (λ (l : List ℕ). bytes_at l c.args.flow) same, c.requires.more)) in (
+    top_leads xs c.self.invariant.0 c.self.invariant.1 c.args.flow c.args.bytes (omega (arith, ap length same, c.requires.in_range))
+    (omega (arith, ap (λ (l : List ℕ). bytes_at l c.args.flow) same, c.requires.more)) in (
       omega (arith, found c, t.0, lot),
       λ i h.
           subst (λ (l : List ℕ). Leads (bytes_at (set l c.args.flow c.args.bytes)) c.flow_of.result i) same

@@ -16,5 +16,7 @@ invariant_of-self c =
       ap (λ (v : BoardView). v.known) seat ∙ c.self.invariant.0,
       ap (λ (v : BoardView). v.front) seat ∙ (c.self.invariant.1 ∙ sym shown),
       subst (λ (f : RowHistorySeen). AreContinued f (drop new.behind new.log.items)) (sym shown)
-          (pending-of w.desk.shown.value.front (drop w.behind w.log.items) (drop new.behind new.log.items) c.args.front c.append.result c.append.ensures.pending (subst (λ (s : WriterSeen). Continues (newest s) c.args.front) (sym c.self.view_is) c.requires) c.self.invariant.2),
+          (pending-of w.desk.shown.value.front (drop w.behind w.log.items) (drop new.behind new.log.items) c.args.front c.append.result
+          c.append.ensures.pending (subst (λ (s : WriterSeen). Continues (newest s) c.args.front) (sym c.self.view_is) c.requires)
+          c.self.invariant.2),
     )

@@ -12,7 +12,8 @@ loop-gauge-preserved c =
     let h = c.push_reserved.ensures in
     let inv = c.loop-gauge.invariant in
     let old = c.loop-gauge.all.items in
-    let new : c.in_ok-gauge.gauge ≡ gauge_seen c.args.self.now.shown c.args.note.now.rows 0 = c.in_ok-gauge.ensures.gauge ∙ ap (λ (w : WriterSeen). gauge_seen w.shown c.args.note.now.rows 0) inv.same in
+    let new : c.in_ok-gauge.gauge ≡ gauge_seen c.args.self.now.shown c.args.note.now.rows 0 =
+    c.in_ok-gauge.ensures.gauge ∙ ap (λ (w : WriterSeen). gauge_seen w.shown c.args.note.now.rows 0) inv.same in
     record {
       count = omega (arith, h.len, inv.count);
       room = h.capacity ∙ inv.room;

@@ -17,7 +17,8 @@ loop-taken-preserved g c =
     record {
       rings = c.take_next.ensures.rings ∙ c.loop-taken.invariant.rings;
       collected =
-          collects-more c.args.now (map received_from c.args.self.now) (map received_from before) (map received_from c.take_next.new.self) c.args.booked.now c.loop-taken.booked c.take_next.new.booked c.loop-taken.taken (take at some.packet)
+          collects-more c.args.now (map received_from c.args.self.now) (map received_from before) (map received_from c.take_next.new.self)
+          c.args.booked.now c.loop-taken.booked c.take_next.new.booked c.loop-taken.taken (take at some.packet)
           c.loop-taken.invariant.collected (omega (arith, ring, length-map before received_from)) some.received some.arrived some.places;
       first = λ e. absurd (omega (arith, e));
     }

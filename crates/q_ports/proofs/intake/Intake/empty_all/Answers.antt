@@ -25,7 +25,8 @@ loop-at-preserved g c =
       all = c.empty_at.ensures.all ∙ inv.all;
       collected = (
         inv.collected.0 + more.0,
-        collects-then c.args.now (map received_from c.args.self.now) (map received_from c.loop-at.self) (map received_from c.empty_at.new.self) c.args.booked.now c.loop-at.booked c.empty_at.new.booked inv.collected.0 more.0 inv.collected.1 more.1,
+        collects-then c.args.now (map received_from c.args.self.now) (map received_from c.loop-at.self) (map received_from c.empty_at.new.self)
+            c.args.booked.now c.loop-at.booked c.empty_at.new.booked inv.collected.0 more.0 inv.collected.1 more.1,
         λ e. more.2 (omega (arith, e)) ∙ inv.collected.2 (omega (arith, e)),
       );
       empty = empty-more 0 c.loop-at.at c.loop-at.self c.empty_at.new.self inv.empty c.empty_at.ensures.others c.in_ok-empty_at.ensures.empty;
@@ -36,7 +37,8 @@ returns-in_err-empty_at-clause-collected g c =
     let inv = c.loop-at.invariant in
     let more = c.empty_at.ensures.collected in (
       inv.collected.0 + more.0,
-      collects-then c.args.now (map received_from c.args.self.now) (map received_from c.loop-at.self) (map received_from c.empty_at.new.self) c.args.booked.now c.loop-at.booked c.empty_at.new.booked inv.collected.0 more.0 inv.collected.1 more.1,
+      collects-then c.args.now (map received_from c.args.self.now) (map received_from c.loop-at.self) (map received_from c.empty_at.new.self)
+          c.args.booked.now c.loop-at.booked c.empty_at.new.booked inv.collected.0 more.0 inv.collected.1 more.1,
     )
 
 pub returns-in_err-empty_at-clause-stopped : goal.returns-in_err-empty_at-clause-stopped
@@ -45,7 +47,8 @@ returns-in_err-empty_at-clause-stopped g c =
     let more = c.in_err-empty_at.ensures.stopped in
     on-err c.from_residual.result (
       inv.collected.0 + more.0,
-      stops-then c.args.now (map received_from c.args.self.now) (map received_from c.loop-at.self) c.empty_at.new.self c.args.booked.now c.loop-at.booked c.empty_at.new.booked inv.collected.0 more.0 inv.collected.1 inv.collected.2 more.1,
+      stops-then c.args.now (map received_from c.args.self.now) (map received_from c.loop-at.self) c.empty_at.new.self c.args.booked.now
+          c.loop-at.booked c.empty_at.new.booked inv.collected.0 more.0 inv.collected.1 inv.collected.2 more.1,
     )
 
 pub returns-clause-collected : goal.returns-clause-collected

@@ -38,8 +38,10 @@ loop-left-preserved g c =
       others = λ k d other. receives-others c.args.at before after p taken k d other ∙ inv.others k d other;
       left = λ d. let one = ap (λ (ks : List Descriptor). length ks) (receives-known c.args.at before after p taken here d) in omega (arith, one, inv.left d);
       collected =
-          collects-more c.args.now (map received_from c.args.self.now) (map received_from before) (map received_from after) c.args.booked.now c.loop-left.booked c.take_known.new.booked c.loop-left._left (take c.args.at p)
-          inv.collected (omega (arith, here, length-map before received_from)) (receives-received c.args.at before after p taken here) c.in_ok-take_known.ensures.taken.arrived c.in_ok-take_known.ensures.taken.places;
+          collects-more c.args.now (map received_from c.args.self.now) (map received_from before) (map received_from after) c.args.booked.now
+          c.loop-left.booked c.take_known.new.booked c.loop-left._left (take c.args.at p)
+          inv.collected (omega (arith, here, length-map before received_from)) (receives-received c.args.at before after p taken here)
+          c.in_ok-take_known.ensures.taken.arrived c.in_ok-take_known.ensures.taken.places;
       same = λ e. absurd (omega (arith, e));
     }
 

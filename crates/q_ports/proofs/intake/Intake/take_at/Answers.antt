@@ -21,16 +21,22 @@ pub take_known-requires-clause-at : goal.take_known-requires-clause-at
 take_known-requires-clause-at g c = omega (arith, c.requires, looks-length c.args.at c.args.self.now c.is_empty.new.self c.is_empty.result c.is_empty.ensures)
 
 pub take_known-requires-clause-known : goal.take_known-requires-clause-known
-take_known-requires-clause-known g c d = let e = looks-known c.args.at c.args.self.now c.is_empty.new.self c.is_empty.result c.is_empty.ensures c.requires.at d in let s = c.is_empty.ensures.some c.if-is_empty.false in rw e s
+take_known-requires-clause-known g c d =
+    let e = looks-known c.args.at c.args.self.now c.is_empty.new.self c.is_empty.result c.is_empty.ensures c.requires.at d in let s =
+    c.is_empty.ensures.some c.if-is_empty.false in rw e s
 
 pub returns-in-Err-clause-rings : goal.returns-in-Err-clause-rings
 returns-in-Err-clause-rings g c = ap (λ (xs : List RingSeen). map ring_id xs) c.in-Err.ensures.same ∙ looks-ids c.args.at c.args.self.now c.is_empty.new.self c.is_empty.result c.is_empty.ensures
 
 pub returns-in-Err-clause-others : goal.returns-in-Err-clause-others
-returns-in-Err-clause-others g c k d other = ap (λ (xs : List RingSeen). get_or xs k d) c.in-Err.ensures.same ∙ looks-others c.args.at c.args.self.now c.is_empty.new.self c.is_empty.result c.is_empty.ensures k d other
+returns-in-Err-clause-others g c k d other =
+    ap (λ (xs : List RingSeen). get_or xs k d) c.in-Err.ensures.same ∙ looks-others c.args.at c.args.self.now c.is_empty.new.self c.is_empty.result
+    c.is_empty.ensures k d other
 
 pub returns-in-Err-clause-err : goal.returns-in-Err-clause-err
-returns-in-Err-clause-err g c = ap (λ (xs : List RingSeen). map received_from xs) c.in-Err.ensures.same ∙ looks-received c.args.at c.args.self.now c.is_empty.new.self c.is_empty.result c.is_empty.ensures
+returns-in-Err-clause-err g c =
+    ap (λ (xs : List RingSeen). map received_from xs) c.in-Err.ensures.same ∙ looks-received c.args.at c.args.self.now c.is_empty.new.self
+    c.is_empty.result c.is_empty.ensures
 
 pub returns-in-Ok-clause-rings : goal.returns-in-Ok-clause-rings
 returns-in-Ok-clause-rings g c =
@@ -40,7 +46,8 @@ returns-in-Ok-clause-rings g c =
 pub returns-in-Ok-clause-others : goal.returns-in-Ok-clause-others
 returns-in-Ok-clause-others g c k d other =
     let t = c.in-Ok.ensures.taken in
-    receives-others c.args.at c.is_empty.new.self c.take_known.new.self t.packet t.receives k d other ∙ looks-others c.args.at c.args.self.now c.is_empty.new.self c.is_empty.result c.is_empty.ensures k d other
+    receives-others c.args.at c.is_empty.new.self c.take_known.new.self t.packet t.receives k d other
+    ∙ looks-others c.args.at c.args.self.now c.is_empty.new.self c.is_empty.result c.is_empty.ensures k d other
 
 pub returns-in-Ok-clause-some : goal.returns-in-Ok-clause-some
 returns-in-Ok-clause-some g c h =

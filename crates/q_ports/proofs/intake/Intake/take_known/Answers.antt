@@ -12,7 +12,9 @@ use Rattle.q_ports.proofs.intake.Intake.take_known.Goals as goal
 
 pub peek_known-packet-requires : goal.peek_known-packet-requires
 peek_known-packet-requires g c =
-    subst (λ (ks : List Descriptor). 0 < length ks) (known-there c.self.inside.rings.items c.args.self.now c.args.at c.index_mut-ring.result.now c.self.view_is c.requires.at c.index_mut-ring.ensures.value no_ring) (c.requires.known no_ring)
+    subst (λ (ks : List Descriptor). 0 < length ks)
+    (known-there c.self.inside.rings.items c.args.self.now c.args.at c.index_mut-ring.result.now c.self.view_is c.requires.at
+    c.index_mut-ring.ensures.value no_ring) (c.requires.known no_ring)
 
 pub invariant_of-self-2 : goal.invariant_of-self-2
 invariant_of-self-2 g c =

@@ -18,8 +18,12 @@ loop-taken-init c = record {
 
 pub loop-taken-preserved : goal.loop-taken-preserved
 loop-taken-preserved c =
-    let look = takes-look c.args.now c.args.self.now c.loop-taken.self c.is_empty.new.self c.args.device.now c.loop-taken.device c.loop-taken.taken c.loop-taken.invariant.takes c.is_empty.ensures.looked c.is_empty.ensures.longer in
-    let noted = between-look c.args.now c.args.device.now c.args.self.now c.loop-taken.self c.is_empty.new.self c.args.last.now c.loop-taken.last c.is_empty.ensures.looked c.loop-taken.invariant.noted in
+    let look =
+    takes-look c.args.now c.args.self.now c.loop-taken.self c.is_empty.new.self c.args.device.now c.loop-taken.device c.loop-taken.taken
+    c.loop-taken.invariant.takes c.is_empty.ensures.looked c.is_empty.ensures.longer in
+    let noted =
+    between-look c.args.now c.args.device.now c.args.self.now c.loop-taken.self c.is_empty.new.self c.args.last.now c.loop-taken.last
+    c.is_empty.ensures.looked c.loop-taken.invariant.noted in
     let first = c.in-Ok.ensures.taken in
     record {
       takes = takes-more c.args.now c.args.self.now c.is_empty.new.self c.take_first_noted.new.self c.args.device.now c.loop-taken.device c.take_first_noted.new.device c.loop-taken.taken look first;
@@ -32,13 +36,17 @@ loop-taken-preserved c =
 
 pub returns-in-Err-clause-taken : goal.returns-in-Err-clause-taken
 returns-in-Err-clause-taken c =
-    let look = takes-look c.args.now c.args.self.now c.loop-taken.self c.is_empty.new.self c.args.device.now c.loop-taken.device c.loop-taken.taken c.loop-taken.invariant.takes c.is_empty.ensures.looked c.is_empty.ensures.longer in
+    let look =
+    takes-look c.args.now c.args.self.now c.loop-taken.self c.is_empty.new.self c.args.device.now c.loop-taken.device c.loop-taken.taken
+    c.loop-taken.invariant.takes c.is_empty.ensures.looked c.is_empty.ensures.longer in
     let same = takes-memory c.args.now c.args.self.now c.is_empty.new.self c.args.device.now c.loop-taken.device c.take_first_noted.new.device c.loop-taken.taken look c.in-Err.ensures.same_device in
     subst (λ (r : RingSeen). TakesIn c.args.now c.args.self.now r c.args.device.now c.take_first_noted.new.device c.loop-taken.taken) (sym c.in-Err.ensures.same) same
 
 pub returns-in-Err-clause-stopped : goal.returns-in-Err-clause-stopped
 returns-in-Err-clause-stopped c h =
-    let look = takes-look c.args.now c.args.self.now c.loop-taken.self c.is_empty.new.self c.args.device.now c.loop-taken.device c.loop-taken.taken c.loop-taken.invariant.takes c.is_empty.ensures.looked c.is_empty.ensures.longer in
+    let look =
+    takes-look c.args.now c.args.self.now c.loop-taken.self c.is_empty.new.self c.args.device.now c.loop-taken.device c.loop-taken.taken
+    c.loop-taken.invariant.takes c.is_empty.ensures.looked c.is_empty.ensures.longer in
     record {
       full = c.loop-taken.device;
       takes = subst (λ (r : RingSeen). TakesIn c.args.now c.args.self.now r c.args.device.now c.loop-taken.device c.loop-taken.taken) (sym c.in-Err.ensures.same) look;
@@ -49,6 +57,8 @@ returns-in-Err-clause-stopped c h =
 
 pub returns-in-Err-clause-noted : goal.returns-in-Err-clause-noted
 returns-in-Err-clause-noted c =
-    let noted = between-look c.args.now c.args.device.now c.args.self.now c.loop-taken.self c.is_empty.new.self c.args.last.now c.loop-taken.last c.is_empty.ensures.looked c.loop-taken.invariant.noted in
+    let noted =
+    between-look c.args.now c.args.device.now c.args.self.now c.loop-taken.self c.is_empty.new.self c.args.last.now c.loop-taken.last
+    c.is_empty.ensures.looked c.loop-taken.invariant.noted in
     c.in-Err.ensures.unnoted ∙ noted
     ∙ ap (λ (r : RingSeen). all_noted (arrivals_between c.args.now c.args.device.now c.args.self.now r) c.args.last.now) (sym c.in-Err.ensures.same)

@@ -12,7 +12,8 @@ invariant-loop-lost g l =
     let contents = g.W.Write.contents in
     record {
       same_writer : l.target.writer.ghost_name ≡ l.fn.target.writer.ghost_name;
-      text : Writing (contents l.fn.target.writer.now) (contents l.target.writer.now) l.fn.output l.output (flat_map lost_line l.fn.self.state.waiting) (flat_map lost_line l.self-inside.device.waiting);
+      text : Writing (contents l.fn.target.writer.now) (contents l.target.writer.now) l.fn.output l.output
+          (flat_map lost_line l.fn.self.state.waiting) (flat_map lost_line l.self-inside.device.waiting);
       same : session_seen l.self-inside ≡ record l.fn.self { state = record l.fn.self.state { waiting = l.self-inside.device.waiting } };
       going : MayWrite l.target.writes;
     }

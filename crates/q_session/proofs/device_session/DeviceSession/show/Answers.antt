@@ -11,5 +11,8 @@ pub returns-clause-err : goal.returns-clause-err
 returns-clause-err g c =
     let old = g.W.Write.contents c.args.target.now.writer.now in
     let new = g.W.Write.contents c.put_show.new.target.writer.now in
-    let of_tree = subst (λ (t : TreeState Counts). OnErr c.put_show.result (AppendsFront old new (c.args.output.now ++ show_text totals c.args.show (record c.self.inside.device.device { tree = t })))) c.tree.ensures.numbers c.put_show.ensures.err in
+    let of_tree =
+    subst (λ (t : TreeState Counts). OnErr c.put_show.result
+    (AppendsFront old new (c.args.output.now ++ show_text totals c.args.show (record c.self.inside.device.device { tree = t }))))
+    c.tree.ensures.numbers c.put_show.ensures.err in
     subst (λ (s : SessionSeen). OnErr c.put_show.result (AppendsFront old new (c.args.output.now ++ show_text totals c.args.show s.state.device))) c.self.view_is of_tree

@@ -34,7 +34,12 @@ returns-in-Ok-Poll-clause-err g c =
     let s = c.args.self.now in
     let is = sym c.read_line.ensures ∙ c.in-Ok-Poll.is ∙ ap Ok c.in-Ok-Poll.field-0-is in
     on_err_weaker c.poll.result
-    (λ w. (false, subst (λ (l : Result Line LineFault). AppendsFront (g.W.Write.contents c.args.target.now.writer.now) (g.W.Write.contents c.poll.new.target.writer.now) (c.args.output.now ++ (report.effect totals s.seed false c.args.number l s.state).text)) (sym is) w))
+    (λ w. (
+      false,
+      subst (λ (l : Result Line LineFault). AppendsFront (g.W.Write.contents c.args.target.now.writer.now)
+          (g.W.Write.contents c.poll.new.target.writer.now) (c.args.output.now ++ (report.effect totals s.seed false c.args.number l s.state).text))
+          (sym is) w,
+    ))
     c.poll.ensures.err
 
 pub returns-in-Ok-Reap-clause-err : goal.returns-in-Ok-Reap-clause-err
@@ -42,7 +47,12 @@ returns-in-Ok-Reap-clause-err g c =
     let s = c.args.self.now in
     let is = sym c.read_line.ensures ∙ c.in-Ok-Reap.is ∙ ap Ok c.in-Ok-Reap.field-0-is in
     on_err_weaker c.reap.result
-    (λ w. (false, subst (λ (l : Result Line LineFault). AppendsFront (g.W.Write.contents c.args.target.now.writer.now) (g.W.Write.contents c.reap.new.target.writer.now) (c.args.output.now ++ (report.effect totals s.seed false c.args.number l s.state).text)) (sym is) w))
+    (λ w. (
+      false,
+      subst (λ (l : Result Line LineFault). AppendsFront (g.W.Write.contents c.args.target.now.writer.now)
+          (g.W.Write.contents c.reap.new.target.writer.now) (c.args.output.now ++ (report.effect totals s.seed false c.args.number l s.state).text))
+          (sym is) w,
+    ))
     c.reap.ensures.err
 
 pub returns-in-Ok-Show-clause-err : goal.returns-in-Ok-Show-clause-err
@@ -50,5 +60,10 @@ returns-in-Ok-Show-clause-err g c =
     let s = c.args.self.now in
     let is = sym c.read_line.ensures ∙ c.in-Ok-Show.is ∙ ap Ok c.in-Ok-Show.field-0-is in
     on_err_weaker c.show.result
-    (λ w. (false, subst (λ (l : Result Line LineFault). AppendsFront (g.W.Write.contents c.args.target.now.writer.now) (g.W.Write.contents c.show.new.target.writer.now) (c.args.output.now ++ (report.effect totals s.seed false c.args.number l s.state).text)) (sym is) w))
+    (λ w. (
+      false,
+      subst (λ (l : Result Line LineFault). AppendsFront (g.W.Write.contents c.args.target.now.writer.now)
+          (g.W.Write.contents c.show.new.target.writer.now) (c.args.output.now ++ (report.effect totals s.seed false c.args.number l s.state).text))
+          (sym is) w,
+    ))
     c.show.ensures.err

@@ -6,8 +6,10 @@ use Rattle.q_tree.proofs.chains.Chains.new.Goals as goal
 
 pub invariant_of-result : goal.invariant_of-result
 invariant_of-result c =
-    let firsts : (with_items c.in_ok-firsts.firsts c.link.new.firsts).items ≡ c.link.new.firsts = with_items_is c.in_ok-firsts.firsts c.link.new.firsts (c.link.ensures.same_firsts ∙ c.deref_mut.ensures.len) in
-    let nexts : (with_items c.in_ok-nexts.nexts c.link.new.nexts).items ≡ c.link.new.nexts = with_items_is c.in_ok-nexts.nexts c.link.new.nexts (c.link.ensures.same_nexts ∙ c.deref_mut-2.ensures.len) in
+    let firsts : (with_items c.in_ok-firsts.firsts c.link.new.firsts).items ≡ c.link.new.firsts =
+    with_items_is c.in_ok-firsts.firsts c.link.new.firsts (c.link.ensures.same_firsts ∙ c.deref_mut.ensures.len) in
+    let nexts : (with_items c.in_ok-nexts.nexts c.link.new.nexts).items ≡ c.link.new.nexts =
+    with_items_is c.in_ok-nexts.nexts c.link.new.nexts (c.link.ensures.same_nexts ∙ c.deref_mut-2.ensures.len) in
     let same : c.deref.result.now ≡ c.args.homes.items = c.deref.ensures.value in
     record {
       firsts_are = subst (λ xs. AreFirsts c.args.homes.items 0 xs) (sym firsts) (subst (λ hs. AreFirsts hs 0 c.link.new.firsts) same c.link.ensures.firsts);

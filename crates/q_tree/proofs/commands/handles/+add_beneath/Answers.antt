@@ -34,8 +34,10 @@ loop-place-preserved t c =
     let i = c.loop-place.place in
     let n = c.child-item.result in
     let more = length-next ns i n c.loop-place-test.true c.child-item.is c.push.new.self.items in (
-      stepped-back c.loop-place.path.items c.add_beneath.new.path.items i (length c.add_beneath.new.path.items) c.pop.new.self.items (c.add_beneath.ensures.way ∙ c.push.ensures.items) refl c.pop.ensures.rest ∙ c.loop-place.invariant.0,
-      added-next ns i n c.loop-place-test.true c.child-item.is c.args.path.now.items c.push.new.self.items (listed c.loop-place.ways.entries) (listed c.add_own.new.ways.entries) (listed c.add_beneath.new.ways.entries)
+      stepped-back c.loop-place.path.items c.add_beneath.new.path.items i (length c.add_beneath.new.path.items) c.pop.new.self.items
+          (c.add_beneath.ensures.way ∙ c.push.ensures.items) refl c.pop.ensures.rest ∙ c.loop-place.invariant.0,
+      added-next ns i n c.loop-place-test.true c.child-item.is c.args.path.now.items c.push.new.self.items (listed c.loop-place.ways.entries)
+          (listed c.add_own.new.ways.entries) (listed c.add_beneath.new.ways.entries)
           (c.push.ensures.items ∙ ap (λ p. p ++ i ∷ []) c.loop-place.invariant.0) c.add_own.ensures.added c.add_beneath.ensures.added
           ∙ c.loop-place.invariant.1,
       omega (arith, c.loop-place.invariant.2, more, c.add_own.ensures.room, c.add_beneath.ensures.room),

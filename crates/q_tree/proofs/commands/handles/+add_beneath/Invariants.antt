@@ -12,6 +12,7 @@ decreases-add_beneath l = goal.size-add_beneath l
 abbrev pub invariant-loop-place : goal.invariant-loop-place
 invariant-loop-place l =
     (l.path.items ≡ l.fn.path.items)
-    × (fold added (listed l.ways.entries) (map (under l.fn.path.items) (addresses_from l.place (drop l.place l.child-items))) ≡ fold added (listed l.fn.ways.entries) (map (under l.fn.path.items) (addresses_beneath l.fn.node)))
+    × (fold added (listed l.ways.entries) (map (under l.fn.path.items) (addresses_from l.place (drop l.place l.child-items)))
+    ≡ fold added (listed l.fn.ways.entries) (map (under l.fn.path.items) (addresses_beneath l.fn.node)))
     × (length (addresses_from l.place (drop l.place l.child-items)) ≤ spare l.ways)
     × (spare l.fn.ways + length (addresses_from l.place (drop l.place l.child-items)) ≤ spare l.ways + length (addresses_beneath l.fn.node))

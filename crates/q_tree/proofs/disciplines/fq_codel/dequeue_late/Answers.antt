@@ -24,21 +24,56 @@ sent g c =
     c.take_late_into-sent.ensures.sends c.take_late_into-sent.ensures.len c.take_late_into-sent.ensures.marked c.take_late_into-sent.ensures.packet
 
 pub overflow_sub-gone : goal.overflow_sub-gone
-overflow_sub-gone g c = omega (arith, late-packets c.args.now c.args.queue.now.state c.requires.settled.chosen, c.queued-packets.ensures.packets, c.queued-packets_after.ensures.packets, ap (λ (s : FqState). packets_of s.flows) c.take_late_into-sent.ensures.after)
+overflow_sub-gone g c =
+    omega (
+      arith,
+      late-packets c.args.now c.args.queue.now.state c.requires.settled.chosen,
+      c.queued-packets.ensures.packets,
+      c.queued-packets_after.ensures.packets,
+      ap (λ (s : FqState). packets_of s.flows) c.take_late_into-sent.ensures.after,
+    )
 
 pub overflow_sub-gone-2 : goal.overflow_sub-gone-2
-overflow_sub-gone-2 g c = omega (arith, late-bytes c.args.now c.args.queue.now.state c.requires.settled.chosen, c.queued-packets.ensures.bytes, c.queued-packets_after.ensures.bytes, ap (λ (s : FqState). bytes_of s.flows) c.take_late_into-sent.ensures.after)
+overflow_sub-gone-2 g c =
+    omega (
+      arith,
+      late-bytes c.args.now c.args.queue.now.state c.requires.settled.chosen,
+      c.queued-packets.ensures.bytes,
+      c.queued-packets_after.ensures.bytes,
+      ap (λ (s : FqState). bytes_of s.flows) c.take_late_into-sent.ensures.after,
+    )
 
 -- the packet that was sent is one of those that are gone
 pub difference-requires-clause-packets : goal.difference-requires-clause-packets
 difference-requires-clause-packets g c =
     let d = (goal.at.difference-requires-clause-packets g c).After-take_late_into-sent in
-    omega (arith, late-packets c.args.now c.args.queue.now.state c.requires.settled.chosen, ap (λ o. length (option_to_list (packet_of o))) (sent g d), c.queued-packets.ensures.packets, c.queued-packets_after.ensures.packets, ap (λ (s : FqState). packets_of s.flows) c.take_late_into-sent.ensures.after, ap (λ (t : Totals). t.packets) c.one_packet-one.ensures)
+    omega (
+      arith,
+      late-packets c.args.now c.args.queue.now.state c.requires.settled.chosen,
+      ap (λ o. length (option_to_list (packet_of o)))
+          (sent g d),
+      c.queued-packets.ensures.packets,
+      c.queued-packets_after.ensures.packets,
+      ap (λ (s : FqState). packets_of s.flows)
+          c.take_late_into-sent.ensures.after,
+      ap (λ (t : Totals). t.packets) c.one_packet-one.ensures,
+    )
 
 pub difference-requires-clause-bytes : goal.difference-requires-clause-bytes
 difference-requires-clause-bytes g c =
     let d = (goal.at.difference-requires-clause-bytes g c).After-take_late_into-sent in
-    omega (arith, late-bytes c.args.now c.args.queue.now.state c.requires.settled.chosen, ap (λ o. (totals_in (option_to_list (packet_of o))).bytes) (sent g d), sum_by-cons (λ (p : Descriptor). p.len) c.take_late_into-sent.new.out [], c.queued-packets.ensures.bytes, c.queued-packets_after.ensures.bytes, ap (λ (s : FqState). bytes_of s.flows) c.take_late_into-sent.ensures.after, ap (λ (t : Totals). t.bytes) c.one_packet-one.ensures)
+    omega (
+      arith,
+      late-bytes c.args.now c.args.queue.now.state c.requires.settled.chosen,
+      ap (λ o. (totals_in (option_to_list (packet_of o))).bytes)
+          (sent g d),
+      sum_by-cons (λ (p : Descriptor). p.len) c.take_late_into-sent.new.out [],
+      c.queued-packets.ensures.bytes,
+      c.queued-packets_after.ensures.bytes,
+      ap (λ (s : FqState). bytes_of s.flows) c.take_late_into-sent.ensures.after,
+      ap
+          (λ (t : Totals). t.bytes) c.one_packet-one.ensures,
+    )
 
 pub returns-clause-given : goal.returns-clause-given
 returns-clause-given g c =
@@ -48,10 +83,36 @@ returns-clause-given g c =
 pub returns-clause-dropped : goal.returns-clause-dropped
 returns-clause-dropped g c =
     let d = (goal.at.returns-clause-dropped g c).After-take_late_into-sent in
-    ap (λ (s : Shown). s.dropped) c.sending.ensures ∙ c.difference.ensures ∙ same-totals (minus (record { packets = c.queued-packets.result.0 - c.queued-packets_after.result.0; bytes = c.queued-packets.result.1 - c.queued-packets_after.result.1 }) c.one_packet-one.result)
+    ap (λ (s : Shown). s.dropped) c.sending.ensures ∙ c.difference.ensures ∙ same-totals
+    (minus (record {
+      packets = c.queued-packets.result.0 - c.queued-packets_after.result.0;
+      bytes = c.queued-packets.result.1 -
+          c.queued-packets_after.result.1;
+    }) c.one_packet-one.result)
     (totals_in (beneath.packets_of (dropped_from c.args.now c.args.queue.now.state)))
-    (omega (arith, late-packets c.args.now c.args.queue.now.state c.requires.settled.chosen, ap (λ o. length (option_to_list (packet_of o))) (sent g d), c.queued-packets.ensures.packets, c.queued-packets_after.ensures.packets, ap (λ (s : FqState). packets_of s.flows) c.take_late_into-sent.ensures.after, ap (λ (t : Totals). t.packets) c.one_packet-one.ensures))
-    (omega (arith, late-bytes c.args.now c.args.queue.now.state c.requires.settled.chosen, ap (λ o. (totals_in (option_to_list (packet_of o))).bytes) (sent g d), sum_by-cons (λ (p : Descriptor). p.len) c.take_late_into-sent.new.out [], c.queued-packets.ensures.bytes, c.queued-packets_after.ensures.bytes, ap (λ (s : FqState). bytes_of s.flows) c.take_late_into-sent.ensures.after, ap (λ (t : Totals). t.bytes) c.one_packet-one.ensures))
+    (omega (
+      arith,
+      late-packets c.args.now c.args.queue.now.state c.requires.settled.chosen,
+      ap (λ o. length (option_to_list (packet_of o)))
+          (sent g d),
+      c.queued-packets.ensures.packets,
+      c.queued-packets_after.ensures.packets,
+      ap (λ (s : FqState). packets_of s.flows)
+          c.take_late_into-sent.ensures.after,
+      ap (λ (t : Totals). t.packets) c.one_packet-one.ensures,
+    ))
+    (omega (
+      arith,
+      late-bytes c.args.now c.args.queue.now.state c.requires.settled.chosen,
+      ap (λ o. (totals_in (option_to_list (packet_of o))).bytes)
+          (sent g d),
+      sum_by-cons (λ (p : Descriptor). p.len) c.take_late_into-sent.new.out [],
+      c.queued-packets.ensures.bytes,
+      c.queued-packets_after.ensures.bytes,
+      ap (λ (s : FqState). bytes_of s.flows) c.take_late_into-sent.ensures.after,
+      ap
+          (λ (t : Totals). t.bytes) c.one_packet-one.ensures,
+    ))
 
 pub returns-clause-marked : goal.returns-clause-marked
 returns-clause-marked g c =
@@ -75,7 +136,8 @@ returns-then-not-sent-clause-given g c =
 
 pub returns-then-not-sent-clause-dropped : goal.returns-then-not-sent-clause-dropped
 returns-then-not-sent-clause-dropped g c =
-    ap (λ (s : Shown). s.dropped) c.show_marked.ensures.shown ∙ none-dropped (dropped_from c.args.now c.args.queue.now.state) (sym c.take_late_into-sent.ensures.dropped ∙ not-true c.take_late_into-sent.result.dropped c.if-not-sent.true)
+    ap (λ (s : Shown). s.dropped) c.show_marked.ensures.shown ∙ none-dropped (dropped_from c.args.now c.args.queue.now.state)
+    (sym c.take_late_into-sent.ensures.dropped ∙ not-true c.take_late_into-sent.result.dropped c.if-not-sent.true)
 
 pub returns-then-not-sent-clause-marked : goal.returns-then-not-sent-clause-marked
 returns-then-not-sent-clause-marked g c =

@@ -23,5 +23,6 @@ returns-in-Err-clause-shown g c =
 
 pub returns-in-Err-clause-held : goal.returns-in-Err-clause-held
 returns-in-Err-clause-held g c =
-    late-held c.args.now c.pass_into.new.self.state c.dequeue_late.result.packet c.dequeue_late.new.out c.pass_into.new.out c.dequeue_late.new.since c.dequeue_late.ensures.given c.dequeue_late.ensures.packet c.dequeue_late.ensures.since
+    late-held c.args.now c.pass_into.new.self.state c.dequeue_late.result.packet c.dequeue_late.new.out c.pass_into.new.out c.dequeue_late.new.since
+    c.dequeue_late.ensures.given c.dequeue_late.ensures.packet c.dequeue_late.ensures.since
     ∙ ap (λ (t : FqState). held_with c.dequeue_late.result.packet (option_map_or (λ (x : Stamped). x.at) (head_sent c.args.now t) 0)) c.in-Err.ensures.selected

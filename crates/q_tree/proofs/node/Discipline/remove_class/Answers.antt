@@ -24,7 +24,9 @@ gone o = option_map_or (λ (x : ℕ × Node Kept). beneath x.1) o []
 pub returns-then-place-len-clause-told : goal.returns-then-place-len-clause-told
 returns-then-place-len-clause-told g c =
     let place = c.in-Some.ensures.value ∙ ap (λ n. place_of n c.in-Drr.active.classes) c.number.ensures.value in
-    let none = past-class c.args.class (discipline_seen c.args.self.now) c.in-Drr.active (children_seen c.args.self.now) c.in-Drr.classes.items (ap discipline_seen c.in-Drr.is) (ap children_seen c.in-Drr.is) c.in-Some.place place
+    let none =
+    past-class c.args.class (discipline_seen c.args.self.now) c.in-Drr.active (children_seen c.args.self.now) c.in-Drr.classes.items
+    (ap discipline_seen c.in-Drr.is) (ap children_seen c.in-Drr.is) c.in-Some.place place
     (slice_get_past c.in-Drr.classes.items c.in-Some.place (omega (arith, c.len.ensures, c.in-Drr.classes.ok, c.if-place-len.true))) in
     subst (λ o. IsTold (purged (gone o)) (g.S.Sink.state c.args.sink.now) (g.S.Sink.state c.args.sink.now)) (sym none) (told_nothing (g.S.Sink.state c.args.sink.now))
 
@@ -35,14 +37,18 @@ remove-requires g c =
 pub purge-requires : goal.purge-requires
 purge-requires g c =
     let place = c.in-Some.ensures.value ∙ ap (λ n. place_of n c.in-Drr.active.classes) c.number.ensures.value in
-    let found = found-class c.args.class (discipline_seen c.args.self.now) c.in-Drr.active (children_seen c.args.self.now) c.in-Drr.classes.items (ap discipline_seen c.in-Drr.is) (ap children_seen c.in-Drr.is) c.in-Some.place c.remove-child.result place
+    let found =
+    found-class c.args.class (discipline_seen c.args.self.now) c.in-Drr.active (children_seen c.args.self.now) c.in-Drr.classes.items
+    (ap discipline_seen c.in-Drr.is) (ap children_seen c.in-Drr.is) c.in-Some.place c.remove-child.result place
     (omega (arith, c.len.ensures, c.in-Drr.classes.ok, c.if-place-len.false)) c.remove-child.ensures.value in
     omega (arith, c.requires.sink, ap (λ o. length (gone o)) found)
 
 pub returns-clause-after : goal.returns-clause-after
 returns-clause-after g c =
     let place = c.in-Some.ensures.value ∙ ap (λ n. place_of n c.in-Drr.active.classes) c.number.ensures.value in
-    let found = found-class c.args.class (discipline_seen c.args.self.now) c.in-Drr.active (children_seen c.args.self.now) c.in-Drr.classes.items (ap discipline_seen c.in-Drr.is) (ap children_seen c.in-Drr.is) c.in-Some.place c.remove-child.result place
+    let found =
+    found-class c.args.class (discipline_seen c.args.self.now) c.in-Drr.active (children_seen c.args.self.now) c.in-Drr.classes.items
+    (ap discipline_seen c.in-Drr.is) (ap children_seen c.in-Drr.is) c.in-Some.place c.remove-child.result place
     (omega (arith, c.len.ensures, c.in-Drr.classes.ok, c.if-place-len.false)) c.remove-child.ensures.value in
     record {
       discipline = ap spec.Drr (c.remove.ensures ∙ ap (λ n. schedule.removed n c.in-Drr.active) c.number-2.ensures.value)
@@ -57,13 +63,17 @@ returns-clause-after g c =
 pub returns-clause-totals : goal.returns-clause-totals
 returns-clause-totals g c =
     let place = c.in-Some.ensures.value ∙ ap (λ n. place_of n c.in-Drr.active.classes) c.number.ensures.value in
-    let found = found-class c.args.class (discipline_seen c.args.self.now) c.in-Drr.active (children_seen c.args.self.now) c.in-Drr.classes.items (ap discipline_seen c.in-Drr.is) (ap children_seen c.in-Drr.is) c.in-Some.place c.remove-child.result place
+    let found =
+    found-class c.args.class (discipline_seen c.args.self.now) c.in-Drr.active (children_seen c.args.self.now) c.in-Drr.classes.items
+    (ap discipline_seen c.in-Drr.is) (ap children_seen c.in-Drr.is) c.in-Some.place c.remove-child.result place
     (omega (arith, c.len.ensures, c.in-Drr.classes.ok, c.if-place-len.false)) c.remove-child.ensures.value in
     c.queued-lost.ensures ∙ sym (ap (λ o. totals_in (gone o)) found)
 
 pub returns-clause-told : goal.returns-clause-told
 returns-clause-told g c =
     let place = c.in-Some.ensures.value ∙ ap (λ n. place_of n c.in-Drr.active.classes) c.number.ensures.value in
-    let found = found-class c.args.class (discipline_seen c.args.self.now) c.in-Drr.active (children_seen c.args.self.now) c.in-Drr.classes.items (ap discipline_seen c.in-Drr.is) (ap children_seen c.in-Drr.is) c.in-Some.place c.remove-child.result place
+    let found =
+    found-class c.args.class (discipline_seen c.args.self.now) c.in-Drr.active (children_seen c.args.self.now) c.in-Drr.classes.items
+    (ap discipline_seen c.in-Drr.is) (ap children_seen c.in-Drr.is) c.in-Some.place c.remove-child.result place
     (omega (arith, c.len.ensures, c.in-Drr.classes.ok, c.if-place-len.false)) c.remove-child.ensures.value in
     subst (λ o. IsTold (purged (gone o)) (g.S.Sink.state c.args.sink.now) (g.S.Sink.state c.purge.new.sink)) (sym found) c.purge.ensures.told

@@ -16,7 +16,14 @@ count_nodes-nodes-requires t c =
 
 pub overflow_add-nodes : goal.overflow_add-nodes
 overflow_add-nodes t c =
-    omega (arith, c.requires, c.loop-child.invariant, c.count_nodes-nodes.ensures, count-next c.children-child-items.result.now c.loop-child.child-index c.child-item.result c.loop-child-test.true c.child-item.is)
+    omega (
+      arith,
+      c.requires,
+      c.loop-child.invariant,
+      c.count_nodes-nodes.ensures,
+      count-next c.children-child-items.result.now
+          c.loop-child.child-index c.child-item.result c.loop-child-test.true c.child-item.is,
+    )
 
 pub loop-child-preserved : goal.loop-child-preserved
 loop-child-preserved t c =

@@ -16,7 +16,9 @@ nth-requires t c =
 pub loop-i-init : goal.loop-i-init
 loop-i-init t c =
     let first = beneath-first c.args.place c.args.self.now c.children-child-items.result.now c.children-child-items.ensures in (
-      ap (λ xs. slice_get xs c.args.left.now) first ∙ get-next (c.args.place, c.args.self.now) (from (places_below c.args.self.now.own c.args.self.now.below) c.children-child-items.result.now 0) c.args.left.now (omega (arith, c.if-left-eq0.false)),
+      ap (λ xs. slice_get xs c.args.left.now) first ∙ get-next (c.args.place, c.args.self.now)
+          (from (places_below c.args.self.now.own c.args.self.now.below) c.children-child-items.result.now 0) c.args.left.now
+          (omega (arith, c.if-left-eq0.false)),
       omega (arith, ap length first, c.if-left-eq0.false),
     )
 

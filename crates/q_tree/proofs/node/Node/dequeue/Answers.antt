@@ -24,7 +24,8 @@ returns-then-is_some-clause-dequeued g c =
     record {
       after = ap (λ (h : Option Stamped). seen (record c.self.inside { held = h; row = c.book_sent.new.row })) c.release.ensures.none
           ∙ held-after c.self.inside c.release.new.out held c.book_sent.new.row c.book_sent.ensures ∙ ap (λ n. booked kept n (pop n).after) c.self.view_is
-          ∙ gave-asked c.args.now c.args.self.now c.args.self.now c.release.new.out c.requires.ready stays (held-answer c.args.now c.self.inside c.args.self.now c.release.new.out c.self.view_is held).packet;
+          ∙ gave-asked c.args.now c.args.self.now c.args.self.now c.release.new.out c.requires.ready stays
+          (held-answer c.args.now c.self.inside c.args.self.now c.release.new.out c.self.view_is held).packet;
       arrived = search rules;
       shown = held-shows c.args.now c.self.inside c.args.self.now c.release.new.out c.self.view_is held c.sending.result c.sending.ensures;
       packet = ap (λ (s : Shown). unwrap_or s.packet c.args.out.now) (sym c.sending.ensures);
@@ -33,7 +34,10 @@ returns-then-is_some-clause-dequeued g c =
 
 pub dequeue-shown-requires : goal.dequeue-shown-requires
 dequeue-shown-requires g c = record {
-  ready = can-in c.args.now c.self.inside c.args.self.now c.self.invariant c.self.view_is c.requires.ready (omega (arith, c.self.ranges, c.fit.ensures.packets, c.fit.ensures.bytes)) (omega (arith, c.self.ranges, c.fit.ensures.packets, c.fit.ensures.bytes));
+  ready =
+      can-in c.args.now c.self.inside c.args.self.now c.self.invariant c.self.view_is c.requires.ready
+      (omega (arith, c.self.ranges, c.fit.ensures.packets, c.fit.ensures.bytes))
+      (omega (arith, c.self.ranges, c.fit.ensures.packets, c.fit.ensures.bytes));
   sink = enough c.args.now c.self.inside c.args.self.now c.self.invariant c.self.view_is c.requires.ready (g.S.Sink.state c.args.sink.now).room c.requires.sink;
   clean = c.requires.clean;
 }
@@ -52,7 +56,8 @@ invariant_of-self-then-not-has_packet g c =
     let can = can-book c.args.now c.self.inside c.args.self.now c.self.invariant c.self.view_is c.requires.ready none c.dequeue-shown.result sent.children.shown
     (omega (arith, c.self.ranges, c.fit.ensures.packets, c.fit.ensures.bytes)) (omega (arith, c.self.ranges, c.fit.ensures.packets, c.fit.ensures.bytes)) in
     let empty = none-held c.dequeue-shown.result.packet (sym c.if-not-has_packet.true ∙ c.has_packet.ensures) in
-    (none-sent c.args.now c.self.inside c.args.self.now c.self.invariant c.self.view_is c.requires.ready none c.dequeue-shown.new.self c.dequeue-shown.result sent c.book_shown.new.row can c.book_shown.ensures empty).stays
+    (none-sent c.args.now c.self.inside c.args.self.now c.self.invariant c.self.view_is c.requires.ready none c.dequeue-shown.new.self
+    c.dequeue-shown.result sent c.book_shown.new.row can c.book_shown.ensures empty).stays
 
 pub returns-then-not-has_packet-clause-dequeued : goal.returns-then-not-has_packet-clause-dequeued
 returns-then-not-has_packet-clause-dequeued g c =
@@ -62,7 +67,9 @@ returns-then-not-has_packet-clause-dequeued g c =
     (omega (arith, c.self.ranges, c.fit.ensures.packets, c.fit.ensures.bytes)) (omega (arith, c.self.ranges, c.fit.ensures.packets, c.fit.ensures.bytes)) in
     let empty = none-held c.dequeue-shown.result.packet (sym c.if-not-has_packet.true ∙ c.has_packet.ensures) in
     record {
-      after = (none-sent c.args.now c.self.inside c.args.self.now c.self.invariant c.self.view_is c.requires.ready none c.dequeue-shown.new.self c.dequeue-shown.result sent c.book_shown.new.row can c.book_shown.ensures empty).after;
+      after =
+          (none-sent c.args.now c.self.inside c.args.self.now c.self.invariant c.self.view_is c.requires.ready none c.dequeue-shown.new.self
+          c.dequeue-shown.result sent c.book_shown.new.row can c.book_shown.ensures empty).after;
       arrived = search rules;
       shown = shown-here c.args.now c.self.inside c.args.self.now c.self.invariant c.self.view_is c.requires.ready none c.dequeue-shown.result sent.children.shown;
       packet = search rules;
@@ -83,7 +90,10 @@ returns-clause-dequeued g c =
     (omega (arith, c.self.ranges, c.fit.ensures.packets, c.fit.ensures.bytes)) (omega (arith, c.self.ranges, c.fit.ensures.packets, c.fit.ensures.bytes)) in
     let some = given-some c.dequeue-shown.result.packet c.args.out.now c.dequeue-shown.new.out (sym c.has_packet.ensures ∙ c.if-not-has_packet.false) c.dequeue-shown.ensures.packet in
     record {
-      after = (one-sent c.args.now c.self.inside c.args.self.now c.self.invariant c.self.view_is c.requires.ready none c.dequeue-shown.new.self c.dequeue-shown.result sent c.book_shown.new.row can c.book_shown.ensures c.dequeue-shown.new.out some c.book_sent-2.new.row c.book_sent-2.ensures).after;
+      after =
+          (one-sent c.args.now c.self.inside c.args.self.now c.self.invariant c.self.view_is c.requires.ready none c.dequeue-shown.new.self
+          c.dequeue-shown.result sent c.book_shown.new.row can c.book_shown.ensures c.dequeue-shown.new.out some c.book_sent-2.new.row
+          c.book_sent-2.ensures).after;
       arrived = search rules;
       shown = shown-here c.args.now c.self.inside c.args.self.now c.self.invariant c.self.view_is c.requires.ready none c.dequeue-shown.result sent.children.shown;
       packet = search rules;
@@ -103,7 +113,8 @@ book_sent-requires-2-clause-balanced g c =
     let can = can-book c.args.now c.self.inside c.args.self.now c.self.invariant c.self.view_is c.requires.ready none c.dequeue-shown.result sent.children.shown
     (omega (arith, c.self.ranges, c.fit.ensures.packets, c.fit.ensures.bytes)) (omega (arith, c.self.ranges, c.fit.ensures.packets, c.fit.ensures.bytes)) in
     let some = given-some c.dequeue-shown.result.packet c.args.out.now c.dequeue-shown.new.out (sym c.has_packet.ensures ∙ c.if-not-has_packet.false) c.dequeue-shown.ensures.packet in
-    (sent-row c.args.now c.self.inside c.args.self.now c.self.invariant c.self.view_is c.requires.ready none c.dequeue-shown.new.self c.dequeue-shown.result sent c.book_shown.new.row can c.book_shown.ensures c.dequeue-shown.new.out some).balanced
+    (sent-row c.args.now c.self.inside c.args.self.now c.self.invariant c.self.view_is c.requires.ready none c.dequeue-shown.new.self
+    c.dequeue-shown.result sent c.book_shown.new.row can c.book_shown.ensures c.dequeue-shown.new.out some).balanced
 
 pub book_sent-requires-2-clause-among : goal.book_sent-requires-2-clause-among
 book_sent-requires-2-clause-among g c =
@@ -112,7 +123,8 @@ book_sent-requires-2-clause-among g c =
     let can = can-book c.args.now c.self.inside c.args.self.now c.self.invariant c.self.view_is c.requires.ready none c.dequeue-shown.result sent.children.shown
     (omega (arith, c.self.ranges, c.fit.ensures.packets, c.fit.ensures.bytes)) (omega (arith, c.self.ranges, c.fit.ensures.packets, c.fit.ensures.bytes)) in
     let some = given-some c.dequeue-shown.result.packet c.args.out.now c.dequeue-shown.new.out (sym c.has_packet.ensures ∙ c.if-not-has_packet.false) c.dequeue-shown.ensures.packet in
-    sent-queued c.args.now c.self.inside c.args.self.now c.self.invariant c.self.view_is c.requires.ready none c.dequeue-shown.new.self c.dequeue-shown.result sent c.book_shown.new.row can c.book_shown.ensures c.dequeue-shown.new.out some
+    sent-queued c.args.now c.self.inside c.args.self.now c.self.invariant c.self.view_is c.requires.ready none c.dequeue-shown.new.self
+    c.dequeue-shown.result sent c.book_shown.new.row can c.book_shown.ensures c.dequeue-shown.new.out some
 
 pub book_sent-requires-2-clause-room : goal.book_sent-requires-2-clause-room
 book_sent-requires-2-clause-room g c =
@@ -121,8 +133,12 @@ book_sent-requires-2-clause-room g c =
     let can = can-book c.args.now c.self.inside c.args.self.now c.self.invariant c.self.view_is c.requires.ready none c.dequeue-shown.result sent.children.shown
     (omega (arith, c.self.ranges, c.fit.ensures.packets, c.fit.ensures.bytes)) (omega (arith, c.self.ranges, c.fit.ensures.packets, c.fit.ensures.bytes)) in
     let some = given-some c.dequeue-shown.result.packet c.args.out.now c.dequeue-shown.new.out (sym c.has_packet.ensures ∙ c.if-not-has_packet.false) c.dequeue-shown.ensures.packet in
-    let row = sent-row c.args.now c.self.inside c.args.self.now c.self.invariant c.self.view_is c.requires.ready none c.dequeue-shown.new.self c.dequeue-shown.result sent c.book_shown.new.row can c.book_shown.ensures c.dequeue-shown.new.out some in
-    let had = sent-queued c.args.now c.self.inside c.args.self.now c.self.invariant c.self.view_is c.requires.ready none c.dequeue-shown.new.self c.dequeue-shown.result sent c.book_shown.new.row can c.book_shown.ensures c.dequeue-shown.new.out some in
+    let row =
+    sent-row c.args.now c.self.inside c.args.self.now c.self.invariant c.self.view_is c.requires.ready none c.dequeue-shown.new.self
+    c.dequeue-shown.result sent c.book_shown.new.row can c.book_shown.ensures c.dequeue-shown.new.out some in
+    let had =
+    sent-queued c.args.now c.self.inside c.args.self.now c.self.invariant c.self.view_is c.requires.ready none c.dequeue-shown.new.self
+    c.dequeue-shown.result sent c.book_shown.new.row can c.book_shown.ensures c.dequeue-shown.new.out some in
     let same = ap (λ (r : Row). r.arrived) c.book_shown.ensures in
     record {
       packets = omega (arith, row.balanced.packets, had.packets, ap (λ (t : Totals). t.packets) same, c.self.ranges, c.fit.ensures.packets, c.fit.ensures.bytes);
@@ -136,4 +152,6 @@ invariant_of-self-2 g c =
     let can = can-book c.args.now c.self.inside c.args.self.now c.self.invariant c.self.view_is c.requires.ready none c.dequeue-shown.result sent.children.shown
     (omega (arith, c.self.ranges, c.fit.ensures.packets, c.fit.ensures.bytes)) (omega (arith, c.self.ranges, c.fit.ensures.packets, c.fit.ensures.bytes)) in
     let some = given-some c.dequeue-shown.result.packet c.args.out.now c.dequeue-shown.new.out (sym c.has_packet.ensures ∙ c.if-not-has_packet.false) c.dequeue-shown.ensures.packet in
-    (one-sent c.args.now c.self.inside c.args.self.now c.self.invariant c.self.view_is c.requires.ready none c.dequeue-shown.new.self c.dequeue-shown.result sent c.book_shown.new.row can c.book_shown.ensures c.dequeue-shown.new.out some c.book_sent-2.new.row c.book_sent-2.ensures).stays
+    (one-sent c.args.now c.self.inside c.args.self.now c.self.invariant c.self.view_is c.requires.ready none c.dequeue-shown.new.self
+    c.dequeue-shown.result sent c.book_shown.new.row can c.book_shown.ensures c.dequeue-shown.new.out some c.book_sent-2.new.row
+    c.book_sent-2.ensures).stays

@@ -15,8 +15,10 @@ pub returns-then-names_beyond : goal.returns-then-names_beyond
 returns-then-names_beyond c =
     let n = c.args.self.now in
     leaves-by n c.args.bands c.args.nodes c.in-Prio.priomap (sym (ap (λ (m : Node Kept). m.own.discipline) c.self.view_is) ∙ ap discipline_seen c.in-Prio.is)
-    c.all.result.now (sym (c.all.ensures ∙ ap (λ (m : Node Kept). m.own.filters) c.self.view_is)) true (nat_lt most_nodes (c.args.nodes + (c.args.bands - length (children n)) - nodes_from c.args.bands n))
-    (ap (λ k. list_any (λ (f : Filter). nat_lt k f.minor) c.all.result.now) (sym c.from-bands.ensures) ∙ sym c.names_beyond.ensures ∙ c.if-names_beyond.true) (λ i. nat_lt most_nodes (c.args.nodes + (c.args.bands - length (children n)) - nodes_from c.args.bands n))
+    c.all.result.now (sym (c.all.ensures ∙ ap (λ (m : Node Kept). m.own.filters) c.self.view_is)) true
+    (nat_lt most_nodes (c.args.nodes + (c.args.bands - length (children n)) - nodes_from c.args.bands n))
+    (ap (λ k. list_any (λ (f : Filter). nat_lt k f.minor) c.all.result.now) (sym c.from-bands.ensures) ∙ sym c.names_beyond.ensures
+    ∙ c.if-names_beyond.true) (λ i. nat_lt most_nodes (c.args.nodes + (c.args.bands - length (children n)) - nodes_from c.args.bands n))
 
 pub returns-then-nodes-more : goal.returns-then-nodes-more
 returns-then-nodes-more c =

@@ -34,7 +34,8 @@ returns-in_err-class_at-in-Drr c =
 pub returns-in-Drr : goal.returns-in-Drr
 returns-in-Drr c =
     minor-made c.new-in-Drr.result c.in_ok-class_at-in-Drr.field-0 c.new-in-Drr.ensures.in_range c.new-in-Drr.ensures.value
-    (named-minor c.self.inside c.args.self.now c.requires c.self.view_is c.in-Drr.active c.in-Drr.classes c.in-Drr.is c.args.i c.in_ok-class_at-in-Drr.field-0 (sym c.class_at.ensures.value ∙ c.in_ok-class_at-in-Drr.was))
+    (named-minor c.self.inside c.args.self.now c.requires c.self.view_is c.in-Drr.active c.in-Drr.classes c.in-Drr.is c.args.i
+    c.in_ok-class_at-in-Drr.field-0 (sym c.class_at.ensures.value ∙ c.in_ok-class_at-in-Drr.was))
     ∙ sym c.in_ok-class_at-in-Drr.was ∙ c.class_at.ensures.value
     ∙ sym (ap (λ ms. slice_get ms c.args.i) (drr-minors c.self.inside c.args.self.now c.requires c.self.view_is c.in-Drr.active c.in-Drr.classes c.in-Drr.is)
     ∙ slice_get-map (λ (k : Class). k.name) c.in-Drr.active.classes c.args.i)

@@ -9,7 +9,8 @@ count_nodes-nodes-requires c =
       c.requires,
       c.loop-child.invariant,
       few-from c.args.self.now c.args.place,
-      count-next (take (length c.children-children.result.now - c.min.result) (drop c.min.result c.children-children.result.now)) c.loop-child.child-index c.child-item.result c.loop-child-test.true c.child-item.is,
+      count-next (take (length c.children-children.result.now - c.min.result) (drop c.min.result c.children-children.result.now))
+          c.loop-child.child-index c.child-item.result c.loop-child-test.true c.child-item.is,
     )
 
 pub overflow_add-nodes : goal.overflow_add-nodes
@@ -20,7 +21,8 @@ overflow_add-nodes c =
       c.loop-child.invariant,
       c.count_nodes-nodes.ensures,
       few-from c.args.self.now c.args.place,
-      count-next (take (length c.children-children.result.now - c.min.result) (drop c.min.result c.children-children.result.now)) c.loop-child.child-index c.child-item.result c.loop-child-test.true c.child-item.is,
+      count-next (take (length c.children-children.result.now - c.min.result) (drop c.min.result c.children-children.result.now))
+          c.loop-child.child-index c.child-item.result c.loop-child-test.true c.child-item.is,
     )
 
 pub returns-clause-few : goal.returns-clause-few

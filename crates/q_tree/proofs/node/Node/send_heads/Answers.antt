@@ -9,17 +9,22 @@ few g c = omega (arith, c.take_burst-count.ensures.count)
 
 pub invariant_of-self-2 : goal.invariant_of-self-2
 invariant_of-self-2 g c =
-    heads-kept c.self.inside c.in-Fifo.fifo c.in-Fifo.is c.args.self.now c.self.view_is c.take_burst-count.result.0 (few g c) c.take_burst-count.result.1 c.take_burst-count.ensures.bytes c.book_sends.new.row
+    heads-kept c.self.inside c.in-Fifo.fifo c.in-Fifo.is c.args.self.now c.self.view_is c.take_burst-count.result.0 (few g c)
+    c.take_burst-count.result.1 c.take_burst-count.ensures.bytes c.book_sends.new.row
     c.book_sends.ensures c.take_burst-count.new.self c.take_burst-count.ensures.rest c.self.invariant
 
 pub returns-clause-totals : goal.returns-clause-totals
-returns-clause-totals g c = heads-totals c.self.inside c.in-Fifo.fifo c.in-Fifo.is c.args.self.now c.self.view_is c.take_burst-count.result.0 (few g c) c.take_burst-count.result.1 c.take_burst-count.ensures.bytes
+returns-clause-totals g c =
+    heads-totals c.self.inside c.in-Fifo.fifo c.in-Fifo.is c.args.self.now c.self.view_is c.take_burst-count.result.0 (few g c)
+    c.take_burst-count.result.1 c.take_burst-count.ensures.bytes
 
 pub returns-clause-told : goal.returns-clause-told
 returns-clause-told g c =
-    heads-told c.self.inside c.in-Fifo.fifo c.in-Fifo.is c.args.self.now c.self.view_is c.take_burst-count.result.0 (few g c) g.T.Told.told c.args.places.now c.take_burst-count.new.places c.take_burst-count.ensures.told
+    heads-told c.self.inside c.in-Fifo.fifo c.in-Fifo.is c.args.self.now c.self.view_is c.take_burst-count.result.0 (few g c) g.T.Told.told
+    c.args.places.now c.take_burst-count.new.places c.take_burst-count.ensures.told
 
 pub returns-clause-after : goal.returns-clause-after
 returns-clause-after g c =
-    heads-after c.self.inside c.in-Fifo.fifo c.in-Fifo.is c.args.self.now c.self.view_is c.take_burst-count.result.0 (few g c) c.take_burst-count.result.1 c.take_burst-count.ensures.bytes c.book_sends.new.row
+    heads-after c.self.inside c.in-Fifo.fifo c.in-Fifo.is c.args.self.now c.self.view_is c.take_burst-count.result.0 (few g c)
+    c.take_burst-count.result.1 c.take_burst-count.ensures.bytes c.book_sends.new.row
     c.book_sends.ensures c.take_burst-count.new.self c.take_burst-count.ensures.rest

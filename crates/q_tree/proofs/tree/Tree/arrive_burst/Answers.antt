@@ -49,7 +49,8 @@ burst c =
     let counted : length ps ≡ n = length-map cs descriptor ∙ length-take-le n c.args.packets.now made.most in
     let some : 1 ≤ length ps = omega (arith, counted, c.if-kept-eq0.false) in
     let each = burst-came now ps a c.self.invariant (omega (arith, ap (λ (d : DeviceState Kept). d.clock) c.self.view_is, c.requires.order)) (omega (arith, c.ns.ensures.in_range, c.ns.ensures.value))
-    (long-each a.mtu cs made.taken) (omega (arith, c.requires.packets, seen_packets, counted, made.most)) (omega (arith, c.requires.bytes, seen_bytes, bytes-bound cs made.widths, length-take n c.args.packets.now))
+    (long-each a.mtu cs made.taken) (omega (arith, c.requires.packets, seen_packets, counted, made.most))
+    (omega (arith, c.requires.bytes, seen_bytes, bytes-bound cs made.widths, length-take n c.args.packets.now))
     (omega (arith, counted, made.room)) (made.alone (omega (arith, c.if-kept-eq0.false))) in
     let row : c.book_arrivals.new.row ≡ with_arrivals (totals_in ps) a.top = c.book_arrivals.ensures ∙ ap (λ (t : Totals). with_arrivals t a.top) made.totals in
     subst (IsBurst now ps a) (came-all now ps a some ∙ (λ i. record a { clock = now; top = sym row i; root = sym made.after i })) each

@@ -43,7 +43,9 @@ returns-then-can_keep-clause-after g c =
     let room : CanCount c.self.inside.top.arrived c.args.packet.now = subst (λ (d : DeviceState Kept). CanCount d.tree.top.counts.arrived c.args.packet.now) (sym c.self.view_is) c.requires.counted in
     let short : c.args.packet.now.len ≤ c.self.inside.mtu = omega (arith, c.if-packet-self.true, ap (λ (q : Descriptor). q.len) c.packet.view_is) in
     let come = at-root c.args.now c.args.packet.now c.self.inside.mtu c.self.inside.root c.keep.new.self (Ok nothing_lost) short c.keep.ensures.after in
-    tree-after c.self.inside c.self.invariant c.args.now c.args.packet.now later low byte room nothing_lost c.keep.new.self come c.book_kept.new.row c.book_kept.ensures ∙ ap (λ (d : DeviceState Kept). record { clock = c.args.now; tree = put totals c.args.now c.args.packet.now (tree_numbers d.tree) }) c.self.view_is
+    tree-after c.self.inside c.self.invariant c.args.now c.args.packet.now later low byte room nothing_lost c.keep.new.self come c.book_kept.new.row
+    c.book_kept.ensures ∙ ap (λ (d : DeviceState Kept). record
+    { clock = c.args.now; tree = put totals c.args.now c.args.packet.now (tree_numbers d.tree) }) c.self.view_is
 
 pub returns-then-can_keep-clause-exact : goal.returns-then-can_keep-clause-exact
 returns-then-can_keep-clause-exact g c = λ can.
@@ -65,4 +67,5 @@ returns-then-can_keep-clause-places g c =
     let room : CanCount c.self.inside.top.arrived c.args.packet.now = subst (λ (d : DeviceState Kept). CanCount d.tree.top.counts.arrived c.args.packet.now) (sym c.self.view_is) c.requires.counted in
     let short : c.args.packet.now.len ≤ c.self.inside.mtu = omega (arith, c.if-packet-self.true, ap (λ (q : Descriptor). q.len) c.packet.view_is) in
     let come = at-root c.args.now c.args.packet.now c.self.inside.mtu c.self.inside.root c.keep.new.self (Ok nothing_lost) short c.keep.ensures.after in
-    λ path. subst (λ (d : DeviceState Kept). places_at path d.tree.root ≤ places_at path c.keep.new.self) c.self.view_is (tree-places c.self.inside c.self.invariant c.args.now c.args.packet.now later low byte room nothing_lost c.keep.new.self come path)
+    λ path. subst (λ (d : DeviceState Kept). places_at path d.tree.root ≤ places_at path c.keep.new.self) c.self.view_is
+    (tree-places c.self.inside c.self.invariant c.args.now c.args.packet.now later low byte room nothing_lost c.keep.new.self come path)

@@ -26,7 +26,8 @@ returns-clause-answer g c =
     let command = c.args.command in
     let memory = WantsMemory command (plan_of command c.args.now d) in
     let is_plan = c.plan.ensures.plan in
-    tree-answered memory command d c.args.now c.plan.result is_plan c.in_ok-planned.planned c.in_ok-planned.was c.edit.new.self c.edit.result c.edit.ensures.after c.edit.ensures.memory c.edit.ensures.same
+    tree-answered memory command d c.args.now c.plan.result is_plan c.in_ok-planned.planned c.in_ok-planned.was c.edit.new.self c.edit.result
+    c.edit.ensures.after c.edit.ensures.memory c.edit.ensures.same
 
 pub returns-clause-lost : goal.returns-clause-lost
 returns-clause-lost g c =

@@ -19,7 +19,9 @@ book_dropped-requires-clause-room g c =
     let planned : IsPlanned c.args.planned.edit c.deref.result.now c.args.now (tree_seen c.self.inside).tree.device c.self.inside.root =
     subst (λ p. IsPlanned c.args.planned.edit p c.args.now (tree_seen c.self.inside).tree.device c.self.inside.root) (sym c.deref.ensures.0)
     (subst (λ (d : DeviceState Kept). IsPlanned c.args.planned.edit c.args.planned.path.items c.args.now d.tree.device d.tree.root) (sym c.self.view_is) c.requires.planned) in
-    room c.self.inside c.self.invariant.device c.args.planned.edit c.deref.result.now c.args.now later low planned c.in-Ok-edit.lost c.in-Ok-edit.ensures.totals (omega (arith, c.self.ranges, c.fit.ensures.packets, c.fit.ensures.bytes)) (omega (arith, c.self.ranges, c.fit.ensures.packets, c.fit.ensures.bytes))
+    room c.self.inside c.self.invariant.device c.args.planned.edit c.deref.result.now c.args.now later low planned c.in-Ok-edit.lost
+    c.in-Ok-edit.ensures.totals (omega (arith, c.self.ranges, c.fit.ensures.packets, c.fit.ensures.bytes))
+    (omega (arith, c.self.ranges, c.fit.ensures.packets, c.fit.ensures.bytes))
 
 pub renew-requires-clause-levels : goal.renew-requires-clause-levels
 renew-requires-clause-levels g c =
@@ -29,7 +31,8 @@ renew-requires-clause-levels g c =
     subst (λ p. IsPlanned c.args.planned.edit p c.args.now (tree_seen c.self.inside).tree.device c.self.inside.root) (sym c.deref.ensures.0)
     (subst (λ (d : DeviceState Kept). IsPlanned c.args.planned.edit c.args.planned.path.items c.args.now d.tree.device d.tree.root) (sym c.self.view_is) c.requires.planned) in
     (bounded (record c.self.inside { clock = c.args.now; top = c.book_dropped.new.row; root = c.edit.new.self })
-    (stays c.self.inside c.self.invariant.device c.args.planned.edit c.deref.result.now c.args.now later low planned c.in-Ok-edit.lost c.in-Ok-edit.ensures.totals c.book_dropped.new.row c.book_dropped.ensures c.edit.new.self c.in-Ok-edit.ensures.after)).levels
+    (stays c.self.inside c.self.invariant.device c.args.planned.edit c.deref.result.now c.args.now later low planned c.in-Ok-edit.lost
+    c.in-Ok-edit.ensures.totals c.book_dropped.new.row c.book_dropped.ensures c.edit.new.self c.in-Ok-edit.ensures.after)).levels
 
 pub renew-requires-clause-apart : goal.renew-requires-clause-apart
 renew-requires-clause-apart g c =
@@ -39,7 +42,8 @@ renew-requires-clause-apart g c =
     subst (λ p. IsPlanned c.args.planned.edit p c.args.now (tree_seen c.self.inside).tree.device c.self.inside.root) (sym c.deref.ensures.0)
     (subst (λ (d : DeviceState Kept). IsPlanned c.args.planned.edit c.args.planned.path.items c.args.now d.tree.device d.tree.root) (sym c.self.view_is) c.requires.planned) in
     apart (record c.self.inside { clock = c.args.now; top = c.book_dropped.new.row; root = c.edit.new.self })
-    (stays c.self.inside c.self.invariant.device c.args.planned.edit c.deref.result.now c.args.now later low planned c.in-Ok-edit.lost c.in-Ok-edit.ensures.totals c.book_dropped.new.row c.book_dropped.ensures c.edit.new.self c.in-Ok-edit.ensures.after)
+    (stays c.self.inside c.self.invariant.device c.args.planned.edit c.deref.result.now c.args.now later low planned c.in-Ok-edit.lost
+    c.in-Ok-edit.ensures.totals c.book_dropped.new.row c.book_dropped.ensures c.edit.new.self c.in-Ok-edit.ensures.after)
 
 pub renew-requires-clause-room : goal.renew-requires-clause-room
 renew-requires-clause-room g c =
@@ -48,9 +52,11 @@ renew-requires-clause-room g c =
     let planned : IsPlanned c.args.planned.edit c.deref.result.now c.args.now (tree_seen c.self.inside).tree.device c.self.inside.root =
     subst (λ p. IsPlanned c.args.planned.edit p c.args.now (tree_seen c.self.inside).tree.device c.self.inside.root) (sym c.deref.ensures.0)
     (subst (λ (d : DeviceState Kept). IsPlanned c.args.planned.edit c.args.planned.path.items c.args.now d.tree.device d.tree.root) (sym c.self.view_is) c.requires.planned) in
-    fits c.self.inside c.self.invariant c.args.planned.edit c.deref.result.now planned.there c.make_room_for.new.self c.make_room_for.ensures.more c.in-Ok.ensures.ok c.edit.new.self c.in-Ok-edit.ensures.after
+    fits c.self.inside c.self.invariant c.args.planned.edit c.deref.result.now planned.there c.make_room_for.new.self c.make_room_for.ensures.more
+    c.in-Ok.ensures.ok c.edit.new.self c.in-Ok-edit.ensures.after
     (bounded (record c.self.inside { clock = c.args.now; top = c.book_dropped.new.row; root = c.edit.new.self })
-    (stays c.self.inside c.self.invariant.device c.args.planned.edit c.deref.result.now c.args.now later low planned c.in-Ok-edit.lost c.in-Ok-edit.ensures.totals c.book_dropped.new.row c.book_dropped.ensures c.edit.new.self c.in-Ok-edit.ensures.after)).nodes
+    (stays c.self.inside c.self.invariant.device c.args.planned.edit c.deref.result.now c.args.now later low planned c.in-Ok-edit.lost
+    c.in-Ok-edit.ensures.totals c.book_dropped.new.row c.book_dropped.ensures c.edit.new.self c.in-Ok-edit.ensures.after)).nodes
 
 pub invariant_of-self-2 : goal.invariant_of-self-2
 invariant_of-self-2 g c =
@@ -60,9 +66,11 @@ invariant_of-self-2 g c =
     subst (λ p. IsPlanned c.args.planned.edit p c.args.now (tree_seen c.self.inside).tree.device c.self.inside.root) (sym c.deref.ensures.0)
     (subst (λ (d : DeviceState Kept). IsPlanned c.args.planned.edit c.args.planned.path.items c.args.now d.tree.device d.tree.root) (sym c.self.view_is) c.requires.planned) in
     renewed-device (record c.self.inside { clock = c.args.now; top = c.book_dropped.new.row; root = c.edit.new.self; handles = c.make_room_for.new.self }) c.renew.new.self
-    (has-room c.self.inside c.self.invariant c.args.planned.edit c.deref.result.now planned.there c.make_room_for.new.self c.make_room_for.ensures.more c.in-Ok.ensures.ok c.edit.new.self c.in-Ok-edit.ensures.after)
+    (has-room c.self.inside c.self.invariant c.args.planned.edit c.deref.result.now planned.there c.make_room_for.new.self
+    c.make_room_for.ensures.more c.in-Ok.ensures.ok c.edit.new.self c.in-Ok-edit.ensures.after)
     (beside-index (record c.self.inside { clock = c.args.now; top = c.book_dropped.new.row; root = c.edit.new.self }) c.make_room_for.new.self
-    (stays c.self.inside c.self.invariant.device c.args.planned.edit c.deref.result.now c.args.now later low planned c.in-Ok-edit.lost c.in-Ok-edit.ensures.totals c.book_dropped.new.row c.book_dropped.ensures c.edit.new.self c.in-Ok-edit.ensures.after))
+    (stays c.self.inside c.self.invariant.device c.args.planned.edit c.deref.result.now c.args.now later low planned c.in-Ok-edit.lost
+    c.in-Ok-edit.ensures.totals c.book_dropped.new.row c.book_dropped.ensures c.edit.new.self c.in-Ok-edit.ensures.after))
     c.renew.ensures.same c.renew.ensures.room
 
 pub returns-clause-after : goal.returns-clause-after
@@ -72,5 +80,6 @@ returns-clause-after g c =
     let planned : IsPlanned c.args.planned.edit c.deref.result.now c.args.now (tree_seen c.self.inside).tree.device c.self.inside.root =
     subst (λ p. IsPlanned c.args.planned.edit p c.args.now (tree_seen c.self.inside).tree.device c.self.inside.root) (sym c.deref.ensures.0)
     (subst (λ (d : DeviceState Kept). IsPlanned c.args.planned.edit c.args.planned.path.items c.args.now d.tree.device d.tree.root) (sym c.self.view_is) c.requires.planned) in
-    after c.self.inside c.self.invariant.device c.args.planned.edit c.deref.result.now c.args.now later low planned c.in-Ok-edit.lost c.in-Ok-edit.ensures.totals c.book_dropped.new.row c.book_dropped.ensures c.edit.new.self c.in-Ok-edit.ensures.after
+    after c.self.inside c.self.invariant.device c.args.planned.edit c.deref.result.now c.args.now later low planned c.in-Ok-edit.lost
+    c.in-Ok-edit.ensures.totals c.book_dropped.new.row c.book_dropped.ensures c.edit.new.self c.in-Ok-edit.ensures.after
     ∙ ap₂ (λ p (d : DeviceState Kept). device_edited c.args.planned.edit p c.args.now d) c.deref.ensures.0 c.self.view_is

@@ -26,7 +26,12 @@ invariant_of-result c =
     record {
       device =
           new-device d _ c.requires most c.zero.ensures
-          (λ i. record { device = d; top = counts_in_row (c.none.ensures i); root = record { own = own i; memory = c.fifo.ensures.counts i; below = each_memory (λ (k : Kept). k.counts) (c.fifo.ensures.alone i) } })
+          (λ i. record {
+            device = d;
+            top = counts_in_row (c.none.ensures i);
+            root = record
+                { own = own i; memory = c.fifo.ensures.counts i; below = each_memory (λ (k : Kept). k.counts) (c.fifo.ensures.alone i) };
+          })
           (ap (λ (r : Row). r.queued) c.none.ensures ∙ sym (ap totals_in empty))
           (subst (λ (k : Counts). IsCountedWithin k.arrived c.none.result.arrived) (sym c.fifo.ensures.counts) (record { packets = omega arith; bytes = omega arith }));
       handles = c.new.ensures ∙ sym (ap₂ (λ (o : Own) (x : Forest Kept). addresses_own o (each addresses_own x)) own c.fifo.ensures.alone);

@@ -15,7 +15,8 @@ use Rattle.q_tree.proofs.tree.Tree.plan.Goals as goal
 
 -- what is planned in the tree as it is stored is planned in it as it is seen
 planned-in : (command : Command) (now : ℕ) (d : DeviceState Kept) (device : Device) (root : Node Kept) (answer : Result Planned Refusal) → device ≡ d.tree.device → root ≡ d.tree.root
-    → IsPlanOf (WantsMemory command (plan device now command (shape root))) command now device root answer → IsPlanOf (WantsMemory command (plan_of command now d)) command now d.tree.device d.tree.root answer
+    → IsPlanOf (WantsMemory command (plan device now command (shape root))) command now device root answer
+    → IsPlanOf (WantsMemory command (plan_of command now d)) command now d.tree.device d.tree.root answer
 planned-in command now d device root answer device_is root_is h =
     subst (λ n. IsPlanOf (WantsMemory command (plan d.tree.device now command (shape n))) command now d.tree.device n answer) root_is
     (subst (λ v. IsPlanOf (WantsMemory command (plan v now command (shape root))) command now v root answer) device_is h)

@@ -12,7 +12,10 @@ use Rattle.q_tree.proofs.tree.Tree.prepare.Goals as goal
 
 pub prepare-requires : goal.prepare-requires
 prepare-requires c =
-    let way = route-leads c.args.route.now c.route.inside.way (tree_seen c.self.inside) (ap (λ (r : RouteSeen). r.route) (sym c.route.view_is) ∙ ap (λ b. if b then None else Some c.route.inside.way) c.if-route.false) (subst (λ (d : DeviceState Kept). IsRouteIn c.args.route.now d) (sym c.self.view_is) c.requires) in
+    let way =
+    route-leads c.args.route.now c.route.inside.way (tree_seen c.self.inside)
+    (ap (λ (r : RouteSeen). r.route) (sym c.route.view_is) ∙ ap (λ b. if b then None else Some c.route.inside.way) c.if-route.false)
+    (subst (λ (d : DeviceState Kept). IsRouteIn c.args.route.now d) (sym c.self.view_is) c.requires) in
     subst (λ (path : List ℕ). IsSome (node_at path c.self.inside.root)) (sym c.places.ensures) way
 
 pub invariant_of-self : goal.invariant_of-self

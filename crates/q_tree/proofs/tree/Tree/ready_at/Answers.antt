@@ -22,7 +22,8 @@ pub returns-clause-from : goal.returns-clause-from
 returns-clause-from c =
     let past : c.self.inside.clock ≤ c.args.now = omega (arith, ap (λ (d : DeviceState Kept). d.clock) c.self.view_is, c.requires.order) in
     let present : c.args.now ≤ 2 ^ 62 = omega (arith, c.ns.ensures.in_range, c.ns.ensures.value) in
-    ready-from c.self.inside.mtu c.args.now c.self.inside.root (least-mtu c.self.inside c.self.invariant.device) present (lawful-later c.self.inside c.self.invariant.device c.args.now past) c.in_ok-at.at
+    ready-from c.self.inside.mtu c.args.now c.self.inside.root (least-mtu c.self.inside c.self.invariant.device) present
+    (lawful-later c.self.inside c.self.invariant.device c.args.now past) c.in_ok-at.at
     (sym (ap (λ (o : Outlook). o.at) c.outlook.ensures) ∙ c.in_ok-at.was)
 
 pub returns-clause-early : goal.returns-clause-early
@@ -31,7 +32,8 @@ returns-clause-early c =
     let present : c.args.now ≤ 2 ^ 62 = omega (arith, c.ns.ensures.in_range, c.ns.ensures.value) in
     let low : c.in_ok-at.at ≤ 2 ^ 62 = omega (arith, c.ns-2.ensures.in_range, c.ns-2.ensures.value) in
     subst (λ (d : DeviceState Kept). (t : ℕ) → c.args.now ≤ t → t < c.in_ok-at.at → given t d.tree ≡ None) c.self.view_is
-    (ready-early c.self.inside.mtu c.args.now c.self.inside.root (least-mtu c.self.inside c.self.invariant.device) present (lawful-later c.self.inside c.self.invariant.device c.args.now past) c.in_ok-at.at
+    (ready-early c.self.inside.mtu c.args.now c.self.inside.root (least-mtu c.self.inside c.self.invariant.device) present
+    (lawful-later c.self.inside c.self.invariant.device c.args.now past) c.in_ok-at.at
     (sym (ap (λ (o : Outlook). o.at) c.outlook.ensures) ∙ c.in_ok-at.was) low)
 
 pub returns-clause-some : goal.returns-clause-some
@@ -40,5 +42,6 @@ returns-clause-some c =
     let present : c.args.now ≤ 2 ^ 62 = omega (arith, c.ns.ensures.in_range, c.ns.ensures.value) in
     let low : c.in_ok-at.at ≤ 2 ^ 62 = omega (arith, c.ns-2.ensures.in_range, c.ns-2.ensures.value) in
     subst (λ (d : DeviceState Kept). is_sure c.args.now d.tree.root ≡ true → IsSome (given c.in_ok-at.at d.tree)) c.self.view_is
-    (ready-some c.self.inside.mtu c.args.now c.self.inside.root (least-mtu c.self.inside c.self.invariant.device) present (lawful-later c.self.inside c.self.invariant.device c.args.now past) c.in_ok-at.at
+    (ready-some c.self.inside.mtu c.args.now c.self.inside.root (least-mtu c.self.inside c.self.invariant.device) present
+    (lawful-later c.self.inside c.self.invariant.device c.args.now past) c.in_ok-at.at
     (sym (ap (λ (o : Outlook). o.at) c.outlook.ensures) ∙ c.in_ok-at.was) low)

@@ -21,7 +21,10 @@ book_sent-requires-clause-room g c =
     let p = c.send_head.new.out in
     let quick = head-sent c.args.now c.self.inside.root p (c.has_head.ensures.means c.if-has_head.true) c.send_head.ensures.packet in
     let new = c.send_head.ensures.after ∙ sym quick.gone in
-    let fit = can-book-top c.self.inside c.self.invariant.device c.args.now later low (alone p) quick.shown c.self.inside.root quick.peeked (omega (arith, c.self.ranges, c.fit.ensures.packets, c.fit.ensures.bytes)) (omega (arith, c.self.ranges, c.fit.ensures.packets, c.fit.ensures.bytes)) in
+    let fit =
+    can-book-top c.self.inside c.self.invariant.device c.args.now later low (alone p) quick.shown c.self.inside.root quick.peeked
+    (omega (arith, c.self.ranges, c.fit.ensures.packets, c.fit.ensures.bytes))
+    (omega (arith, c.self.ranges, c.fit.ensures.packets, c.fit.ensures.bytes)) in
     let quiet = shown-nothing (alone p) c.self.inside.top refl refl in
     let row = asked-row c.self.inside c.self.invariant.device c.args.now later low (alone p) quick.shown c.send_head.new.self new fit c.self.inside.top quiet p refl in
     let had = sent-among c.self.inside c.self.invariant.device c.args.now later low (alone p) quick.shown c.send_head.new.self new fit c.self.inside.top quiet p refl in
@@ -37,10 +40,15 @@ invariant_of-self g c =
     let p = c.send_head.new.out in
     let quick = head-sent c.args.now c.self.inside.root p (c.has_head.ensures.means c.if-has_head.true) c.send_head.ensures.packet in
     let new = c.send_head.ensures.after ∙ sym quick.gone in
-    let fit = can-book-top c.self.inside c.self.invariant.device c.args.now later low (alone p) quick.shown c.self.inside.root quick.peeked (omega (arith, c.self.ranges, c.fit.ensures.packets, c.fit.ensures.bytes)) (omega (arith, c.self.ranges, c.fit.ensures.packets, c.fit.ensures.bytes)) in
+    let fit =
+    can-book-top c.self.inside c.self.invariant.device c.args.now later low (alone p) quick.shown c.self.inside.root quick.peeked
+    (omega (arith, c.self.ranges, c.fit.ensures.packets, c.fit.ensures.bytes))
+    (omega (arith, c.self.ranges, c.fit.ensures.packets, c.fit.ensures.bytes)) in
     let quiet = shown-nothing (alone p) c.self.inside.top refl refl in
     still-indexed c.self.inside (record c.self.inside { clock = c.args.now; top = c.book_sent.new.row; root = c.send_head.new.self }) c.self.invariant
-    (sent-kept c.self.inside c.self.invariant.device c.args.now later low (alone p) quick.shown c.send_head.new.self new fit c.self.inside.top quiet p refl c.book_sent.new.row c.book_sent.ensures (record c.self.inside { clock = c.args.now; top = c.book_sent.new.row; root = c.send_head.new.self }) refl c.send_head.ensures.arrived)
+    (sent-kept c.self.inside c.self.invariant.device c.args.now later low (alone p) quick.shown c.send_head.new.self new fit c.self.inside.top quiet
+    p refl c.book_sent.new.row c.book_sent.ensures
+    (record c.self.inside { clock = c.args.now; top = c.book_sent.new.row; root = c.send_head.new.self }) refl c.send_head.ensures.arrived)
     refl (sent-form c.self.inside c.self.invariant.device c.args.now later low (alone p) quick.shown c.send_head.new.self new fit c.self.inside.top quiet p refl)
 
 pub returns-then-has_head-clause-after : goal.returns-then-has_head-clause-after
@@ -50,7 +58,12 @@ returns-then-has_head-clause-after g c =
     let p = c.send_head.new.out in
     let quick = head-sent c.args.now c.self.inside.root p (c.has_head.ensures.means c.if-has_head.true) c.send_head.ensures.packet in
     let new = c.send_head.ensures.after ∙ sym quick.gone in
-    let fit = can-book-top c.self.inside c.self.invariant.device c.args.now later low (alone p) quick.shown c.self.inside.root quick.peeked (omega (arith, c.self.ranges, c.fit.ensures.packets, c.fit.ensures.bytes)) (omega (arith, c.self.ranges, c.fit.ensures.packets, c.fit.ensures.bytes)) in
+    let fit =
+    can-book-top c.self.inside c.self.invariant.device c.args.now later low (alone p) quick.shown c.self.inside.root quick.peeked
+    (omega (arith, c.self.ranges, c.fit.ensures.packets, c.fit.ensures.bytes))
+    (omega (arith, c.self.ranges, c.fit.ensures.packets, c.fit.ensures.bytes)) in
     let quiet = shown-nothing (alone p) c.self.inside.top refl refl in
-    sent-tree c.self.inside c.self.invariant.device c.args.now later low (alone p) quick.shown c.send_head.new.self new fit c.self.inside.top quiet p refl c.book_sent.new.row c.book_sent.ensures (record c.self.inside { clock = c.args.now; top = c.book_sent.new.row; root = c.send_head.new.self }) refl
+    sent-tree c.self.inside c.self.invariant.device c.args.now later low (alone p) quick.shown c.send_head.new.self new fit c.self.inside.top quiet p
+    refl c.book_sent.new.row c.book_sent.ensures
+    (record c.self.inside { clock = c.args.now; top = c.book_sent.new.row; root = c.send_head.new.self }) refl
     ∙ ap (λ (d : DeviceState Kept). record { clock = c.args.now; tree = take_packet kept c.args.now d.tree }) c.self.view_is

@@ -29,7 +29,10 @@ book_shown-requires-clause-room g c =
     let later : c.self.inside.clock ≤ c.args.now = omega (arith, e, c.requires.order) in
     let low : c.args.now ≤ 2 ^ 62 = omega (arith, c.ns.ensures.in_range, c.ns.ensures.value) in
     let shown = c.dequeue-shown.ensures.dequeued.shown in
-    can-book-top c.self.inside c.self.invariant.device c.args.now later low c.dequeue-shown.result shown (booked kept c.self.inside.root (ask c.args.now (shape c.self.inside.root)).peeked) refl (omega (arith, c.self.ranges, c.fit.ensures.packets, c.fit.ensures.bytes)) (omega (arith, c.self.ranges, c.fit.ensures.packets, c.fit.ensures.bytes))
+    can-book-top c.self.inside c.self.invariant.device c.args.now later low c.dequeue-shown.result shown
+    (booked kept c.self.inside.root (ask c.args.now (shape c.self.inside.root)).peeked) refl
+    (omega (arith, c.self.ranges, c.fit.ensures.packets, c.fit.ensures.bytes))
+    (omega (arith, c.self.ranges, c.fit.ensures.packets, c.fit.ensures.bytes))
 
 pub invariant_of-self : goal.invariant_of-self
 invariant_of-self g c =
@@ -38,8 +41,20 @@ invariant_of-self g c =
     let low : c.args.now ≤ 2 ^ 62 = omega (arith, c.ns.ensures.in_range, c.ns.ensures.value) in
     let shown = c.dequeue-shown.ensures.dequeued.shown in
     still-indexed c.self.inside (record c.self.inside { clock = c.args.now; top = c.book_shown.new.row; root = c.dequeue-shown.new.self }) c.self.invariant
-    (none-kept c.self.inside c.self.invariant.device c.args.now later low c.dequeue-shown.result shown c.dequeue-shown.new.self (root-still c.self.inside c.self.invariant.device c.args.now later low c.dequeue-shown.result shown c.dequeue-shown.new.self c.dequeue-shown.ensures.dequeued.after (none-held c.dequeue-shown.result.packet (sym c.if-not-has_packet.true ∙ c.has_packet.ensures))) (can-book-top c.self.inside c.self.invariant.device c.args.now later low c.dequeue-shown.result shown (booked kept c.self.inside.root (ask c.args.now (shape c.self.inside.root)).peeked) refl (omega (arith, c.self.ranges, c.fit.ensures.packets, c.fit.ensures.bytes)) (omega (arith, c.self.ranges, c.fit.ensures.packets, c.fit.ensures.bytes))) c.book_shown.new.row c.book_shown.ensures (none-held c.dequeue-shown.result.packet (sym c.if-not-has_packet.true ∙ c.has_packet.ensures)) (record c.self.inside { clock = c.args.now; top = c.book_shown.new.row; root = c.dequeue-shown.new.self }) refl c.dequeue-shown.ensures.dequeued.arrived)
-    refl (peeked-form c.args.now c.self.inside.root c.dequeue-shown.new.self (can-ask-root c.self.inside c.self.invariant.device c.args.now later low) (root-still c.self.inside c.self.invariant.device c.args.now later low c.dequeue-shown.result shown c.dequeue-shown.new.self c.dequeue-shown.ensures.dequeued.after (none-held c.dequeue-shown.result.packet (sym c.if-not-has_packet.true ∙ c.has_packet.ensures))))
+    (none-kept c.self.inside c.self.invariant.device c.args.now later low c.dequeue-shown.result shown c.dequeue-shown.new.self
+    (root-still c.self.inside c.self.invariant.device c.args.now later low c.dequeue-shown.result shown c.dequeue-shown.new.self
+    c.dequeue-shown.ensures.dequeued.after (none-held c.dequeue-shown.result.packet (sym c.if-not-has_packet.true ∙ c.has_packet.ensures)))
+    (can-book-top c.self.inside c.self.invariant.device c.args.now later low c.dequeue-shown.result shown
+    (booked kept c.self.inside.root (ask c.args.now (shape c.self.inside.root)).peeked) refl
+    (omega (arith, c.self.ranges, c.fit.ensures.packets, c.fit.ensures.bytes))
+    (omega (arith, c.self.ranges, c.fit.ensures.packets, c.fit.ensures.bytes))) c.book_shown.new.row c.book_shown.ensures
+    (none-held c.dequeue-shown.result.packet (sym c.if-not-has_packet.true ∙ c.has_packet.ensures))
+    (record c.self.inside { clock = c.args.now; top = c.book_shown.new.row; root = c.dequeue-shown.new.self }) refl
+    c.dequeue-shown.ensures.dequeued.arrived)
+    refl (peeked-form c.args.now c.self.inside.root c.dequeue-shown.new.self
+    (can-ask-root c.self.inside c.self.invariant.device c.args.now later low)
+    (root-still c.self.inside c.self.invariant.device c.args.now later low c.dequeue-shown.result shown c.dequeue-shown.new.self
+    c.dequeue-shown.ensures.dequeued.after (none-held c.dequeue-shown.result.packet (sym c.if-not-has_packet.true ∙ c.has_packet.ensures))))
 
 pub returns-then-not-has_packet-clause-after : goal.returns-then-not-has_packet-clause-after
 returns-then-not-has_packet-clause-after g c =
@@ -47,7 +62,15 @@ returns-then-not-has_packet-clause-after g c =
     let later : c.self.inside.clock ≤ c.args.now = omega (arith, e, c.requires.order) in
     let low : c.args.now ≤ 2 ^ 62 = omega (arith, c.ns.ensures.in_range, c.ns.ensures.value) in
     let shown = c.dequeue-shown.ensures.dequeued.shown in
-    none-taken c.self.inside c.self.invariant.device c.args.now later low c.dequeue-shown.result shown c.dequeue-shown.new.self (root-still c.self.inside c.self.invariant.device c.args.now later low c.dequeue-shown.result shown c.dequeue-shown.new.self c.dequeue-shown.ensures.dequeued.after (none-held c.dequeue-shown.result.packet (sym c.if-not-has_packet.true ∙ c.has_packet.ensures))) (can-book-top c.self.inside c.self.invariant.device c.args.now later low c.dequeue-shown.result shown (booked kept c.self.inside.root (ask c.args.now (shape c.self.inside.root)).peeked) refl (omega (arith, c.self.ranges, c.fit.ensures.packets, c.fit.ensures.bytes)) (omega (arith, c.self.ranges, c.fit.ensures.packets, c.fit.ensures.bytes))) c.book_shown.new.row c.book_shown.ensures (none-held c.dequeue-shown.result.packet (sym c.if-not-has_packet.true ∙ c.has_packet.ensures)) (record c.self.inside { clock = c.args.now; top = c.book_shown.new.row; root = c.dequeue-shown.new.self }) refl
+    none-taken c.self.inside c.self.invariant.device c.args.now later low c.dequeue-shown.result shown c.dequeue-shown.new.self
+    (root-still c.self.inside c.self.invariant.device c.args.now later low c.dequeue-shown.result shown c.dequeue-shown.new.self
+    c.dequeue-shown.ensures.dequeued.after (none-held c.dequeue-shown.result.packet (sym c.if-not-has_packet.true ∙ c.has_packet.ensures)))
+    (can-book-top c.self.inside c.self.invariant.device c.args.now later low c.dequeue-shown.result shown
+    (booked kept c.self.inside.root (ask c.args.now (shape c.self.inside.root)).peeked) refl
+    (omega (arith, c.self.ranges, c.fit.ensures.packets, c.fit.ensures.bytes))
+    (omega (arith, c.self.ranges, c.fit.ensures.packets, c.fit.ensures.bytes))) c.book_shown.new.row c.book_shown.ensures
+    (none-held c.dequeue-shown.result.packet (sym c.if-not-has_packet.true ∙ c.has_packet.ensures))
+    (record c.self.inside { clock = c.args.now; top = c.book_shown.new.row; root = c.dequeue-shown.new.self }) refl
     ∙ ap (λ (d : DeviceState Kept). record { clock = c.args.now; tree = take_packet kept c.args.now d.tree }) c.self.view_is
 
 pub returns-then-not-has_packet-clause-sent : goal.returns-then-not-has_packet-clause-sent
@@ -56,7 +79,8 @@ returns-then-not-has_packet-clause-sent g c =
     let later : c.self.inside.clock ≤ c.args.now = omega (arith, e, c.requires.order) in
     let low : c.args.now ≤ 2 ^ 62 = omega (arith, c.ns.ensures.in_range, c.ns.ensures.value) in
     let shown = c.dequeue-shown.ensures.dequeued.shown in
-    sym (ap is_some (sym (ap (λ (d : DeviceState Kept). given c.args.now d.tree) c.self.view_is) ∙ sym shown.packet ∙ (none-held c.dequeue-shown.result.packet (sym c.if-not-has_packet.true ∙ c.has_packet.ensures))))
+    sym (ap is_some (sym (ap (λ (d : DeviceState Kept). given c.args.now d.tree) c.self.view_is) ∙ sym shown.packet
+    ∙ (none-held c.dequeue-shown.result.packet (sym c.if-not-has_packet.true ∙ c.has_packet.ensures))))
 
 pub returns-then-not-has_packet-clause-packet : goal.returns-then-not-has_packet-clause-packet
 returns-then-not-has_packet-clause-packet g c =
@@ -72,7 +96,13 @@ book_sent-requires-clause-balanced g c =
     let later : c.self.inside.clock ≤ c.args.now = omega (arith, e, c.requires.order) in
     let low : c.args.now ≤ 2 ^ 62 = omega (arith, c.ns.ensures.in_range, c.ns.ensures.value) in
     let shown = c.dequeue-shown.ensures.dequeued.shown in
-    (asked-row c.self.inside c.self.invariant.device c.args.now later low c.dequeue-shown.result shown c.dequeue-shown.new.self c.dequeue-shown.ensures.dequeued.after (can-book-top c.self.inside c.self.invariant.device c.args.now later low c.dequeue-shown.result shown (booked kept c.self.inside.root (ask c.args.now (shape c.self.inside.root)).peeked) refl (omega (arith, c.self.ranges, c.fit.ensures.packets, c.fit.ensures.bytes)) (omega (arith, c.self.ranges, c.fit.ensures.packets, c.fit.ensures.bytes))) c.book_shown.new.row c.book_shown.ensures c.dequeue-shown.new.out (given-some c.dequeue-shown.result.packet c.args.out.now c.dequeue-shown.new.out (sym c.has_packet.ensures ∙ c.if-not-has_packet.false) c.dequeue-shown.ensures.dequeued.packet)).balanced
+    (asked-row c.self.inside c.self.invariant.device c.args.now later low c.dequeue-shown.result shown c.dequeue-shown.new.self
+    c.dequeue-shown.ensures.dequeued.after (can-book-top c.self.inside c.self.invariant.device c.args.now later low c.dequeue-shown.result shown
+    (booked kept c.self.inside.root (ask c.args.now (shape c.self.inside.root)).peeked) refl
+    (omega (arith, c.self.ranges, c.fit.ensures.packets, c.fit.ensures.bytes))
+    (omega (arith, c.self.ranges, c.fit.ensures.packets, c.fit.ensures.bytes))) c.book_shown.new.row c.book_shown.ensures c.dequeue-shown.new.out
+    (given-some c.dequeue-shown.result.packet c.args.out.now c.dequeue-shown.new.out (sym c.has_packet.ensures ∙ c.if-not-has_packet.false)
+    c.dequeue-shown.ensures.dequeued.packet)).balanced
 
 pub book_sent-requires-clause-among : goal.book_sent-requires-clause-among
 book_sent-requires-clause-among g c =
@@ -80,7 +110,13 @@ book_sent-requires-clause-among g c =
     let later : c.self.inside.clock ≤ c.args.now = omega (arith, e, c.requires.order) in
     let low : c.args.now ≤ 2 ^ 62 = omega (arith, c.ns.ensures.in_range, c.ns.ensures.value) in
     let shown = c.dequeue-shown.ensures.dequeued.shown in
-    sent-among c.self.inside c.self.invariant.device c.args.now later low c.dequeue-shown.result shown c.dequeue-shown.new.self c.dequeue-shown.ensures.dequeued.after (can-book-top c.self.inside c.self.invariant.device c.args.now later low c.dequeue-shown.result shown (booked kept c.self.inside.root (ask c.args.now (shape c.self.inside.root)).peeked) refl (omega (arith, c.self.ranges, c.fit.ensures.packets, c.fit.ensures.bytes)) (omega (arith, c.self.ranges, c.fit.ensures.packets, c.fit.ensures.bytes))) c.book_shown.new.row c.book_shown.ensures c.dequeue-shown.new.out (given-some c.dequeue-shown.result.packet c.args.out.now c.dequeue-shown.new.out (sym c.has_packet.ensures ∙ c.if-not-has_packet.false) c.dequeue-shown.ensures.dequeued.packet)
+    sent-among c.self.inside c.self.invariant.device c.args.now later low c.dequeue-shown.result shown c.dequeue-shown.new.self
+    c.dequeue-shown.ensures.dequeued.after (can-book-top c.self.inside c.self.invariant.device c.args.now later low c.dequeue-shown.result shown
+    (booked kept c.self.inside.root (ask c.args.now (shape c.self.inside.root)).peeked) refl
+    (omega (arith, c.self.ranges, c.fit.ensures.packets, c.fit.ensures.bytes))
+    (omega (arith, c.self.ranges, c.fit.ensures.packets, c.fit.ensures.bytes))) c.book_shown.new.row c.book_shown.ensures c.dequeue-shown.new.out
+    (given-some c.dequeue-shown.result.packet c.args.out.now c.dequeue-shown.new.out (sym c.has_packet.ensures ∙ c.if-not-has_packet.false)
+    c.dequeue-shown.ensures.dequeued.packet)
 
 pub book_sent-requires-clause-room : goal.book_sent-requires-clause-room
 book_sent-requires-clause-room g c =
@@ -88,8 +124,22 @@ book_sent-requires-clause-room g c =
     let later : c.self.inside.clock ≤ c.args.now = omega (arith, e, c.requires.order) in
     let low : c.args.now ≤ 2 ^ 62 = omega (arith, c.ns.ensures.in_range, c.ns.ensures.value) in
     let shown = c.dequeue-shown.ensures.dequeued.shown in
-    let row = asked-row c.self.inside c.self.invariant.device c.args.now later low c.dequeue-shown.result shown c.dequeue-shown.new.self c.dequeue-shown.ensures.dequeued.after (can-book-top c.self.inside c.self.invariant.device c.args.now later low c.dequeue-shown.result shown (booked kept c.self.inside.root (ask c.args.now (shape c.self.inside.root)).peeked) refl (omega (arith, c.self.ranges, c.fit.ensures.packets, c.fit.ensures.bytes)) (omega (arith, c.self.ranges, c.fit.ensures.packets, c.fit.ensures.bytes))) c.book_shown.new.row c.book_shown.ensures c.dequeue-shown.new.out (given-some c.dequeue-shown.result.packet c.args.out.now c.dequeue-shown.new.out (sym c.has_packet.ensures ∙ c.if-not-has_packet.false) c.dequeue-shown.ensures.dequeued.packet) in
-    let had = sent-among c.self.inside c.self.invariant.device c.args.now later low c.dequeue-shown.result shown c.dequeue-shown.new.self c.dequeue-shown.ensures.dequeued.after (can-book-top c.self.inside c.self.invariant.device c.args.now later low c.dequeue-shown.result shown (booked kept c.self.inside.root (ask c.args.now (shape c.self.inside.root)).peeked) refl (omega (arith, c.self.ranges, c.fit.ensures.packets, c.fit.ensures.bytes)) (omega (arith, c.self.ranges, c.fit.ensures.packets, c.fit.ensures.bytes))) c.book_shown.new.row c.book_shown.ensures c.dequeue-shown.new.out (given-some c.dequeue-shown.result.packet c.args.out.now c.dequeue-shown.new.out (sym c.has_packet.ensures ∙ c.if-not-has_packet.false) c.dequeue-shown.ensures.dequeued.packet) in
+    let row =
+    asked-row c.self.inside c.self.invariant.device c.args.now later low c.dequeue-shown.result shown c.dequeue-shown.new.self
+    c.dequeue-shown.ensures.dequeued.after (can-book-top c.self.inside c.self.invariant.device c.args.now later low c.dequeue-shown.result
+    shown (booked kept c.self.inside.root (ask c.args.now (shape c.self.inside.root)).peeked) refl
+    (omega (arith, c.self.ranges, c.fit.ensures.packets, c.fit.ensures.bytes))
+    (omega (arith, c.self.ranges, c.fit.ensures.packets, c.fit.ensures.bytes))) c.book_shown.new.row c.book_shown.ensures
+    c.dequeue-shown.new.out (given-some c.dequeue-shown.result.packet c.args.out.now c.dequeue-shown.new.out
+    (sym c.has_packet.ensures ∙ c.if-not-has_packet.false) c.dequeue-shown.ensures.dequeued.packet) in
+    let had =
+    sent-among c.self.inside c.self.invariant.device c.args.now later low c.dequeue-shown.result shown c.dequeue-shown.new.self
+    c.dequeue-shown.ensures.dequeued.after (can-book-top c.self.inside c.self.invariant.device c.args.now later low c.dequeue-shown.result
+    shown (booked kept c.self.inside.root (ask c.args.now (shape c.self.inside.root)).peeked) refl
+    (omega (arith, c.self.ranges, c.fit.ensures.packets, c.fit.ensures.bytes))
+    (omega (arith, c.self.ranges, c.fit.ensures.packets, c.fit.ensures.bytes))) c.book_shown.new.row c.book_shown.ensures
+    c.dequeue-shown.new.out (given-some c.dequeue-shown.result.packet c.args.out.now c.dequeue-shown.new.out
+    (sym c.has_packet.ensures ∙ c.if-not-has_packet.false) c.dequeue-shown.ensures.dequeued.packet) in
     let same = ap (λ (r : Row). r.arrived) c.book_shown.ensures in
     record {
       packets = omega (arith, row.balanced.packets, had.packets, ap (λ (t : Totals). t.packets) same, c.self.ranges, c.fit.ensures.packets, c.fit.ensures.bytes);
@@ -103,8 +153,22 @@ invariant_of-self-2 g c =
     let low : c.args.now ≤ 2 ^ 62 = omega (arith, c.ns.ensures.in_range, c.ns.ensures.value) in
     let shown = c.dequeue-shown.ensures.dequeued.shown in
     still-indexed c.self.inside (record c.self.inside { clock = c.args.now; top = c.book_sent.new.row; root = c.dequeue-shown.new.self }) c.self.invariant
-    (sent-kept c.self.inside c.self.invariant.device c.args.now later low c.dequeue-shown.result shown c.dequeue-shown.new.self c.dequeue-shown.ensures.dequeued.after (can-book-top c.self.inside c.self.invariant.device c.args.now later low c.dequeue-shown.result shown (booked kept c.self.inside.root (ask c.args.now (shape c.self.inside.root)).peeked) refl (omega (arith, c.self.ranges, c.fit.ensures.packets, c.fit.ensures.bytes)) (omega (arith, c.self.ranges, c.fit.ensures.packets, c.fit.ensures.bytes))) c.book_shown.new.row c.book_shown.ensures c.dequeue-shown.new.out (given-some c.dequeue-shown.result.packet c.args.out.now c.dequeue-shown.new.out (sym c.has_packet.ensures ∙ c.if-not-has_packet.false) c.dequeue-shown.ensures.dequeued.packet) c.book_sent.new.row c.book_sent.ensures (record c.self.inside { clock = c.args.now; top = c.book_sent.new.row; root = c.dequeue-shown.new.self }) refl c.dequeue-shown.ensures.dequeued.arrived)
-    refl (sent-form c.self.inside c.self.invariant.device c.args.now later low c.dequeue-shown.result shown c.dequeue-shown.new.self c.dequeue-shown.ensures.dequeued.after (can-book-top c.self.inside c.self.invariant.device c.args.now later low c.dequeue-shown.result shown (booked kept c.self.inside.root (ask c.args.now (shape c.self.inside.root)).peeked) refl (omega (arith, c.self.ranges, c.fit.ensures.packets, c.fit.ensures.bytes)) (omega (arith, c.self.ranges, c.fit.ensures.packets, c.fit.ensures.bytes))) c.book_shown.new.row c.book_shown.ensures c.dequeue-shown.new.out (given-some c.dequeue-shown.result.packet c.args.out.now c.dequeue-shown.new.out (sym c.has_packet.ensures ∙ c.if-not-has_packet.false) c.dequeue-shown.ensures.dequeued.packet))
+    (sent-kept c.self.inside c.self.invariant.device c.args.now later low c.dequeue-shown.result shown c.dequeue-shown.new.self
+    c.dequeue-shown.ensures.dequeued.after (can-book-top c.self.inside c.self.invariant.device c.args.now later low c.dequeue-shown.result shown
+    (booked kept c.self.inside.root (ask c.args.now (shape c.self.inside.root)).peeked) refl
+    (omega (arith, c.self.ranges, c.fit.ensures.packets, c.fit.ensures.bytes))
+    (omega (arith, c.self.ranges, c.fit.ensures.packets, c.fit.ensures.bytes))) c.book_shown.new.row c.book_shown.ensures c.dequeue-shown.new.out
+    (given-some c.dequeue-shown.result.packet c.args.out.now c.dequeue-shown.new.out (sym c.has_packet.ensures ∙ c.if-not-has_packet.false)
+    c.dequeue-shown.ensures.dequeued.packet) c.book_sent.new.row c.book_sent.ensures
+    (record c.self.inside { clock = c.args.now; top = c.book_sent.new.row; root = c.dequeue-shown.new.self }) refl
+    c.dequeue-shown.ensures.dequeued.arrived)
+    refl (sent-form c.self.inside c.self.invariant.device c.args.now later low c.dequeue-shown.result shown c.dequeue-shown.new.self
+    c.dequeue-shown.ensures.dequeued.after (can-book-top c.self.inside c.self.invariant.device c.args.now later low c.dequeue-shown.result shown
+    (booked kept c.self.inside.root (ask c.args.now (shape c.self.inside.root)).peeked) refl
+    (omega (arith, c.self.ranges, c.fit.ensures.packets, c.fit.ensures.bytes))
+    (omega (arith, c.self.ranges, c.fit.ensures.packets, c.fit.ensures.bytes))) c.book_shown.new.row c.book_shown.ensures c.dequeue-shown.new.out
+    (given-some c.dequeue-shown.result.packet c.args.out.now c.dequeue-shown.new.out (sym c.has_packet.ensures ∙ c.if-not-has_packet.false)
+    c.dequeue-shown.ensures.dequeued.packet))
 
 pub returns-clause-after : goal.returns-clause-after
 returns-clause-after g c =
@@ -112,7 +176,14 @@ returns-clause-after g c =
     let later : c.self.inside.clock ≤ c.args.now = omega (arith, e, c.requires.order) in
     let low : c.args.now ≤ 2 ^ 62 = omega (arith, c.ns.ensures.in_range, c.ns.ensures.value) in
     let shown = c.dequeue-shown.ensures.dequeued.shown in
-    sent-tree c.self.inside c.self.invariant.device c.args.now later low c.dequeue-shown.result shown c.dequeue-shown.new.self c.dequeue-shown.ensures.dequeued.after (can-book-top c.self.inside c.self.invariant.device c.args.now later low c.dequeue-shown.result shown (booked kept c.self.inside.root (ask c.args.now (shape c.self.inside.root)).peeked) refl (omega (arith, c.self.ranges, c.fit.ensures.packets, c.fit.ensures.bytes)) (omega (arith, c.self.ranges, c.fit.ensures.packets, c.fit.ensures.bytes))) c.book_shown.new.row c.book_shown.ensures c.dequeue-shown.new.out (given-some c.dequeue-shown.result.packet c.args.out.now c.dequeue-shown.new.out (sym c.has_packet.ensures ∙ c.if-not-has_packet.false) c.dequeue-shown.ensures.dequeued.packet) c.book_sent.new.row c.book_sent.ensures (record c.self.inside { clock = c.args.now; top = c.book_sent.new.row; root = c.dequeue-shown.new.self }) refl
+    sent-tree c.self.inside c.self.invariant.device c.args.now later low c.dequeue-shown.result shown c.dequeue-shown.new.self
+    c.dequeue-shown.ensures.dequeued.after (can-book-top c.self.inside c.self.invariant.device c.args.now later low c.dequeue-shown.result shown
+    (booked kept c.self.inside.root (ask c.args.now (shape c.self.inside.root)).peeked) refl
+    (omega (arith, c.self.ranges, c.fit.ensures.packets, c.fit.ensures.bytes))
+    (omega (arith, c.self.ranges, c.fit.ensures.packets, c.fit.ensures.bytes))) c.book_shown.new.row c.book_shown.ensures c.dequeue-shown.new.out
+    (given-some c.dequeue-shown.result.packet c.args.out.now c.dequeue-shown.new.out (sym c.has_packet.ensures ∙ c.if-not-has_packet.false)
+    c.dequeue-shown.ensures.dequeued.packet) c.book_sent.new.row c.book_sent.ensures
+    (record c.self.inside { clock = c.args.now; top = c.book_sent.new.row; root = c.dequeue-shown.new.self }) refl
     ∙ ap (λ (d : DeviceState Kept). record { clock = c.args.now; tree = take_packet kept c.args.now d.tree }) c.self.view_is
 
 pub returns-clause-sent : goal.returns-clause-sent
@@ -121,7 +192,9 @@ returns-clause-sent g c =
     let later : c.self.inside.clock ≤ c.args.now = omega (arith, e, c.requires.order) in
     let low : c.args.now ≤ 2 ^ 62 = omega (arith, c.ns.ensures.in_range, c.ns.ensures.value) in
     let shown = c.dequeue-shown.ensures.dequeued.shown in
-    sym (ap is_some (sym (ap (λ (d : DeviceState Kept). given c.args.now d.tree) c.self.view_is) ∙ sym shown.packet ∙ (given-some c.dequeue-shown.result.packet c.args.out.now c.dequeue-shown.new.out (sym c.has_packet.ensures ∙ c.if-not-has_packet.false) c.dequeue-shown.ensures.dequeued.packet)))
+    sym (ap is_some (sym (ap (λ (d : DeviceState Kept). given c.args.now d.tree) c.self.view_is) ∙ sym shown.packet
+    ∙ (given-some c.dequeue-shown.result.packet c.args.out.now c.dequeue-shown.new.out (sym c.has_packet.ensures ∙ c.if-not-has_packet.false)
+    c.dequeue-shown.ensures.dequeued.packet)))
 
 pub returns-clause-packet : goal.returns-clause-packet
 returns-clause-packet g c =

@@ -19,11 +19,22 @@ book_sends-requires-clause-balanced g c = (top-row c.self.inside c.self.invarian
 
 pub book_sends-requires-clause-packets : goal.book_sends-requires-clause-packets
 book_sends-requires-clause-packets g c =
-    omega (arith, (heads-within c.self.inside c.self.invariant c.send_heads-sent.result.packets (c.send_heads-sent.ensures.head (omega (arith, c.if-sent-eq0.false)))).packets, ap (λ (t : Totals). t.packets) c.send_heads-sent.ensures.totals)
+    omega (
+      arith,
+      (heads-within c.self.inside c.self.invariant c.send_heads-sent.result.packets
+          (c.send_heads-sent.ensures.head (omega (arith, c.if-sent-eq0.false)))).packets,
+      ap (λ (t : Totals). t.packets)
+          c.send_heads-sent.ensures.totals,
+    )
 
 pub book_sends-requires-clause-bytes : goal.book_sends-requires-clause-bytes
 book_sends-requires-clause-bytes g c =
-    omega (arith, (heads-within c.self.inside c.self.invariant c.send_heads-sent.result.packets (c.send_heads-sent.ensures.head (omega (arith, c.if-sent-eq0.false)))).bytes, ap (λ (t : Totals). t.bytes) c.send_heads-sent.ensures.totals)
+    omega (
+      arith,
+      (heads-within c.self.inside c.self.invariant c.send_heads-sent.result.packets
+          (c.send_heads-sent.ensures.head (omega (arith, c.if-sent-eq0.false)))).bytes,
+      ap (λ (t : Totals). t.bytes) c.send_heads-sent.ensures.totals,
+    )
 
 pub book_sends-requires-clause-sent_packets : goal.book_sends-requires-clause-sent_packets
 book_sends-requires-clause-sent_packets g c =
@@ -54,7 +65,8 @@ burst g c =
     let each = heads-sent now n a c.self.invariant (omega (arith, ap (λ (d : DeviceState Kept). d.clock) c.self.view_is, c.requires.order)) (omega (arith, c.ns.ensures.in_range, c.ns.ensures.value))
     (omega (arith, c.fit.ensures.packets)) (omega (arith, c.fit.ensures.bytes)) (c.send_heads-sent.ensures.head (omega (arith, c.if-sent-eq0.false))) in
     let row : c.book_sends.new.row ≡ with_sends (totals_in ps) a.top = c.book_sends.ensures ∙ ap (λ (t : Totals). with_sends t a.top) c.send_heads-sent.ensures.totals in
-    subst (IsSentBurst now ps a) (went-all now ps a (omega (arith, counted g c, c.if-sent-eq0.false)) ∙ (λ i. record a { clock = now; top = sym row i; root = sym c.send_heads-sent.ensures.after i })) each
+    subst (IsSentBurst now ps a) (went-all now ps a (omega (arith, counted g c, c.if-sent-eq0.false)) ∙
+    (λ i. record a { clock = now; top = sym row i; root = sym c.send_heads-sent.ensures.after i })) each
 
 pub invariant_of-self-2 : goal.invariant_of-self-2
 invariant_of-self-2 g c = (burst g (goal.at.invariant_of-self-2 g c).After-book_sends).indexed

@@ -32,4 +32,5 @@ empty_spec 𝓤 𝓛 𝓜 𝓡 wired =
     sets ! (agg ! (and_then ! (lit ! tt) (no_more !))) refl (tt, (record { fits = lit< tt }, tt)) $
     held_none R ! $
     use0 𝓛 (raw (fact 𝓤 (None ≡ None))) (fact_i 𝓤 (None ≡ None) (emp 𝓤) refl) $ nothing ! $
-    returns ! (look_at ! 0 refl) $ free_all ! refl $ nothing ! $ keep ! (0 ∷ 1 ∷ 3 ∷ 2 ∷ []) $ by ! (leaves 𝓛 ended hs c z (single (ptr_val null_ptr)) (record { at = null_ptr; outlet = None }) tt tt)))
+    returns ! (look_at ! 0 refl) $ free_all ! refl $ nothing ! $ keep ! (0 ∷ 1 ∷ 3 ∷ 2 ∷ []) $ by !
+    (leaves 𝓛 ended hs c z (single (ptr_val null_ptr)) (record { at = null_ptr; outlet = None }) tt tt)))

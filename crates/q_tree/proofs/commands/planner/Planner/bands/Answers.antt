@@ -54,8 +54,10 @@ returns c =
     let s : PrioSettings = record { bands = c.options.inside.bands; priomap = c.options.inside.priomap } in
     let h : HasRoom d now root n s nodes same c.in_ok-more.more = bands-passed d now root n s nodes same c.in_ok-more.more (sym c.leaves_needed.ensures ∙ c.in_ok-more.was) in
     let ls = c.in-Ok.leaves in
-    let new : AreNew ls.items (replicate (s.bands - length (children (shape n))) (implicit_pfifo d)) = subst (λ k. AreNew ls.items (replicate k (implicit_pfifo d))) h.leaves_is c.in-Ok.ensures.new in (
+    let new : AreNew ls.items (replicate (s.bands - length (children (shape n))) (implicit_pfifo d)) =
+    subst (λ k. AreNew ls.items (replicate k (implicit_pfifo d))) h.leaves_is c.in-Ok.ensures.new in (
       subst (λ t. IsRemade (plans_of d now root n (kind.Prio t) n.own.discipline) n (SetBands s ls)) c.options.view_is
           (rebanded-is d n s ls.items new (plans_of d now root n (kind.Prio s) n.own.discipline) (SetBands s ls) h.priomap h.is h.planned refl refl refl (λ x. x)),
-      λ path some. subst (λ t. MakesChildren (plans_of d now root n (kind.Prio t) n.own.discipline path)) c.options.view_is (subst MakesChildren (sym (h.planned path)) (more-made d n s ls.items new some)),
+      λ path some. subst (λ t. MakesChildren (plans_of d now root n (kind.Prio t) n.own.discipline path)) c.options.view_is
+          (subst MakesChildren (sym (h.planned path)) (more-made d n s ls.items new some)),
     )

@@ -14,7 +14,8 @@ returns-in-Pfifo c =
     let root = shape (root_of c.args.self.now) in
     let d : Device = device_of c.args.self.now in
     subst (λ k. IsChange (NeedsMore k) (plans_of d c.args.self.now.moment root n k n.own.discipline) n c.packet_limit.result) (sym c.in-Pfifo.is)
-    (subst (IsChange (λ plan. takes_none) (plans_of d c.args.self.now.moment root n (kind.Pfifo c.in-Pfifo.limit) n.own.discipline) n) (sym c.packet_limit.ensures) (pfifo-is d c.args.self.now.moment root n c.in-Pfifo.limit))
+    (subst (IsChange (λ plan. takes_none) (plans_of d c.args.self.now.moment root n (kind.Pfifo c.in-Pfifo.limit) n.own.discipline) n)
+    (sym c.packet_limit.ensures) (pfifo-is d c.args.self.now.moment root n c.in-Pfifo.limit))
 
 pub returns-in-Bfifo : goal.returns-in-Bfifo
 returns-in-Bfifo c =
@@ -22,7 +23,8 @@ returns-in-Bfifo c =
     let root = shape (root_of c.args.self.now) in
     let d : Device = device_of c.args.self.now in
     subst (λ k. IsChange (NeedsMore k) (plans_of d c.args.self.now.moment root n k n.own.discipline) n c.byte_limit.result) (sym c.in-Bfifo.is)
-    (subst (IsChange (λ plan. takes_none) (plans_of d c.args.self.now.moment root n (kind.Bfifo c.in-Bfifo.limit) n.own.discipline) n) (sym c.byte_limit.ensures) (bfifo-is d c.args.self.now.moment root n c.in-Bfifo.limit))
+    (subst (IsChange (λ plan. takes_none) (plans_of d c.args.self.now.moment root n (kind.Bfifo c.in-Bfifo.limit) n.own.discipline) n)
+    (sym c.byte_limit.ensures) (bfifo-is d c.args.self.now.moment root n c.in-Bfifo.limit))
 
 pub returns-in-Prio : goal.returns-in-Prio
 returns-in-Prio c =
@@ -37,7 +39,9 @@ returns-in-Tbf c =
     let root = shape (root_of c.args.self.now) in
     let d : Device = device_of c.args.self.now in
     subst (λ k. IsChange (NeedsMore k) (plans_of d c.args.self.now.moment root n k n.own.discipline) n c.bucket.result) (sym c.in-Tbf.is)
-    (subst (IsChange (λ plan. takes_none) (plans_of d c.args.self.now.moment root n (kind.Tbf c.in-Tbf.rate c.in-Tbf.burst c.in-Tbf.limit) n.own.discipline) n) (sym c.bucket.ensures) (tbf-is d c.args.self.now.moment root n d.mtu c.requires.lawful c.in-Tbf.rate c.in-Tbf.burst c.in-Tbf.limit))
+    (subst (IsChange (λ plan. takes_none) (plans_of d c.args.self.now.moment root n (kind.Tbf c.in-Tbf.rate c.in-Tbf.burst c.in-Tbf.limit)
+    n.own.discipline) n) (sym c.bucket.ensures)
+    (tbf-is d c.args.self.now.moment root n d.mtu c.requires.lawful c.in-Tbf.rate c.in-Tbf.burst c.in-Tbf.limit))
 
 pub returns-in-Drr : goal.returns-in-Drr
 returns-in-Drr c =
@@ -53,4 +57,5 @@ returns-in-FqCodel c =
     let root = shape (root_of c.args.self.now) in
     let d : Device = device_of c.args.self.now in
     subst (λ k. IsChange (NeedsMore k) (plans_of d c.args.self.now.moment root n k n.own.discipline) n c.options.result) (sym c.in-FqCodel.is)
-    (subst (IsChange (λ plan. takes_none) (plans_of d c.args.self.now.moment root n (kind.FqCodel c.in-FqCodel.options) n.own.discipline) n) (sym c.options.ensures) (fq_codel-is d c.args.self.now.moment root n c.in-FqCodel.options))
+    (subst (IsChange (λ plan. takes_none) (plans_of d c.args.self.now.moment root n (kind.FqCodel c.in-FqCodel.options) n.own.discipline) n)
+    (sym c.options.ensures) (fq_codel-is d c.args.self.now.moment root n c.in-FqCodel.options))

@@ -18,8 +18,11 @@ returns-in_default c =
     let d : Device = device_of c.args.self.now in
     let k = c.args.kind.now in
     record {
-      plan = refused-plan (NeedsMore k (plan d c.args.self.now.moment (QdiscChange c.args.place c.args.handle k) (shape root))) (plan d c.args.self.now.moment (QdiscChange c.args.place c.args.handle k) (shape root)) NoQdisc
-          (change-nowhere root (bounded-by c.args.self.now) d c.args.self.now.moment d.mtu c.requires.lawful c.args.place c.args.handle k (sym c.target.ensures ∙ ap (option_map (λ x. (x.0.items, x.1.now))) c.in_default.is));
+      plan =
+          refused-plan (NeedsMore k (plan d c.args.self.now.moment (QdiscChange c.args.place c.args.handle k) (shape root)))
+          (plan d c.args.self.now.moment (QdiscChange c.args.place c.args.handle k) (shape root)) NoQdisc
+          (change-nowhere root (bounded-by c.args.self.now) d c.args.self.now.moment d.mtu c.requires.lawful c.args.place c.args.handle k
+          (sym c.target.ensures ∙ ap (option_map (λ x. (x.0.items, x.1.now))) c.in_default.is));
     }
 
 pub change_to-requires-clause-within : goal.change_to-requires-clause-within
@@ -47,7 +50,10 @@ returns-in_err-change c =
     let k = c.args.kind.now in
     let e = c.in_err-change.field-0.0 in
     record {
-      plan = err-passed c.from_residual.result e (IsPlanBy c.args.self.now (NeedsMore k (planned_by c.args.self.now (QdiscChange c.args.place c.args.handle k))) (QdiscChange c.args.place c.args.handle k)) c.from_residual.ensures.1
+      plan =
+          err-passed c.from_residual.result e (IsPlanBy c.args.self.now
+          (NeedsMore k (planned_by c.args.self.now (QdiscChange c.args.place c.args.handle k))) (QdiscChange c.args.place c.args.handle k))
+          c.from_residual.ensures.1
           (change-refused root (bounded-by c.args.self.now) d c.args.self.now.moment d.mtu c.requires.lawful c.args.place c.args.handle k c.in-Some.path.items n
           (sym c.target.ensures ∙ ap (option_map (λ x. (x.0.items, x.1.now))) c.in-Some.is) (NeedsMore k) e
           (subst (IsChange (NeedsMore k) (plans_of d c.args.self.now.moment (shape root) n k n.own.discipline) n) c.in_err-change.was c.change_to.ensures c.in-Some.path.items));

@@ -30,7 +30,9 @@ can_add_class-requires c =
     omega (
       arith,
       c.len.ensures.value,
-      path-short c.in-Some.path.items root c.in-Some.node.now (reached-at root (path_of c.args.class.major (shape root)) c.in-Some.path.items c.in-Some.node.now found).there c.args.self.now.qdiscs.levels,
+      path-short c.in-Some.path.items root c.in-Some.node.now
+          (reached-at root (path_of c.args.class.major (shape root)) c.in-Some.path.items c.in-Some.node.now found).there
+          c.args.self.now.qdiscs.levels,
     )
 
 pub returns-in_err-can_add_class-clause-plan : goal.returns-in_err-can_add_class-clause-plan

@@ -22,9 +22,14 @@ returns-in_default-clause-plan c =
     let device = device_of c.args.self.now in
     let now = c.args.self.now.moment in
     let root = root_of c.args.self.now in
-    let planned = plan-class_change (shape root) (shallow root (bounded-by c.args.self.now)) (few root (bounded-by c.args.self.now)) device now c.args.parent c.args.class c.args.quantum ∙ at-class c.args.parent c.args.class (class_changed c.args.class c.args.quantum) (shape root) (sym c.names_another.ensures ∙ c.if-names_another.false) in
+    let planned =
+    plan-class_change (shape root) (shallow root (bounded-by c.args.self.now)) (few root (bounded-by c.args.self.now)) device now c.args.parent
+    c.args.class c.args.quantum ∙ at-class c.args.parent c.args.class (class_changed c.args.class c.args.quantum) (shape root)
+    (sym c.names_another.ensures ∙ c.if-names_another.false) in
     refused-plan takes_none (plan device now (ClassChange c.args.parent c.args.class c.args.quantum) (shape root)) NoQdisc
-    (planned ∙ target-none root (path_of c.args.class.major (shape root)) NoQdisc (λ path n. of_schedule (class_changed c.args.class c.args.quantum path n) n.own.discipline) (sym c.qdisc.ensures ∙ ap (option_map (λ x. (x.0.items, x.1.now))) c.in_default.is))
+    (planned ∙ target-none root (path_of c.args.class.major (shape root)) NoQdisc
+    (λ path n. of_schedule (class_changed c.args.class c.args.quantum path n) n.own.discipline)
+    (sym c.qdisc.ensures ∙ ap (option_map (λ x. (x.0.items, x.1.now))) c.in_default.is))
 
 pub returns-in_err-can_change_class-clause-plan : goal.returns-in_err-can_change_class-clause-plan
 returns-in_err-can_change_class-clause-plan c =
@@ -33,12 +38,20 @@ returns-in_err-can_change_class-clause-plan c =
     let root = root_of c.args.self.now in
     let n = c.in-Some.node.now in
     let path = c.in-Some.path.items in
-    let planned = plan-class_change (shape root) (shallow root (bounded-by c.args.self.now)) (few root (bounded-by c.args.self.now)) device now c.args.parent c.args.class c.args.quantum ∙ at-class c.args.parent c.args.class (class_changed c.args.class c.args.quantum) (shape root) (sym c.names_another.ensures ∙ c.if-names_another.false) in
-    let found = target-some root (path_of c.args.class.major (shape root)) NoQdisc (λ path n. of_schedule (class_changed c.args.class c.args.quantum path n) n.own.discipline) path n (sym c.qdisc.ensures ∙ ap (option_map (λ x. (x.0.items, x.1.now))) c.in-Some.is) in
+    let planned =
+    plan-class_change (shape root) (shallow root (bounded-by c.args.self.now)) (few root (bounded-by c.args.self.now)) device now c.args.parent
+    c.args.class c.args.quantum ∙ at-class c.args.parent c.args.class (class_changed c.args.class c.args.quantum) (shape root)
+    (sym c.names_another.ensures ∙ c.if-names_another.false) in
+    let found =
+    target-some root (path_of c.args.class.major (shape root)) NoQdisc
+    (λ path n. of_schedule (class_changed c.args.class c.args.quantum path n) n.own.discipline) path n
+    (sym c.qdisc.ensures ∙ ap (option_map (λ x. (x.0.items, x.1.now))) c.in-Some.is) in
     let e = c.in_err-can_change_class.field-0.0 in
     err-passed c.from_residual.result e (IsPlanBy c.args.self.now takes_none (ClassChange c.args.parent c.args.class c.args.quantum)) c.from_residual.ensures.1
     (refused-plan takes_none (plan device now (ClassChange c.args.parent c.args.class c.args.quantum) (shape root)) e
-    (planned ∙ found ∙ drr-refused (class_change_checks c.args.class (shape n)) (λ s. retuned (shape n) path (Drr (with_new_quantum c.args.class c.args.quantum s))) e n.own.discipline (sym c.can_change_class.ensures ∙ c.in_err-can_change_class.was)))
+    (planned ∙ found ∙ drr-refused (class_change_checks c.args.class (shape n))
+    (λ s. retuned (shape n) path (Drr (with_new_quantum c.args.class c.args.quantum s))) e n.own.discipline
+    (sym c.can_change_class.ensures ∙ c.in_err-can_change_class.was)))
 
 pub returns-clause-plan : goal.returns-clause-plan
 returns-clause-plan c =
@@ -47,9 +60,15 @@ returns-clause-plan c =
     let root = root_of c.args.self.now in
     let n = c.in-Some.node.now in
     let path = c.in-Some.path.items in
-    let planned = plan-class_change (shape root) (shallow root (bounded-by c.args.self.now)) (few root (bounded-by c.args.self.now)) device now c.args.parent c.args.class c.args.quantum ∙ at-class c.args.parent c.args.class (class_changed c.args.class c.args.quantum) (shape root) (sym c.names_another.ensures ∙ c.if-names_another.false) in
+    let planned =
+    plan-class_change (shape root) (shallow root (bounded-by c.args.self.now)) (few root (bounded-by c.args.self.now)) device now c.args.parent
+    c.args.class c.args.quantum ∙ at-class c.args.parent c.args.class (class_changed c.args.class c.args.quantum) (shape root)
+    (sym c.names_another.ensures ∙ c.if-names_another.false) in
     let reached = sym c.qdisc.ensures ∙ ap (option_map (λ x. (x.0.items, x.1.now))) c.in-Some.is in
     let found = target-some root (path_of c.args.class.major (shape root)) NoQdisc (λ path n. of_schedule (class_changed c.args.class c.args.quantum path n) n.own.discipline) path n reached in
-    own-planned device root (record { path = c.in-Some.path; edit = DisciplineChange (SetQuantum c.args.class.minor c.args.quantum) }) tt n (reached-at root (path_of c.args.class.major (shape root)) path n reached).there
-    (record n.own { discipline = rescheduled (requantum c.args.class.minor c.args.quantum) n.own.discipline }) (own-kept (SetQuantum c.args.class.minor c.args.quantum) n refl refl) refl (ClassChange c.args.parent c.args.class c.args.quantum) c.requires.ranges now
+    own-planned device root (record { path = c.in-Some.path; edit = DisciplineChange (SetQuantum c.args.class.minor c.args.quantum) }) tt n
+    (reached-at root (path_of c.args.class.major (shape root)) path n reached).there
+    (record n.own { discipline = rescheduled (requantum c.args.class.minor c.args.quantum) n.own.discipline })
+    (own-kept (SetQuantum c.args.class.minor c.args.quantum) n refl refl) refl (ClassChange c.args.parent c.args.class c.args.quantum)
+    c.requires.ranges now
     (planned ∙ found ∙ change-done c.args.class c.args.quantum path n (sym c.can_change_class.ensures ∙ c.in_ok-can_change_class.was)) takes_none (λ h. h)

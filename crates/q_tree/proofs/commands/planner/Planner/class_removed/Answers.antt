@@ -19,7 +19,8 @@ returns-in_default c =
     record {
       plan =
           refused-plan takes_none (plan device now (ClassDel c.args.parent c.args.class) (shape root)) NoQdisc
-          (del-nowhere root (bounded-by c.args.self.now) device c.args.parent c.args.class (sym c.names_another.ensures ∙ c.if-names_another.false) now (sym c.qdisc.ensures ∙ ap (option_map (λ x. (x.0.items, x.1.now))) c.in_default.is));
+          (del-nowhere root (bounded-by c.args.self.now) device c.args.parent c.args.class (sym c.names_another.ensures ∙ c.if-names_another.false)
+          now (sym c.qdisc.ensures ∙ ap (option_map (λ x. (x.0.items, x.1.now))) c.in_default.is));
     }
 
 pub returns-in_err-can_remove_class : goal.returns-in_err-can_remove_class
@@ -44,6 +45,7 @@ returns c =
     record {
       plan =
           class-del-planned root (bounded-by c.args.self.now) device c.args.parent c.args.class (sym c.names_another.ensures ∙ c.if-names_another.false) now c.in-Some.path.items c.in-Some.node.now
-          (sym c.qdisc.ensures ∙ ap (option_map (λ x. (x.0.items, x.1.now))) c.in-Some.is) (sym c.can_remove_class.ensures ∙ c.in_ok-can_remove_class.was) (numbered-by c.args.self.now c.requires.lawful)
+          (sym c.qdisc.ensures ∙ ap (option_map (λ x. (x.0.items, x.1.now))) c.in-Some.is)
+          (sym c.can_remove_class.ensures ∙ c.in_ok-can_remove_class.was) (numbered-by c.args.self.now c.requires.lawful)
           (record { path = c.in-Some.path; edit = DisciplineChange (RemoveClass c.args.class.minor) }) refl c.requires.ranges;
     }

@@ -37,7 +37,9 @@ returns-in_err-can_remove_filters-clause-plan c =
     let e = c.in_err-can_remove_filters.field-0.0 in
     err-passed c.from_residual.result e (IsPlanBy c.args.self.now takes_none (FilterDel c.args.parent c.args.prio)) c.from_residual.ensures.1
     (refused-plan takes_none (plan device now (FilterDel c.args.parent c.args.prio) (shape root)) e
-    (planned ∙ found ∙ same-refusal (filter_del_checks c.args.prio (shape n)) tt (with_filters path (shape n) (filter (λ (f : Filter). not (f.prio == c.args.prio)) n.own.filters)) e (sym c.can_remove_filters.ensures ∙ c.in_err-can_remove_filters.was)))
+    (planned ∙ found ∙ same-refusal (filter_del_checks c.args.prio (shape n)) tt
+    (with_filters path (shape n) (filter (λ (f : Filter). not (f.prio == c.args.prio)) n.own.filters)) e
+    (sym c.can_remove_filters.ensures ∙ c.in_err-can_remove_filters.was)))
 
 pub returns-clause-plan : goal.returns-clause-plan
 returns-clause-plan c =
@@ -51,4 +53,6 @@ returns-clause-plan c =
     let found = target-some root (path_of c.args.parent (shape root)) NoQdisc (filters_removed c.args.prio) path n reached in
     own-planned device root (record { path = c.in-Some.path; edit = RemoveFilters c.args.prio }) tt n (reached-at root (path_of c.args.parent (shape root)) path n reached).there
     (record n.own { filters = filter (λ (f : Filter). not (f.prio == c.args.prio)) n.own.filters }) refl refl (FilterDel c.args.parent c.args.prio) c.requires.ranges now
-    (planned ∙ found ∙ all-passed (filter_del_checks c.args.prio (shape n)) tt (with_filters path (shape n) (filter (λ (f : Filter). not (f.prio == c.args.prio)) n.own.filters)) (sym c.can_remove_filters.ensures ∙ c.in_ok-can_remove_filters.was)) takes_none (λ h. h)
+    (planned ∙ found ∙ all-passed (filter_del_checks c.args.prio (shape n)) tt
+    (with_filters path (shape n) (filter (λ (f : Filter). not (f.prio == c.args.prio)) n.own.filters))
+    (sym c.can_remove_filters.ensures ∙ c.in_ok-can_remove_filters.was)) takes_none (λ h. h)

@@ -14,7 +14,8 @@ returns-in_default-at c =
     let d : Device = device_of c.args.self.now in
     let none : node_at c.in-Some.way.now (root_of c.args.self.now) ≡ None = sym c.at.ensures ∙ ap option_copied c.in_default-at.is in
     subst (IsNewNode c.implicit_pfifo-in_default-at.result)
-    (sym (ap (λ o. option_map_or (λ (parent : Node Kept). implicit_beneath d parent.own.discipline) o (implicit_pfifo d)) none) ∙ leaf-is d c.args.path.now c.in-Some.way.now c.in-Some.field-0-0.now (root_of c.args.self.now) c.in-Some.ensures.cases.0)
+    (sym (ap (λ o. option_map_or (λ (parent : Node Kept). implicit_beneath d parent.own.discipline) o (implicit_pfifo d)) none)
+    ∙ leaf-is d c.args.path.now c.in-Some.way.now c.in-Some.field-0-0.now (root_of c.args.self.now) c.in-Some.ensures.cases.0)
     c.implicit_pfifo-in_default-at.ensures
 
 pub returns : goal.returns
@@ -22,5 +23,6 @@ returns c =
     let d : Device = device_of c.args.self.now in
     let there : node_at c.in-Some.way.now (root_of c.args.self.now) ≡ Some c.in-Some-at.parent.now = sym c.at.ensures ∙ ap option_copied c.in-Some-at.is in
     subst (IsNewNode c.implicit_beneath.result)
-    (sym (ap (λ o. option_map_or (λ (parent : Node Kept). implicit_beneath d parent.own.discipline) o (implicit_pfifo d)) there) ∙ leaf-is d c.args.path.now c.in-Some.way.now c.in-Some.field-0-0.now (root_of c.args.self.now) c.in-Some.ensures.cases.0)
+    (sym (ap (λ o. option_map_or (λ (parent : Node Kept). implicit_beneath d parent.own.discipline) o (implicit_pfifo d)) there)
+    ∙ leaf-is d c.args.path.now c.in-Some.way.now c.in-Some.field-0-0.now (root_of c.args.self.now) c.in-Some.ensures.cases.0)
     c.implicit_beneath.ensures

@@ -27,7 +27,8 @@ returns-in_default c =
       plan =
           refused-plan takes_none (plan d now (QdiscDel c.args.place c.args.handle) (shape root)) NoQdisc
           (plan-qdisc_del (shape root) (shallow root (bounded-by c.args.self.now)) (few root (bounded-by c.args.self.now)) d now c.args.place c.args.handle
-          ∙ target-none root (target c.args.place c.args.handle (shape root)) NoQdisc (λ path n. Ok (model.Graft path (leaf_at d path (shape root)))) (sym c.target.ensures ∙ ap (option_map (λ x. (x.0.items, x.1.now))) c.in_default.is));
+          ∙ target-none root (target c.args.place c.args.handle (shape root)) NoQdisc (λ path n. Ok (model.Graft path (leaf_at d path (shape root))))
+          (sym c.target.ensures ∙ ap (option_map (λ x. (x.0.items, x.1.now))) c.in_default.is));
     }
 
 pub returns : goal.returns

@@ -27,7 +27,8 @@ pub returns-in_default-class_place : goal.returns-in_default-class_place
 returns-in_default-class_place c =
     let root = root_of c.args.self.now in
     way-classful c.in-Class.class root (unwrap_or (place_path (place.Class c.in-Class.class) (shape root)) []) c.in-Some.path.items c.in-Some.parent.now
-    (sym c.qdisc.ensures ∙ ap (option_map (λ x. (x.0.items, x.1.now))) c.in-Some.is) None (sym c.is_classless.ensures ∙ c.if-is_classless.false) (sym c.class_place.ensures ∙ c.in_default-class_place.is)
+    (sym c.qdisc.ensures ∙ ap (option_map (λ x. (x.0.items, x.1.now))) c.in-Some.is) None (sym c.is_classless.ensures ∙ c.if-is_classless.false)
+    (sym c.class_place.ensures ∙ c.in_default-class_place.is)
     ∙ ap (λ p. done_unless (place_checks p (shape root)) (unwrap_or (place_path p (shape root)) [])) (sym c.in-Class.is)
 
 pub push-requires : goal.push-requires
