@@ -228,7 +228,7 @@ module _ (major i quantum : ℕ) (classes : List Class) where
         let always : next.clock ≤ next.clock = omega arith in
         child-is major i classes next next.clock kept_next always k.0 m at k.1.class k.1.there
 
-    child-put : (now : ℕ) (p : Descriptor) → IsPut now p n m → IsPut now p x y
+    pub child-put : (now : ℕ) (p : Descriptor) → IsPut now p n m → IsPut now p x y
     child-put now p b =
         let c = booked-child (IsPutOf now p b.refusal) classes n.below b.worked.below i y (related b.way).2
         (ap (λ (q : Node (List Note)). child_for i classes (children q)) b.is ∙ last-child) in
@@ -367,7 +367,7 @@ module _ (major i quantum : ℕ) (classes : List Class) where
 -- ---- the most of a turn
 
 -- fewer bytes have no longer turn
-most-rises : (mtu bytes most : ℕ) (s : Share) → 1 ≤ s.quantum → bytes ≤ most → most_of_turn mtu bytes s ≤ most_of_turn mtu most s
+pub most-rises : (mtu bytes most : ℕ) (s : Share) → 1 ≤ s.quantum → bytes ≤ most → most_of_turn mtu bytes s ≤ most_of_turn mtu most s
 most-rises mtu bytes most s some h =
     let fewer : most - (most - bytes) ≡ bytes = omega (arith, h) in
     let grants : div_ceil bytes s.quantum ≤ div_ceil most s.quantum =
@@ -390,7 +390,7 @@ pub keep-fifo : (major i : ℕ) (d : DeviceState (List Note)) (seen later : List
 keep-fifo major i d [] later h = tt
 keep-fifo major i d (e ∷ seen) later h = (h.0, keep-fifo major i (step history d e).device seen later h.1)
 
-keep-rest : (major i : ℕ) (r : Replay (List Note)) (seen later : List Event) → KeepFifo major i r.device (seen ++ later)
+pub keep-rest : (major i : ℕ) (r : Replay (List Note)) (seen later : List Event) → KeepFifo major i r.device (seen ++ later)
     → KeepFifo major i (replay_from history r seen).device later
 keep-rest major i r [] later h = h
 keep-rest major i r (e ∷ seen) later h = keep-rest major i (with_step r (step history r.device e)) seen later h.1

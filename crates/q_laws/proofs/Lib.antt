@@ -26,6 +26,12 @@ mod LinkAsks
 mod LinkStretches
 mod MostTurns
 mod MostTurnRows
+mod NestAsks
+mod NestKept
+mod NestTime
+mod NestTurns
+mod NestTurnRows
+mod NestWaits
 mod NeverLate
 mod NewFlowQuiet
 mod NewFlowRows

@@ -1,5 +1,5 @@
 -- The most that the classes of a drr send before a packet of one of them, in any state: each deficit at its greatest.
-use Rattle.std.proofs.Common.{◌≡◌, ℕ, ◌+◌, ◌-◌, ◌*◌, ◌<◌, ◌≤◌, Bool, true, false, eqb, ◌||◌, List, [], ◌∷◌, length, Some}
+use Rattle.std.proofs.Common.{◌≡◌, ℕ, ◌+◌, ◌-◌, ◌*◌, ◌<◌, ◌≤◌, Bool, true, false, eqb, ◌||◌, List, [], ◌∷◌, ◌++◌, length, Some}
 use Rattle.std.proofs.Common.{sym, ap, subst, ◌∙◌, inl, inr, arith}
 use Rattle.std.specs.Prelude.{All, ◌==◌, if◌then◌else◌, option_and_then}
 use Rattle.std.specs.Int.{div_ceil}
@@ -17,7 +17,7 @@ use Rattle.q_model.specs.declared.event.Event.{Event}
 use Rattle.q_model.specs.Events.{IsEvent}
 use Rattle.q_model.specs.Settings.{DeviceSettings, IsInRange}
 use Rattle.q_model.specs.Step.{DeviceState}
-use Rattle.q_model.specs.Stretches.{ClassAt, class_in, qdisc, IsBackloggedClass}
+use Rattle.q_model.specs.Stretches.{ClassAt, class_in, qdisc, IsBackloggedClass, Throughout}
 use Rattle.q_model.specs.Tally.{Note}
 use Rattle.q_invariants.proofs.ClassChildren.{child-has}
 use Rattle.q_invariants.proofs.ClassMoves.{ClassNode, class-node, drr-lawful, same-drr}
@@ -27,11 +27,11 @@ use Rattle.q_device.specs.Sharing.{device_after}
 use Rattle.q_device.specs.Worst.{most_of_turn}
 use Rattle.q_device.proofs.ClassStretches.{at-start, deficits-bounded}
 use Rattle.q_laws.specs.MostOfTurn.{ClassesWaitAtMost, TurnsAreBounded, share_in}
-use Rattle.q_laws.specs.Service.{classes_of, HasClasses, quanta_of}
+use Rattle.q_laws.specs.Service.{all_sent, class_sent, classes_of, HasClasses, quanta_of}
 use Rattle.q_laws.specs.Turn.{bytes_of_turn, deficit_ahead, deficits_ahead}
 use Rattle.q_laws.proofs.LeastShare.{is-class, classes-differ, IsOwn, own-quanta}
-use Rattle.q_laws.proofs.TurnStretches.{few-grants}
-use Rattle.q_laws.proofs.TurnSums.{classes-wait}
+use Rattle.q_laws.proofs.TurnStretches.{few-grants, StaysWithin}
+use Rattle.q_laws.proofs.TurnSums.{classes-send, classes-wait}
 
 -- ---- the deficits of the others
 
@@ -189,19 +189,35 @@ turns-are-bounded settings range events major i bytes class all is = turn-bounde
 abbrev IsBound : ℕ → ℕ → ℕ → List Entry → ℕ → List Class → Type 0
 IsBound i mtu bytes active q cs = bytes_of_turn i q cs active bytes ≤ most_of_turn mtu bytes (share_among (record { name = i; quantum = q }) cs)
 
+module _ (settings : DeviceSettings) (range : IsInRange settings) (before during : List Event) (major i quantum bytes : ℕ) (classes : List Class)
+    (all_before : All IsEvent before) (all_during : All IsEvent during) (there : Throughout (HasClasses major classes) settings before during)
+    (stays : Throughout (IsBackloggedClass major i quantum) settings before during) where
+  abbrev h : IsBackloggedClass major i quantum (device_after settings before)
+  h = at-start (IsBackloggedClass major i quantum) settings before during stays
+
+  any-state : bytes_of_turn i quantum classes h.class.schedule.active bytes ≤ most_of_turn settings.mtu bytes (share_among (record { name = i; quantum = quantum }) classes)
+  any-state =
+      let d : DeviceState (List Note) = device_after settings before in
+      let bound = turns-are-bounded settings range before major i bytes h.class all_before h.there in
+      let same : h.class.schedule.classes ≡ classes =
+      same_Some h.class.schedule.classes classes (sym (has-classes major i d h.class (class-node major i d h.class h.there))
+      ∙ at-start (HasClasses major classes) settings before during there) in
+      subst (IsBound i settings.mtu bytes h.class.schedule.active quantum) same
+      (subst (λ q. IsBound i settings.mtu bytes h.class.schedule.active q h.class.schedule.classes) h.same_quantum bound)
+
+  -- where it is granted only while it has sent no more than the bytes
+  pub classes-send-at-most : StaysWithin major i bytes 0 (device_after settings before) during
+      → (last : ClassAt) → class_in major i (device_after settings (before ++ during)) ≡ Some last
+      → (next : ℕ) → class_sent major i (device_after settings before) during + next ≤ bytes
+      → all_sent major classes (device_after settings before) during + next
+      ≤ most_of_turn settings.mtu bytes (share_among (record { name = i; quantum = quantum }) classes)
+  classes-send-at-most within last at next own =
+      let sent = classes-send settings range before during major i quantum bytes classes h.class last all_before all_during there stays within h.there at next own in
+      omega (arith, sent, any-state)
+
 pub classes-wait-at-most : (settings : DeviceSettings) → IsInRange settings → ClassesWaitAtMost settings
 classes-wait-at-most settings range before during major i quantum bytes classes last t all_before all_during there stays left at order low =
-    let d : DeviceState (List Note) = device_after settings before in
     let h = at-start (IsBackloggedClass major i quantum) settings before during stays in
     let sent = classes-wait settings range before during major i quantum bytes classes h.class last t all_before all_during there stays left h.there
     at order low in
-    let bound = turns-are-bounded settings range before major i bytes h.class all_before h.there in
-    let same : h.class.schedule.classes ≡ classes =
-    same_Some h.class.schedule.classes classes (sym (has-classes major i d h.class (class-node major i d h.class h.there))
-    ∙ at-start (HasClasses major classes) settings before during there) in
-    omega (
-      arith,
-      sent,
-      subst (IsBound i settings.mtu bytes h.class.schedule.active quantum) same
-          (subst (λ q. IsBound i settings.mtu bytes h.class.schedule.active q h.class.schedule.classes) h.same_quantum bound),
-    )
+    omega (arith, sent, any-state settings range before during major i quantum bytes classes all_before all_during there stays)

@@ -1,20 +1,25 @@
 -- While a packet waits its turn in a drr, what the drr has handed up and the packet that it shows next are within the most of a turn.
-use Rattle.std.proofs.Common.{◌≡◌, ℕ, ◌+◌, ◌≤◌, ◌^◌, max, ◌⊎◌, inl, inr, List, [], ◌∷◌, ◌++◌, refl, sym, ap, subst, ◌∙◌, Option, Some, None, option_and_then, arith}
-use Rattle.std.specs.Prelude.{All}
-use Rattle.std.proofs.lemmas.List.{append-nil, append_assoc}
+use Rattle.std.proofs.Common.{◌≡◌, ℕ, ◌+◌, ◌≤◌, ◌^◌, max, ◌⊎◌, inl, inr, List, [], ◌∷◌, ◌++◌, length, refl, sym, ap, subst, ◌∙◌, Option, Some, None, option_and_then, option_to_list, arith}
+use Rattle.std.specs.Prelude.{All, false, slice_get}
+use Rattle.std.specs.List.{flat_map}
+use Rattle.std.proofs.lemmas.Bool.{ne_eqb}
+use Rattle.std.proofs.lemmas.List.{append-nil, append_assoc, length-append}
 use Rattle.std.proofs.lemmas.List.Elements.{All-append, All-cons, All-head, All-nil, All-tail}
-use Rattle.std.proofs.lemmas.Option.{same_Some}
+use Rattle.std.proofs.lemmas.Option.{same_Some, option_and_then_some}
+use Rattle.q_packet.specs.Descriptor.{Descriptor}
 use Rattle.q_drr.specs.Schedule.{Class, Schedule}
 use Rattle.q_model.specs.declared.event.Event.{Event}
 use Rattle.q_model.specs.declared.event.Event.TheVariants as event
 use Rattle.q_model.specs.Ask.{ask, ask_own}
+use Rattle.q_model.specs.Beneath.{beneath, beneath_own, is_empty, packets_in}
 use Rattle.q_model.specs.Events.{IsEvent}
-use Rattle.q_model.specs.Node.{Drr, Node, each, shape}
+use Rattle.q_model.specs.Node.{Drr, Node, children, each, shape}
 use Rattle.q_model.specs.Settings.{DeviceSettings, IsInRange}
 use Rattle.q_model.specs.Step.{DeviceState, step}
 use Rattle.q_model.specs.Stretches.{bytes_sent, length_held, class_in, qdisc, Throughout}
 use Rattle.q_model.specs.Tally.{Note, history}
 use Rattle.q_model.specs.Work.{Worked, booked}
+use Rattle.q_invariants.proofs.ClassChildren.{child-at, place_in}
 use Rattle.q_invariants.proofs.Members.{All-front}
 use Rattle.q_invariants.proofs.Replays.{IsKept, not-before, replay-kept, step-kept}
 use Rattle.q_invariants.proofs.SentStages.{ask-gives}
@@ -29,20 +34,21 @@ use Rattle.q_laws.specs.Line.{bytes_in}
 use Rattle.q_laws.specs.Service.{given_so_far, HasClasses, all_sent}
 use Rattle.q_laws.specs.Turn.{shown_by}
 use Rattle.q_laws.specs.TurnWorst.{IsWaiting}
-use Rattle.q_laws.proofs.FifoTurns.{fifos-wait-at-most, keep-fifo}
+use Rattle.q_laws.proofs.FifoTurns.{IsHere, backlogged-so-far, fifos-wait-at-most, keep-fifo}
 use Rattle.q_laws.proofs.LeastShare.{DrrNode, drr-node}
 use Rattle.q_laws.proofs.LinkAsks.{Leaves}
+use Rattle.q_laws.proofs.PromiseWays.{queued-above}
 use Rattle.q_laws.proofs.ServiceStretches.{given-at}
 use Rattle.q_laws.proofs.TurnAsks.{Serves, Silent, all-hand, child-is, holds, serves}
-use Rattle.q_laws.proofs.TurnPolls.{IsOver, IsAskedNext, asked-next, drr-next, fifo-next, has-next}
+use Rattle.q_laws.proofs.TurnPolls.{IsOver, IsAskedNext, asked-next, drr-next, fifo-next, has-next, staged}
 use Rattle.q_laws.proofs.TurnWaits.{booked-sent, keeps-poll, leaves-of, one-more, one-more-holds, reached, reaches, StepServes, step-serves}
 
 -- a drr, with its schedule
-abbrev DrrShape : Node (List Note) → Type 0
+abbrev pub DrrShape : Node (List Note) → Type 0
 DrrShape n = (s : Schedule) × (n.own.discipline ≡ Drr s)
 
 -- a drr that was asked hands out what it shows, or holds it
-handed : (now : ℕ) (n : Node (List Note)) (d : DrrShape n) (w : Worked) → (w ≡ (ask now (shape n)).peeked) ⊎ (w ≡ (ask now (shape n)).taken)
+pub handed : (now : ℕ) (n : Node (List Note)) (d : DrrShape n) (w : Worked) → (w ≡ (ask now (shape n)).peeked) ⊎ (w ≡ (ask now (shape n)).taken)
     → bytes_sent w.memory + length_held w.own.held ≡ length_held (ask now (shape n)).shown
 handed now n d w stage = by stage
   where
@@ -59,11 +65,20 @@ handed now n d w stage = by stage
         let held = ap (λ (x : Worked). length_held x.own.held) e ∙ ap length_held hand.1 in
         omega (arith, sent, held)
 
+-- what holds a packet has one queued
+pub held-queued : (n : Node (List Note)) (p : Descriptor) → n.own.held ≡ Some p → is_empty n ≡ false
+held-queued n p e =
+    let rest : List Descriptor = flat_map (λ packets. packets) (each beneath_own n.below) in
+    let front = length-append (option_to_list n.own.held) (packets_in n.own.discipline) in
+    let whole = length-append (option_to_list n.own.held ++ packets_in n.own.discipline) rest in
+    let one = ap (λ (o : Option Descriptor). length (option_to_list o)) e in
+    ne_eqb (length (beneath n)) 0 (λ nothing. absurd (omega (arith, nothing, front, whole, one)))
+
 module _ (settings : DeviceSettings) (range : IsInRange settings) (before during : List Event) (major i quantum bytes : ℕ) (classes : List Class)
     (earlier : All IsEvent before) (happen : All IsEvent during)
     (has : Throughout (HasClasses major classes) settings before during) (stays : Throughout (IsFifoClass major i quantum) settings before during)
     (keep : KeepFifo major i (device_after settings before) during)
-    (waits : Throughout (IsWaiting major i (device_after settings before)) settings before during)
+    (waits : (seen : List Event) (x : Event) (later : List Event) → seen ++ x ∷ later ≡ during → IsWaiting major i (device_after settings before) (device_after settings (before ++ seen)))
     (few : bytes_in (class_line major i (device_after settings before)) ≤ bytes) where
   abbrev start : DeviceState (List Note)
   start = device_after settings before
@@ -120,7 +135,7 @@ module _ (settings : DeviceSettings) (range : IsInRange settings) (before during
   -- ---- one event
 
   on : (seen : List Event) (x : Event) (later : List Event) → seen ++ x ∷ later ≡ during → IsReached seen → IsReached (seen ++ x ∷ [])
-  on seen x later e h m is = by (waits seen (x ∷ later) e)
+  on seen x later e h m is = by (waits seen x later e)
     where
       d : DeviceState (List Note)
       d = device_after settings (before ++ seen)
@@ -199,9 +214,30 @@ module _ (settings : DeviceSettings) (range : IsInRange settings) (before during
       → reached m ≤ top
   all-reached seen later e = go [] during refl begins seen later e
 
+  -- ---- something is queued while it waits
+
+  pub waiting-queued : (seen later : List Event) → seen ++ later ≡ during → IsWaiting major i (device_after settings before) (device_after settings (before ++ seen))
+      → (n : Node (List Note)) → qdisc major (device_after settings (before ++ seen)) ≡ Some n → is_empty n ≡ false
+  waiting-queued seen later e waiting n is = by waiting
+    where
+      inside-it : IsInFifo major i start (at seen) → is_empty n ≡ false
+      inside-it there =
+          let b = backlogged-so-far settings range before seen major i quantum classes earlier (front-happens seen later e)
+          (so-far (IsHere major i quantum classes) (λ xs ys join. (has xs ys join, stays xs ys join)) seen later e)
+          (keep-so-far seen later e) there seen [] (append-nil seen) in
+          let always : (at seen).clock ≤ (at seen).clock = omega arith in
+          let child = child-is major i classes (at seen) (at seen).clock (kept-in seen later e) always (has seen later e) n is b.class b.there in
+          option_and_then_some (slice_get (children n)) (place_in i classes) b.class.child (child-at i classes (children n) ∙ child)
+          (λ k placed here. queued-above n b.class.child k here b.queued)
+
+      by : IsWaiting major i start (at seen) → is_empty n ≡ false
+      by (inl there) = inside-it there
+      by (inr o) = held-queued n o.0 (sym (ap (option_and_then (λ (m : Node (List Note)). m.own.held)) is) ∙ o.1)
+
   -- ---- the packet that is shown next
 
-  module _ (seen later : List Event) (e : seen ++ later ≡ during) (link : Option Link) (over : IsOver link major (device_after settings (before ++ seen)))
+  module _ (seen later : List Event) (e : seen ++ later ≡ during) (waiting : IsWaiting major i (device_after settings before) (device_after settings (before ++ seen)))
+      (link : Option Link) (over : IsOver link major (device_after settings (before ++ seen)))
       (free : (device_after settings (before ++ seen)).tree.root.own.held ≡ None) (n : Node (List Note))
       (is : qdisc major (device_after settings (before ++ seen)) ≡ Some n) (moment : ℕ) (low : moment ≤ 2 ^ 62) where
     abbrev now : ℕ
@@ -235,9 +271,10 @@ module _ (settings : DeviceSettings) (range : IsInRange settings) (before during
     gone-on : IsInFifo major i start (at seen) → Silent major i classes (at seen) now kept (not-before (at seen).clock moment) (has seen later e) n is f.class f.there w
         → bytes_sent n.memory + length_held (ask now (shape n)).shown ≤ top
     gone-on inside silent =
-        let g = fifo-next major (at seen) moment classes kept low (has seen later e) n is asked i quantum f in
-        let k = has-next major (at seen) moment classes kept low (has seen later e) n is asked in
-        let there = drr-next major (at seen) moment classes kept low (has seen later e) n is asked in
+        let stand = staged major (at seen) moment n asked in
+        let g = fifo-next major (at seen) moment classes kept low (has seen later e) n is stand i quantum f in
+        let k = has-next major (at seen) moment classes kept low (has seen later e) n is stand in
+        let there = drr-next major (at seen) moment classes kept low (has seen later e) n is stand in
         let kept_next : IsKept next = step-kept (at seen) (event.Poll moment) kept low in
         let always : next.clock ≤ next.clock = omega arith in
         let same = silent g.class.child (child-is major i classes next next.clock kept_next always k (booked history n w) there g.class g.there) in
@@ -260,7 +297,7 @@ module _ (settings : DeviceSettings) (range : IsInRange settings) (before during
         omega (arith, law, sum, booked-sent n w, hands)
 
     shown-next : bytes_sent n.memory + length_held (ask now (shape n)).shown ≤ top
-    shown-next = by (waits seen later e)
+    shown-next = by waiting
       where
         leaves : Leaves (ask now (shape n)) w (bytes_sent w.memory)
         leaves = leaves-of (ask now (shape n)) (ask-gives now (shape n)) w (inr asked.stage)
@@ -287,9 +324,10 @@ module _ (settings : DeviceSettings) (range : IsInRange settings) (before during
             omega (arith, less, hands, so_far)
 
   -- whenever it is asked
-  pub shown-at : (seen later : List Event) → seen ++ later ≡ during → (link : Option Link) → IsOver link major (device_after settings (before ++ seen))
+  pub shown-at : (seen later : List Event) → seen ++ later ≡ during → IsWaiting major i (device_after settings before) (device_after settings (before ++ seen))
+      → (link : Option Link) → IsOver link major (device_after settings (before ++ seen))
       → (device_after settings (before ++ seen)).tree.root.own.held ≡ None → (n : Node (List Note)) → qdisc major (device_after settings (before ++ seen)) ≡ Some n
       → (t : ℕ) → (device_after settings (before ++ seen)).clock ≤ t → t ≤ 2 ^ 62 → bytes_sent n.memory + length_held (ask t (shape n)).shown ≤ top
-  shown-at seen later e link over free n is t order low =
+  shown-at seen later e waiting link over free n is t order low =
       let same : max (at seen).clock t ≡ t = omega (arith, order) in
-      subst (λ u. bytes_sent n.memory + length_held (ask u (shape n)).shown ≤ top) same (shown-next seen later e link over free n is t low)
+      subst (λ u. bytes_sent n.memory + length_held (ask u (shape n)).shown ≤ top) same (shown-next seen later e waiting link over free n is t low)

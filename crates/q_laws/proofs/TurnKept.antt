@@ -1,19 +1,18 @@
 -- The worst delay that a device answers for a class of a drr is enough for each packet that the class's fifo keeps.
-use Rattle.std.proofs.Common.{◌≡◌, ℕ, ◌+◌, ◌-◌, ◌*◌, ◌≤◌, ◌^◌, inl, inr, max, refl, sym, ap, subst, ◌∙◌, List, [], ◌∷◌, ◌++◌, length, Option, Some, None, option_to_list, option_and_then, arith}
+use Rattle.std.proofs.Common.{◌≡◌, ℕ, ◌+◌, ◌-◌, ◌*◌, ◌≤◌, ◌^◌, inl, max, refl, sym, ap, subst, ◌∙◌, List, [], ◌∷◌, ◌++◌, length, Option, Some, None, arith}
 use Rattle.std.specs.Prelude.{All, false, slice_get}
 use Rattle.std.specs.Int.{div_ceil}
-use Rattle.std.specs.List.{filter_map, flat_map}
+use Rattle.std.specs.List.{filter_map}
 use Rattle.std.proofs.Math.Nat.{mul-le-mul_left}
-use Rattle.std.proofs.lemmas.Bool.{leb-true, ne_eqb}
-use Rattle.std.proofs.lemmas.List.{append-nil, append_assoc, length-append}
+use Rattle.std.proofs.lemmas.Bool.{leb-true}
+use Rattle.std.proofs.lemmas.List.{append-nil, append_assoc}
 use Rattle.std.proofs.lemmas.List.Elements.{All-append}
-use Rattle.std.proofs.lemmas.Option.{same_Some, option_and_then_some}
-use Rattle.q_packet.specs.Descriptor.{Descriptor}
+use Rattle.std.proofs.lemmas.Option.{same_Some}
 use Rattle.q_bucket.specs.Level.{level_at, units_in_byte}
 use Rattle.q_model.specs.declared.event.Event.{Event}
 use Rattle.q_model.specs.declared.place.Place.TheVariants as place
 use Rattle.q_model.specs.Ask.{ask}
-use Rattle.q_model.specs.Beneath.{beneath, beneath_own, is_empty, packets_in}
+use Rattle.q_model.specs.Beneath.{is_empty}
 use Rattle.q_model.specs.Events.{IsEvent}
 use Rattle.q_model.specs.Node.{Node, children, each, shape}
 use Rattle.q_model.specs.Settings.{DeviceSettings, IsInRange}
@@ -21,7 +20,6 @@ use Rattle.q_model.specs.Step.{DeviceState, step}
 use Rattle.q_model.specs.Stretches.{bytes_sent, length_held, qdisc, TbfAt, Throughout}
 use Rattle.q_model.specs.Tally.{Note, history}
 use Rattle.q_model.specs.TreeState.{given}
-use Rattle.q_invariants.proofs.ClassChildren.{child-at, place_in}
 use Rattle.q_invariants.proofs.Members.{All-front}
 use Rattle.q_invariants.proofs.Replays.{IsKept, replay-kept}
 use Rattle.q_tree.specs.declared.ways.Link.{Link}
@@ -33,14 +31,13 @@ use Rattle.q_device.specs.Sharing.{device_after}
 use Rattle.q_device.specs.Worst.{bytes_in_turn, most_bytes, most_of_turn, time_of}
 use Rattle.q_device.proofs.ClassStretches.{at-start}
 use Rattle.q_laws.specs.Delay.{IsLeft, latest, level_counted, paid_so_far}
-use Rattle.q_laws.specs.FifoTurn.{IsFifoClass, IsInFifo, KeepFifo}
+use Rattle.q_laws.specs.FifoTurn.{IsFifoClass, KeepFifo}
 use Rattle.q_laws.specs.Line.{bytes_in}
 use Rattle.q_laws.specs.Order.{answers}
 use Rattle.q_laws.specs.Rate.{HasRoom, IsBackloggedLink}
 use Rattle.q_laws.specs.Service.{HasClasses}
 use Rattle.q_laws.specs.TurnWorst.{IsTurn, IsWaiting, LeadsTo, TurnIsEnough, TurnIsInTime, id_of, turn_line, turn_of}
 use Rattle.q_laws.specs.Worst.{with_arrival}
-use Rattle.q_laws.proofs.FifoTurns.{IsHere, backlogged-so-far, keep-fifo}
 use Rattle.q_laws.proofs.GivenPaid.{given-paid}
 use Rattle.q_laws.proofs.HoldsNone.{holds-none}
 use Rattle.q_laws.proofs.LaneNumbers.{WorstIs, turn-bytes, turn-is}
@@ -52,8 +49,7 @@ use Rattle.q_laws.proofs.PromiseKept.{IsLinked, bare, link-of, linked, path-of-w
 use Rattle.q_laws.proofs.PromiseNumbers.{late-room}
 use Rattle.q_laws.proofs.PromiseWays.{of-child, on-way, queued-above, step-of}
 use Rattle.q_laws.proofs.ShareInTime.{held-in}
-use Rattle.q_laws.proofs.TurnAsks.{child-is}
-use Rattle.q_laws.proofs.TurnBounds.{shown-at, start-drr}
+use Rattle.q_laws.proofs.TurnBounds.{shown-at, start-drr, waiting-queued}
 use Rattle.q_laws.proofs.TurnLimits.{turns-keep-limits}
 use Rattle.q_laws.proofs.TurnPaid.{given-next, next-is-drr, pays, sends}
 use Rattle.q_laws.proofs.TurnPolls.{IsOver}
@@ -91,15 +87,6 @@ module _ (dev : DeviceState (List Note)) (kept : IsKept dev) where
           let o = on-way dev kept i path l.child d [] s (of-child l.child root root l.place l.there (inl refl)) in
           let k = link-of dev kept link (d ∷ []) l in
           record { has = o.has; over = (k.0, l.child, o.is, k.1) }
-
--- what holds a packet has one queued
-held-queued : (n : Node (List Note)) (p : Descriptor) → n.own.held ≡ Some p → is_empty n ≡ false
-held-queued n p e =
-    let rest : List Descriptor = flat_map (λ packets. packets) (each beneath_own n.below) in
-    let front = length-append (option_to_list n.own.held) (packets_in n.own.discipline) in
-    let whole = length-append (option_to_list n.own.held ++ packets_in n.own.discipline) rest in
-    let one = ap (λ (o : Option Descriptor). length (option_to_list o)) e in
-    ne_eqb (length (beneath n)) 0 (λ nothing. absurd (omega (arith, nothing, front, whole, one)))
 
 -- ---- while a packet waits
 
@@ -142,11 +129,14 @@ module _ (settings : DeviceSettings) (range : IsInRange settings) (before during
     fifo : Throughout (IsFifoClass d.major d.class.name d.class.quantum) settings before during
     fifo seen later e = (stays seen later e).1
 
+    waits-before : (seen : List Event) (x : Event) (later : List Event) → seen ++ x ∷ later ≡ during → IsWaiting d.major d.class.name (device_after settings before) (at seen)
+    waits-before seen x later e = waits seen (x ∷ later) e
+
     abbrev first : Node (List Note)
-    first = (start-drr settings range before during d.major d.class.name d.class.quantum bytes d.classes earlier happen has fifo keep waits few).node
+    first = (start-drr settings range before during d.major d.class.name d.class.quantum bytes d.classes earlier happen has fifo keep waits-before few).node
 
     first-is : qdisc d.major (device_after settings before) ≡ Some first
-    first-is = (start-drr settings range before during d.major d.class.name d.class.quantum bytes d.classes earlier happen has fifo keep waits few).there
+    first-is = (start-drr settings range before during d.major d.class.name d.class.quantum bytes d.classes earlier happen has fifo keep waits-before few).there
 
     -- the drr in a state of the stretch
     drr : (seen later : List Event) → seen ++ later ≡ during → Node (List Note)
@@ -159,8 +149,8 @@ module _ (settings : DeviceSettings) (range : IsInRange settings) (before during
     shows : (seen later : List Event) (e : seen ++ later ≡ during) (t : ℕ) → (at seen).clock ≤ t → t ≤ 2 ^ 62
         → bytes_sent (drr seen later e).memory + length_held (ask t (shape (drr seen later e))).shown ≤ bytes_sent first.memory + length_held first.own.held + most
     shows seen later e t order low =
-        shown-at settings range before during d.major d.class.name d.class.quantum bytes d.classes earlier happen has fifo keep waits few
-        seen later e link (over seen later e) (free seen later e) (drr seen later e) (drr-is seen later e) t order low
+        shown-at settings range before during d.major d.class.name d.class.quantum bytes d.classes earlier happen has fifo keep waits-before few
+        seen later e (waits seen later e) link (over seen later e) (free seen later e) (drr seen later e) (drr-is seen later e) t order low
 
   -- ---- a drr at the root
 
@@ -226,32 +216,10 @@ module _ (settings : DeviceSettings) (range : IsInRange settings) (before during
 
     -- something is queued all the while
     drr-queued : (seen later : List Event) (e : seen ++ later ≡ during) → is_empty (drr (Some link) stays keep waits few seen later e) ≡ false
-    drr-queued seen later e = by (waits seen later e)
-      where
-        n : Node (List Note)
-        n = drr (Some link) stays keep waits few seen later e
-
-        n-is : qdisc d.major (at seen) ≡ Some (drr (Some link) stays keep waits few seen later e)
-        n-is = drr-is (Some link) stays keep waits few seen later e
-
-        inside : IsInFifo d.major d.class.name start (at seen) → is_empty (drr (Some link) stays keep waits few seen later e) ≡ false
-        inside there =
-            let b = backlogged-so-far settings range before seen d.major d.class.name d.class.quantum d.classes earlier (front-happens seen later e)
-            (so-far (IsHere d.major d.class.name d.class.quantum d.classes)
-            (λ xs ys join. (has (Some link) stays keep waits few xs ys join, fifo (Some link) stays keep waits few xs ys join)) seen later e)
-            (keep-fifo d.major d.class.name start seen later (subst (KeepFifo d.major d.class.name start) (sym e) keep)) there seen [] (append-nil seen) in
-            let always : (at seen).clock ≤ (at seen).clock = omega arith in
-            let child = child-is d.major d.class.name d.classes (at seen) (at seen).clock (kept-in seen later e) always (has (Some link) stays keep waits few seen later e)
-            (drr (Some link) stays keep waits few seen later e) n-is b.class b.there in
-            option_and_then_some (slice_get (children (drr (Some link) stays keep waits few seen later e))) (place_in d.class.name d.classes) b.class.child
-            (child-at d.class.name d.classes (children (drr (Some link) stays keep waits few seen later e)) ∙ child)
-            (λ k placed here. queued-above (drr (Some link) stays keep waits few seen later e) b.class.child k here b.queued)
-
-        by : IsWaiting d.major d.class.name start (at seen) → is_empty (drr (Some link) stays keep waits few seen later e) ≡ false
-        by (inl there) = inside there
-        by (inr o) =
-            held-queued (drr (Some link) stays keep waits few seen later e) o.0
-            (sym (ap (option_and_then (λ (m : Node (List Note)). m.own.held)) n-is) ∙ o.1)
+    drr-queued seen later e =
+        waiting-queued settings range before during d.major d.class.name d.class.quantum bytes d.classes earlier happen (has (Some link) stays keep waits few)
+        (fifo (Some link) stays keep waits few) keep (waits-before (Some link) stays keep waits few) few seen later e (waits seen later e)
+        (drr (Some link) stays keep waits few seen later e) (drr-is (Some link) stays keep waits few seen later e)
 
     pub linked-backlogged : Throughout (IsBackloggedLink link.handle link.rate link.burst) settings before during
     linked-backlogged seen later e =

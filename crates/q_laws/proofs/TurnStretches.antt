@@ -5,6 +5,7 @@ use Rattle.std.specs.Int.{div_ceil}
 use Rattle.std.proofs.Math.Nat.{add-mul, mul_comm, mul-le-mul_left}
 use Rattle.std.proofs.lemmas.Bool.{cases_lt}
 use Rattle.std.proofs.lemmas.Grind.{div_ceil_times}
+use Rattle.std.proofs.lemmas.List.Elements.{All-head, All-tail}
 use Rattle.std.proofs.lemmas.List.Sums.{sum_by-append}
 use Rattle.std.proofs.lemmas.Option.{same_Some}
 use Rattle.q_packet.specs.Descriptor.{Descriptor}
@@ -24,7 +25,7 @@ use Rattle.q_invariants.proofs.Replays.{IsKept, step-kept}
 use Rattle.q_invariants.proofs.StepNodes.{clock-rises}
 use Rattle.q_device.specs.Sharing.{device_after}
 use Rattle.q_laws.specs.Service.{given_so_far, class_sent}
-use Rattle.q_laws.specs.Turn.{IsClassLeft, StaysLeft}
+use Rattle.q_laws.specs.Turn.{IsClassLeft, StaysLeft, shown_by}
 use Rattle.q_laws.proofs.ServiceStretches.{given-at}
 
 -- so many grants are enough, where the last one came while less than the bytes was covered
@@ -45,6 +46,33 @@ few-grants g quantum d0 bytes some short = elim (cases_lt (div_ceil (bytes - d0)
     by least enough (inl none) = omega (arith, least, none, some)
     by least enough (inr less) = omega (arith, least, enough, less)
 
+-- ---- how much it has sent where it is granted
+
+module _ (major i bytes : ℕ) where
+  -- Where this event grants the class, which has sent so many, those and the packet that its child shows are among the bytes.
+  abbrev GrantedWithin : ℕ → DeviceState (List Note) → Event → Type 0
+  GrantedWithin sent d e =
+      (x y : ClassAt) (k : ℕ) → class_in major i d ≡ Some x → class_in major i (step history d e).device ≡ Some y
+      → grants_to i y.noted ≡ grants_to i x.noted + suc k → sent + shown_by (step history d e).device.clock x ≤ bytes
+
+  -- at each event from a first state on, in which it has sent so many
+  abbrev pub StaysWithin : ℕ → DeviceState (List Note) → List Event → Type 0
+  StaysWithin sent d [] = Unit {0}
+  StaysWithin sent d (e ∷ events) =
+      let next = (step history d e).device in
+      GrantedWithin sent d e × StaysWithin (sent + (given_so_far major i next - given_so_far major i d)) next events
+
+  -- so it is as long as a packet is left
+  pub left-within : (d : DeviceState (List Note)) (during : List Event) (sent : ℕ) → IsKept d → All IsEvent during → StaysLeft major i bytes sent d during
+      → StaysWithin sent d during
+  left-within d [] sent kept all left = tt
+  left-within d (e ∷ during) sent kept all left =
+      let next : DeviceState (List Note) = (step history d e).device in
+      let kept_next : IsKept next = step-kept d e kept (All-head IsEvent e during all) in (
+        λ x y k is at granted. left.0 x next.clock is (clock-rises d e) kept_next.moment,
+        left-within next during (sent + (given_so_far major i next - given_so_far major i d)) kept_next (All-tail IsEvent e during all) left.1,
+      )
+
 module _ (major i quantum bytes d0 : ℕ) where
   abbrev Stays : DeviceState (List Note) → Type 0
   Stays d = IsBackloggedClass major i quantum d
@@ -54,20 +82,19 @@ module _ (major i quantum bytes d0 : ℕ) where
     pub book : sent + deficit_of i x.schedule.active ≡ grants * quantum + d0
     pub short : (grants ≡ 0) ⊎ (grants * quantum + d0 < bytes + quantum)
 
-  pub record Waits (sent : ℕ) (end : DeviceState (List Note)) (z : ClassAt) : Type 0 where
+  pub record Waits (sent : ℕ) (z : ClassAt) : Type 0 where
     pub grants : ℕ
     pub short : Short sent grants z
-    pub left : IsClassLeft major i bytes sent end
 
   abbrev Moves : DeviceState (List Note) → List Event → DeviceState (List Note) → Type 0
   Moves d during end =
       (x z : ClassAt) (sent grants : ℕ) → class_in major i d ≡ Some x → class_in major i end ≡ Some z → Short sent grants x
-      → StaysLeft major i bytes sent d during → Waits (sent + class_sent major i d during) end z
+      → StaysWithin major i bytes sent d during → Waits (sent + class_sent major i d during) z
 
   still : (d : DeviceState (List Note)) → IsKept d → Stays d → Moves d [] d
-  still d kept h x z sent grants is at short left =
-      subst (λ n. Waits n d z) (let same : sent ≡ sent + 0 = omega arith in same)
-      (subst (Waits sent d) (same_Some x z (sym is ∙ at)) (record { grants = grants; short = short; left = left }))
+  still d kept h x z sent grants is at short within =
+      subst (λ n. Waits n z) (let same : sent ≡ sent + 0 = omega arith in same)
+      (subst (Waits sent) (same_Some x z (sym is ∙ at)) (record { grants = grants; short = short }))
 
   -- one that is granted at this event was short right before its last grant
   granted-short : (d next_clock : ℕ) (sent grants k deficit q : ℕ) (o : Option Descriptor) → q ≡ quantum → sent + deficit ≡ grants * quantum + d0 → sent + length_held o ≤ bytes
@@ -80,7 +107,7 @@ module _ (major i quantum bytes d0 : ℕ) where
 
   more : (d : DeviceState (List Note)) (e : Event) (during : List Event) (end : DeviceState (List Note)) → IsKept d → IsEvent e → Stays d → Stays (step history d e).device
       → Moves (step history d e).device during end → Moves d (e ∷ during) end
-  more d e during end kept event h k on x z sent grants is at short left =
+  more d e during end kept event h k on x z sent grants is at short within =
       let next : DeviceState (List Note) = (step history d e).device in
       let y : ClassAt = k.class in
       let same : h.class ≡ x = same_Some h.class x (sym h.there ∙ is) in
@@ -96,8 +123,8 @@ module _ (major i quantum bytes d0 : ℕ) where
       let book = short.book in
       let parts : (grants + grants_to i m.notes) * quantum ≡ grants * quantum + grants_to i m.notes * quantum = add-mul grants (grants_to i m.notes) quantum in
       let book_next : (sent + gain) + deficit_of i y.schedule.active ≡ (grants + grants_to i m.notes) * quantum + d0 = omega (arith, book, own, gave, parts) in
-      let rest = on y z (sent + gain) (grants + grants_to i m.notes) k.there at (record { book = book_next; short = by m.notes m.is short.short (grants_to i m.notes) refl }) left.1 in
-      subst (λ n. Waits n end z) (let whole : (sent + gain) + class_sent major i next during ≡ sent + (gain + class_sent major i next during) = omega arith in whole) rest
+      let rest = on y z (sent + gain) (grants + grants_to i m.notes) k.there at (record { book = book_next; short = by m.notes m.is short.short (grants_to i m.notes) refl }) within.1 in
+      subst (λ n. Waits n z) (let whole : (sent + gain) + class_sent major i next during ≡ sent + (gain + class_sent major i next during) = omega arith in whole) rest
     where
       by : (notes : List Note) → k.class.noted ≡ x.noted ++ notes → (grants ≡ 0) ⊎ (grants * quantum + d0 < bytes + quantum) → (g : ℕ) → grants_to i notes ≡ g
           → (grants + g ≡ 0) ⊎ ((grants + g) * quantum + d0 < bytes + quantum)
@@ -112,12 +139,35 @@ module _ (major i quantum bytes d0 : ℕ) where
           let whole : grants_to i k.class.noted ≡ grants_to i x.noted + suc j =
           ap (grants_to i) noted ∙ sum_by-append (granted_by i) x.noted notes ∙ ap (λ n. grants_to i x.noted + n) some in
           inr (granted-short 0 0 sent grants j (deficit_of i x.schedule.active) (quantum_of i x.schedule.classes) (ask next.clock (shape x.child)).shown q short.book
-          (left.0 x next.clock is (clock-rises d e) (step-kept d e kept event).moment)
+          (within.0 x k.class j is k.there whole)
           (class-short major i j d e x k.class kept event is k.there whole))
 
   pub class-waits : (settings : DeviceSettings) (before during : List Event) → IsInRange settings → All IsEvent before → All IsEvent during → Throughout Stays settings before during
       → (first last : ClassAt) → class_in major i (device_after settings before) ≡ Some first → class_in major i (device_after settings (before ++ during)) ≡ Some last
-      → deficit_of i first.schedule.active ≡ d0 → StaysLeft major i bytes 0 (device_after settings before) during
-      → Waits (0 + class_sent major i (device_after settings before) during) (device_after settings (before ++ during)) last
-  class-waits settings before during range all_before all_during stays first last is at begin left =
-      counted Stays Moves still more settings before during range all_before all_during stays first last 0 0 is at (record { book = omega (arith, begin); short = inl refl }) left
+      → deficit_of i first.schedule.active ≡ d0 → StaysWithin major i bytes 0 (device_after settings before) during
+      → Waits (0 + class_sent major i (device_after settings before) during) last
+  class-waits settings before during range all_before all_during stays first last is at begin within =
+      counted Stays Moves still more settings before during range all_before all_during stays first last 0 0 is at (record { book = omega (arith, begin); short = inl refl }) within
+
+  -- ---- a packet that is left is left at the end
+
+  abbrev StillLeft : DeviceState (List Note) → List Event → DeviceState (List Note) → Type 0
+  StillLeft d during end = (sent : ℕ) → StaysLeft major i bytes sent d during → IsClassLeft major i bytes (sent + class_sent major i d during) end
+
+  left-still : (d : DeviceState (List Note)) → IsKept d → Stays d → StillLeft d [] d
+  left-still d kept h sent left = subst (λ n. IsClassLeft major i bytes n d) (let same : sent ≡ sent + 0 = omega arith in same) left
+
+  left-more : (d : DeviceState (List Note)) (e : Event) (during : List Event) (end : DeviceState (List Note)) → IsKept d → IsEvent e → Stays d
+      → Stays (step history d e).device → StillLeft (step history d e).device during end → StillLeft d (e ∷ during) end
+  left-more d e during end kept event h k on sent left =
+      let next : DeviceState (List Note) = (step history d e).device in
+      let gain : ℕ = given_so_far major i next - given_so_far major i d in
+      subst (λ n. IsClassLeft major i bytes n end)
+      (let whole : (sent + gain) + class_sent major i next during ≡ sent + (gain + class_sent major i next during) = omega arith in whole)
+      (on (sent + gain) left.1)
+
+  pub left-at-end : (settings : DeviceSettings) (before during : List Event) → IsInRange settings → All IsEvent before → All IsEvent during
+      → Throughout Stays settings before during → StaysLeft major i bytes 0 (device_after settings before) during
+      → IsClassLeft major i bytes (0 + class_sent major i (device_after settings before) during) (device_after settings (before ++ during))
+  left-at-end settings before during range all_before all_during stays left =
+      counted Stays StillLeft left-still left-more settings before during range all_before all_during stays 0 left

@@ -142,10 +142,10 @@ one-more settings before seen e =
     ap (device_after settings) (sym (append_assoc before seen (e ∷ [])))
     ∙ ap (λ (r : Replay (List Note)). r.device) (replay_from-append history (nothing_yet history settings) (before ++ seen) e)
 
-same-first : (x y : Event) (xs ys : List Event) → x ∷ xs ≡ y ∷ ys → x ≡ y
+pub same-first : (x y : Event) (xs ys : List Event) → x ∷ xs ≡ y ∷ ys → x ≡ y
 same-first x y xs ys is = cc
 
-same-others : (x y : Event) (xs ys : List Event) → x ∷ xs ≡ y ∷ ys → xs ≡ ys
+pub same-others : (x y : Event) (xs ys : List Event) → x ∷ xs ≡ y ∷ ys → xs ≡ ys
 same-others x y xs ys is = cc
 
 none-front : (xs ys : List Event) → xs ++ ys ≡ [] → xs ≡ []
@@ -153,10 +153,10 @@ none-front [] ys is = refl
 none-front (x ∷ xs) ys is = let wrong : x ∷ (xs ++ ys) ≡ [] = is in cc
 
 -- a front of some events and one more is a front of the others, or all
-abbrev IsFront : List Event → List Event → Event → Type 0
+abbrev pub IsFront : List Event → List Event → Event → Type 0
 IsFront xs seen e = ((zs : List Event) × (xs ++ zs ≡ seen)) ⊎ (xs ≡ seen ++ e ∷ [])
 
-front-of : (xs ys seen : List Event) (e : Event) → xs ++ ys ≡ seen ++ e ∷ [] → IsFront xs seen e
+pub front-of : (xs ys seen : List Event) (e : Event) → xs ++ ys ≡ seen ++ e ∷ [] → IsFront xs seen e
 front-of [] ys seen e is = inl (seen, refl)
 front-of (x ∷ xs) ys [] e is =
     let none = none-front xs ys (same-others x e (xs ++ ys) [] is) in

@@ -7,6 +7,7 @@ pub mod InTime
 pub mod Latest
 pub mod Line
 pub mod MostOfTurn
+pub mod NestedTurn
 pub mod NewFlow
 pub mod Order
 pub mod Rate
