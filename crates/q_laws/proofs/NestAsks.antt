@@ -218,7 +218,9 @@ module _ (major i : ℕ) (classes : List Class) (d : DeviceState (List Note)) (m
           becomes_is = ap (λ (q : Node (List Note)). booked history q b.worked) (sym mine) ∙ b.is;
         }
 
-        looked : is_active i (asked_entries (choice_of (head_of drr.schedule (each (ask_own (step history d (event.Poll moment)).device.clock) (shape drr.node).below)) drr.schedule) drr.schedule.active) ≡ true
+        looked : is_active i (asked_entries (choice_of
+            (head_of drr.schedule (each (ask_own (step history d (event.Poll moment)).device.clock) (shape drr.node).below)) drr.schedule)
+            drr.schedule.active) ≡ true
             → child_for i classes (service_of drr.schedule (each (ask_own (step history d (event.Poll moment)).device.clock) (shape drr.node).below)).below ≡ Some b.worked
             → b.worked ≡ (ask (step history d (event.Poll moment)).device.clock (shape x.child)).peeked
         looked active e =
@@ -228,7 +230,9 @@ module _ (major i : ℕ) (classes : List Class) (d : DeviceState (List Note)) (m
             (ap (λ (cs : List Class). child_for i cs (service_of drr.schedule below).below) drr.same ∙ e)
             (ap (λ (cs : List Class). child_for i cs below) drr.same ∙ answers)
 
-        how : is_active i (asked_entries (choice_of (head_of drr.schedule (each (ask_own (step history d (event.Poll moment)).device.clock) (shape drr.node).below)) drr.schedule) drr.schedule.active) ≡ true
+        how : is_active i (asked_entries (choice_of
+            (head_of drr.schedule (each (ask_own (step history d (event.Poll moment)).device.clock) (shape drr.node).below)) drr.schedule)
+            drr.schedule.active) ≡ true
             → Nothing (step history d (event.Poll moment)).device.clock (shape drr.node).below drr.schedule differ stage.schedule stage.children
             ⊎ Gave (step history d (event.Poll moment)).device.clock (shape drr.node).below drr.schedule differ stage.schedule stage.children → AsksChild
         how active (inl nothing) = so (inl (looked active (ap (child_for i classes) (sym nothing.children) ∙ listed)))
@@ -237,7 +241,10 @@ module _ (major i : ℕ) (classes : List Class) (d : DeviceState (List Note)) (m
             (ap (child_for i classes) (sym gave.children) ∙ listed)).which
           where
             set-so : ((place_in i classes ≡ Some gave.place) × (b.worked ≡ gave.answer.taken))
-                ⊎ ((child_for i classes (service_of drr.schedule (each (ask_own (step history d (event.Poll moment)).device.clock) (shape drr.node).below)).below ≡ Some b.worked) × (place_in i classes ≡ Some gave.place → ⊥)) → AsksChild
+                ⊎ ((child_for i classes (service_of drr.schedule
+                (each (ask_own (step history d (event.Poll moment)).device.clock) (shape drr.node).below)).below ≡ Some b.worked)
+                × (place_in i classes ≡ Some gave.place → ⊥))
+                → AsksChild
             set-so (inl o) =
                 let got : child_for i classes below ≡ Some gave.answer =
                 sym (child-at i classes below) ∙ ap (option_and_then (slice_get below)) o.0 ∙ gave.there in

@@ -55,7 +55,17 @@ settings = record { mtu = 1; txqueuelen = 1000; recorder = 4096 }
 
 -- the n-th packet, of one byte, for these classes of the outer and the inner drr
 arrives : ℕ → ℕ → ℕ → Event
-arrives outer inner n = Arrive (record { port = 0; number = n; buf = n; len = 1; key = record { family = 0; proto = 0; src = 0; dst = 0; sport = inner; dport = outer }; hash = n; prio = 0; ecn = NotEct }) 0
+arrives outer inner n =
+    Arrive (record {
+      port = 0;
+      number = n;
+      buf = n;
+      len = 1;
+      key = record { family = 0; proto = 0; src = 0; dst = 0; sport = inner; dport = outer };
+      hash = n;
+      prio = 0;
+      ecn = NotEct;
+    }) 0
 
 class : ℕ → ℕ → ClassId
 class major minor = record { major = major; minor = minor }

@@ -136,7 +136,8 @@ module _ (now : ℕ) (own : Own) (below : List Asked) (s : Schedule) (is : own.d
       child e i (Some a) there h = shows e i a a.shown there refl h
 
       met : own.held ≡ None → (o : Option ℕ)
-          → Leaves (option_map_or (λ i. option_map_or (class_serves own below (service_of s below) i) (slice_get below i) (gives_nothing own below (service_of s below))) o (gives_nothing own below (service_of s below))) w taken
+          → Leaves (option_map_or (λ i. option_map_or (class_serves own below (service_of s below) i) (slice_get below i)
+          (gives_nothing own below (service_of s below))) o (gives_nothing own below (service_of s below))) w taken
           → Keeps w taken
       met e None h = none-keeps e w taken h
       met e (Some i) h = child e i (slice_get below i) refl h

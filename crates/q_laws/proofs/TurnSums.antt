@@ -82,7 +82,8 @@ module _ (i a n : ℕ) (active : List Entry) (sent : ℕ → ℕ) where
   ]
 
 -- by the deficit that counts of another class
-ahead-by : (i g : ℕ) (active : List Entry) (c : Class) (s : ℕ) → s ≤ g * c.quantum + deficit_of c.name active → (stands_first c.name i active ≡ false → s ≤ g * c.quantum + (deficit_of c.name active - c.quantum))
+ahead-by : (i g : ℕ) (active : List Entry) (c : Class) (s : ℕ) → s ≤ g * c.quantum + deficit_of c.name active
+    → (stands_first c.name i active ≡ false → s ≤ g * c.quantum + (deficit_of c.name active - c.quantum))
     → s ≤ g * c.quantum + deficit_ahead i active c
 ahead-by i g active c s most behind = by (stands_first c.name i active) refl
   where
@@ -133,14 +134,18 @@ classes-send settings range before during major i quantum bytes classes first la
     few : (g : ℕ) → g * quantum ≡ waits.grants * quantum → g ≤ div_ceil (bytes - deficit_of i first.schedule.active) quantum
     few g same = few-grants g quantum (deficit_of i first.schedule.active) bytes some (by waits.short.short)
       where
-        by : (waits.grants ≡ 0) ⊎ (waits.grants * quantum + deficit_of i first.schedule.active < bytes + quantum) → (g * quantum ≡ 0) ⊎ (g * quantum + deficit_of i first.schedule.active < bytes + quantum)
+        by : (waits.grants ≡ 0) ⊎ (waits.grants * quantum + deficit_of i first.schedule.active < bytes + quantum)
+            → (g * quantum ≡ 0) ⊎ (g * quantum + deficit_of i first.schedule.active < bytes + quantum)
         by (inl none) = inl (same ∙ ap (λ m. m * quantum) none ∙ (let nothing : 0 * quantum ≡ 0 = omega arith in nothing))
         by (inr less) = inr (omega (arith, less, same))
 
-    one : (c : Class) → IsOwn classes c → eqb i c.name ≡ false → class_sent major c.name (device_after settings before) during ≤ div_ceil (bytes - deficit_of i first.schedule.active) quantum * c.quantum + deficit_ahead i first.schedule.active c
+    one : (c : Class) → IsOwn classes c → eqb i c.name ≡ false
+        → class_sent major c.name (device_after settings before) during ≤ div_ceil (bytes - deficit_of i first.schedule.active) quantum * c.quantum
+        + deficit_ahead i first.schedule.active c
     one c mine apart =
         let law = class-against-any settings range before during major i c.name quantum c.quantum first last (eqb-false i c.name apart) all_before all_during stays
-        (λ seen later e. is-class major classes (device_after settings (before ++ seen)) (kept-at settings range before during all_before all_during seen later e) (there seen later e) c.name c.quantum mine.0 mine.1) is at in
+        (λ seen later e. is-class major classes (device_after settings (before ++ seen))
+        (kept-at settings range before during all_before all_during seen later e) (there seen later e) c.name c.quantum mine.0 mine.1) is at in
         let g : ℕ = grants_to i law.notes in
         let share = law.share in
         let book = waits.short.book in
@@ -149,16 +154,23 @@ classes-send settings range before during major i quantum bytes classes first la
         let fits = ahead-by i g first.schedule.active c (class_sent major c.name (device_after settings before) during) law.no_more law.behind in
         omega (arith, fits, few_are, mul_comm c.quantum g, mul_comm c.quantum (div_ceil (bytes - deficit_of i first.schedule.active) quantum))
 
-    most : (cs : List Class) → All (IsOwn classes) cs → All (λ (c : Class). eqb i c.name ≡ false → class_sent major c.name (device_after settings before) during ≤ div_ceil (bytes - deficit_of i first.schedule.active) quantum * c.quantum + deficit_ahead i first.schedule.active c) cs
-    most [] own = All-nil (λ (c : Class). eqb i c.name ≡ false → class_sent major c.name (device_after settings before) during ≤ div_ceil (bytes - deficit_of i first.schedule.active) quantum * c.quantum + deficit_ahead i first.schedule.active c)
+    most : (cs : List Class) → All (IsOwn classes) cs
+        → All (λ (c : Class). eqb i c.name ≡ false → class_sent major c.name (device_after settings before) during
+        ≤ div_ceil (bytes - deficit_of i first.schedule.active) quantum * c.quantum + deficit_ahead i first.schedule.active c) cs
+    most [] own =
+        All-nil (λ (c : Class). eqb i c.name ≡ false → class_sent major c.name (device_after settings before) during
+        ≤ div_ceil (bytes - deficit_of i first.schedule.active) quantum * c.quantum + deficit_ahead i first.schedule.active c)
     most (c ∷ cs) own =
-        All-cons (λ (c : Class). eqb i c.name ≡ false → class_sent major c.name (device_after settings before) during ≤ div_ceil (bytes - deficit_of i first.schedule.active) quantum * c.quantum + deficit_ahead i first.schedule.active c) c cs
+        All-cons (λ (c : Class). eqb i c.name ≡ false → class_sent major c.name (device_after settings before) during
+        ≤ div_ceil (bytes - deficit_of i first.schedule.active) quantum * c.quantum + deficit_ahead i first.schedule.active c) c cs
         (one c (All-head (IsOwn classes) c cs own)) (most cs (All-tail (IsOwn classes) c cs own))
 
     quanta-are : (cs : List Class) → All (IsOwn classes) cs → All (λ (c : Class). c.name ≡ i → c.quantum ≡ quantum) cs
     quanta-are [] own = All-nil (λ (c : Class). c.name ≡ i → c.quantum ≡ quantum)
     quanta-are (c ∷ cs) own =
-        All-cons (λ (c : Class). c.name ≡ i → c.quantum ≡ quantum) c cs (λ e. sym (All-head (IsOwn classes) c cs own).1 ∙ ap (λ m. quantum_of m classes) e ∙ stands.own) (quanta-are cs (All-tail (IsOwn classes) c cs own))
+        All-cons (λ (c : Class). c.name ≡ i → c.quantum ≡ quantum) c cs
+        (λ e. sym (All-head (IsOwn classes) c cs own).1 ∙ ap (λ m. quantum_of m classes) e ∙ stands.own)
+        (quanta-are cs (All-tail (IsOwn classes) c cs own))
 
 pub classes-wait : (settings : DeviceSettings) → IsInRange settings → ClassesWaitTheirTurn settings
 classes-wait settings range before during major i quantum bytes classes first last t all_before all_during there stays left is at order low =
