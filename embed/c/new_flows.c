@@ -201,7 +201,7 @@ static void leave(struct play *play, const qtree_sent *sent) {
         behind += play->held.is_behind;
         met += play->held.is_behind && play->sent == bound;
         if (play->sent > bound) {
-            snprintf(text, sizeof text, "%" PRIu64 " bytes are past the bound, %" PRIu64, play->sent, bound);
+            snprintf(text, sizeof text, "%" PRIu64 " is past the bound by the bytes, %" PRIu64, play->sent, bound);
             fail(play, text);
         }
     }

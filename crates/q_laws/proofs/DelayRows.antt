@@ -1,7 +1,6 @@
 -- The numbers of delay, computed from the definitions for worked links, lines and classes.
 use Rattle.std.proofs.Common.{◌≡◌, ℕ, List, [], ◌∷◌, map, refl}
-use Rattle.std.specs.Prelude.{Some, None}
-use Rattle.std.specs.Int.{div_ceil}
+use Rattle.std.specs.Prelude.{Some}
 use Rattle.q_packet.specs.Descriptor.{Descriptor}
 use Rattle.q_packet.specs.declared.ecn.Ecn.TheVariants.{NotEct}
 use Rattle.q_drr.specs.Schedule.{Class, Entry}
@@ -13,7 +12,7 @@ use Rattle.q_model.specs.declared.place.Place.TheVariants.{Root}
 use Rattle.q_model.specs.Settings.{DeviceSettings}
 use Rattle.q_device.specs.Sharing.{device_after}
 use Rattle.q_laws.specs.Delay.{latest, level_counted}
-use Rattle.q_laws.specs.Line.{line_at_root, bytes_in}
+use Rattle.q_laws.specs.Line.{line_at_root}
 use Rattle.q_laws.specs.Turn.{bytes_of_turn}
 
 -- ---- time: 20 Mbit/s, with an empty bucket, with 1000 bytes, and with all that is to be paid

@@ -1,6 +1,6 @@
 -- What a class of a drr below a tbf at the root hands over and what leaves the device of it, in time.
 use Rattle.std.proofs.Common.{◌≡◌, ℕ, ◌+◌, ◌-◌, ◌*◌, ◌<◌, ◌≤◌, true, List, ◌∷◌, [], ◌++◌, length, refl, sym, ap, subst, ◌∙◌, Option, Some, None, arith}
-use Rattle.std.specs.Prelude.{false, is_some, IsSomeAnd, slice_get}
+use Rattle.std.specs.Prelude.{is_some, IsSomeAnd, slice_get}
 use Rattle.std.specs.Option.{option_map_or}
 use Rattle.std.proofs.Math.Nat.{mul-add, add-mul, mul_comm, mul_assoc, mul-le-mul_left}
 use Rattle.std.proofs.lemmas.Bool.{false≢true}

@@ -48,6 +48,7 @@ mod OwnParts
 mod PartLemmas
 mod PaidInTime
 mod PassedStretches
+mod PathTurns
 mod PollHolds
 mod PromiseKept
 mod PromiseNumbers

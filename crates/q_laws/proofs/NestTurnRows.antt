@@ -1,4 +1,4 @@
--- The most bytes of two turns, computed from the definition for worked classes, and a play that meets them.
+-- The most bytes of the turns of drrs below one another, computed from the definition for worked classes, and a play that meets them.
 use Rattle.std.proofs.Common.{◌≡◌, ℕ, List, [], ◌∷◌, ◌++◌, map, refl}
 use Rattle.std.specs.Prelude.{Some, None}
 use Rattle.std.specs.List.{filter_map}
@@ -18,7 +18,7 @@ use Rattle.q_device.specs.Laws.{given_in}
 use Rattle.q_device.specs.Sharing.{device_after}
 use Rattle.q_laws.specs.FifoTurn.{class_line}
 use Rattle.q_laws.specs.Line.{bytes_in}
-use Rattle.q_laws.specs.NestedTurn.{most_of_two_turns}
+use Rattle.q_laws.specs.NestedTurn.{most_of_turns}
 use Rattle.q_laws.specs.Order.{answers}
 
 share : ℕ → ℕ → ℕ → Share
@@ -26,27 +26,36 @@ share quantum quanta classes = record { quantum = quantum; quanta = quanta; clas
 
 -- 1514 of 3028 below 3000 of 4500: a turn of 1500 bytes is 6041 in the inner drr, which may hold 1514; so the class of the outer one needs three
 -- grants for 7555, and the other class has a deficit of 1500 + 1513 at most
-customer : most_of_two_turns 1514 1500 (share 3000 4500 2) (share 1514 3028 2) ≡ 15068
+customer : most_of_turns 1514 1500 (share 3000 4500 2) (share 1514 3028 2 ∷ []) ≡ 15068
 unfolding share
 customer = refl
 
 -- a byte more than the inner quantum needs a second grant there, and a fourth in the outer drr
-second_grant : most_of_two_turns 1514 1515 (share 3000 4500 2) (share 1514 3028 2) ≡ 18097
+second_grant : most_of_turns 1514 1515 (share 3000 4500 2) (share 1514 3028 2 ∷ []) ≡ 18097
 unfolding share
 second_grant = refl
 
 -- a class alone in its drr waits for the packet that the drr holds
-alone_within : most_of_two_turns 1514 1500 (share 3000 4500 2) (share 1514 1514 1) ≡ 9027
+alone_within : most_of_turns 1514 1500 (share 3000 4500 2) (share 1514 1514 1 ∷ []) ≡ 9027
 unfolding share
 alone_within = refl
 
-alone_outside : most_of_two_turns 1514 1500 (share 3000 3000 1) (share 1514 3028 2) ≡ 7555
+alone_outside : most_of_turns 1514 1500 (share 3000 3000 1) (share 1514 3028 2 ∷ []) ≡ 7555
 unfolding share
 alone_outside = refl
 
-alone : most_of_two_turns 1514 1500 (share 3000 3000 1) (share 1514 1514 1) ≡ 3014
+alone : most_of_turns 1514 1500 (share 3000 3000 1) (share 1514 1514 1 ∷ []) ≡ 3014
 unfolding share
 alone = refl
+
+-- one drr alone, and three below one another
+one_drr : most_of_turns 1514 1500 (share 3000 4500 2) [] ≡ 6013
+unfolding share
+one_drr = refl
+
+three_drrs : most_of_turns 1514 1500 (share 1514 6056 4) (share 3000 4500 2 ∷ share 1514 3028 2 ∷ []) ≡ 75625
+unfolding share
+three_drrs = refl
 
 -- ---- a play that meets the bound
 
@@ -104,7 +113,7 @@ unfolding settings arrives class adds_class outer_filter inner_filter drrs waiti
 queued = refl
 
 -- a turn of two bytes is 4 in the inner drr, which holds one; and so of five bytes 8 in the outer one
-two_bytes : most_of_two_turns 1 2 (share 3 4 2) (share 2 3 2) ≡ 8
+two_bytes : most_of_turns 1 2 (share 3 4 2) (share 2 3 2 ∷ []) ≡ 8
 unfolding share
 two_bytes = refl
 

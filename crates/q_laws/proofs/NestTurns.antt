@@ -1,49 +1,50 @@
 -- A drr that is the child of a class of another, over a stretch in which a packet waits in it: what the outer drr hands up is bounded by a turn of
 -- its own for what the inner one hands up.
-use Rattle.std.proofs.Common.{◌≡◌, ℕ, suc, ◌+◌, ◌-◌, ◌<◌, ◌≤◌, ◌⊎◌, inl, inr, List, [], ◌∷◌, ◌++◌, length, refl, sym, ap, subst, ◌∙◌, Some, arith}
-use Rattle.std.specs.Prelude.{All}
+use Rattle.std.proofs.Common.{◌≡◌, ℕ, suc, ◌+◌, ◌-◌, ◌<◌, ◌≤◌, ◌⊎◌, inl, inr, List, [], ◌∷◌, ◌++◌, refl, sym, ap, subst, ◌∙◌, Some, arith}
+use Rattle.std.specs.Prelude.{All, false}
 use Rattle.std.specs.Option.{option_map_or}
 use Rattle.std.proofs.lemmas.Bool.{cases_lt}
-use Rattle.std.proofs.lemmas.List.{append-nil, append_assoc, length-append}
+use Rattle.std.proofs.lemmas.List.{append-nil, append_assoc}
 use Rattle.std.proofs.lemmas.List.Elements.{All-append, All-cons, All-nil}
 use Rattle.std.proofs.lemmas.List.Sums.{sum_by-append}
 use Rattle.std.proofs.lemmas.Option.{same_Some}
 use Rattle.q_drr.specs.Schedule.{quantum_of}
 use Rattle.q_model.specs.declared.event.Event.{Event}
 use Rattle.q_model.specs.Ask.{ask}
+use Rattle.q_model.specs.Beneath.{is_empty}
 use Rattle.q_model.specs.Events.{IsEvent}
 use Rattle.q_model.specs.Node.{Node, shape}
-use Rattle.q_model.specs.Replay.{Replay, nothing_yet, replay}
 use Rattle.q_model.specs.Settings.{DeviceSettings, IsInRange}
 use Rattle.q_model.specs.Step.{DeviceState, step}
 use Rattle.q_model.specs.Stretches.{sent_by, bytes_sent, grants_to, length_held, ClassAt, class_in, qdisc, IsBackloggedClass, Throughout}
 use Rattle.q_model.specs.Tally.{Note, history}
-use Rattle.q_invariants.proofs.Along.{counted, replay-twice}
+use Rattle.q_invariants.proofs.Along.{counted}
 use Rattle.q_invariants.proofs.Members.{All-front}
 use Rattle.q_invariants.proofs.Replays.{IsKept, replay-kept}
 use Rattle.q_device.specs.Sharing.{device_after}
 use Rattle.q_device.specs.Worst.{most_of_turn}
-use Rattle.q_device.proofs.ClassStretches.{at-start}
-use Rattle.q_laws.specs.FifoTurn.{class_line, KeepFifo}
-use Rattle.q_laws.specs.InTime.{Level}
-use Rattle.q_laws.specs.Line.{bytes_in}
-use Rattle.q_laws.specs.NestedTurn.{IsNested, NestedTurnsAreBounded, most_of_two_turns, reached_by, share_at}
-use Rattle.q_laws.specs.Service.{given_so_far, class_sent, HasClasses, all_sent}
+use Rattle.q_laws.specs.InTime.{IsBeneath, Level}
+use Rattle.q_laws.specs.NestedTurn.{reached_by, share_at}
+use Rattle.q_laws.specs.Service.{given_so_far, class_sent, HasClasses, IsClass, all_sent}
 use Rattle.q_laws.specs.Turn.{shown_by}
-use Rattle.q_laws.specs.TurnWorst.{IsWaiting}
-use Rattle.q_laws.proofs.FifoTurns.{keep-rest, most-rises}
 use Rattle.q_laws.proofs.LeastShare.{drr-node}
-use Rattle.q_laws.proofs.MostTurns.{classes-send-at-most, quantum-some}
+use Rattle.q_laws.proofs.MostTurns.{classes-send-at-most}
 use Rattle.q_laws.proofs.NestAsks.{gives-shown, grant-reaches}
-use Rattle.q_laws.proofs.NestWaits.{waits-on}
 use Rattle.q_laws.proofs.PassedStretches.{drr-passes}
 use Rattle.q_laws.proofs.ServiceStretches.{given-at}
-use Rattle.q_laws.proofs.ShareInTime.{held-in}
-use Rattle.q_laws.proofs.TurnBounds.{DrrShape, all-reached, start-drr, waiting-queued}
+use Rattle.q_laws.proofs.TurnBounds.{DrrShape}
 use Rattle.q_laws.proofs.TurnStretches.{StaysWithin}
-use Rattle.q_laws.proofs.TurnWaits.{front-of, one-more, reached, reaches, step-serves}
+use Rattle.q_laws.proofs.TurnWaits.{one-more, reached, reaches, step-serves}
 
 -- ---- what the class of the outer drr sends
+
+-- drr k is the child of a class of drr l
+abbrev pub IsPair : Level → Level → DeviceState (List Note) → Type 0
+IsPair l k d = HasClasses l.major l.classes d × IsClass l.major l.minor l.quantum d × IsBeneath l k d × HasClasses k.major k.classes d
+
+-- something is queued in a qdisc
+abbrev pub IsFull : ℕ → DeviceState (List Note) → Type 0
+IsFull major d = (m : Node (List Note)) → qdisc major d ≡ Some m → is_empty m ≡ false
 
 module _ (l k : Level) where
   -- in one event
@@ -51,7 +52,7 @@ module _ (l k : Level) where
     rises : bytes_sent n.memory ≤ bytes_sent m.memory
     gain : given_so_far l.major l.minor next - given_so_far l.major l.minor d ≡ bytes_sent m.memory - bytes_sent n.memory
 
-  event-sends : (d : DeviceState (List Note)) (e : Event) → IsKept d → IsEvent e → IsNested l k d → IsNested l k (step history d e).device
+  event-sends : (d : DeviceState (List Note)) (e : Event) → IsKept d → IsEvent e → IsPair l k d → IsPair l k (step history d e).device
       → (n m : Node (List Note)) → qdisc k.major d ≡ Some n → qdisc k.major (step history d e).device ≡ Some m
       → EventSends d (step history d e).device n m
   event-sends d e kept happens h j n m is at =
@@ -70,11 +71,11 @@ module _ (l k : Level) where
       (n m : Node (List Note)) → qdisc k.major d ≡ Some n → qdisc k.major end ≡ Some m
       → bytes_sent n.memory + class_sent l.major l.minor d during ≡ bytes_sent m.memory
 
-  sums-still : (d : DeviceState (List Note)) → IsKept d → IsNested l k d → Sums d [] d
+  sums-still : (d : DeviceState (List Note)) → IsKept d → IsPair l k d → Sums d [] d
   sums-still d kept h n m is at = omega (arith, ap (λ (x : Node (List Note)). bytes_sent x.memory) (same_Some n m (sym is ∙ at)))
 
-  sums-more : (d : DeviceState (List Note)) (e : Event) (during : List Event) (end : DeviceState (List Note)) → IsKept d → IsEvent e → IsNested l k d
-      → IsNested l k (step history d e).device → Sums (step history d e).device during end → Sums d (e ∷ during) end
+  sums-more : (d : DeviceState (List Note)) (e : Event) (during : List Event) (end : DeviceState (List Note)) → IsKept d → IsEvent e → IsPair l k d
+      → IsPair l k (step history d e).device → Sums (step history d e).device during end → Sums d (e ∷ during) end
   sums-more d e during end kept happens h j on n o is at =
       let m : Node (List Note) = j.2.class.child in
       let s = event-sends d e kept happens h j n m is j.2.child in
@@ -88,7 +89,7 @@ module _ (l k : Level) where
   -- drr k had handed up `base`, and reaches no more than `bytes` above that
   module _ (base bytes : ℕ) where
     abbrev Within : DeviceState (List Note) → Type 0
-    Within d = IsNested l k d × ((m : Node (List Note)) → qdisc k.major d ≡ Some m → reached m ≤ base + bytes)
+    Within d = IsPair l k d × ((m : Node (List Note)) → qdisc k.major d ≡ Some m → reached m ≤ base + bytes)
 
     abbrev Moves : DeviceState (List Note) → List Event → DeviceState (List Note) → Type 0
     Moves d during end =
@@ -122,41 +123,19 @@ module _ (l k : Level) where
             ap (λ (z : ClassAt). reached z.child) (same_Some j.0.2.class y (sym j.0.2.there ∙ at_y)) in
             omega (arith, r, bound, sent_x, reached_y, eq)
 
--- ---- a packet waits
+-- ---- while something is queued in the inner drr
 
+-- `inner` is drr k at first, which reaches no more than `bytes` above what it had handed up
 module _ (settings : DeviceSettings) (range : IsInRange settings) (before during : List Event) (l k : Level) (bytes : ℕ) (earlier : All IsEvent before)
-    (happen : All IsEvent during) (stays : Throughout (IsNested l k) settings before during) (keep : KeepFifo k.major k.minor (device_after settings before) during)
-    (waits : (seen : List Event) (x : Event) (later : List Event) → seen ++ x ∷ later ≡ during
-    → IsWaiting k.major k.minor (device_after settings before) (device_after settings (before ++ seen)))
-    (few : bytes_in (class_line k.major k.minor (device_after settings before)) ≤ bytes) where
+    (happen : All IsEvent during) (stays : Throughout (IsPair l k) settings before during) (inner : Node (List Note))
+    (inner-is : qdisc k.major (device_after settings before) ≡ Some inner)
+    (inner-reached : (seen later : List Event) → seen ++ later ≡ during → (m : Node (List Note)) → qdisc k.major (device_after settings (before ++ seen)) ≡ Some m
+    → reached m ≤ bytes_sent inner.memory + bytes) where
   abbrev start : DeviceState (List Note)
   start = device_after settings before
 
   abbrev at : List Event → DeviceState (List Note)
   at seen = device_after settings (before ++ seen)
-
-  inner : Node (List Note)
-  inner =
-      (start-drr settings range before during k.major k.minor k.quantum bytes k.classes earlier happen (λ seen later e. (stays seen later e).3)
-      (λ seen later e. (stays seen later e).4) keep waits few).node
-
-  inner-is : qdisc k.major (device_after settings before) ≡ Some inner
-  unfolding inner
-  inner-is =
-      (start-drr settings range before during k.major k.minor k.quantum bytes k.classes earlier happen (λ seen later e. (stays seen later e).3)
-      (λ seen later e. (stays seen later e).4) keep waits few).there
-
-  -- what drr k held at first, and a turn of its own
-  abbrev turn : ℕ
-  turn = length_held inner.own.held + most_of_turn settings.mtu bytes (share_at k)
-
-  inner-reached : (seen later : List Event) → seen ++ later ≡ during → (m : Node (List Note)) → qdisc k.major (device_after settings (before ++ seen)) ≡ Some m
-      → reached m ≤ bytes_sent inner.memory + (length_held inner.own.held + most_of_turn settings.mtu bytes (share_at k))
-  unfolding inner
-  inner-reached seen later e m is =
-      let r = all-reached settings range before during k.major k.minor k.quantum bytes k.classes earlier happen (λ seen later e. (stays seen later e).3)
-      (λ seen later e. (stays seen later e).4) keep waits few seen later e m is in
-      omega (arith, r)
 
   front-happens : (seen later : List Event) → seen ++ later ≡ during → All IsEvent seen
   front-happens seen later e = All-front IsEvent seen later (subst (All IsEvent) (sym e) happen)
@@ -168,62 +147,51 @@ module _ (settings : DeviceSettings) (range : IsInRange settings) (before during
   sent-since : (seen later : List Event) → seen ++ later ≡ during → (m : Node (List Note)) → qdisc k.major (device_after settings (before ++ seen)) ≡ Some m
       → bytes_sent inner.memory + class_sent l.major l.minor (device_after settings before) seen ≡ bytes_sent m.memory
   sent-since seen later e m is =
-      counted (IsNested l k) (Sums l k) (sums-still l k) (sums-more l k) settings before seen range earlier (front-happens seen later e)
-      (so-far (IsNested l k) stays seen later e) inner m inner-is is
+      counted (IsPair l k) (Sums l k) (sums-still l k) (sums-more l k) settings before seen range earlier (front-happens seen later e)
+      (so-far (IsPair l k) stays seen later e) inner m inner-is is
 
-  backlogged : (seen later : List Event) → seen ++ later ≡ during → IsWaiting k.major k.minor (device_after settings before) (device_after settings (before ++ seen))
+  backlogged : (seen later : List Event) → seen ++ later ≡ during → IsFull k.major (device_after settings (before ++ seen))
       → IsBackloggedClass l.major l.minor l.quantum (device_after settings (before ++ seen))
-  backlogged seen later e waiting =
+  backlogged seen later e full =
       let b = (stays seen later e).2 in
       let c = (stays seen later e).1 in
       record {
         class = b.class;
         there = b.there;
         same_quantum = ap (λ (x : ClassAt). quantum_of l.minor x.schedule.classes) (same_Some b.class c.class (sym b.there ∙ c.there)) ∙ c.same_quantum;
-        queued = waiting-queued settings range before during k.major k.minor k.quantum bytes k.classes earlier happen (λ seen later e. (stays seen later e).3)
-            (λ seen later e. (stays seen later e).4) keep waits few seen later e waiting b.class.child b.child;
+        queued = full b.class.child b.child;
       }
 
-  -- in a state up to which it waits
-  module _ (seen later : List Event) (e : seen ++ later ≡ during) (waiting : IsWaiting k.major k.minor (device_after settings before) (device_after settings (before ++ seen))) where
+  -- in a state up to which there is
+  module _ (seen later : List Event) (e : seen ++ later ≡ during) (full : Throughout (IsFull k.major) settings before seen) where
     waited : Throughout (IsBackloggedClass l.major l.minor l.quantum) settings before seen
-    waited xs [] join =
-        let same : seen ≡ xs = sym (sym (append-nil xs) ∙ join) in
-        subst (λ (zs : List Event). IsBackloggedClass l.major l.minor l.quantum (device_after settings (before ++ zs))) same (backlogged seen later e waiting)
-    waited xs (y ∷ ys) join =
-        let split : xs ++ y ∷ (ys ++ later) ≡ during = sym (append_assoc xs (y ∷ ys) later) ∙ ap (λ zs. zs ++ later) join ∙ e in
-        backlogged xs (y ∷ (ys ++ later)) split (waits xs y (ys ++ later) split)
+    waited xs ys join = backlogged xs (ys ++ later) (sym (append_assoc xs ys later) ∙ ap (λ zs. zs ++ later) join ∙ e) (full xs ys join)
 
     -- what all classes of drr l have sent, and what the class with drr k sends yet
-    outer-sends : (next : ℕ) → class_sent l.major l.minor (device_after settings before) seen + next ≤ length_held inner.own.held + most_of_turn settings.mtu bytes (share_at k)
-        → all_sent l.major l.classes (device_after settings before) seen + next ≤ most_of_two_turns settings.mtu bytes (share_at l) (share_at k)
+    outer-sends : (next : ℕ) → class_sent l.major l.minor (device_after settings before) seen + next ≤ bytes
+        → all_sent l.major l.classes (device_after settings before) seen + next ≤ most_of_turn settings.mtu bytes (share_at l)
     outer-sends next own =
-        let has : Throughout (HasClasses l.major l.classes) settings before seen = λ xs ys join. (so-far (IsNested l k) stays seen later e xs ys join).0 in
+        let has : Throughout (HasClasses l.major l.classes) settings before seen = λ xs ys join. (so-far (IsPair l k) stays seen later e xs ys join).0 in
         let nothing : bytes_sent inner.memory ≡ bytes_sent inner.memory + 0 = omega arith in
-        let within = counted (Within l k (bytes_sent inner.memory) turn) (Moves l k (bytes_sent inner.memory) turn) (still l k (bytes_sent inner.memory) turn)
-        (more l k (bytes_sent inner.memory) turn) settings before seen range earlier (front-happens seen later e)
+        let within = counted (Within l k (bytes_sent inner.memory) bytes) (Moves l k (bytes_sent inner.memory) bytes) (still l k (bytes_sent inner.memory) bytes)
+        (more l k (bytes_sent inner.memory) bytes) settings before seen range earlier (front-happens seen later e)
         (λ xs ys join. (
-          so-far (IsNested l k) stays seen later e xs ys join,
+          so-far (IsPair l k) stays seen later e xs ys join,
           inner-reached xs (ys ++ later) (sym (append_assoc xs ys later) ∙ ap (λ zs. zs ++ later) join ∙ e),
         )) 0 inner inner-is nothing in
         let b = (stays seen later e).2 in
-        let sent = classes-send-at-most settings range before seen l.major l.minor l.quantum turn l.classes earlier (front-happens seen later e) has waited within
-        b.class b.there next own in
-        let first = at-start (IsBackloggedClass l.major l.minor l.quantum) settings before seen waited in
-        let some : 1 ≤ l.quantum = subst (λ q. 1 ≤ q) first.same_quantum (quantum-some settings range before earlier l.major l.minor first.class first.there) in
-        let held = held-in settings range before earlier k.major inner inner-is in
-        let rises = most-rises settings.mtu turn (settings.mtu + most_of_turn settings.mtu bytes (share_at k)) (share_at l) some (omega (arith, held)) in
-        omega (arith, sent, rises)
+        classes-send-at-most settings range before seen l.major l.minor l.quantum bytes l.classes earlier (front-happens seen later e) has waited within b.class
+        b.there next own
 
     -- what drr l has reached
     outer-reached : (n m : Node (List Note)) → qdisc l.major (device_after settings before) ≡ Some n → qdisc l.major (device_after settings (before ++ seen)) ≡ Some m
         → reached m ≤ reached n + all_sent l.major l.classes (device_after settings before) seen
     outer-reached n m is there =
         reaches l.major l.minor l.classes settings before seen range earlier (front-happens seen later e)
-        (λ xs ys join. (so-far (IsNested l k) stays seen later e xs ys join).0) n m is there
+        (λ xs ys join. (so-far (IsPair l k) stays seen later e xs ys join).0) n m is there
 
     still-waits : (n m : Node (List Note)) → qdisc l.major (device_after settings before) ≡ Some n → qdisc l.major (device_after settings (before ++ seen)) ≡ Some m
-        → reached m ≤ reached n + most_of_two_turns settings.mtu bytes (share_at l) (share_at k)
+        → reached m ≤ reached n + most_of_turn settings.mtu bytes (share_at l)
     still-waits n m is there =
         let b = (stays seen later e).2 in
         let since = sent-since seen later e b.class.child b.child in
@@ -232,116 +200,100 @@ module _ (settings : DeviceSettings) (range : IsInRange settings) (before during
         let r = outer-reached n m is there in
         omega (arith, sent, r)
 
--- ---- the law
-
 pub reached-at : (major : ℕ) (d : DeviceState (List Note)) (n : Node (List Note)) → qdisc major d ≡ Some n → reached_by major d ≡ reached n
 reached-at major d n is = ap (λ o. option_map_or (λ (n : Node (List Note)). bytes_sent n.memory + length_held n.own.held) o 0) is
 
-pub nested-turns-are-bounded : (settings : DeviceSettings) → IsInRange settings → NestedTurnsAreBounded settings
-nested-turns-are-bounded settings range before during e l k bytes earlier happen happens stays keep few waiting =
-    elim (cases_lt (bytes_sent now.2.class.child.memory) (bytes_sent then.2.class.child.memory)) [
-      | inl handed ↦ leaves handed
-      | inr silent ↦ goes-on silent
-    ]
-  where
-    happen_all : All IsEvent (during ++ e ∷ [])
-    happen_all = All-append IsEvent during (e ∷ []) happen (All-cons IsEvent e [] happens (All-nil IsEvent))
+-- with an event after which something is queued in drr k still, or at which it hands something up
+module _ (settings : DeviceSettings) (range : IsInRange settings) (before during : List Event) (e : Event) (l k : Level) (bytes : ℕ) (earlier : All IsEvent before)
+    (happen : All IsEvent during) (happens : IsEvent e) (stays : Throughout (IsPair l k) settings before (during ++ e ∷ [])) (inner : Node (List Note))
+    (inner-is : qdisc k.major (device_after settings before) ≡ Some inner)
+    (inner-reached : (seen later : List Event) → seen ++ later ≡ during ++ e ∷ [] → (m : Node (List Note))
+    → qdisc k.major (device_after settings (before ++ seen)) ≡ Some m → reached m ≤ bytes_sent inner.memory + bytes)
+    (full : Throughout (IsFull k.major) settings before during)
+    (next-full : (n m : Node (List Note)) → qdisc k.major (device_after settings (before ++ during)) ≡ Some n
+    → qdisc k.major (device_after settings (before ++ (during ++ e ∷ []))) ≡ Some m → bytes_sent m.memory ≤ bytes_sent n.memory
+    → Throughout (IsFull k.major) settings before (during ++ e ∷ [])) where
+  happen_all : All IsEvent (during ++ e ∷ [])
+  happen_all = All-append IsEvent during (e ∷ []) happen (All-cons IsEvent e [] happens (All-nil IsEvent))
 
-    all : (during ++ e ∷ []) ++ [] ≡ during ++ e ∷ []
-    all = append-nil (during ++ e ∷ [])
+  all : (during ++ e ∷ []) ++ [] ≡ during ++ e ∷ []
+  all = append-nil (during ++ e ∷ [])
 
-    same : device_after settings (before ++ (during ++ e ∷ [])) ≡ (step history (device_after settings (before ++ during)) e).device
-    same = one-more settings before during e
+  same : device_after settings (before ++ (during ++ e ∷ [])) ≡ (step history (device_after settings (before ++ during)) e).device
+  same = one-more settings before during e
 
-    kept : IsKept (device_after settings (before ++ during))
-    kept = replay-kept settings (before ++ during) range (All-append IsEvent before during earlier happen)
+  kept : IsKept (device_after settings (before ++ during))
+  kept = replay-kept settings (before ++ during) range (All-append IsEvent before during earlier happen)
 
-    now : IsNested l k (device_after settings (before ++ during))
-    now = stays during (e ∷ []) refl
+  now : IsPair l k (device_after settings (before ++ during))
+  now = stays during (e ∷ []) refl
 
-    then : IsNested l k (step history (device_after settings (before ++ during)) e).device
-    then = subst (IsNested l k) (one-more settings before during e) (stays (during ++ e ∷ []) [] (append-nil (during ++ e ∷ [])))
+  then : IsPair l k (step history (device_after settings (before ++ during)) e).device
+  then = subst (IsPair l k) (one-more settings before during e) (stays (during ++ e ∷ []) [] (append-nil (during ++ e ∷ [])))
 
-    waits : (seen : List Event) (x : Event) (later : List Event) → seen ++ x ∷ later ≡ during ++ e ∷ []
-        → IsWaiting k.major k.minor (device_after settings before) (device_after settings (before ++ seen))
-    waits seen x later split = front (front-of seen (x ∷ later) during e split)
+  abbrev child_now : Node (List Note)
+  child_now = now.2.class.child
+
+  abbrev child_then : Node (List Note)
+  child_then = then.2.class.child
+
+  given_now : given_so_far l.major l.minor (device_after settings (before ++ during)) ≡ bytes_sent now.2.class.child.memory
+  given_now = given-at l.major l.minor (device_after settings (before ++ during)) now.2.class now.2.there
+
+  given_then : given_so_far l.major l.minor (step history (device_after settings (before ++ during)) e).device ≡ bytes_sent then.2.class.child.memory
+  given_then = given-at l.major l.minor (step history (device_after settings (before ++ during)) e).device then.2.class then.2.there
+
+  there : qdisc k.major (device_after settings (before ++ (during ++ e ∷ []))) ≡ Some then.2.class.child
+  there = ap (qdisc k.major) (one-more settings before during e) ∙ then.2.child
+
+  -- drr k hands up nothing
+  goes-on : bytes_sent then.2.class.child.memory ≤ bytes_sent now.2.class.child.memory → (f o : Node (List Note)) → qdisc l.major (device_after settings before) ≡ Some f
+      → qdisc l.major (device_after settings (before ++ (during ++ e ∷ []))) ≡ Some o → reached o ≤ reached f + most_of_turn settings.mtu bytes (share_at l)
+  goes-on silent f o is at =
+      still-waits settings range before (during ++ e ∷ []) l k bytes earlier happen_all stays inner inner-is inner-reached (during ++ e ∷ []) [] all
+      (next-full child_now child_then now.2.child there silent) f o is at
+
+  -- drr k hands something up
+  module _ (handed : bytes_sent now.2.class.child.memory < bytes_sent then.2.class.child.memory) where
+    gives : bytes_sent then.2.class.child.memory ≡ bytes_sent now.2.class.child.memory + shown_by (step history (device_after settings (before ++ during)) e).device.clock now.2.class
+    gives = by (gives-shown k.major (device_after settings (before ++ during)) e kept happens child_now child_then now.2.child then.2.child)
       where
-        front : ((zs : List Event) × (seen ++ zs ≡ during)) ⊎ (seen ≡ during ++ e ∷ []) → IsWaiting k.major k.minor (device_after settings before) (device_after settings (before ++ seen))
-        front (inl o) = waiting seen o.0 o.1
-        front (inr same) =
-            let longer = ap (λ (zs : List Event). length zs) split ∙ ap (λ (zs : List Event). length zs) (sym same) in
-            absurd (omega (arith, longer, length-append seen (x ∷ later)))
+        by : (bytes_sent then.2.class.child.memory ≡ bytes_sent now.2.class.child.memory)
+            ⊎ (bytes_sent then.2.class.child.memory ≡ bytes_sent now.2.class.child.memory
+            + length_held (ask (step history (device_after settings (before ++ during)) e).device.clock (shape now.2.class.child)).shown)
+            → bytes_sent then.2.class.child.memory ≡ bytes_sent now.2.class.child.memory + shown_by (step history (device_after settings (before ++ during)) e).device.clock now.2.class
+        by (inl none) = absurd (omega (arith, handed, none))
+        by (inr given) = given
 
-    waiting_now : IsWaiting k.major k.minor (device_after settings before) (device_after settings (before ++ during))
-    waiting_now = waits during e [] refl
-
-    given_now : given_so_far l.major l.minor (device_after settings (before ++ during)) ≡ bytes_sent now.2.class.child.memory
-    given_now = given-at l.major l.minor (device_after settings (before ++ during)) now.2.class now.2.there
-
-    given_then : given_so_far l.major l.minor (step history (device_after settings (before ++ during)) e).device ≡ bytes_sent then.2.class.child.memory
-    given_then = given-at l.major l.minor (step history (device_after settings (before ++ during)) e).device then.2.class then.2.there
-
-    -- drr k hands up nothing: the packet waits on
-    goes-on : bytes_sent then.2.class.child.memory ≤ bytes_sent now.2.class.child.memory
-        → reached_by l.major (device_after settings (before ++ (during ++ e ∷ [])))
-        ≤ reached_by l.major (device_after settings before) + most_of_two_turns settings.mtu bytes (share_at l) (share_at k)
-    goes-on silent =
-        let keeps = (subst (λ (r : Replay (List Note)). KeepFifo k.major k.minor r.device (e ∷ [])) (sym (replay-twice (nothing_yet history settings) before during))
-        (keep-rest k.major k.minor (replay history settings before) during (e ∷ []) keep)).0 in
-        let yet = waits-on k.major k.minor k.quantum k.classes (device_after settings before) (device_after settings (before ++ during)) kept e happens
-        (now.3, now.4) (then.3, then.4) keeps now.2.class.child then.2.class.child now.2.child then.2.child silent waiting_now in
-        let waiting_yet = subst (IsWaiting k.major k.minor (device_after settings before)) (sym same) yet in
-        let n = drr-node l.major l.classes (device_after settings before) (at-start (IsNested l k) settings before (during ++ e ∷ []) stays).0 in
-        let m = drr-node l.major l.classes (device_after settings (before ++ (during ++ e ∷ []))) (stays (during ++ e ∷ []) [] all).0 in
-        let r = still-waits settings range before (during ++ e ∷ []) l k bytes earlier happen_all stays keep waits few (during ++ e ∷ []) [] all waiting_yet
-        n.node m.node n.there m.there in
-        omega (
-          arith,
-          r,
-          reached-at l.major (device_after settings before) n.node n.there,
-          reached-at l.major (device_after settings (before ++ (during ++ e ∷ []))) m.node m.there,
-        )
-
-    -- drr k hands something up
-    leaves : bytes_sent now.2.class.child.memory < bytes_sent then.2.class.child.memory
-        → reached_by l.major (device_after settings (before ++ (during ++ e ∷ [])))
-        ≤ reached_by l.major (device_after settings before) + most_of_two_turns settings.mtu bytes (share_at l) (share_at k)
-    leaves handed =
-        let d : DeviceState (List Note) = device_after settings (before ++ during) in
+    which : (f n m : Node (List Note)) → qdisc l.major (device_after settings before) ≡ Some f → qdisc l.major (device_after settings (before ++ during)) ≡ Some n
+        → (reached m ≤ reached n) ⊎ (reached m ≤ bytes_sent n.memory + shown_by (step history (device_after settings (before ++ during)) e).device.clock now.2.class)
+        ⊎ (given_so_far l.major l.minor (step history (device_after settings (before ++ during)) e).device ≡ given_so_far l.major l.minor (device_after settings (before ++ during)))
+        → reached m ≤ reached f + most_of_turn settings.mtu bytes (share_at l)
+    which f n m is at (inl less) =
+        let r = still-waits settings range before (during ++ e ∷ []) l k bytes earlier happen_all stays inner inner-is inner-reached during (e ∷ []) refl full f n is at in
+        omega (arith, less, r)
+    which f n m is at (inr (inr silent)) = absurd (omega (arith, handed, silent, given_now, given_then))
+    which f n m is at (inr (inl shown)) =
         let next : DeviceState (List Note) = (step history (device_after settings (before ++ during)) e).device in
-        let first = drr-node l.major l.classes (device_after settings before) (at-start (IsNested l k) settings before (during ++ e ∷ []) stays).0 in
-        let n = drr-node l.major l.classes d now.0 in
-        let m = drr-node l.major l.classes next then.0 in
-        let s = step-serves l.major l.minor l.classes d e kept happens now.0 then.0 n.node m.node n.there m.there now.2.class then.2.class now.2.there then.2.there in
-        let start_is = reached-at l.major (device_after settings before) first.node first.there in
-        let end_is = ap (reached_by l.major) same ∙ reached-at l.major next m.node m.there in
-        let bound = which first.node n.node m.node first.there n.there s.which in
-        omega (arith, start_is, end_is, bound)
-      where
-        gives : bytes_sent then.2.class.child.memory ≡ bytes_sent now.2.class.child.memory + shown_by (step history (device_after settings (before ++ during)) e).device.clock now.2.class
-        gives = by (gives-shown k.major (device_after settings (before ++ during)) e kept happens now.2.class.child then.2.class.child now.2.child then.2.child)
-          where
-            by : (bytes_sent then.2.class.child.memory ≡ bytes_sent now.2.class.child.memory)
-                ⊎ (bytes_sent then.2.class.child.memory ≡ bytes_sent now.2.class.child.memory
-                + length_held (ask (step history (device_after settings (before ++ during)) e).device.clock (shape now.2.class.child)).shown)
-                → bytes_sent then.2.class.child.memory ≡ bytes_sent now.2.class.child.memory + shown_by (step history (device_after settings (before ++ during)) e).device.clock now.2.class
-            by (inl none) = absurd (omega (arith, handed, none))
-            by (inr given) = given
+        let most = inner-reached (during ++ e ∷ []) [] all child_then there in
+        let since = sent-since settings range before (during ++ e ∷ []) l k bytes earlier happen_all stays inner inner-is inner-reached during (e ∷ []) refl child_now now.2.child in
+        let sent = outer-sends settings range before (during ++ e ∷ []) l k bytes earlier happen_all stays inner inner-is inner-reached during (e ∷ []) refl full
+        (shown_by next.clock now.2.class) (omega (arith, most, since, gives)) in
+        let r = outer-reached settings range before (during ++ e ∷ []) l k bytes earlier happen_all stays inner inner-is inner-reached during (e ∷ []) refl full f n is at in
+        omega (arith, shown, sent, r)
 
-        which : (f n m : Node (List Note)) → qdisc l.major (device_after settings before) ≡ Some f → qdisc l.major (device_after settings (before ++ during)) ≡ Some n
-            → (reached m ≤ reached n) ⊎ (reached m ≤ bytes_sent n.memory + shown_by (step history (device_after settings (before ++ during)) e).device.clock now.2.class)
-            ⊎ (given_so_far l.major l.minor (step history (device_after settings (before ++ during)) e).device ≡ given_so_far l.major l.minor (device_after settings (before ++ during)))
-            → reached m ≤ reached f + most_of_two_turns settings.mtu bytes (share_at l) (share_at k)
-        which f n m is at (inl less) =
-            let r = still-waits settings range before (during ++ e ∷ []) l k bytes earlier happen_all stays keep waits few during (e ∷ []) refl waiting_now f n is at in
-            omega (arith, less, r)
-        which f n m is at (inr (inr silent)) = absurd (omega (arith, handed, silent, given_now, given_then))
-        which f n m is at (inr (inl shown)) =
-            let next : DeviceState (List Note) = (step history (device_after settings (before ++ during)) e).device in
-            let there : qdisc k.major (device_after settings (before ++ (during ++ e ∷ []))) ≡ Some then.2.class.child = ap (qdisc k.major) same ∙ then.2.child in
-            let most = inner-reached settings range before (during ++ e ∷ []) l k bytes earlier happen_all stays keep waits few (during ++ e ∷ []) [] all then.2.class.child there in
-            let since = sent-since settings range before (during ++ e ∷ []) l k bytes earlier happen_all stays keep waits few during (e ∷ []) refl now.2.class.child now.2.child in
-            let sent = outer-sends settings range before (during ++ e ∷ []) l k bytes earlier happen_all stays keep waits few during (e ∷ []) refl waiting_now
-            (shown_by next.clock now.2.class) (omega (arith, most, since, gives)) in
-            let r = outer-reached settings range before (during ++ e ∷ []) l k bytes earlier happen_all stays keep waits few during (e ∷ []) refl waiting_now f n is at in
-            omega (arith, shown, sent, r)
+    leaves : (f o : Node (List Note)) → qdisc l.major (device_after settings before) ≡ Some f → qdisc l.major (device_after settings (before ++ (during ++ e ∷ []))) ≡ Some o
+        → reached o ≤ reached f + most_of_turn settings.mtu bytes (share_at l)
+    leaves f o is at =
+        let d : DeviceState (List Note) = device_after settings (before ++ during) in
+        let n = drr-node l.major l.classes d now.0 in
+        let s = step-serves l.major l.minor l.classes d e kept happens now.0 then.0 n.node o n.there (sym (ap (qdisc l.major) same) ∙ at) now.2.class then.2.class
+        now.2.there then.2.there in
+        which f n.node o is n.there s.which
+
+  pub pair-bounded : (f o : Node (List Note)) → qdisc l.major (device_after settings before) ≡ Some f
+      → qdisc l.major (device_after settings (before ++ (during ++ e ∷ []))) ≡ Some o → reached o ≤ reached f + most_of_turn settings.mtu bytes (share_at l)
+  pair-bounded f o is at = elim (cases_lt (bytes_sent child_now.memory) (bytes_sent child_then.memory)) [
+    | inl handed ↦ leaves handed f o is at
+    | inr silent ↦ goes-on silent f o is at
+  ]

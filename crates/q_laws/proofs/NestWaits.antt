@@ -38,9 +38,9 @@ use Rattle.q_laws.specs.TurnWorst.{IsWaiting, held_at}
 use Rattle.q_laws.proofs.FifoTurns.{IsHere, child-put}
 use Rattle.q_laws.proofs.LinkAsks.{Leaves}
 use Rattle.q_laws.proofs.NestAsks.{after, asks, becomes-so, drr, first-child}
-use Rattle.q_laws.proofs.PassedStretches.{command-quiet, put-quiet}
+use Rattle.q_laws.proofs.PassedStretches.{IsQuiet, command-quiet, put-quiet}
 use Rattle.q_laws.proofs.ServiceStretches.{given-at}
-use Rattle.q_laws.proofs.TurnWaits.{booked-sent, leaves-of, reached}
+use Rattle.q_laws.proofs.TurnWaits.{booked-sent, leaves-of, quiet-reached, reached}
 
 -- ---- what a drr that is asked hands out or holds
 
@@ -244,6 +244,49 @@ held-byte mtu clock own below h p e =
     ap (λ (o : Option Descriptor). option_to_list o ++ packets_in own.discipline ++ flat_map (λ packets. packets) below) e in
     (All-head (λ (q : Descriptor). IsWithin 1 mtu q.len) p rest (subst (λ ps. All (λ (q : Descriptor). IsWithin 1 mtu q.len) ps) first h.lengths)).0
 
+pub held-full : (major : ℕ) (d : DeviceState (List Note)) → IsKept d → (n : Node (List Note)) → qdisc major d ≡ Some n → (p : Descriptor)
+    → n.own.held ≡ Some p → 1 ≤ length_held n.own.held
+held-full major d kept n is p e =
+    let law = lawful-of d.tree.device.mtu d.clock n d.tree.root kept.lawful (found major d n is).there in
+    let least = held-byte d.tree.device.mtu d.clock n.own (each beneath_own n.below) law.0 p e in
+    omega (arith, least, ap length_held e)
+
+-- ---- at each event
+
+-- a drr keeps what it has, and what a qdisc gives that is the child of its class
+pub event-keeps : (major i : ℕ) (classes : List Class) (d : DeviceState (List Note)) → IsKept d → (e : Event) → IsEvent e → HasClasses major classes d
+    → HasClasses major classes (step history d e).device → (n m : Node (List Note)) → qdisc major d ≡ Some n → qdisc major (step history d e).device ≡ Some m
+    → (x y : ClassAt) → class_in major i d ≡ Some x → class_in major i (step history d e).device ≡ Some y
+    → (reached n ≤ reached m) × ((below : ℕ) → qdisc below d ≡ Some x.child → qdisc below (step history d e).device ≡ Some y.child
+    → reached n + (bytes_sent y.child.memory - bytes_sent x.child.memory) ≤ reached m)
+event-keeps major i classes d kept e happens h k n m is at x y there then_there = by e happens k at then_there
+  where
+    quiet-child : (a b : Node (List Note)) → IsQuiet a b → bytes_sent b.memory ≡ bytes_sent a.memory
+    quiet-child a b q = let none = q.sent in omega (arith, none, ap bytes_sent q.memory, sum_by-append sent_by a.memory q.notes)
+
+    by : (e : Event) → IsEvent e → HasClasses major classes (step history d e).device → qdisc major (step history d e).device ≡ Some m
+        → class_in major i (step history d e).device ≡ Some y → (reached n ≤ reached m) × ((below : ℕ) → qdisc below d ≡ Some x.child
+        → qdisc below (step history d e).device ≡ Some y.child → reached n + (bytes_sent y.child.memory - bytes_sent x.child.memory) ≤ reached m)
+    by (event.Arrive p moment) range k at at_y =
+        let next : DeviceState (List Note) = (step history d (event.Arrive p moment)).device in
+        let same = quiet-reached n m (put-quiet next.clock p n m (becomes major d (event.Arrive p moment) n m kept range is at)) in (
+          omega (arith, same),
+          λ below a b. (let none = quiet-child x.child y.child (put-quiet next.clock p x.child y.child (becomes below d (event.Arrive p moment) x.child y.child kept range a b)) in omega (arith, same, none)),
+        )
+    by (event.Command c moment) range k at at_y =
+        let next : DeviceState (List Note) = (step history d (event.Command c moment)).device in
+        let same = quiet-reached n m (command-quiet next.clock n m (becomes major d (event.Command c moment) n m kept range is at)) in (
+          omega (arith, same),
+          λ below a b. (let none = quiet-child x.child y.child (command-quiet next.clock x.child y.child (becomes below d (event.Command c moment) x.child y.child kept range a b)) in omega (arith, same, none)),
+        )
+    by (event.Poll moment) low k at at_y =
+        let drr_now = drr major i classes d moment kept low h k x y there at_y in
+        let drr_then = after major i classes d moment kept low h k x y there at_y in
+        let keeps = poll-keeps major i classes d moment kept low h k x y there at_y in
+        let mine = ap reached (same_Some drr_now.node n (sym drr_now.there ∙ is)) in
+        let theirs = ap reached (same_Some drr_then.node m (sym drr_then.there ∙ at)) in
+        (omega (arith, keeps, mine, theirs), λ below a b. omega (arith, keeps, mine, theirs))
+
 -- ---- it waits on
 
 module _ (major i quantum : ℕ) (classes : List Class) (first d : DeviceState (List Note)) (kept : IsKept d) where
@@ -258,10 +301,7 @@ module _ (major i quantum : ℕ) (classes : List Class) (first d : DeviceState (
       holds next at None e some = absurd (omega (arith, some))
 
       byte : (p : Descriptor) → n.own.held ≡ Some p → 1 ≤ length_held n.own.held
-      byte p e =
-          let law = lawful-of d.tree.device.mtu d.clock n d.tree.root kept.lawful (found major d n is).there in
-          let least = held-byte d.tree.device.mtu d.clock n.own (each beneath_own n.below) law.0 p e in
-          omega (arith, least, ap length_held e)
+      byte p e = held-full major d kept n is p e
 
       held_now : (p : Descriptor) → held_at major d ≡ Some p → n.own.held ≡ Some p
       held_now p e = sym (ap (option_and_then (λ (q : Node (List Note)). q.own.held)) is) ∙ e

@@ -14,7 +14,7 @@ use Rattle.q_model.specs.declared.place.Place.TheVariants as place
 use Rattle.q_model.specs.Ask.{ask}
 use Rattle.q_model.specs.Beneath.{is_empty}
 use Rattle.q_model.specs.Events.{IsEvent}
-use Rattle.q_model.specs.Node.{Node, children, each, shape}
+use Rattle.q_model.specs.Node.{Node, children, shape}
 use Rattle.q_model.specs.Settings.{DeviceSettings, IsInRange}
 use Rattle.q_model.specs.Step.{DeviceState, step}
 use Rattle.q_model.specs.Stretches.{bytes_sent, length_held, qdisc, TbfAt, Throughout}

@@ -49,7 +49,7 @@ leaves-of a g w (inr (inr e)) = inr (inr (e, ap (λ (x : Worked). bytes_sent x.m
 pub booked-sent : (n : Node (List Note)) (w : Worked) → reached (booked history n w) ≡ bytes_sent n.memory + (bytes_sent w.memory + length_held w.own.held)
 booked-sent n w = omega (arith, ap bytes_sent (noted-history n.memory w.memory), sum_by-append sent_by n.memory w.memory)
 
-quiet-reached : (n m : Node (List Note)) → IsQuiet n m → reached m ≡ reached n
+pub quiet-reached : (n m : Node (List Note)) → IsQuiet n m → reached m ≡ reached n
 quiet-reached n m q =
     let sent = q.sent in
     let held = q.held in

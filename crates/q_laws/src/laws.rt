@@ -322,22 +322,22 @@ pub fn fifos_wait_at_most(settings: Settings)
     settings.ranges();
 }
 
-/// What leaves before the last packet that is queued in a class of a drr which is itself the child of a class of another drr. As long as the packet
-/// waits in the inner drr, and with the event at which it leaves it, the outer one has handed up since, and holds, no more bytes than it held
-/// at first and a turn of its own for all that the inner one hands up: the packet that this one may hold already, and a turn of its own for the
-/// bytes that are queued in the fifo of the class (`most_of_two_turns`, from the number of [`turns_are_bounded`]). So a bound of the inner drr is
-/// what the outer one has to send of its class (`reached`).
+/// What leaves before the last packet that is queued in a class of a drr which is itself the child of a class of another drr, and so on, for any
+/// number of drrs below one another. As long as the packet has not left one of them, and with the event at which it does, this drr has handed up
+/// since, and holds, no more bytes than it held at first and a turn of its own for all that the drr below hands up: the packet that this one may
+/// hold already, and a turn of its own, down to the bytes that are queued in the fifo of the last class (`most_of_turns`, from the number of
+/// [`turns_are_bounded`]). So a bound of a drr is what the one above has to send of its class (`reached`).
 ///
-/// Until the packet has left the device, polls give no more than these two turns, itself among them, where the outer drr is at the root; below a
-/// tbf at the root an mtu more, for a packet that the outer drr holds (`enough`). There the next event comes within the nanoseconds in which the
+/// Until the packet has left the device, polls give no more than these turns, itself among them, where the first drr is at the root; below a
+/// tbf at the root an mtu more, for a packet that the first drr holds (`enough`). There the next event comes within the nanoseconds in which the
 /// rate brings these bytes, or `late` after that, as long as the packet has not left, and a poll that gives nothing was before that
 /// (`in_time`). The device is polled as [`rate_is_delivered`] says.
 ///
-/// The packet waits in the inner drr as long as the class has sent fewer bytes than were queued with it, or that drr holds a packet, in each state
-/// since; and then it waits in the outer one as long as this holds a packet, in each state since. A drr gives what it holds before all else, and
-/// holds none right after. Both drrs keep their classes and quanta, and a command leaves the fifo, with what is queued there as it was, or
-/// longer at its end. Nothing is asked of the other classes of both, or of the deficits. For all settings and every list of events whose fields
-/// are in their ranges.
+/// The packet waits in the last drr as long as the class has sent fewer bytes than were queued with it, or that drr holds a packet, in each state
+/// since. It leaves it at an event, and waits in a drr above as long as this holds a packet, in each state since then. A drr gives what it holds
+/// before all else, and holds none right after. The drrs keep their classes and quanta, and a command leaves the fifo, with what is queued
+/// there as it was, or longer at its end. Nothing is asked of the other classes, or of the deficits. For all settings and every list of
+/// events whose fields are in their ranges.
 pub fn nested_turns_are_bounded(settings: Settings)
     ensures reached { NestedTurnsAreBounded settings }
     ensures enough { NestedTurnIsEnough settings }

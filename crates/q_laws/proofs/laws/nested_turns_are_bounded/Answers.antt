@@ -1,11 +1,11 @@
 use Rattle.q_laws.proofs.NestKept.{nested-turn-is-enough}
 use Rattle.q_laws.proofs.NestTime.{nested-turn-is-in-time}
-use Rattle.q_laws.proofs.NestTurns.{nested-turns-are-bounded}
+use Rattle.q_laws.proofs.PathTurns.{paths-are-bounded}
 use Rattle.q_laws.proofs.laws.nested_turns_are_bounded.Goals as goal
 
 pub returns : goal.returns
 returns c = record {
-  reached = nested-turns-are-bounded c.args.settings c.ranges-2.ensures;
+  reached = paths-are-bounded c.args.settings c.ranges-2.ensures;
   enough = nested-turn-is-enough c.args.settings c.ranges-2.ensures;
   in_time = nested-turn-is-in-time c.args.settings c.ranges-2.ensures;
 }
