@@ -6,6 +6,7 @@ pub mod DriveLemmas
 pub mod DriveTurnLemmas
 pub mod NotedLemmas
 pub mod OfferLemmas
+pub mod PopLemmas
 pub mod Prefixes
 pub mod RingLemmas
 pub mod Rising

@@ -1,7 +1,7 @@
 -- Taking in from one ring, packet by packet.
 use Rattle.std.proofs.Common.{◌≡◌, ℕ, ◌+◌, List, [], ◌∷◌, ◌++◌, drop, refl, sym, ap, ◌∙◌, arith, append_assoc}
-use Rattle.std.proofs.lemmas.List.{append-nil, length_push}
-use Rattle.std.proofs.lemmas.List.Sums.{fold_push, sum_by_push}
+use Rattle.std.proofs.lemmas.List.{append-nil, length-append, length_push}
+use Rattle.std.proofs.lemmas.List.Sums.{fold-append, fold_push, sum_by-append, sum_by_push}
 use mathlib.Core.List.{IsPrefix}
 use Rattle.std.specs.List.{fold}
 use Rattle.q_packet.specs.Descriptor.{Descriptor}
@@ -12,7 +12,8 @@ use Rattle.q_device.specs.Events.{with_memory}
 use Rattle.q_device.proofs.EventMemory.{after-memory}
 use Rattle.q_ports.specs.Rings.{RingSeen, with_known}
 use Rattle.q_device.specs.Room.{StaysButForPlaces}
-use Rattle.q_ports.specs.TakenIn.{arrived_at, arriving, TakesFirst, TakesIn}
+use Rattle.q_ports.specs.TakenIn.{arrived_at, arriving, StopsAtFirst, TakesFirst, TakesIn}
+use Rattle.q_ports.proofs.PopLemmas.{fold-memory}
 use Rattle.q_ports.proofs.Prefixes.{prefix_self, prefix_trans}
 use Rattle.q_device.proofs.RoomLemmas.{keeps-same, keeps-then}
 
@@ -83,4 +84,36 @@ takes-memory now o o1 d d1 d2 n t s = record {
   packets_counted = ap (λ (x : DeviceSeen). (arrived_at x).packets) s.stays ∙ t.packets_counted;
   bytes_counted = ap (λ (x : DeviceSeen). (arrived_at x).bytes) s.stays ∙ t.bytes_counted;
   places = keeps-then d d1 d2 t.places s.places;
+}
+
+-- packets more
+pub takes-then : (now : ℕ) (o o1 o2 : RingSeen) (d d1 d2 : DeviceSeen) (n m : ℕ) → TakesIn now o o1 d d1 n → TakesIn now o1 o2 d1 d2 m → TakesIn now o o2 d d2 (n + m)
+takes-then now o o1 o2 d d1 d2 n m t u =
+    let long = length-append t.packets u.packets in
+    let bytes = sum_by-append (λ (q : Descriptor). q.len) t.packets u.packets in
+    record {
+      packets = t.packets ++ u.packets;
+      counted = omega (arith, long, t.counted, u.counted);
+      ring = u.ring ∙ t.ring;
+      received = u.received ∙ (ap (λ (ps : List Descriptor). ps ++ u.packets) t.received ∙ append_assoc o.received t.packets u.packets);
+      waited = prefix_trans o.known (t.packets ++ o1.known) ((t.packets ++ u.packets) ++ o2.known) t.waited
+          (u.waited.0, append_assoc t.packets o1.known u.waited.0 ∙ (ap (λ (ks : List Descriptor). t.packets ++ ks) u.waited.1 ∙ sym (append_assoc t.packets u.packets o2.known)));
+      arrived =
+          u.arrived
+          ∙ (ap (λ (x : DeviceSeen). with_memory d2.memory (fold (arriving now) x u.packets)) t.arrived
+          ∙ (ap (λ (x : DeviceSeen). with_memory d2.memory x) (fold-memory now u.packets d1.memory (fold (arriving now) d t.packets))
+          ∙ ap (λ (x : DeviceSeen). with_memory d2.memory x) (sym (fold-append (arriving now) d t.packets u.packets))));
+      packets_counted = omega (arith, long, t.packets_counted, u.packets_counted);
+      bytes_counted = omega (arith, bytes, t.bytes_counted, u.bytes_counted);
+      places = keeps-then d d1 d2 t.places u.places;
+    }
+
+-- and then there was no room
+pub stops-then : (now : ℕ) (o o1 o2 : RingSeen) (d d1 d2 : DeviceSeen) (n m : ℕ) → TakesIn now o o1 d d1 n → (n ≡ 0 → d1 ≡ d) → StopsAtFirst now o1 o2 d1 d2 m → StopsAtFirst now o o2 d d2 (n + m)
+stops-then now o o1 o2 d d1 d2 n m t none s = record {
+  full = s.full;
+  takes = takes-then now o o1 o2 d d1 s.full n m t s.takes;
+  first = λ e. s.first (omega (arith, e)) ∙ none (omega (arith, e));
+  next = s.next;
+  stays = s.stays;
 }

@@ -6,6 +6,7 @@ pub mod NotedIn
 pub mod Offered
 pub mod Opened
 pub mod Placed
+pub mod Popping
 pub mod PortRanges
 pub mod Rings
 pub mod Rows

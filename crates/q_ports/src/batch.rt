@@ -1,7 +1,8 @@
 //! Packets as a port places them: counted, numbered, and as many as fit its ring.
-ghost use Rattle.std.specs.Prelude.{◌≡◌, ◌<◌, ◌≤◌, ◌+◌, ◌^◌, ◌++◌, ◌⊎◌, length, take, get_or, IfSome, IfNone};
+ghost use Rattle.std.specs.Prelude.{◌≡◌, ◌<◌, ◌≤◌, ◌+◌, ◌^◌, ◌++◌, ◌⊎◌, length, map, take, get_or, IfSome, IfNone};
 ghost use Rattle.std.specs.List.{fold};
 ghost use Rattle.q_packet.specs.Descriptor.{Descriptor};
+ghost use Rattle.q_packet.specs.Stored.{descriptor};
 ghost use Rattle.q_model.specs.Tally.{with_packet};
 ghost use Rattle.q_ports.specs.Placed.{bytes_in, placing, port_seen, PortSeen};
 ghost use Rattle.rtrb.specs.Ring.{known_free, ProducerLooked};
@@ -44,6 +45,19 @@ pub(crate) fn keep_batch(packets: &[Packet], batch: &mut [KeptPacket])
 {
     for at in 0..packets.len() {
         batch[at] = KeptPacket::of(&packets[at]);
+    }
+}
+
+/// Writes packets into the first of these places, in the form in which a device takes many.
+#[inline(always)]
+pub(crate) fn write_stored(packets: &[KeptPacket], stored: &mut [StoredPacket])
+    requires { length packets.now ≤ length stored.old }
+    ensures length { length stored.new ≡ length stored.old }
+    ensures written { map descriptor (take (length packets.now) stored.new) ≡ packets.now }
+{
+    for at in 0..packets.len() {
+        let packet = &packets[at];
+        stored[at] = packet.stored;
     }
 }
 

@@ -48,6 +48,7 @@ mod open;
 mod opened_ports;
 mod outlet;
 mod outlet_noting;
+mod popped;
 mod port;
 mod port_counts;
 mod port_task;

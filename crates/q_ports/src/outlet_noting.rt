@@ -67,7 +67,7 @@ impl Outlet {
         ensures clock { OnOk result (device.new.device.clock ≡ counts_at now device.old.device) }
     {
         let packet = self.first();
-        self.take_first(device, now)?;
+        self.take_first(&packet, device, now)?;
         last.note(Event::Arrive(packet.packet(), device.clock()));
         Ok(())
     }

@@ -20,10 +20,11 @@ use q_packet::{Moment, StoredPacket};
 use q_tree::Tree;
 
 impl Device {
-    /// The first of these packets arrive, which a fifo at the root keeps with nothing more asked. Returns how many: all for which the device
-    /// and the fifo have room, to the first that the fifo would not keep.
+    /// Lets the first of these packets arrive, all at the time `now`, as long as a fifo at the root keeps them with nothing more asked. Returns how
+    /// many: all for which the device and the fifo have room, to the first that the fifo would not keep. Allocates nothing, and loses nothing. If
+    /// another qdisc is at the root, none arrives. [`Device::arrive_many`] goes on with those that follow.
     #[inline(always)]
-    pub(crate) fn arrive_burst(&mut self, packets: &[StoredPacket], now: Moment) -> usize
+    pub fn arrive_burst(&mut self, packets: &[StoredPacket], now: Moment) -> usize
         ensures most { result ≤ length packets.now }
         ensures in_range { All IsStored (take result packets.now) }
         ensures arrived { self.new ≡ with_memory self.new.memory (arrived_by now (take result packets.now) self.old) }
