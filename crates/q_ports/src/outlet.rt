@@ -8,7 +8,7 @@ ghost use Rattle.q_device.specs.Room.{StaysButForPlaces};
 ghost use Rattle.q_ports.specs.TakenIn.{HasNoRoomForFirst, StopsAtFirst, TakesFirst, TakesIn};
 ghost use Rattle.rtrb.specs.Ring.{received};
 
-use crate::popped::Popped;
+use crate::popped::{FEWEST, Popped};
 use crate::port::Port;
 use crate::ring_rule::PacketConsumer;
 use crate::taken_in::TakenIn;
@@ -96,6 +96,9 @@ impl Outlet {
         ensures none { result.memory ≡ false → result.taken ≡ 0 → self.new.known ≡ [] }
         ensures stopped { result.memory ≡ true → StopsAtFirst now self.old self.new device.old device.new result.taken }
     {
+        if most < FEWEST {
+            return self.take_one(device, now);
+        }
         self.popped.refill(&mut self.ring, most);
         let before = device.totals().arrived.bytes;
         let (taken, memory) = self.popped.arrive(device, now, most);
@@ -103,6 +106,33 @@ impl Outlet {
         self.popped.leave(taken);
         self.share = added(self.share, taken as u64, bytes);
         TakenIn { taken, memory }
+    }
+
+    // One packet, if one waits.
+    #[inline(always)]
+    fn take_one(&mut self, device: &mut Device, now: Moment) -> TakenIn
+        ensures few { result.taken ≤ 1 }
+        ensures taken { TakesIn now self.old self.new device.old device.new result.taken }
+        ensures none { result.memory ≡ false → result.taken ≡ 0 → self.new.known ≡ [] }
+        ensures stopped { result.memory ≡ true → StopsAtFirst now self.old self.new device.old device.new result.taken }
+    {
+        if self.is_empty() {
+            return TakenIn {
+                taken: 0,
+                memory: false,
+            };
+        }
+        let packet = self.first();
+        match self.take_first(&packet, device, now) {
+            Ok(()) => TakenIn {
+                taken: 1,
+                memory: false,
+            },
+            Err(_) => TakenIn {
+                taken: 0,
+                memory: true,
+            },
+        }
     }
 
     /// Returns how many packets and bytes were taken in so far.
