@@ -567,8 +567,8 @@ qtree_code qtree_ready_at(const qtree_device *device, uint64_t *moment);
  *          place of the limit. A limit in bytes counts as so many packets, since a packet has at least one byte.
  *          UINT64_MAX stands for more.
  *
- * A program needs a buffer for each of these packets, for the packet that arrives, for each place of a ring, for each
- * packet that it has polled and not sent, and for each that was lost and that it has not reaped.
+ * A program needs a buffer for each of these packets, for the packet that arrives, for each place of a ring and 16 more
+ * at its outlet, for each packet that it has polled and not sent, and for each that was lost and that it has not reaped.
  *
  * Returns QTREE_DONE, or QTREE_IS_CLOSED if the device is closed. */
 qtree_code qtree_most_packets(const qtree_device *device, uint64_t *packets);
@@ -913,7 +913,8 @@ qtree_code qtree_offer(qtree_port *port, const qtree_packet *packet);
 qtree_code qtree_offer_many(qtree_port *port, const qtree_packet *packets, size_t count, size_t *placed);
 
 /* Takes packets out of a ring: they arrive at the device in order, all that wait, but at most as many as most says.
- * Each leaves the ring when it has arrived. A packet that the device loses on arrival counts too, and is to be reaped.
+ * Up to 16 leave the ring at once. Those of them that have not arrived yet wait at the outlet, before those in the
+ * ring. A packet that the device loses on arrival counts too, and is to be reaped.
  *
  * The call uses the device and the outlet. The sender may use the port meanwhile.
  *
@@ -925,8 +926,8 @@ qtree_code qtree_offer_many(qtree_port *port, const qtree_packet *packets, size_
  *   QTREE_DONE          these packets arrived
  *   QTREE_OUT_OF_RANGE  the time is out of its range
  *   QTREE_IS_CLOSED     the device or the outlet is closed
- *   QTREE_MEMORY        an allocation failed for the next packet, which stays in the ring; those before it have
- *                       arrived */
+ *   QTREE_MEMORY        an allocation failed for the next packet, which is the first of the next call; those before
+ *                       it have arrived */
 qtree_code qtree_take_in(qtree_device *device, qtree_outlet *outlet, uint64_t now, size_t most, size_t *taken);
 
 /* Read how many packets and bytes a port has placed so far, and how many were taken in at an outlet so far. Once the
@@ -940,7 +941,7 @@ qtree_code qtree_outlet_share(const qtree_outlet *outlet, qtree_count *share);
 /* Close one end of a ring. Either end may be closed first, before or after the device. If the end is closed already,
  * nothing happens.
  *
- * Packets in the ring of a closed port can still be taken in. Packets in the ring of a closed outlet are discarded,
+ * Packets in the ring of a closed port can still be taken in. Packets at a closed outlet and in its ring are discarded,
  * and are not losses; its port can go on offering until the ring is full. The ring's memory is freed with its second
  * end. */
 void qtree_port_close(qtree_port *port);

@@ -258,8 +258,14 @@ pub counts-some : (a b : Ring) (before after : List Descriptor) (share : Totals)
 counts-some a b before after share n k r =
     let had = popped_before before (ends.received a) in
     let len : Descriptor → ℕ = λ (q : Descriptor). q.len in
-    omega (arith, (r.counted k.counted).1, ap bytes_in (left-all a b before after share n k r), sum_by-append len (had ++ take n after) (drop n after), sum_by-append len had (take n after),
-    ap (λ (t : Totals). t.bytes) k.taken)
+    omega (
+      arith,
+      (r.counted k.counted).1,
+      ap bytes_in (left-all a b before after share n k r),
+      sum_by-append len (had ++ take n after) (drop n after),
+      sum_by-append len had (take n after),
+      ap (λ (t : Totals). t.bytes) k.taken,
+    )
 
 pub stops-some : (now : ℕ) (a b : Ring) (before after : List Descriptor) (share : Totals) (n : ℕ) (d d' : DeviceSeen) → IsKeptOutlet a before share → Refills before after a b → n ≤ length after
     → StopsBefore now (take n after) (drop n after) d d' → StopsAtFirst now (outlet_seen a before) (outlet_seen b (drop n after)) d d' n

@@ -108,8 +108,8 @@ impl Outlet {
         TakenIn { taken, memory }
     }
 
-    // One packet, if one waits.
-    #[inline(always)]
+    // One packet, if one waits. It is kept out of the loop over batches, which has few registers to spare.
+    #[inline(never)]
     fn take_one(&mut self, device: &mut Device, now: Moment) -> TakenIn
         ensures few { result.taken ≤ 1 }
         ensures taken { TakesIn now self.old self.new device.old device.new result.taken }
@@ -177,6 +177,7 @@ impl Outlet {
     }
 
     /// Lets the first packet that is known to wait arrive, and only then lets go of it.
+    #[inline(always)]
     pub(crate) fn take_first(
         &mut self,
         packet: &KeptPacket,

@@ -31,6 +31,8 @@ mod refused;
 #[cfg(test)]
 mod ring_lengths;
 #[cfg(test)]
+mod ring_bursts;
+#[cfg(test)]
 mod rings;
 #[cfg(test)]
 mod rows;

@@ -12,7 +12,7 @@ use crate::opened::Opened;
 use q_packet::Moment;
 use q_ports::Outlet;
 
-/// The first packets of a ring arrive at the device and leave the ring, as many as wait, but at most so many.
+/// The first packets that wait at an outlet and in its ring arrive at the device, as many as wait, but at most so many.
 #[unsafe(no_mangle)]
 pub extern "C" fn qtree_take_in(
     device: &mut CDevice,

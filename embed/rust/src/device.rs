@@ -326,8 +326,8 @@ impl Device {
     /// which may hold the packet that goes next. If a queue's limit was set below what it has
     /// queued, what it has queued counts in place of the limit. A limit in bytes counts as so many
     /// packets. A program needs a buffer for each of these packets, for the packet that arrives,
-    /// for each place of a ring, for each packet that it has polled and not sent, and for each that
-    /// was lost and that it has not reaped.
+    /// for each place of a ring and one more at its outlet, for each packet that it has polled and
+    /// not sent, and for each that was lost and that it has not reaped.
     ///
     /// ```
     /// # use qtree::{Device, Settings};

@@ -12,8 +12,13 @@ pub added-self-inside-requires-clause-bytes : goal.added-self-inside-requires-cl
 added-self-inside-requires-clause-bytes c =
     let i = c.self.inside in
     let some = c.arrive-taken in
-    omega (arith, counts-some i.ring c.refill.new.ring i.popped c.refill.new.self i.share some.result.0 c.self.invariant c.refill.ensures.refilled, some.ensures.arrived.bytes_counted,
-    ap (λ (r : Row). r.arrived.bytes) c.totals-before.ensures, ap (λ (r : Row). r.arrived.bytes) c.totals.ensures)
+    omega (
+      arith,
+      counts-some i.ring c.refill.new.ring i.popped c.refill.new.self i.share some.result.0 c.self.invariant c.refill.ensures.refilled,
+      some.ensures.arrived.bytes_counted,
+      ap (λ (r : Row). r.arrived.bytes) c.totals-before.ensures,
+      ap (λ (r : Row). r.arrived.bytes) c.totals.ensures,
+    )
 
 pub invariant_of-self : goal.invariant_of-self
 invariant_of-self c =
