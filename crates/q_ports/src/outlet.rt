@@ -70,6 +70,9 @@ impl Outlet {
         ensures whole { result.memory ≡ false → result.taken < most → self.new.known ≡ [] }
         ensures stopped { result.memory ≡ true → StopsAtFirst now self.old self.new device.old device.new result.taken }
     {
+        if most < FEWEST {
+            return self.take_few(device, now, most);
+        }
         let mut taken = 0;
         while taken < most {
             let some = self.take_some(device, now, most - taken);
@@ -96,9 +99,6 @@ impl Outlet {
         ensures none { result.memory ≡ false → result.taken ≡ 0 → self.new.known ≡ [] }
         ensures stopped { result.memory ≡ true → StopsAtFirst now self.old self.new device.old device.new result.taken }
     {
-        if most < FEWEST {
-            return self.take_one(device, now);
-        }
         self.popped.refill(&mut self.ring, most);
         let before = device.totals().arrived.bytes;
         let (taken, memory) = self.popped.arrive(device, now, most);
@@ -108,30 +108,35 @@ impl Outlet {
         TakenIn { taken, memory }
     }
 
-    // One packet, if one waits. It is kept out of the loop over batches, which has few registers to spare.
+    // A few of them, one by one.
     #[inline(never)]
-    fn take_one(&mut self, device: &mut Device, now: Moment) -> TakenIn
-        ensures few { result.taken ≤ 1 }
+    fn take_few(&mut self, device: &mut Device, now: Moment, most: usize) -> TakenIn
+        ensures few { result.taken ≤ most }
         ensures taken { TakesIn now self.old self.new device.old device.new result.taken }
-        ensures none { result.memory ≡ false → result.taken ≡ 0 → self.new.known ≡ [] }
+        ensures whole { result.memory ≡ false → result.taken < most → self.new.known ≡ [] }
         ensures stopped { result.memory ≡ true → StopsAtFirst now self.old self.new device.old device.new result.taken }
     {
-        if self.is_empty() {
-            return TakenIn {
-                taken: 0,
-                memory: false,
-            };
+        for taken in 0..most {
+            if self.is_empty() {
+                return TakenIn {
+                    taken,
+                    memory: false,
+                };
+            }
+            let packet = self.first();
+            match self.take_first(&packet, device, now) {
+                Ok(()) => {}
+                Err(_) => {
+                    return TakenIn {
+                        taken,
+                        memory: true,
+                    };
+                }
+            }
         }
-        let packet = self.first();
-        match self.take_first(&packet, device, now) {
-            Ok(()) => TakenIn {
-                taken: 1,
-                memory: false,
-            },
-            Err(_) => TakenIn {
-                taken: 0,
-                memory: true,
-            },
+        TakenIn {
+            taken: most,
+            memory: false,
         }
     }
 
