@@ -8,7 +8,7 @@ ghost use Rattle.q_device.specs.Room.{StaysButForPlaces};
 ghost use Rattle.q_ports.specs.TakenIn.{HasNoRoomForFirst, StopsAtFirst, TakesFirst, TakesIn};
 ghost use Rattle.rtrb.specs.Ring.{received};
 
-use crate::popped::{FEWEST, Popped};
+use crate::popped::Popped;
 use crate::port::Port;
 use crate::ring_rule::PacketConsumer;
 use crate::taken_in::TakenIn;
@@ -70,9 +70,6 @@ impl Outlet {
         ensures whole { result.memory ≡ false → result.taken < most → self.new.known ≡ [] }
         ensures stopped { result.memory ≡ true → StopsAtFirst now self.old self.new device.old device.new result.taken }
     {
-        if most < FEWEST {
-            return self.take_few(device, now, most);
-        }
         let mut taken = 0;
         while taken < most {
             let some = self.take_some(device, now, most - taken);
@@ -106,38 +103,6 @@ impl Outlet {
         self.popped.leave(taken);
         self.share = added(self.share, taken as u64, bytes);
         TakenIn { taken, memory }
-    }
-
-    // A few of them, one by one.
-    #[inline(never)]
-    fn take_few(&mut self, device: &mut Device, now: Moment, most: usize) -> TakenIn
-        ensures few { result.taken ≤ most }
-        ensures taken { TakesIn now self.old self.new device.old device.new result.taken }
-        ensures whole { result.memory ≡ false → result.taken < most → self.new.known ≡ [] }
-        ensures stopped { result.memory ≡ true → StopsAtFirst now self.old self.new device.old device.new result.taken }
-    {
-        for taken in 0..most {
-            if self.is_empty() {
-                return TakenIn {
-                    taken,
-                    memory: false,
-                };
-            }
-            let packet = self.first();
-            match self.take_first(&packet, device, now) {
-                Ok(()) => {}
-                Err(_) => {
-                    return TakenIn {
-                        taken,
-                        memory: true,
-                    };
-                }
-            }
-        }
-        TakenIn {
-            taken: most,
-            memory: false,
-        }
     }
 
     /// Returns how many packets and bytes were taken in so far.

@@ -14,7 +14,7 @@ use std::marker::Model;
 const BATCH: usize = 16;
 
 /// How many packets arrive as a burst at least.
-pub(crate) const FEWEST: usize = 4;
+const FEWEST: usize = 4;
 
 /// How many times packets arrive one by one before a burst is tried again.
 const REST: u32 = 16;
