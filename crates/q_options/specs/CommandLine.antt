@@ -13,10 +13,10 @@ use Rattle.clap.specs.declared.builder.value_parser.ValueParser.TheVariants as v
 use Rattle.clap.specs.declared.error.kind.ErrorKind.{ErrorKind}
 use Rattle.clap.specs.declared.error.kind.ErrorKind.TheVariants.{OutOfMemory}
 use Rattle.q_drive.specs.Drive.{Drive}
-use Rattle.q_options.specs.declared.command_line.DriveOptions.{DriveOptions}
-use Rattle.q_options.specs.declared.command_line.PlayOptions.{PlayOptions}
-use Rattle.q_options.specs.declared.command_line.Options.{Options}
-use Rattle.q_options.specs.declared.command_line.Options.TheVariants as options
+use Rattle.q_options.specs.declared.drive_options.DriveOptions.{DriveOptions}
+use Rattle.q_options.specs.declared.play_options.PlayOptions.{PlayOptions}
+use Rattle.q_options.specs.declared.program_options.Options.{Options}
+use Rattle.q_options.specs.declared.program_options.Options.TheVariants as options
 use Rattle.q_script.specs.Settings.{Settings}
 
 -- an option with a number

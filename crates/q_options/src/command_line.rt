@@ -4,6 +4,9 @@ ghost use Rattle.q_options.specs.CommandLine.{HasBadDriveOption, HasBadOption, H
 ghost use Rattle.clap.specs.declared.Command.TheViews.{out-Command as fields_of};
 ghost use Rattle.q_options.specs.CommandLine as spec;
 
+use crate::drive_options::DriveOptions;
+use crate::play_options::PlayOptions;
+use crate::program_options::Options;
 use clap::builder::ValueParser;
 use clap::error::ErrorKind;
 use clap::{Arg, ArgAction, ArgMatches, Command, Error, value_parser};
@@ -24,35 +27,6 @@ const DRIVE_END: &str = "Example:
   qtree drive --senders 4 --count 1000 --len 100 --ring 16 </dev/null
 
 tc's lines are described in docs/LANGUAGE.md and in the manual page qtree(1).";
-
-/// What the command line asks for.
-#[derive(PartialEq, Eq, Debug, Drop)]
-pub enum Options {
-    /// `qtree play`: a script of a file or of standard input, its report on standard output.
-    Play(PlayOptions),
-    /// `qtree drive`: tc's lines on standard input, what they and the senders came to on standard output.
-    Drive(DriveOptions),
-}
-
-/// What `qtree play` is asked for.
-#[derive(PartialEq, Eq, Debug, Drop)]
-pub struct PlayOptions {
-    /// The settings of the device.
-    pub settings: RunSettings,
-    /// The path of the file that has the script; standard input has it where none is named, or `-`.
-    pub file: Option<String>,
-    /// Whether each line that is not done is explained on the error output.
-    pub explain: bool,
-}
-
-/// What `qtree drive` is asked for.
-#[derive(Clone, Copy, PartialEq, Eq, Debug)]
-pub struct DriveOptions {
-    /// The settings of the device and of its senders.
-    pub settings: DriveSettings,
-    /// Whether each line that is not done is explained on the error output.
-    pub explain: bool,
-}
 
 /// Reads a command line, the program's name first. An error is clap's: it has the usage, the help or the version that it
 /// prints.

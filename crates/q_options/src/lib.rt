@@ -18,21 +18,27 @@
 
 mod answering;
 mod command_line;
+mod drive_options;
 mod driving;
 mod explaining;
 mod fault;
 mod play_asked;
+mod play_options;
 mod playing;
+mod program_options;
 mod prompted_reader;
 mod standard;
 mod telling;
 mod telling_of_lines;
 
 pub use answering::answer;
-pub use command_line::{DriveOptions, Options, PlayOptions, options};
+pub use command_line::options;
+pub use drive_options::DriveOptions;
 pub use driving::drive;
 pub use fault::Fault;
+pub use play_options::PlayOptions;
 pub use playing::play;
+pub use program_options::Options;
 pub use prompted_reader::PromptedReader;
 pub use q_drive::{DriveSettings, run_drive};
 pub use q_script::{Outcome, RunFault, RunSettings};

@@ -4,8 +4,8 @@ ghost use Rattle.q_options.specs.Answer.{IsPlayedFrom, IsPlayedOf};
 ghost use Rattle.q_script.specs.Reads.{no_reads};
 ghost use Rattle.q_show.specs.Writes.{no_writes};
 
-use crate::command_line::PlayOptions;
 use crate::fault::Fault;
+use crate::play_options::PlayOptions;
 use crate::playing::{FAULT, play_of};
 use crate::telling::tell_of;
 use q_script::{RunFault, Source};
