@@ -5,9 +5,9 @@ use Rattle.clap.specs.Words.{Text}
 use Rattle.q_script.specs.Ended.{Ended}
 use Rattle.q_script.specs.declared.outcome.Outcome.{Outcome}
 use Rattle.q_script.specs.declared.outcome.Outcome.TheVariants.{Clean, Refused}
-use Rattle.q_script.specs.declared.reads.Reads.{Reads}
+use Rattle.q_script.specs.declared.source.Reads.{Reads}
 use Rattle.q_script.specs.declared.run_fault.RunFault.{RunFault}
-use Rattle.q_show.specs.declared.writes.Writes.{Writes}
+use Rattle.q_show.specs.declared.target.Writes.{Writes}
 use Rattle.q_options.specs.declared.fault.Fault.TheVariants.{Run}
 use Rattle.q_options.specs.Answer.{IsAnswered, IsCounted, IsToldOf, Leaves}
 

@@ -13,7 +13,7 @@ use Rattle.clap.specs.declared.error.kind.ErrorKind.{ErrorKind as Kind}
 use Rattle.clap.specs.declared.error.kind.ErrorKind.TheVariants.{DisplayHelp, DisplayVersion}
 use Rattle.q_options.specs.CommandLine.{IsRefused}
 use Rattle.q_script.specs.Ended.{Ended}
-use Rattle.q_script.specs.declared.reads.Reads.{Reads}
+use Rattle.q_script.specs.declared.source.Reads.{Reads}
 use Rattle.q_script.specs.declared.run_fault.RunFault.{RunFault}
 use Rattle.q_script.specs.declared.run_fault.RunFault.TheVariants.{Read, TooLong, Write, Memory}
 use Rattle.q_script.specs.RunFault.{fault_kind, fault_text}
@@ -23,7 +23,7 @@ use Rattle.q_script.specs.declared.outcome.Outcome.TheVariants.{Clean, Refused}
 use Rattle.q_session.specs.Reported.{IsPartlyReported, IsReportedOf}
 use Rattle.q_show.specs.Writes.{WriteFailed}
 use Rattle.q_show.specs.Written.{AppendsFront}
-use Rattle.q_show.specs.declared.writes.Writes.{Writes}
+use Rattle.q_show.specs.declared.target.Writes.{Writes}
 
 -- what could not be done, and the kind of the read or the write that failed
 abbrev pub text_of : Fault → List ℕ
