@@ -361,6 +361,23 @@ static void through_a_pfifo(unsigned long times) {
     pass((qtree_packet){ .len = 100 }, times);
 }
 
+/* A prio of 16, of which the last band has the packet: the others are fifos with nothing, and need not be asked. */
+static void through_empty_fifos(unsigned long times) {
+    run("tc qdisc add dev wan root handle 1: prio bands 16 priomap 15 15 15 15 15 15 15 15 15 15 15 15 15 15 15 15");
+    pass((qtree_packet){ .len = 100 }, times);
+}
+
+/* The same where the others are tbfs, each of which is asked and has dropped and marked nothing. */
+static void through_quiet_bands(unsigned long times) {
+    char line[120];
+    run("tc qdisc add dev wan root handle 1: prio bands 16 priomap 15 15 15 15 15 15 15 15 15 15 15 15 15 15 15 15");
+    for (int band = 1; band < 16; band++) {
+        snprintf(line, sizeof line, "tc qdisc add dev wan parent 1:%x tbf rate 1gbit burst 10000 limit 10000", band);
+        run(line);
+    }
+    pass((qtree_packet){ .len = 100 }, times);
+}
+
 static void add_filters(uint32_t filters) {
     char line[120];
     run("tc qdisc add dev wan root handle 1: prio");
@@ -426,6 +443,8 @@ static int steps(const char *name, const char *times) {
         { "bursts", through_a_long_pfifo_by_bursts },
         { "first-bursts", through_an_empty_pfifo_by_bursts },
         { "ring-bursts", through_a_ring_by_bursts },
+        { "empty-fifos", through_empty_fifos },
+        { "quiet-bands", through_quiet_bands },
         { "few-filters", through_few_filters },
         { "many-filters", through_many_filters },
         { "filters-left", through_filters_left },
