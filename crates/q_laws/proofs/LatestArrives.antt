@@ -90,6 +90,22 @@ told-later mtu clock now wait bytes level higher link w at soon rises small is t
     (max link.rate 1) (omega arith) less in
     told-at mtu clock now bytes level higher (at + wait) link w (omega (arith, same, ceil, soon)) early small is
 
+-- what is answered of as many bytes then, whatever the device answers it of
+pub told-on : (mtu clock moment bytes : ℕ) (d : Discipline) (link : Option Link) (w : Latest) (at : ℕ)
+    → latest_on mtu clock bytes (level_of clock d) link ≡ Some w → w.at ≡ Some at → at + (moment - clock) ≤ 2 ^ 62
+    → IsToldBy (at + (moment - clock)) w (latest_on mtu (max clock moment) bytes (level_of (max clock moment) d) link)
+told-on mtu clock moment bytes d link w at e timed early = on link (level_of clock d) refl (fits mtu clock bytes (level_of clock d) link w e)
+  where
+    on : (link : Option Link) (level : Option ℕ) → level_of clock d ≡ level → Fits mtu clock bytes level link w
+        → IsToldBy (at + (moment - clock)) w (latest_on mtu (max clock moment) bytes (level_of (max clock moment) d) link)
+    on None level is told = absurd (none-some at (ap (λ (x : Latest). x.at) (same_Some (record { bytes = bytes; at = None; late = None }) w told.is) ∙ timed))
+    on (Some link) None is told = absurd (none-some w told.is)
+    on (Some link) (Some level) is told =
+        let higher = later-level clock (max clock moment) (omega arith) d level is in
+        subst (λ (l : Option ℕ). IsToldBy (at + (moment - clock)) w (latest_on mtu (max clock moment) bytes l (Some link))) (sym higher.is)
+        (told-later mtu clock (max clock moment) (moment - clock) bytes level higher.level_then link w at
+        (omega arith) higher.rises told.small (below-is mtu clock bytes level link w told.is) timed early)
+
 -- ---- a packet that is kept
 
 -- a device that answers has found a fifo
@@ -164,21 +180,7 @@ module _ (settings : DeviceSettings) (range : IsInRange settings) (before : List
   told-by w at e timed early =
       let f = found place p.len settings.mtu start w e in
       subst (IsToldBy (at + (moment - start.clock)) w) (sym (becomes f.lane f.there))
-      (on f.lane.link (level_of start.clock start.tree.root.own.discipline) refl
-      (fits settings.mtu start.clock bytes (level_of start.clock start.tree.root.own.discipline) f.lane.link w (sym (was f.lane f.there) ∙ e)))
-    where
-      on : (link : Option Link) (level : Option ℕ) → level_of start.clock start.tree.root.own.discipline ≡ level
-          → Fits settings.mtu start.clock bytes level link w
-          → IsToldBy (at + (moment - start.clock)) w (latest_on settings.mtu now bytes (level_of now start.tree.root.own.discipline) link)
-      on None level is told = absurd (none-some at (ap (λ (x : Latest). x.at)
-          (same_Some (record { bytes = bytes; at = None; late = None }) w told.is) ∙ timed))
-      on (Some link) None is told = absurd (none-some w told.is)
-      on (Some link) (Some level) is told =
-          let higher = later-level start.clock now (omega arith) start.tree.root.own.discipline level is in
-          subst (λ (l : Option ℕ). IsToldBy (at + (moment - start.clock)) w (latest_on settings.mtu now bytes l (Some link))) (sym higher.is)
-          (told-later settings.mtu start.clock now (moment - start.clock) bytes level higher.level_then link w at
-          (omega arith) higher.rises told.small
-          (below-is settings.mtu start.clock bytes level link w told.is) timed early)
+      (told-on settings.mtu start.clock moment bytes start.tree.root.own.discipline f.lane.link w at (sym (was f.lane f.there) ∙ e) timed early)
 
 -- ---- the laws
 

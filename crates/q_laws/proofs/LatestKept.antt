@@ -175,7 +175,7 @@ fits mtu now bytes level link w e = by (nat_lt bytes (2 ^ 64)) refl e
     by false is e = absurd (none-some w e)
     by true is e = record { small = is; is = e }
 
-latest-bytes : (mtu now bytes : ℕ) (level : Option ℕ) (link : Option Link) (w : Latest) → latest_of_bytes mtu now bytes level link ≡ Some w
+pub latest-bytes : (mtu now bytes : ℕ) (level : Option ℕ) (link : Option Link) (w : Latest) → latest_of_bytes mtu now bytes level link ≡ Some w
     → w.bytes ≡ bytes
 latest-bytes mtu now bytes level None w e = ap (λ (x : Latest). x.bytes) (sym (same_Some (record { bytes = bytes; at = None; late = None }) w e))
 latest-bytes mtu now bytes None (Some link) w e = absurd (none-some w e)

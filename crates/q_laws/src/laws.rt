@@ -15,6 +15,7 @@ ghost use Rattle.q_laws.specs.Rate.{NeverLateIsDrained, RateIsDelivered, RateIsS
 ghost use Rattle.q_laws.specs.Rest.{JoiningFlowsAreSpared};
 ghost use Rattle.q_laws.specs.Service.{ClassAgainstAny, ClassesGetTheirParts, FlowAgainstAny, NoFlowStarves, NewFlowFirst};
 ghost use Rattle.q_laws.specs.Turn.{ClassesWaitTheirTurn};
+ghost use Rattle.q_laws.specs.TurnLatest.{LatestTurnIsEnough, LatestTurnIsInTime, LatestTurnIsToldBefore, LatestTurnRisesNoFaster};
 ghost use Rattle.q_laws.specs.TurnWorst.{TurnIsAnswered, TurnIsEnough, TurnIsInTime, TurnsKeepLimits};
 ghost use Rattle.q_laws.specs.Work.{BandsAreStrict, WorkIsConserved};
 ghost use Rattle.q_laws.specs.Worst.{LinesKeepLimits, WorstIsEnough, WorstIsInTime};
@@ -365,6 +366,16 @@ pub fn turn_is_enough(settings: Settings)
     ensures limit { TurnsKeepLimits settings }
     ensures enough { TurnIsEnough settings }
     ensures in_time { TurnIsInTime settings }
+{
+    settings.ranges();
+}
+
+/// What `Device::latest` of `q_device` answers of a class of a drr.
+pub fn latest_turn_is_enough(settings: Settings)
+    ensures enough { LatestTurnIsEnough settings }
+    ensures in_time { LatestTurnIsInTime settings }
+    ensures told_before { LatestTurnIsToldBefore settings }
+    ensures rises_no_faster { LatestTurnRisesNoFaster settings }
 {
     settings.ranges();
 }
