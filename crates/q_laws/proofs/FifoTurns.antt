@@ -13,6 +13,7 @@ use Rattle.std.proofs.lemmas.Option.{none-some, same_Some, option_and_then_some}
 use Rattle.q_packet.specs.Descriptor.{Descriptor}
 use Rattle.q_codel.specs.declared.limit.Limit.{Limit}
 use Rattle.q_drr.specs.Schedule.{Class}
+use Rattle.q_drr.specs.Waiting.{bytes_of_turn}
 use Rattle.q_model.specs.declared.event.Event.{Event}
 use Rattle.q_model.specs.declared.event.Event.TheVariants as event
 use Rattle.q_model.specs.Ask.{Asked, ask}
@@ -52,7 +53,7 @@ use Rattle.q_device.proofs.ClassStretches.{at-start}
 use Rattle.q_laws.specs.FifoTurn.{class_line, IsFifoClass, IsInFifo, KeepFifo, KeepsFifo, FifosWaitAtMost}
 use Rattle.q_laws.specs.Line.{bytes_in, line_in, line_own, line, BeginsWith}
 use Rattle.q_laws.specs.Service.{all_sent, given_so_far, HasClasses}
-use Rattle.q_laws.specs.Turn.{IsClassLeft, StaysLeft, bytes_of_turn, shown_by}
+use Rattle.q_laws.specs.Turn.{IsClassLeft, StaysLeft, shown_by}
 use Rattle.q_laws.proofs.LeastShare.{drr-node}
 use Rattle.q_laws.proofs.LineAsks.{begins-refl, IsLined, root-lined}
 use Rattle.q_laws.proofs.LineDelay.{line-within}

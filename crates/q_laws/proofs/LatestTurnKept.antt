@@ -9,6 +9,7 @@ use Rattle.std.proofs.lemmas.Option.{same_Some, option_and_then_some}
 use Rattle.q_bucket.specs.Level.{TokenBucket, level_at, units_in_byte}
 use Rattle.q_codel.specs.declared.limit.Limit.{Limit}
 use Rattle.q_drr.specs.Schedule.{Class, Schedule, is_active, no_classes, quantum_of, woken}
+use Rattle.q_drr.specs.Waiting.{bytes_of_turn}
 use Rattle.q_model.specs.declared.event.Event.{Event}
 use Rattle.q_model.specs.Beneath.{beneath, totals_in}
 use Rattle.q_model.specs.Events.{IsEvent}
@@ -37,9 +38,11 @@ use Rattle.q_laws.specs.Line.{bytes_in, line}
 use Rattle.q_laws.specs.Order.{answers}
 use Rattle.q_laws.specs.Rate.{HasRoom, IsBackloggedLink}
 use Rattle.q_laws.specs.Service.{HasClasses, all_sent}
-use Rattle.q_laws.specs.Turn.{bytes_of_turn, shown_by}
+use Rattle.q_laws.specs.Turn.{shown_by}
 use Rattle.q_laws.specs.TurnLatest.{LatestTurnIsEnough, LatestTurnIsInTime}
-use Rattle.q_laws.specs.TurnNow.{bytes_along, bytes_before, bytes_in_drr, latest_in_turn, turn_now}
+use Rattle.q_tree.specs.TurnNow.{bytes_along, bytes_before, bytes_in_drr}
+use Rattle.q_device.specs.Latest.{latest_in_turn}
+use Rattle.q_drr.specs.Waiting.{turn_now}
 use Rattle.q_laws.specs.TurnWorst.{IsTurn, LeadsTo, id_of}
 use Rattle.q_laws.proofs.FifoTurns.{backlogged-so-far, class-within, fifos-wait-their-turn, line-at}
 use Rattle.q_laws.proofs.LaneLines.{lane-line}

@@ -2,7 +2,7 @@
 -- states.
 use Rattle.std.proofs.Common.{◌≡◌, ℕ, List, [], ◌∷◌, refl}
 use Rattle.q_drr.specs.Schedule.{Class, Entry, Schedule}
-use Rattle.q_laws.specs.TurnNow.{turn_now}
+use Rattle.q_drr.specs.Waiting.{turn_now}
 
 class : ℕ → ℕ → Class
 class name quantum = record { name = name; quantum = quantum }

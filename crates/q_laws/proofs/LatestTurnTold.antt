@@ -9,6 +9,7 @@ use Rattle.q_packet.specs.Descriptor.{Descriptor}
 use Rattle.q_packet.specs.declared.cause.Cause.TheVariants.{TooLong}
 use Rattle.q_codel.specs.declared.limit.Limit.{Limit}
 use Rattle.q_drr.specs.Schedule.{Class, Entry, Schedule, is_active, quantum_of, woken}
+use Rattle.q_drr.specs.Waiting.{bytes_of_turn}
 use Rattle.q_model.specs.declared.event.Event.{Event}
 use Rattle.q_model.specs.declared.event.Event.TheVariants as event
 use Rattle.q_model.specs.declared.place.Place.TheVariants as place
@@ -39,9 +40,10 @@ use Rattle.q_device.specs.Latest.{latest_on}
 use Rattle.q_device.specs.Sharing.{device_after}
 use Rattle.q_laws.specs.Latest.{IsToldBy}
 use Rattle.q_laws.specs.Line.{bytes_in, line, line_own}
-use Rattle.q_laws.specs.Turn.{bytes_of_turn}
 use Rattle.q_laws.specs.TurnLatest.{LatestTurnIsToldBefore, LatestTurnRisesNoFaster}
-use Rattle.q_laws.specs.TurnNow.{bytes_along, bytes_before, bytes_in_drr, latest_in_turn, turn_now}
+use Rattle.q_tree.specs.TurnNow.{bytes_along, bytes_before, bytes_in_drr}
+use Rattle.q_device.specs.Latest.{latest_in_turn}
+use Rattle.q_drr.specs.Waiting.{turn_now}
 use Rattle.q_laws.specs.TurnWorst.{LeadsTo, id_of, turn_of}
 use Rattle.q_laws.specs.Worst.{IsKeptAt, with_arrival}
 use Rattle.q_laws.proofs.FifoTurns.{fifo-line}

@@ -42,7 +42,7 @@ use Rattle.q_device.specs.Worst.{most_bytes}
 use Rattle.q_device.proofs.ClassStretches.{mtu-stays}
 use Rattle.q_laws.specs.FifoTurn.{class_line}
 use Rattle.q_laws.specs.Line.{bytes_in, line, line_own}
-use Rattle.q_laws.specs.TurnNow.{bytes_along}
+use Rattle.q_tree.specs.TurnNow.{bytes_along}
 use Rattle.q_laws.specs.TurnWorst.{TurnsKeepLimits, id_of, turn_of}
 use Rattle.q_laws.specs.Worst.{EndsWithin, with_arrival}
 use Rattle.q_laws.proofs.FifoTurns.{fifo-line, line-at}

@@ -15,7 +15,6 @@ pub mod Rest
 pub mod Service
 pub mod Turn
 pub mod TurnLatest
-pub mod TurnNow
 pub mod TurnWorst
 pub mod Work
 pub mod Worst

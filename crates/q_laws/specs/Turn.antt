@@ -5,7 +5,7 @@
 use Rattle.std.specs.Prelude.{◌≡◌, ℕ, ◌+◌, ◌-◌, ◌*◌, ◌^◌, ◌≤◌, ◌==◌, if◌then◌else◌, List, [], ◌∷◌, ◌++◌, All, Some, sum_by}
 use Rattle.std.specs.Int.{div_ceil}
 use Rattle.q_drr.specs.Schedule.{Class, Entry, deficit_of}
-use Rattle.q_drr.specs.Stretch.{stands_first}
+use Rattle.q_drr.specs.Waiting.{bytes_of_turn}
 use Rattle.q_model.specs.declared.event.Event.{Event}
 use Rattle.q_model.specs.Ask.{ask}
 use Rattle.q_model.specs.Events.{IsEvent}
@@ -35,20 +35,7 @@ StaysLeft major i bytes sent d (e ∷ events) =
     let next = (step history d e).device in
     IsClassLeft major i bytes sent d × StaysLeft major i bytes (sent + (given_so_far major i next - given_so_far major i d)) next events
 
--- ---- the others
-
--- what another class may send of its deficit: all of it where it is before class i in the active list, else only what is above a quantum
-abbrev pub deficit_ahead : ℕ → List Entry → Class → ℕ
-deficit_ahead i active c = if stands_first c.name i active then deficit_of c.name active else deficit_of c.name active - c.quantum
-
-abbrev pub deficits_ahead : ℕ → List Entry → List Class → ℕ
-deficits_ahead i active classes = sum_by (λ (c : Class). if i == c.name then 0 else deficit_ahead i active c) classes
-
--- All that is sent until a packet of class i has left that ends within so many bytes of it: those, for each grant that class i may need the
--- quanta of the others, and their deficits.
-abbrev pub bytes_of_turn : ℕ → ℕ → List Class → List Entry → ℕ → ℕ
-bytes_of_turn i quantum classes active bytes =
-    bytes + div_ceil (bytes - deficit_of i active) quantum * (quanta_of classes - quantum) + deficits_ahead i active classes
+-- ---- with the others
 
 abbrev pub ClassesWaitTheirTurn : DeviceSettings → Type 0
 ClassesWaitTheirTurn settings =

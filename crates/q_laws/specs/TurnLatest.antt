@@ -26,7 +26,7 @@ use Rattle.q_laws.specs.Latest.{IsToldBy}
 use Rattle.q_laws.specs.Line.{bytes_in}
 use Rattle.q_laws.specs.Order.{answers}
 use Rattle.q_laws.specs.Rate.{IsDrained}
-use Rattle.q_laws.specs.TurnNow.{latest_in_turn}
+use Rattle.q_device.specs.Latest.{latest_in_turn}
 use Rattle.q_laws.specs.TurnWorst.{IsTurn, IsWaiting, LeadsTo, id_of, turn_of}
 use Rattle.q_laws.specs.Worst.{IsKeptAt, with_arrival}
 

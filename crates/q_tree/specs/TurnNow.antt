@@ -1,24 +1,14 @@
--- What leaves a drr before a packet of one of its classes, from the state of the moment: the bytes of the class that go before it and its own, a
--- turn of the drr for them, and the packet that the drr holds. M. Shreedhar and G. Varghese, "Efficient Fair Queuing Using Deficit
--- Round-Robin" (1995), and tc-drr(8); tc(8) names a class.
-use Rattle.std.specs.Prelude.{ℕ, ◌+◌, List, [], ◌∷◌, Option, None, option_map, option_and_then, slice_get}
-use Rattle.q_drr.specs.Schedule.{Class, Schedule, quantum_of, woken}
+-- What leaves a drr before a packet of one of its classes, from the state of the moment: a turn of the drr for the bytes of the class that are
+-- queued, and the packet that the drr holds. M. Shreedhar and G. Varghese, "Efficient Fair Queuing Using Deficit Round-Robin" (1995), and
+-- tc-drr(8); tc(8) names a class.
+use Rattle.std.specs.Prelude.{ℕ, ◌+◌, List, [], ◌∷◌, Option, Some, None, option_map, option_and_then, slice_get}
+use Rattle.q_drr.specs.Schedule.{Class}
+use Rattle.q_drr.specs.Waiting.{turn_now}
 use Rattle.q_model.specs.declared.class_id.ClassId.{ClassId}
 use Rattle.q_model.specs.Beneath.{beneath, totals_in}
 use Rattle.q_model.specs.Find.{class_path}
 use Rattle.q_model.specs.Node.{Discipline, Fifo, Prio, Tbf, Drr, FqCodel, Own, Node, children}
-use Rattle.q_model.specs.Step.{DeviceState}
 use Rattle.q_model.specs.Stretches.{length_held}
-use Rattle.q_tree.specs.declared.ways.Link.{Link}
-use Rattle.q_tree.specs.Lanes.{level_of}
-use Rattle.q_device.specs.declared.latest.Latest.{Latest}
-use Rattle.q_device.specs.Latest.{latest_on}
-use Rattle.q_laws.specs.Turn.{bytes_of_turn}
-
--- A turn for so many bytes of class i, with the deficits and the active list as they are. A class that is inactive is last in the list, with a
--- deficit of its quantum, once a packet comes there.
-abbrev pub turn_now : ℕ → ℕ → Schedule → ℕ
-turn_now i bytes s = bytes_of_turn i (quantum_of i s.classes) s.classes (woken i s).active bytes
 
 -- Until the packet has left the drr that is queued last in the class of this child, or one of this length that comes there next (a length of 0
 -- for the packet that was queued last).
@@ -38,9 +28,3 @@ bytes_along len (i ∷ j ∷ path) n = option_and_then (bytes_along len (j ∷ p
 
 abbrev pub bytes_before : {M : Type 0} → ClassId → ℕ → Node M → Option ℕ
 bytes_before class len n = option_and_then (λ path. bytes_along len path n) (class_path class n)
-
--- ---- what a device answers of it, below this link
-
-abbrev pub latest_in_turn : {M : Type 0} → ClassId → ℕ → ℕ → DeviceState M → Option Link → Option Latest
-latest_in_turn class len mtu d link =
-    option_and_then (λ bytes. latest_on mtu d.clock bytes (level_of d.clock d.tree.root.own.discipline) link) (bytes_before class len d.tree.root)
