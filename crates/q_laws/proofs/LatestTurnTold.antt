@@ -10,6 +10,7 @@ use Rattle.q_packet.specs.declared.cause.Cause.TheVariants.{TooLong}
 use Rattle.q_codel.specs.declared.limit.Limit.{Limit}
 use Rattle.q_drr.specs.Schedule.{Class, Entry, Schedule, is_active, quantum_of, woken}
 use Rattle.q_drr.specs.Waiting.{bytes_of_turn}
+use Rattle.q_model.specs.declared.class_id.ClassId.{ClassId}
 use Rattle.q_model.specs.declared.event.Event.{Event}
 use Rattle.q_model.specs.declared.event.Event.TheVariants as event
 use Rattle.q_model.specs.declared.place.Place.TheVariants as place
@@ -32,23 +33,20 @@ use Rattle.q_invariants.proofs.Kept.{IsLawfulRoot}
 use Rattle.q_invariants.proofs.Related.{forget}
 use Rattle.q_invariants.proofs.Replays.{IsKept, not-before, replay-kept, step-kept}
 use Rattle.q_invariants.proofs.Within.{IsOf}
+use Rattle.q_tree.specs.declared.turns.Turn.{Turn}
 use Rattle.q_tree.specs.declared.ways.Link.{Link}
 use Rattle.q_tree.specs.Lanes.{level_of, limit_of}
 use Rattle.q_tree.specs.Turns.{turn_to}
-use Rattle.q_tree.specs.Ways.{DrrClass, way_from}
+use Rattle.q_tree.specs.Ways.{DrrClass, way_from, way_to}
 use Rattle.q_device.specs.Latest.{latest_on}
 use Rattle.q_device.specs.Sharing.{device_after}
-use Rattle.q_laws.specs.Latest.{IsToldBy}
 use Rattle.q_laws.specs.Line.{bytes_in, line, line_own}
-use Rattle.q_laws.specs.TurnLatest.{LatestTurnIsToldBefore, LatestTurnRisesNoFaster}
 use Rattle.q_tree.specs.TurnNow.{bytes_along, bytes_before, bytes_in_drr}
 use Rattle.q_device.specs.Latest.{latest_in_turn}
 use Rattle.q_drr.specs.Waiting.{turn_now}
-use Rattle.q_laws.specs.TurnWorst.{LeadsTo, id_of, turn_of}
 use Rattle.q_laws.specs.Worst.{IsKeptAt, with_arrival}
 use Rattle.q_laws.proofs.FifoTurns.{fifo-line}
 use Rattle.q_laws.proofs.LanesStay.{AreAlike, class-alike, level-alike, put-alike, way-at-alike}
-use Rattle.q_laws.proofs.LatestArrives.{told-on}
 use Rattle.q_laws.proofs.LatestTurnKept.{fifo-beneath}
 use Rattle.q_laws.proofs.LineDelay.{line-within}
 use Rattle.q_laws.proofs.PromiseWays.{of-child}
@@ -228,10 +226,10 @@ module _ (dev next : DeviceState (List Note)) (now : ℕ) (kept : IsKept dev) (k
       (becomes ∙ ap (λ (x : Route). booked history root (put_along now p x.refusal x.path (shape root)).node) on) alike found on c there is
 
 module _ (settings : DeviceSettings) (range : IsInRange settings) (before : List Event) (p : Descriptor) (moment : ℕ) (link : Option Link)
-    (d : DrrClass) (limit : Limit) (earlier : All IsEvent before) (comes : IsEvent (event.Arrive p moment))
-    (leads : LeadsTo link d (device_after settings before))
-    (found : turn_to (place.Class (id_of d)) (device_after settings before).tree.root ≡ Some (turn_of link d limit))
-    (at : IsKeptAt (place.Class (id_of d)) p moment (device_after settings before)) where
+    (d : DrrClass) (limit : Limit) (turn : Turn) (class : ClassId) (earlier : All IsEvent before) (comes : IsEvent (event.Arrive p moment))
+    (leads : way_to class (device_after settings before).tree.root ≡ Some (record { link = link; drrs = d ∷ [] }))
+    (found : turn_to (place.Class class) (device_after settings before).tree.root ≡ Some turn) (same : turn.limit ≡ limit)
+    (at : IsKeptAt (place.Class class) p moment (device_after settings before)) where
   abbrev start : DeviceState (List Note)
   start = device_after settings before
 
@@ -244,18 +242,18 @@ module _ (settings : DeviceSettings) (range : IsInRange settings) (before : List
   alike : AreAlike (device_after settings before).tree.root (step history (device_after settings before) (event.Arrive p moment)).device.tree.root
   alike = put-alike come p (device_route p start.tree.device.mtu (shape start.tree.root)) start.tree.root
 
-  same-bytes : bytes_before (id_of d) 0 (step history (device_after settings before) (event.Arrive p moment)).device.tree.root
-      ≡ bytes_before (id_of d) p.len (device_after settings before).tree.root
+  same-bytes : bytes_before class 0 (step history (device_after settings before) (event.Arrive p moment)).device.tree.root
+      ≡ bytes_before class p.len (device_after settings before).tree.root
   same-bytes =
       option_and_then_some (λ path. option_and_then (λ (c : Node (List Note)). limit_of c.own.discipline) (node_at path start.tree.root))
-      (class_path (id_of d) start.tree.root) limit (turn-limit (id_of d) start.tree.root (turn_of link d limit) found)
+      (class_path class start.tree.root) limit (turn-limit class start.tree.root turn found ∙ ap Some same)
       (λ path is rest. option_and_then_some (λ (c : Node (List Note)). limit_of c.own.discipline) (node_at path start.tree.root) limit rest
       (λ c there fifo. along path is c there fifo))
     where
-      along : (path : List ℕ) → class_path (id_of d) (device_after settings before).tree.root ≡ Some path → (c : Node (List Note))
+      along : (path : List ℕ) → class_path class (device_after settings before).tree.root ≡ Some path → (c : Node (List Note))
           → node_at path (device_after settings before).tree.root ≡ Some c → limit_of c.own.discipline ≡ Some limit
-          → bytes_before (id_of d) 0 (step history (device_after settings before) (event.Arrive p moment)).device.tree.root
-          ≡ bytes_before (id_of d) p.len (device_after settings before).tree.root
+          → bytes_before class 0 (step history (device_after settings before) (event.Arrive p moment)).device.tree.root
+          ≡ bytes_before class p.len (device_after settings before).tree.root
       along path is c there fifo =
           let kept : IsKept start = replay-kept settings before range earlier in
           let mtu : ℕ = start.tree.device.mtu in
@@ -265,40 +263,15 @@ module _ (settings : DeviceSettings) (range : IsInRange settings) (before : List
           let told = told-kept start stepped come kept (step-kept start (event.Arrive p moment) kept comes) (not-before start.clock moment) p link d limit
           path goes (nat_lt mtu p.len) refl refl alike ways c there fifo
           (no-loss (loss_on come p (if nat_lt mtu p.len then None else Some (route p (shape start.tree.root))) (shape start.tree.root)) at.kept) in
-          ap (option_and_then (λ xs. bytes_along 0 xs stepped.tree.root)) (class-alike (id_of d) start.tree.root stepped.tree.root alike ∙ is) ∙ told
+          ap (option_and_then (λ xs. bytes_along 0 xs stepped.tree.root)) (class-alike class start.tree.root stepped.tree.root alike ∙ is) ∙ told
           ∙ sym (ap (option_and_then (λ xs. bytes_along p.len xs start.tree.root)) is)
 
   -- what is answered once it has come
-  becomes : latest_in_turn (id_of d) 0 settings.mtu (device_after settings (with_arrival before p moment)) link
+  pub becomes : latest_in_turn class 0 settings.mtu (device_after settings (with_arrival before p moment)) link
       ≡ option_and_then (λ bytes. latest_on settings.mtu come bytes (level_of come (device_after settings before).tree.root.own.discipline) link)
-      (bytes_before (id_of d) p.len (device_after settings before).tree.root)
+      (bytes_before class p.len (device_after settings before).tree.root)
   becomes =
-      ap (λ (x : DeviceState (List Note)). latest_in_turn (id_of d) 0 settings.mtu x link) (arrived settings before p moment)
+      ap (λ (x : DeviceState (List Note)). latest_in_turn class 0 settings.mtu x link) (arrived settings before p moment)
       ∙ ap (option_and_then (λ bytes. latest_on settings.mtu come bytes (level_of come stepped.tree.root.own.discipline) link)) same-bytes
-      ∙ ap (λ (l : Option ℕ). option_and_then (λ bytes. latest_on settings.mtu come bytes l link) (bytes_before (id_of d) p.len start.tree.root))
+      ∙ ap (λ (l : Option ℕ). option_and_then (λ bytes. latest_on settings.mtu come bytes l link) (bytes_before class p.len start.tree.root))
       (level-alike come start.tree.root stepped.tree.root alike)
-
--- ---- the laws
-
-pub latest-turn-is-told-before : (settings : DeviceSettings) → IsInRange settings → LatestTurnIsToldBefore settings
-latest-turn-is-told-before settings range before p moment link d limit w earlier comes leads found answered at early =
-    let start : DeviceState (List Note) = device_after settings before in
-    let stands : max start.clock moment ≡ start.clock = omega (arith, early) in
-    becomes settings range before p moment link d limit earlier comes leads found at
-    ∙ ap (λ k. option_and_then (λ bytes. latest_on settings.mtu k bytes (level_of k start.tree.root.own.discipline) link)
-    (bytes_before (id_of d) p.len start.tree.root)) stands ∙ answered
-
-pub latest-turn-rises-no-faster : (settings : DeviceSettings) → IsInRange settings → LatestTurnRisesNoFaster settings
-latest-turn-rises-no-faster settings range before p moment link d limit w at_most earlier comes leads found answered at timed early =
-    subst (IsToldBy (at_most + (moment - start.clock)) w) (sym (becomes settings range before p moment link d limit earlier comes leads found at))
-    (by (bytes_before (id_of d) p.len start.tree.root) answered)
-  where
-    start : DeviceState (List Note)
-    start = device_after settings before
-
-    by : (o : Option ℕ)
-        → option_and_then (λ bytes. latest_on settings.mtu start.clock bytes (level_of start.clock start.tree.root.own.discipline) link) o ≡ Some w
-        → IsToldBy (at_most + (moment - start.clock)) w
-        (option_and_then (λ bytes. latest_on settings.mtu (max start.clock moment) bytes (level_of (max start.clock moment) start.tree.root.own.discipline) link) o)
-    by None e = absurd (none-some w e)
-    by (Some bytes) e = told-on settings.mtu start.clock moment bytes start.tree.root.own.discipline link w at_most e timed early

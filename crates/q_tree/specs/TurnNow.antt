@@ -1,7 +1,7 @@
 -- What leaves a drr before a packet of one of its classes, from the state of the moment: a turn of the drr for the bytes of the class that are
 -- queued, and the packet that the drr holds. M. Shreedhar and G. Varghese, "Efficient Fair Queuing Using Deficit Round-Robin" (1995), and
 -- tc-drr(8); tc(8) names a class.
-use Rattle.std.specs.Prelude.{ℕ, ◌+◌, List, [], ◌∷◌, Option, Some, None, option_map, option_and_then, slice_get}
+use Rattle.std.specs.Prelude.{ℕ, ◌+◌, List, [], ◌∷◌, Option, None, option_map, option_and_then, slice_get}
 use Rattle.q_drr.specs.Schedule.{Class}
 use Rattle.q_drr.specs.Waiting.{turn_now}
 use Rattle.q_model.specs.declared.class_id.ClassId.{ClassId}

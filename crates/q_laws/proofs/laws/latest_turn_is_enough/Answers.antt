@@ -1,11 +1,12 @@
+use Rattle.q_laws.proofs.LatestArrives.{answered-in-turn}
 use Rattle.q_laws.proofs.LatestTurnKept.{latest-turn-is-enough, latest-turn-is-in-time}
-use Rattle.q_laws.proofs.LatestTurnTold.{latest-turn-is-told-before, latest-turn-rises-no-faster}
+use Rattle.q_laws.proofs.LatestTurnRows as rows
+use Rattle.q_device.specs.Sharing.{device_after}
 use Rattle.q_laws.proofs.laws.latest_turn_is_enough.Goals as goal
 
 pub returns : goal.returns
 returns c = record {
+  answered = λ events class len turn found. answered-in-turn class len c.args.settings.mtu (device_after c.args.settings events) turn found;
   enough = latest-turn-is-enough c.args.settings c.ranges-2.ensures;
   in_time = latest-turn-is-in-time c.args.settings c.ranges-2.ensures;
-  told_before = latest-turn-is-told-before c.args.settings c.ranges-2.ensures;
-  rises_no_faster = latest-turn-rises-no-faster c.args.settings c.ranges-2.ensures;
 }
