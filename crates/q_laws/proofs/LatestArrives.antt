@@ -13,7 +13,7 @@ use Rattle.q_model.specs.declared.event.Event.TheVariants as event
 use Rattle.q_codel.specs.declared.limit.Limit.{Limit}
 use Rattle.q_model.specs.declared.class_id.ClassId.{ClassId}
 use Rattle.q_model.specs.declared.place.Place.{Place}
-use Rattle.q_model.specs.declared.place.Place.TheVariants as place
+use Rattle.q_model.specs.declared.place.Place.TheVariants as places
 use Rattle.q_model.specs.declared.row.Row.{Row}
 use Rattle.q_model.specs.Events.{IsEvent}
 use Rattle.q_model.specs.Node.{Discipline, Fifo, Prio, Tbf, Drr, FqCodel, Node, shape}
@@ -126,9 +126,9 @@ record IsFound (place : Place) (d : DeviceState (List Note)) : Type 0 where
 -- or a class of a drr
 record IsTurnFound (place : Place) (len mtu : ℕ) (d : DeviceState (List Note)) (w : Latest) : Type 0 where
   class : ClassId
-  is : place ≡ place.Class class
+  is : place ≡ places.Class class
   turn : Turn
-  there : turn_to (place.Class class) d.tree.root ≡ Some turn
+  there : turn_to (places.Class class) d.tree.root ≡ Some turn
   answered : latest_in_turn class len mtu d turn.link ≡ Some w
 
 found : (place : Place) (len mtu : ℕ) (d : DeviceState (List Note)) (w : Latest) → latest_of history place len mtu d ≡ Some w
@@ -138,9 +138,9 @@ found place len mtu d w e = by (lane_to place d.tree.root) refl e
     turn-found : (place : Place) (o : Option Turn) → turn_to place d.tree.root ≡ o → option_and_then (latest_at_turn place len mtu d) o ≡ Some w
         → IsTurnFound place len mtu d w
     turn-found place None is e = absurd (none-some w e)
-    turn-found place.Top (Some turn) is e = absurd (none-some w e)
-    turn-found place.Root (Some turn) is e = absurd (none-some w e)
-    turn-found (place.Class class) (Some turn) is e = record { class = class; is = refl; turn = turn; there = is; answered = e }
+    turn-found places.Top (Some turn) is e = absurd (none-some w e)
+    turn-found places.Root (Some turn) is e = absurd (none-some w e)
+    turn-found (places.Class class) (Some turn) is e = record { class = class; is = refl; turn = turn; there = is; answered = e }
 
     by : (o : Option Lane) → lane_to place d.tree.root ≡ o
         → option_map_or (λ (lane : Lane). option_and_then (λ (x : Row). latest_on mtu d.clock (x.queued.bytes + len)
@@ -155,7 +155,7 @@ record IsOneDrr (class : ClassId) (root : Node (List Note)) (turn : Turn) : Type
   drr : DrrClass
   leads : way_to class root ≡ Some (record { link = turn.link; drrs = drr ∷ [] })
 
-one-drr : (class : ClassId) (root : Node (List Note)) (turn : Turn) → turn_to (place.Class class) root ≡ Some turn → IsOneDrr class root turn
+one-drr : (class : ClassId) (root : Node (List Note)) (turn : Turn) → turn_to (places.Class class) root ≡ Some turn → IsOneDrr class root turn
 one-drr class root turn e =
     option_and_then_some (λ (w : Way). option_and_then (turn_on w.link (shares_of w)) (limit_in class root)) (way_to class root) turn e
     (λ w leads rest. option_and_then_some (turn_on w.link (shares_of w)) (limit_in class root) turn rest (λ limit there made. by w.link w.drrs limit leads made))
@@ -169,13 +169,13 @@ one-drr class root turn e =
     by link (d ∷ k ∷ drrs) limit leads e = absurd (none-some turn e)
 
 -- a class of a drr is never in line
-pub answered-in-turn : (class : ClassId) (len mtu : ℕ) (d : DeviceState (List Note)) (turn : Turn) → turn_to (place.Class class) d.tree.root ≡ Some turn
-    → latest_of history (place.Class class) len mtu d ≡ latest_in_turn class len mtu d turn.link
+pub answered-in-turn : (class : ClassId) (len mtu : ℕ) (d : DeviceState (List Note)) (turn : Turn) → turn_to (places.Class class) d.tree.root ≡ Some turn
+    → latest_of history (places.Class class) len mtu d ≡ latest_in_turn class len mtu d turn.link
 answered-in-turn class len mtu d turn e =
     ap (λ (o : Option Lane). option_map_or (λ (lane : Lane). option_and_then (λ (x : Row). latest_on mtu d.clock (x.queued.bytes + len)
-    (level_of d.clock d.tree.root.own.discipline) lane.link) (stats history (place.Class class) d.tree)) o
-    (option_and_then (latest_at_turn (place.Class class) len mtu d) (turn_to (place.Class class) d.tree.root))) (turn-no-lane class d.tree.root turn e)
-    ∙ ap (option_and_then (latest_at_turn (place.Class class) len mtu d)) e
+    (level_of d.clock d.tree.root.own.discipline) lane.link) (stats history (places.Class class) d.tree)) o
+    (option_and_then (latest_at_turn (places.Class class) len mtu d) (turn_to (places.Class class) d.tree.root))) (turn-no-lane class d.tree.root turn e)
+    ∙ ap (option_and_then (latest_at_turn (places.Class class) len mtu d)) e
 
 module _ (settings : DeviceSettings) (range : IsInRange settings) (before : List Event) (p : Descriptor) (moment : ℕ) (place : Place)
     (all_before : All IsEvent before) (comes : IsEvent (event.Arrive p moment)) (kept : IsKeptAt place p moment (device_after settings before)) where
@@ -220,13 +220,13 @@ module _ (settings : DeviceSettings) (range : IsInRange settings) (before : List
       ∙ ap (λ k. latest_on settings.mtu k bytes (level_of k start.tree.root.own.discipline) lane.link) clock
 
   -- the class of a drr that was found answers for the packet once it has come
-  turn-becomes : (class : ClassId) → place ≡ place.Class class → (turn : Turn) → turn_to (place.Class class) start.tree.root ≡ Some turn
+  turn-becomes : (class : ClassId) → place ≡ places.Class class → (turn : Turn) → turn_to (places.Class class) start.tree.root ≡ Some turn
       → latest_of history place 0 settings.mtu next
       ≡ option_and_then (λ n. latest_on settings.mtu now n (level_of now start.tree.root.own.discipline) turn.link) (bytes_before class p.len start.tree.root)
   turn-becomes class is turn there =
       let o = one-drr class start.tree.root turn there in
       ap (λ (x : Place). latest_of history x 0 settings.mtu next) is
-      ∙ answered-in-turn class 0 settings.mtu next turn (turn-alike (place.Class class) start.tree.root next.tree.root alike ∙ there)
+      ∙ answered-in-turn class 0 settings.mtu next turn (turn-alike (places.Class class) start.tree.root next.tree.root alike ∙ there)
       ∙ told.becomes settings range before p moment turn.link o.drr turn.limit turn class all_before comes o.leads there refl
       (subst (λ (x : Place). IsKeptAt x p moment start) is kept)
 

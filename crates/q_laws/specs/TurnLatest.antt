@@ -1,6 +1,6 @@
 -- That what a device answers of the packet that was queued last in the fifo of a class of a drr is true of it, from the state of the moment, over
 -- every interval of every replay: q_device's specs/Latest.antt has the numbers. tc-drr(8), tc-pfifo(8), tc-bfifo(8) and tc-tbf(8).
-use Rattle.std.specs.Prelude.{◌≡◌, ℕ, ◌+◌, ◌^◌, ◌≤◌, List, [], ◌∷◌, ◌++◌, All, Some}
+use Rattle.std.specs.Prelude.{◌≡◌, ℕ, ◌+◌, ◌^◌, ◌≤◌, List, [], ◌∷◌, ◌++◌, All, Option, Some}
 use Rattle.std.specs.List.{filter_map}
 use Rattle.q_model.specs.declared.class_id.ClassId.{ClassId}
 use Rattle.q_model.specs.declared.event.Event.{Event}
