@@ -2,9 +2,8 @@
 -- deficits at first, whatever comes to the others. M. Shreedhar and G. Varghese, "Efficient Fair Queuing Using Deficit Round-Robin" (1995),
 -- and tc-drr(8); how it grows with the bytes is the staircase of S. M. Tabatabaee and J.-Y. Le Boudec, "Deficit Round-Robin: A Second
 -- Network Calculus Analysis" (2022).
-use Rattle.std.specs.Prelude.{◌≡◌, ℕ, ◌+◌, ◌-◌, ◌*◌, ◌^◌, ◌≤◌, ◌==◌, if◌then◌else◌, List, [], ◌∷◌, ◌++◌, All, Some, sum_by}
-use Rattle.std.specs.Int.{div_ceil}
-use Rattle.q_drr.specs.Schedule.{Class, Entry, deficit_of}
+use Rattle.std.specs.Prelude.{◌≡◌, ℕ, ◌+◌, ◌-◌, ◌^◌, ◌≤◌, List, [], ◌∷◌, ◌++◌, All, Some}
+use Rattle.q_drr.specs.Schedule.{Class}
 use Rattle.q_drr.specs.Waiting.{bytes_of_turn}
 use Rattle.q_model.specs.declared.event.Event.{Event}
 use Rattle.q_model.specs.Ask.{ask}
@@ -15,7 +14,7 @@ use Rattle.q_model.specs.Step.{DeviceState, step}
 use Rattle.q_model.specs.Stretches.{length_held, ClassAt, class_in, IsBackloggedClass, Throughout}
 use Rattle.q_model.specs.Tally.{Note, history}
 use Rattle.q_device.specs.Sharing.{device_after}
-use Rattle.q_laws.specs.Service.{given_so_far, HasClasses, quanta_of, all_sent}
+use Rattle.q_laws.specs.Service.{given_so_far, HasClasses, all_sent}
 
 -- ---- the bytes of the class itself
 
