@@ -36,5 +36,6 @@ pub mod SilentDrrs
 pub mod StatsStands
 pub mod StepStands
 pub mod ToldLemmas
+pub mod TurnNowStands
 pub mod WaitingLemmas
 pub mod WorstStands

@@ -1,16 +1,23 @@
 -- By when a packet that is last in a fifo in line has left, in numbers that a program can read: the bytes that are queued there with it, and
--- the time at which a tbf at the root has paid for them, from the level of its bucket. tc-tbf(8). q_laws proves that it leaves so.
+-- the time at which a tbf at the root has paid for them, from the level of its bucket. tc-tbf(8). In the fifo of a class of a drr the bytes are
+-- those of a turn, from the deficits and the active list of the moment (tc-drr(8)). q_laws proves that it leaves so.
 use Rattle.std.specs.Prelude.{ℕ, ◌+◌, ◌-◌, ◌*◌, ◌^◌, max, min, nat_lt, nat_le, ◌&&◌, if◌then◌else◌, Option, Some, None, option_and_then}
 use Rattle.std.specs.Int.{div_ceil}
+use Rattle.std.specs.Option.{option_map_or}
 use Rattle.q_bucket.specs.Level.{units_in_byte}
+use Rattle.q_model.specs.declared.class_id.ClassId.{ClassId}
 use Rattle.q_model.specs.declared.place.Place.{Place}
+use Rattle.q_model.specs.declared.place.Place.TheVariants as place
 use Rattle.q_model.specs.declared.row.Row.{Row}
 use Rattle.q_model.specs.Step.{DeviceState}
 use Rattle.q_model.specs.Tally.{Tally}
 use Rattle.q_model.specs.TreeState.{stats}
 use Rattle.q_tree.specs.declared.lanes.Lane.{Lane}
+use Rattle.q_tree.specs.declared.turns.Turn.{Turn}
 use Rattle.q_tree.specs.declared.ways.Link.{Link}
 use Rattle.q_tree.specs.Lanes.{lane_to, level_of}
+use Rattle.q_tree.specs.TurnNow.{bytes_before}
+use Rattle.q_tree.specs.Turns.{turn_to}
 use Rattle.q_device.specs.declared.latest.Latest.{Latest}
 use Rattle.q_device.specs.Promise.{has_room, late_on}
 
@@ -43,6 +50,22 @@ latest_below t place len mtu d link =
     option_and_then (λ (row : Row). latest_on mtu d.clock (row.queued.bytes + len) (level_of d.clock d.tree.root.own.discipline) link)
     (stats t place d.tree)
 
--- where the fifo in this place is in line
+-- ---- a class of a drr
+
+-- below this link
+abbrev pub latest_in_turn : {M : Type 0} → ClassId → ℕ → ℕ → DeviceState M → Option Link → Option Latest
+latest_in_turn class len mtu d link =
+    option_and_then (λ bytes. latest_on mtu d.clock bytes (level_of d.clock d.tree.root.own.discipline) link) (bytes_before class len d.tree.root)
+
+abbrev pub latest_at_turn : {M : Type 0} → Place → ℕ → ℕ → DeviceState M → Turn → Option Latest
+latest_at_turn place.Top len mtu d turn = None
+latest_at_turn place.Root len mtu d turn = None
+latest_at_turn (place.Class class) len mtu d turn = latest_in_turn class len mtu d turn.link
+
+-- ---- a place
+
+-- Where the fifo in this place is in line, or that of a class of a drr. No place is both: what leads to a fifo in line are bands.
 abbrev pub latest_of : {M : Type 0} → Tally M → Place → ℕ → ℕ → DeviceState M → Option Latest
-latest_of t place len mtu d = option_and_then (λ (lane : Lane). latest_below t place len mtu d lane.link) (lane_to place d.tree.root)
+latest_of t place len mtu d =
+    option_map_or (λ (lane : Lane). latest_below t place len mtu d lane.link) (lane_to place d.tree.root)
+    (option_and_then (latest_at_turn place len mtu d) (turn_to place d.tree.root))

@@ -6,19 +6,46 @@ use q_model::Settings;
 use q_packet::Moment;
 use q_tree::Link;
 
-/// By when the packet has left that is last in a fifo whose packets no other packet overtakes.
+/// By when the packet has left that is last in a fifo whose packets no other packet overtakes, or in the fifo of a class of a drr.
 ///
 /// Until the packet has left, the device sends at most `bytes` bytes, including those of the packet itself, whatever comes meanwhile. With a tbf at
 /// the root, the packet has left once the program has polled until no packet came, at the time `at` or later. So if polls are never later than
-/// `late` nanoseconds, as [`crate::Service`] describes it, the packet has left by `at` and `late` nanoseconds (`latest_is_enough` of `q_laws`).
+/// `late` nanoseconds, as [`crate::Service`] describes it, the packet has left by `at` and `late` nanoseconds (`latest_is_enough` of `q_laws`, and
+/// for a class of a drr `latest_turn_is_enough`).
+///
+/// In a fifo that no other packet overtakes `bytes` is what is queued there. In a class of a drr let B be that, d the deficit of the class, q its
+/// quantum, and Q the quanta of all classes together. Then `bytes` is the length of the packet that the drr holds, and
+///
+/// ```text
+/// B + ceil(max(0, B - d) / q) * (Q - q)
+/// ```
+///
+/// bytes, and the deficits of the other classes: all of each that is before this class in the active list, and of each behind it what is above
+/// its quantum. That is so as long as no command changes the classes of the drr or their quanta.
 #[derive(Clone, Copy, PartialEq, Eq, Debug)]
 pub struct Latest {
-    /// The bytes that are queued in the fifo, including those of the packet.
+    /// The most bytes that the device sends until the packet has left, including its own.
     pub bytes: u64,
     /// The time at which the tbf at the root has paid for these bytes; `None` without a tbf.
     pub at: Option<Moment>,
     /// How many nanoseconds late polls may be; `None` without a tbf.
     pub late: Option<u64>,
+}
+
+/// By when so many bytes have left a device with these settings, if the bucket at the root has this level now.
+pub(crate) fn latest_on(
+    link: Option<Link>,
+    bytes: u128,
+    level: Option<u128>,
+    now: Moment,
+    settings: Settings,
+) -> Option<Latest>
+    ensures { result ≡ latest_on settings.mtu now bytes level link }
+{
+    if bytes > u128::from(u64::MAX) {
+        return None;
+    }
+    behind(link, bytes as u64, level, now, settings.mtu)
 }
 
 /// By when so many queued bytes have left a device with these settings, and a packet of this length that comes next, if the bucket at the root
@@ -34,6 +61,19 @@ pub(crate) fn latest_in(
     ensures { result ≡ latest_on settings.mtu now (queued + len) level link }
 {
     let bytes = together(queued, len)?;
+    behind(link, bytes, level, now, settings.mtu)
+}
+
+// The same of a number of 64 bits.
+fn behind(
+    link: Option<Link>,
+    bytes: u64,
+    level: Option<u128>,
+    now: Moment,
+    mtu: u16,
+) -> Option<Latest>
+    ensures { result ≡ latest_of_bytes mtu now bytes level link }
+{
     let Some(link) = link else {
         return Some(Latest {
             bytes,
@@ -41,7 +81,7 @@ pub(crate) fn latest_in(
             late: None,
         });
     };
-    below(link, bytes, level?, now, settings.mtu)
+    below(link, bytes, level?, now, mtu)
 }
 
 // What is queued and the length of what comes next; `None` where that is no number of 64 bits.

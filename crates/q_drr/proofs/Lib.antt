@@ -1,3 +1,5 @@
+pub mod AheadLemmas
+pub mod AheadSteps
 pub mod ChangeLemmas
 pub mod DifferLemmas
 pub mod FairLemmas

@@ -1,7 +1,8 @@
 -- Paths along links, and what a new link makes of a circle.
 use Rattle.std.proofs.Common.{◌≡◌, ℕ, zero, suc, ◌+◌, ◌<◌, ◌≤◌, Bool, true, false, eqb, ◌||◌, List, [], ◌∷◌, ◌++◌, length, refl, sym, ap, ◌∙◌, subst, inl, inr, arith, eq-eqb, append_assoc, add-one, take, drop, ◌-◌, ◌≢◌, ◌^◌, length-append, replicate}
 use Rattle.std.proofs.Math.ListN.{length-replicate}
-use Rattle.std.specs.Prelude.{if◌then◌else◌, slice_index_or}
+use Rattle.std.specs.Prelude.{if◌then◌else◌, slice_get, slice_index_or, Some}
+use Rattle.std.proofs.lemmas.Option.{same_Some}
 use Rattle.std.proofs.lemmas.Bool.{eqb-true, false≢true, or_parts, or_from, cases_Bool, cases_lt, false_from_ne_true}
 use Rattle.std.proofs.lemmas.List.{append-nil, length_push, get_or_append_left, get_or-append_right, take_all}
 use Rattle.std.specs.List.{All}
@@ -77,6 +78,14 @@ circle_walk links n ns h = ap (λ ms. n ∷ ms) (walk_path (next_of links) (befo
 pub length-walk : (nx : ℕ → ℕ) (count n : ℕ) → length (walk nx count n) ≡ count
 length-walk nx zero n = refl
 length-walk nx (suc count) n = ap suc (length-walk nx count (nx n))
+
+-- the link of a member leads to the next one
+pub walk-next : (nx : ℕ → ℕ) (count n k p : ℕ) → slice_get (walk nx count n) k ≡ Some p → suc k < count
+    → slice_get (walk nx count n) (suc k) ≡ Some (nx p)
+walk-next nx zero n k p e less = absurd (omega (arith, less))
+walk-next nx (suc zero) n k p e less = absurd (omega (arith, less))
+walk-next nx (suc (suc count)) n zero p e less = ap (λ m. Some (nx m)) (same_Some n p e)
+walk-next nx (suc (suc count)) n (suc k) p e less = walk-next nx (suc count) (nx n) k p e (omega (arith, less))
 
 -- links that make a circle of a list are a walk along it
 pub circle_walks : (links : List Link) (ns : List ℕ) (count front : ℕ) → IsCircle links ns → length ns ≡ count

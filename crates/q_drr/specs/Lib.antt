@@ -6,3 +6,4 @@ pub mod States
 pub mod Stretch
 pub mod Take
 pub mod Turns
+pub mod Waiting

@@ -1,4 +1,5 @@
 ghost use Rattle.std.specs.Prelude.{◌≡◌, ℕ, ◌<◌, ◌≤◌, ◌+◌, IsTrue, OnOk, OnErr, false, length, is_some, option_and_then, ◌^◌};
+ghost use Rattle.q_drr.specs.Waiting.{deficits_ahead};
 ghost use Rattle.q_drr.specs.Schedule.{Schedule, no_classes, has_class, place_of, name_at, quantum_of, is_active, deficit_of, granted_of, added, woken, asleep, removed, with_quantum, front_of, turn_answer, turned, IsLawful};
 
 use crate::class_table::{ClassState, ClassTable};
@@ -287,6 +288,34 @@ impl Active {
         } else {
             0
         }
+    }
+
+    /// The bytes that the other classes may send of their deficits before a packet of this class, which is active or comes to be so now: all of
+    /// those before it in the active list, and of those behind it what is above a quantum. It takes time in proportion to the number of active
+    /// classes.
+    pub fn deficits_ahead(&self, class: u16) -> u128
+        requires { IsTrue (has_class class self.now.classes) }
+        ensures value { result ≡ deficits_ahead class (woken class self.now).active self.now.classes }
+        ensures bound { result ≤ 2 ^ 97 }
+    {
+        let own = self.table.find(class);
+        let Some(mut place) = self.ring.front() else {
+            return 0;
+        };
+        let mut bytes = 0u128;
+        let mut is_behind = false;
+        for _passed in 0..self.ring.len() {
+            let state = self.table.get(place);
+            if is_behind {
+                bytes += u128::from(state.deficit.saturating_sub(u64::from(state.quantum)));
+            } else if place == own {
+                is_behind = true;
+            } else {
+                bytes += u128::from(state.deficit);
+            }
+            place = self.ring.after(place);
+        }
+        bytes
     }
 
     /// The bytes granted to a class since it became active, without the quantum with which it began; 0 if it is inactive. It stays

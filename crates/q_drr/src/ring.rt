@@ -1,4 +1,4 @@
-ghost use Rattle.std.specs.Prelude.{◌≡◌, ℕ, List, ◌<◌, ◌≤◌, ◌-◌, ◌^◌, map, [], ◌∷◌, ◌++◌, IsTrue, OnOk, OnErr, true, false, length, slice_get, take, drop};
+ghost use Rattle.std.specs.Prelude.{◌≡◌, ℕ, suc, Some, List, ◌<◌, ◌≤◌, ◌-◌, ◌^◌, map, [], ◌∷◌, ◌++◌, IsTrue, OnOk, OnErr, true, false, length, slice_get, take, drop};
 ghost use Rattle.q_drr.specs.Links.{Circle, is_among, without, moved_down, next_of, before_of, IsCircle, IsJoined, IsMarked, HaveMovedDown};
 
 use std::alloc::{AllocError, Global};
@@ -67,7 +67,8 @@ impl Ring {
     }
 
     pub(crate) fn len(&self) -> usize
-        ensures { result ≡ length self.now.order }
+        ensures value { result ≡ length self.now.order }
+        ensures bound { result < 2 ^ 32 }
     {
         self.count as usize
     }
@@ -87,6 +88,14 @@ impl Ring {
         } else {
             Some(self.front as usize)
         }
+    }
+
+    /// The member after this one. Behind the last is the first.
+    pub(crate) fn after(&self, place: usize) -> usize
+        requires { IsTrue (is_among place self.now.order) }
+        ensures next { (k : ℕ) → slice_get self.now.order k ≡ Some place → suc k < length self.now.order → slice_get self.now.order (suc k) ≡ Some result }
+    {
+        self.links[place].next as usize
     }
 
     /// Puts a place at the end.

@@ -1,11 +1,11 @@
 -- The numbers of a calm class and of what a class hands over, computed from the definitions for worked classes; a turn that has each of them.
 use Rattle.std.proofs.Common.{◌≡◌, ℕ, List, [], ◌∷◌, refl}
 use Rattle.q_drr.specs.Schedule.{Class, Entry}
+use Rattle.q_drr.specs.Waiting.{bytes_of_turn}
 use Rattle.q_tree.specs.declared.ways.Share.{Share}
 use Rattle.q_laws.specs.Calm.{most_of_calm_turn}
 use Rattle.q_laws.specs.Handed.{lacks_handed}
 use Rattle.q_device.specs.Worst.{most_of_turn}
-use Rattle.q_laws.specs.Turn.{bytes_of_turn}
 
 share : ℕ → ℕ → ℕ → Share
 share quantum quanta classes = record { quantum = quantum; quanta = quanta; classes = classes }

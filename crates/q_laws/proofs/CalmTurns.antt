@@ -9,6 +9,7 @@ use Rattle.std.proofs.lemmas.List.Elements.{All-head, All-tail, All-nil, All-con
 use Rattle.std.proofs.lemmas.List.Sums.{sum_by-cons}
 use Rattle.std.proofs.lemmas.Option.{same_Some}
 use Rattle.q_drr.specs.Schedule.{Class, Entry, has_class, quantum_of, deficit_of}
+use Rattle.q_drr.specs.Waiting.{bytes_of_turn, deficit_ahead, deficits_ahead}
 use Rattle.q_drr.specs.Stretch.{stands_first}
 use Rattle.q_model.specs.declared.event.Event.{Event}
 use Rattle.q_model.specs.Events.{IsEvent}
@@ -24,7 +25,6 @@ use Rattle.q_device.proofs.ClassStretches.{at-start}
 use Rattle.q_laws.specs.Calm.{IsCalm, most_of_calm_turn, CalmTurnsAreBounded, CalmClassesWaitAtMost}
 use Rattle.q_laws.specs.MostOfTurn.{share_in}
 use Rattle.q_laws.specs.Service.{HasClasses, quanta_of}
-use Rattle.q_laws.specs.Turn.{bytes_of_turn, deficit_ahead, deficits_ahead}
 use Rattle.q_laws.proofs.LeastShare.{classes-differ, IsOwn, own-quanta}
 use Rattle.q_laws.proofs.MostTurns.{grants-most, has-classes, there, has, quantum-some, low, turns-are-bounded}
 use Rattle.q_laws.proofs.TurnStretches.{few-grants}

@@ -4,6 +4,7 @@ use Rattle.std.specs.Prelude.{Some}
 use Rattle.q_packet.specs.Descriptor.{Descriptor}
 use Rattle.q_packet.specs.declared.ecn.Ecn.TheVariants.{NotEct}
 use Rattle.q_drr.specs.Schedule.{Class, Entry}
+use Rattle.q_drr.specs.Waiting.{bytes_of_turn}
 use Rattle.q_model.specs.declared.command.Command.TheVariants.{QdiscAdd}
 use Rattle.q_model.specs.declared.event.Event.{Event}
 use Rattle.q_model.specs.declared.event.Event.TheVariants.{Arrive, Poll, Command}
@@ -13,7 +14,6 @@ use Rattle.q_model.specs.Settings.{DeviceSettings}
 use Rattle.q_device.specs.Sharing.{device_after}
 use Rattle.q_laws.specs.Delay.{latest, level_counted}
 use Rattle.q_laws.specs.Line.{line_at_root}
-use Rattle.q_laws.specs.Turn.{bytes_of_turn}
 
 -- ---- time: 20 Mbit/s, with an empty bucket, with 1000 bytes, and with all that is to be paid
 

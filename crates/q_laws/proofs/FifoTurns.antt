@@ -1,5 +1,5 @@
 -- A fifo that is a class of a drr, over a stretch: what the class sends, and then what is queued, begins with what was queued at first.
-use Rattle.std.proofs.Common.{◌≡◌, ℕ, ◌+◌, ◌-◌, ◌*◌, ◌<◌, ◌≤◌, inl, inr, refl, sym, ap, subst, ◌∙◌, arith}
+use Rattle.std.proofs.Common.{◌≡◌, ℕ, ◌+◌, ◌-◌, ◌*◌, ◌^◌, ◌<◌, ◌≤◌, inl, inr, refl, sym, ap, subst, ◌∙◌, arith}
 use Rattle.std.proofs.Common.{List, [], ◌∷◌, ◌++◌, length, Option, Some, None, option_to_list}
 use Rattle.std.specs.Prelude.{All, slice_get}
 use Rattle.std.specs.Int.{div_ceil}
@@ -13,6 +13,7 @@ use Rattle.std.proofs.lemmas.Option.{none-some, same_Some, option_and_then_some}
 use Rattle.q_packet.specs.Descriptor.{Descriptor}
 use Rattle.q_codel.specs.declared.limit.Limit.{Limit}
 use Rattle.q_drr.specs.Schedule.{Class}
+use Rattle.q_drr.specs.Waiting.{bytes_of_turn}
 use Rattle.q_model.specs.declared.event.Event.{Event}
 use Rattle.q_model.specs.declared.event.Event.TheVariants as event
 use Rattle.q_model.specs.Ask.{Asked, ask}
@@ -51,8 +52,8 @@ use Rattle.q_device.specs.Worst.{most_of_turn}
 use Rattle.q_device.proofs.ClassStretches.{at-start}
 use Rattle.q_laws.specs.FifoTurn.{class_line, IsFifoClass, IsInFifo, KeepFifo, KeepsFifo, FifosWaitAtMost}
 use Rattle.q_laws.specs.Line.{bytes_in, line_in, line_own, line, BeginsWith}
-use Rattle.q_laws.specs.Service.{given_so_far, HasClasses}
-use Rattle.q_laws.specs.Turn.{IsClassLeft, StaysLeft}
+use Rattle.q_laws.specs.Service.{all_sent, given_so_far, HasClasses}
+use Rattle.q_laws.specs.Turn.{IsClassLeft, StaysLeft, shown_by}
 use Rattle.q_laws.proofs.LeastShare.{drr-node}
 use Rattle.q_laws.proofs.LineAsks.{begins-refl, IsLined, root-lined}
 use Rattle.q_laws.proofs.LineDelay.{line-within}
@@ -62,6 +63,7 @@ use Rattle.q_laws.proofs.MostTurns.{grants-most, quantum-some, classes-wait-at-m
 use Rattle.q_laws.proofs.PromiseWays.{of-child}
 use Rattle.q_laws.proofs.ServiceStretches.{given-at}
 use Rattle.q_laws.proofs.TurnAsks.{child-is}
+use Rattle.q_laws.proofs.TurnSums.{classes-wait}
 use Rattle.q_laws.proofs.WorkTrees.{NoTbfs}
 
 -- ---- lists
@@ -108,7 +110,7 @@ nothing-below none e = tt
 nothing-below (more own m below others) e = absurd (omega (arith, ap length e))
 
 -- a class stands in the tree
-class-within : (major i : ℕ) (d : DeviceState (List Note)) (x : ClassAt) → class_in major i d ≡ Some x → IsOf x.child d.tree.root
+pub class-within : (major i : ℕ) (d : DeviceState (List Note)) (x : ClassAt) → class_in major i d ≡ Some x → IsOf x.child d.tree.root
 class-within major i d x there =
     let n = class-node major i d x there in
     let f = found major d n.node n.there in
@@ -450,22 +452,46 @@ module _ (settings : DeviceSettings) (range : IsInRange settings) (before during
           queued = ne_eqb (length (beneath h.class.child)) 0 (λ none. absurd (omega (arith, none, some, same, within)));
         }
 
-pub fifos-wait-at-most : (settings : DeviceSettings) → IsInRange settings → FifosWaitAtMost settings
-fifos-wait-at-most settings range before during major i quantum bytes classes last t earlier happen there fifo keep waits few at order low =
+-- so the packet that was queued last is left in each state
+fifo-left : (settings : DeviceSettings) → IsInRange settings → (before during : List Event) (major i quantum : ℕ) (classes : List Class)
+    → All IsEvent before → All IsEvent during → Throughout (IsHere major i quantum classes) settings before during
+    → KeepFifo major i (device_after settings before) during → IsInFifo major i (device_after settings before) (device_after settings (before ++ during))
+    → StaysLeft major i (bytes_in (class_line major i (device_after settings before))) 0 (device_after settings before) during
+fifo-left settings range before during major i quantum classes earlier happen stays keep waits =
     let d : DeviceState (List Note) = device_after settings before in
     let first : List Descriptor = class_line major i d in
     let begin : ℕ = given_so_far major i d in
-    let stays : Throughout (IsHere major i quantum classes) settings before during = λ seen later e. (there seen later e, fifo seen later e) in
-    let here = at-start (IsFifoClass major i quantum) settings before during fifo in
     let nothing : bytes_in [] ≡ 0 = refl in
-    let left = counted (Stays major i quantum classes first begin) (Moves major i quantum classes first begin)
+    subst (λ n. StaysLeft major i (bytes_in first) n d during) nothing
+    (counted (Stays major i quantum classes first begin) (Moves major i quantum classes first begin)
     (still major i quantum classes first begin) (goes-on major i quantum classes first begin) settings before during range earlier happen
     (λ seen later e. (stays seen later e, waits-before settings range before during major i quantum classes earlier happen stays keep waits seen later e))
-    [] keep (omega (arith, nothing)) (begins-refl first) in
+    [] keep (omega (arith, nothing)) (begins-refl first))
+
+pub fifos-wait-at-most : (settings : DeviceSettings) → IsInRange settings → FifosWaitAtMost settings
+fifos-wait-at-most settings range before during major i quantum bytes classes last t earlier happen there fifo keep waits few at order low =
+    let first : List Descriptor = class_line major i (device_after settings before) in
+    let stays : Throughout (IsHere major i quantum classes) settings before during = λ seen later e. (there seen later e, fifo seen later e) in
+    let here = at-start (IsFifoClass major i quantum) settings before during fifo in
     let sent = classes-wait-at-most settings range before during major i quantum (bytes_in first) classes last t earlier happen there
     (backlogged-so-far settings range before during major i quantum classes earlier happen stays keep waits)
-    (subst (λ n. StaysLeft major i (bytes_in first) n d during) nothing left) at order low in
+    (fifo-left settings range before during major i quantum classes earlier happen stays keep waits) at order low in
     let some : 1 ≤ quantum = subst (λ q. 1 ≤ q) here.same_quantum
     (quantum-some settings range before earlier major i here.class here.there) in
     let rises = most-rises settings.mtu (bytes_in first) bytes (share_among (record { name = i; quantum = quantum }) classes) some few in
     omega (arith, sent, rises)
+
+-- from the state at first
+pub fifos-wait-their-turn : (settings : DeviceSettings) → IsInRange settings → (before during : List Event) (major i quantum : ℕ) (classes : List Class)
+    (first last : ClassAt) (t : ℕ) → All IsEvent before → All IsEvent during → Throughout (HasClasses major classes) settings before during
+    → Throughout (IsFifoClass major i quantum) settings before during → KeepFifo major i (device_after settings before) during
+    → IsInFifo major i (device_after settings before) (device_after settings (before ++ during))
+    → class_in major i (device_after settings before) ≡ Some first → class_in major i (device_after settings (before ++ during)) ≡ Some last
+    → (device_after settings (before ++ during)).clock ≤ t → t ≤ 2 ^ 62
+    → all_sent major classes (device_after settings before) during + shown_by t last
+    ≤ bytes_of_turn i quantum classes first.schedule.active (bytes_in (class_line major i (device_after settings before)))
+fifos-wait-their-turn settings range before during major i quantum classes first last t earlier happen there fifo keep waits is at order low =
+    let stays : Throughout (IsHere major i quantum classes) settings before during = λ seen later e. (there seen later e, fifo seen later e) in
+    classes-wait settings range before during major i quantum (bytes_in (class_line major i (device_after settings before))) classes first last t
+    earlier happen there (backlogged-so-far settings range before during major i quantum classes earlier happen stays keep waits)
+    (fifo-left settings range before during major i quantum classes earlier happen stays keep waits) is at order low

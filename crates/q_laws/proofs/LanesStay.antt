@@ -23,7 +23,8 @@ use Rattle.q_invariants.proofs.PutStages.{IsPutOf, along-related, quiet-related}
 use Rattle.q_invariants.proofs.Related.{AllRelated, IsRelated, forget}
 use Rattle.q_tree.specs.declared.ways.Link.{Link}
 use Rattle.q_tree.specs.Lanes.{is_prio, lane_below, lane_from, lane_to, level_of, limit_along, limit_of}
-use Rattle.q_tree.specs.Ways.{DrrClass, class_of_drr, drr_class, drrs_on, has_tbf, is_tbf, way_below, way_from}
+use Rattle.q_tree.specs.Turns.{limit_in, turn_on, turn_to}
+use Rattle.q_tree.specs.Ways.{DrrClass, Way, class_of_drr, drr_class, drrs_on, has_tbf, is_tbf, shares_of, way_below, way_from, way_to}
 
 -- What a discipline is without the packets that it queues, as far as places and lanes are found by it: an fq_codel has neither.
 abbrev pub setting : Discipline → Discipline
@@ -310,6 +311,34 @@ pub way-at-alike : (path : List ℕ) (n k : Node (List Note)) → AreAlike n k �
 way-at-alike path n k h =
     sym (way-setting path k k.own.discipline refl) ∙ ap (way_from path k) h.0.set ∙ way-from-alike path n k (setting n.own.discipline) h
     ∙ way-setting path n n.own.discipline refl
+
+-- ---- turns
+
+way-to-alike : (class : ClassId) (n k : Node (List Note)) → AreAlike n k → way_to class k ≡ way_to class n
+way-to-alike class n k h = ap (option_and_then (λ path. way_from path k k.own.discipline)) (class-alike class n k h) ∙ by (class_path class n)
+  where
+    by : (o : Option (List ℕ)) → option_and_then (λ path. way_from path k k.own.discipline) o ≡ option_and_then (λ path. way_from path n n.own.discipline) o
+    by None = refl
+    by (Some path) = way-at-alike path n k h
+
+limit-in-alike : (class : ClassId) (n k : Node (List Note)) → AreAlike n k → limit_in class k ≡ limit_in class n
+limit-in-alike class n k h =
+    ap (option_and_then (λ path. option_and_then (λ (c : Node (List Note)). limit_of c.own.discipline) (node_at path k))) (class-alike class n k h)
+    ∙ by (class_path class n)
+  where
+    by : (o : Option (List ℕ)) → option_and_then (λ path. option_and_then (λ (c : Node (List Note)). limit_of c.own.discipline) (node_at path k)) o
+        ≡ option_and_then (λ path. option_and_then (λ (c : Node (List Note)). limit_of c.own.discipline) (node_at path n)) o
+    by None = refl
+    by (Some path) =
+        both (λ (c : Node (List Note)). limit_of c.own.discipline) (node_at path n) (node_at path k) (at-alike path n k h)
+        (λ a b alike. sym (limit-setting b.own.discipline) ∙ ap limit_of alike.0.set ∙ limit-setting a.own.discipline)
+
+pub turn-alike : (p : Place) (n k : Node (List Note)) → AreAlike n k → turn_to p k ≡ turn_to p n
+turn-alike place.Top n k h = refl
+turn-alike place.Root n k h = refl
+turn-alike (place.Class class) n k h =
+    ap₂ (λ (o : Option Way) (l : Option Limit). option_and_then (λ (w : Way). option_and_then (turn_on w.link (shares_of w)) l) o)
+    (way-to-alike class n k h) (limit-in-alike class n k h)
 
 -- ---- an arrival
 

@@ -3,6 +3,7 @@ use Rattle.std.proofs.Common.{◌≡◌, ℕ, ◌+◌, ◌-◌, ◌*◌, ◌≤�
 use Rattle.std.specs.Prelude.{Bool, true, false, ◌&&◌, nat_lt, nat_le, All, slice_get, unwrap_or, if◌then◌else◌}
 use Rattle.std.specs.Int.{div_ceil}
 use Rattle.std.specs.List.{filter_map}
+use Rattle.std.specs.Option.{option_map_or}
 use Rattle.std.proofs.Math.Nat.{mul-le-mul_left}
 use Rattle.std.proofs.lemmas.Bool.{and_parts, leb-true}
 use Rattle.std.proofs.lemmas.List.{append_assoc}
@@ -29,8 +30,9 @@ use Rattle.q_invariants.proofs.Replays.{IsKept, replay-kept}
 use Rattle.q_tree.specs.declared.lanes.Lane.{Lane}
 use Rattle.q_tree.specs.declared.ways.Link.{Link}
 use Rattle.q_tree.specs.Lanes.{lane_from, lane_to, level_of, limit_along}
+use Rattle.q_tree.specs.Turns.{turn_to}
 use Rattle.q_device.specs.declared.latest.Latest.{Latest}
-use Rattle.q_device.specs.Latest.{counted_level, latest_at, latest_of, latest_of_bytes, latest_on, paid_at}
+use Rattle.q_device.specs.Latest.{counted_level, latest_at, latest_at_turn, latest_of, latest_of_bytes, latest_on, paid_at}
 use Rattle.q_device.specs.Laws.{given_in}
 use Rattle.q_device.specs.Promise.{has_room, late_on}
 use Rattle.q_device.specs.Sharing.{device_after}
@@ -109,8 +111,9 @@ module _ (d : DeviceState (List Note)) (kept : IsKept d) (free : d.tree.root.own
       → latest_of history place len mtu d ≡ latest_on mtu d.clock (bytes_in (line_at_root d) + len) (level_of d.clock root.own.discipline) lane.link
   answers-on place len mtu lane found =
       let r = is-row place lane found in
-      ap (option_and_then (λ (l : Lane). option_and_then (λ (x : Row). latest_on mtu d.clock (x.queued.bytes + len)
-      (level_of d.clock root.own.discipline) l.link) (stats history place d.tree))) found
+      ap (λ (o : Option Lane). option_map_or (λ (l : Lane). option_and_then (λ (x : Row). latest_on mtu d.clock (x.queued.bytes + len)
+      (level_of d.clock root.own.discipline) l.link) (stats history place d.tree)) o
+      (option_and_then (latest_at_turn place len mtu d) (turn_to place root))) found
       ∙ ap (option_and_then (λ (x : Row). latest_on mtu d.clock (x.queued.bytes + len) (level_of d.clock root.own.discipline) lane.link)) r.there
       ∙ ap (λ n. latest_on mtu d.clock (n + len) (level_of d.clock root.own.discipline) lane.link) r.bytes
 
@@ -175,7 +178,7 @@ fits mtu now bytes level link w e = by (nat_lt bytes (2 ^ 64)) refl e
     by false is e = absurd (none-some w e)
     by true is e = record { small = is; is = e }
 
-latest-bytes : (mtu now bytes : ℕ) (level : Option ℕ) (link : Option Link) (w : Latest) → latest_of_bytes mtu now bytes level link ≡ Some w
+pub latest-bytes : (mtu now bytes : ℕ) (level : Option ℕ) (link : Option Link) (w : Latest) → latest_of_bytes mtu now bytes level link ≡ Some w
     → w.bytes ≡ bytes
 latest-bytes mtu now bytes level None w e = ap (λ (x : Latest). x.bytes) (sym (same_Some (record { bytes = bytes; at = None; late = None }) w e))
 latest-bytes mtu now bytes None (Some link) w e = absurd (none-some w e)

@@ -15,6 +15,9 @@ mod LanesStay
 mod LatestArrives
 mod LatestFills
 mod LatestKept
+mod LatestTurnKept
+mod LatestTurnRows
+mod LatestTurnTold
 mod LeastShare
 mod LevelsLeft
 mod LineAsks

@@ -10,6 +10,7 @@ use Rattle.std.proofs.lemmas.List.Elements.{All-head, All-tail, All-nil, All-con
 use Rattle.std.proofs.lemmas.List.Sums.{sum_by-cons}
 use Rattle.std.proofs.lemmas.Option.{same_Some}
 use Rattle.q_drr.specs.Schedule.{Class, Entry, Schedule, has_class, quantum_of, deficit_of}
+use Rattle.q_drr.specs.Waiting.{bytes_of_turn, deficit_ahead, deficits_ahead}
 use Rattle.q_drr.specs.Stretch.{stands_first}
 use Rattle.q_drr.proofs.TakeLemmas.{has_quantum}
 use Rattle.q_model.specs.Node.{Drr, Node, children}
@@ -28,7 +29,6 @@ use Rattle.q_device.specs.Worst.{most_of_turn}
 use Rattle.q_device.proofs.ClassStretches.{at-start, deficits-bounded}
 use Rattle.q_laws.specs.MostOfTurn.{ClassesWaitAtMost, TurnsAreBounded, share_in}
 use Rattle.q_laws.specs.Service.{all_sent, class_sent, classes_of, HasClasses, quanta_of}
-use Rattle.q_laws.specs.Turn.{bytes_of_turn, deficit_ahead, deficits_ahead}
 use Rattle.q_laws.proofs.LeastShare.{is-class, classes-differ, IsOwn, own-quanta}
 use Rattle.q_laws.proofs.TurnStretches.{few-grants, StaysWithin}
 use Rattle.q_laws.proofs.TurnSums.{classes-send, classes-wait}

@@ -35,7 +35,7 @@ use Rattle.q_laws.proofs.NestWaits.{event-keeps, held-full, waits-on}
 use Rattle.q_laws.proofs.PromiseWays.{queued-above}
 use Rattle.q_laws.proofs.ShareInTime.{held-in}
 use Rattle.q_laws.proofs.TurnAsks.{child-is}
-use Rattle.q_laws.proofs.TurnBounds.{all-reached, held-queued, start-drr, waiting-queued}
+use Rattle.q_laws.proofs.TurnBounds.{all-reached, held-queued, send-at-most, start-drr, waiting-queued}
 use Rattle.q_laws.proofs.TurnWaits.{front-of, one-more, one-more-holds, reached, same-first, same-others, step-serves}
 
 -- ---- lists
@@ -191,8 +191,9 @@ module _ (settings : DeviceSettings) (range : IsInRange settings) (before : List
   full-on : (l : Level) (levels : List Level) (events : List Event) → IsStretch l levels events → StaysOn l levels settings before events
       → IsFull l.major (device_after settings (before ++ events))
   full-on l [] events s h n is =
-      waiting-queued settings range before events l.major l.minor l.quantum bytes l.classes earlier s.happen (λ xs ys join. (s.path xs ys join).0)
-      (λ xs ys join. (s.path xs ys join).1) s.keep (λ xs y ys join. h xs (y ∷ ys) join) s.few events [] (append-nil events) (h events [] (append-nil events)) n is
+      waiting-queued settings range before events l.major l.minor l.quantum (most_of_turns settings.mtu bytes (share_at l) []) l.classes earlier s.happen (λ xs ys join. (s.path xs ys join).0)
+      (λ xs ys join. (s.path xs ys join).1) s.keep (λ xs y ys join. h xs (y ∷ ys) join)
+      (send-at-most settings range before l.major l.minor l.quantum bytes l.classes earlier s.few) events [] (append-nil events) (h events [] (append-nil events)) n is
   full-on l (k ∷ levels) events s (inl h) n is =
       let p = end-path l (k ∷ levels) events s in
       let queued = full-on k levels events (stretch-below l k levels events s) h p.2.class.child p.2.child in
@@ -355,10 +356,10 @@ module _ (settings : DeviceSettings) (range : IsInRange settings) (before : List
   reached-on l [] during e s h n m is there =
       let waits : (seen : List Event) (x : Event) (later : List Event) → seen ++ x ∷ later ≡ during ++ e ∷ [] → IsWaiting l.major l.minor (device_after settings before) (device_after settings (before ++ seen)) =
       λ seen x later split. (let o = front-before seen later during x e split in h seen o.0 o.1) in
-      let first_drr = start-drr settings range before (during ++ e ∷ []) l.major l.minor l.quantum bytes l.classes earlier s.happen (λ xs ys j. (s.path xs ys j).0)
-      (λ xs ys j. (s.path xs ys j).1) s.keep waits s.few in
-      let r = all-reached settings range before (during ++ e ∷ []) l.major l.minor l.quantum bytes l.classes earlier s.happen (λ xs ys j. (s.path xs ys j).0)
-      (λ xs ys j. (s.path xs ys j).1) s.keep waits s.few (during ++ e ∷ []) [] (append-nil (during ++ e ∷ [])) m there in
+      let first_drr = start-drr settings range before (during ++ e ∷ []) l.major l.minor l.quantum (most_of_turns settings.mtu bytes (share_at l) []) l.classes earlier s.happen (λ xs ys j. (s.path xs ys j).0)
+      (λ xs ys j. (s.path xs ys j).1) s.keep waits (send-at-most settings range before l.major l.minor l.quantum bytes l.classes earlier s.few) in
+      let r = all-reached settings range before (during ++ e ∷ []) l.major l.minor l.quantum (most_of_turns settings.mtu bytes (share_at l) []) l.classes earlier s.happen (λ xs ys j. (s.path xs ys j).0)
+      (λ xs ys j. (s.path xs ys j).1) s.keep waits (send-at-most settings range before l.major l.minor l.quantum bytes l.classes earlier s.few) (during ++ e ∷ []) [] (append-nil (during ++ e ∷ [])) m there in
       omega (arith, r, ap reached (same_Some first_drr.node n (sym first_drr.there ∙ is)))
   reached-on l (k ∷ levels) during e s (inl h) n m is there = below-reached l k levels (reached-on k levels) during e s h n m is there
   reached-on l (k ∷ levels) during e s (inr t) n m is there =

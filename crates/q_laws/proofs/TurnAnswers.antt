@@ -5,12 +5,14 @@ use Rattle.std.specs.Option.{option_map_or}
 use Rattle.std.proofs.lemmas.Option.{none-some, option_and_then_some}
 use Rattle.q_codel.specs.declared.limit.Limit.{Limit}
 use Rattle.q_bucket.specs.Level.{TokenBucket}
+use Rattle.q_model.specs.declared.class_id.ClassId.{ClassId}
 use Rattle.q_model.specs.declared.place.Place.TheVariants as place
 use Rattle.q_model.specs.Find.{class_path}
 use Rattle.q_model.specs.Node.{Discipline, Fifo, Prio, Tbf, Drr, FqCodel, Node, children}
 use Rattle.q_model.specs.Settings.{DeviceSettings}
 use Rattle.q_model.specs.Tally.{Note}
 use Rattle.q_tree.specs.declared.lanes.Lane.{Lane}
+use Rattle.q_tree.specs.declared.turns.Turn.{Turn}
 use Rattle.q_tree.specs.declared.ways.Link.{Link}
 use Rattle.q_tree.specs.Lanes.{is_prio, lane_below, lane_from, lane_to, limit_along}
 use Rattle.q_tree.specs.Turns.{limit_in, turn_on, turn_to}
@@ -82,18 +84,16 @@ module _ (root : Node (List Note)) (w : Way) where
   way-no-lane (i ∷ path) (Prio priomap) is e = absurd (none-some w e)
   way-no-lane (i ∷ path) (FqCodel s) is e = absurd (none-some w e)
 
+pub turn-no-lane : (class : ClassId) (root : Node (List Note)) (turn : Turn) → turn_to (place.Class class) root ≡ Some turn
+    → lane_to (place.Class class) root ≡ None
+turn-no-lane class root turn found =
+    option_and_then_some (λ (w : Way). option_and_then (turn_on w.link (shares_of w)) (limit_in class root)) (way_to class root) turn found
+    (λ w leads rest. option_and_then_some (λ path. way_from path root root.own.discipline) (class_path class root) w leads
+    (λ path is way. ap (option_and_then (λ xs. lane_from xs root root.own.discipline)) is ∙ way-no-lane root w path root.own.discipline refl way))
+
 pub turn-is-answered : (settings : DeviceSettings) → TurnIsAnswered settings
 turn-is-answered settings events class turn found =
-    option_and_then_some (λ (w : Way). option_and_then (turn_on w.link (shares_of w)) (limit_in class (device_after settings events).tree.root))
-    (way_to class (device_after settings events).tree.root) turn found (λ w leads rest. by w leads)
-  where
-    by : (w : Way) → way_to class (device_after settings events).tree.root ≡ Some w
-        → option_map_or (worst_on settings.mtu) (lane_to (place.Class class) (device_after settings events).tree.root)
-        (option_and_then (worst_in_turn settings.mtu) (turn_to (place.Class class) (device_after settings events).tree.root)) ≡ worst_in_turn settings.mtu turn
-    by w leads =
-        let root : Node (List Note) = (device_after settings events).tree.root in
-        let none : lane_to (place.Class class) root ≡ None =
-        option_and_then_some (λ path. way_from path root root.own.discipline) (class_path class root) w leads
-        (λ path is way. ap (option_and_then (λ xs. lane_from xs root root.own.discipline)) is ∙ way-no-lane root w path root.own.discipline refl way) in
-        ap (λ (o : Option Lane). option_map_or (worst_on settings.mtu) o (option_and_then (worst_in_turn settings.mtu) (turn_to (place.Class class) root))) none
-        ∙ ap (option_and_then (worst_in_turn settings.mtu)) found
+    let root : Node (List Note) = (device_after settings events).tree.root in
+    ap (λ (o : Option Lane). option_map_or (worst_on settings.mtu) o (option_and_then (worst_in_turn settings.mtu) (turn_to (place.Class class) root)))
+    (turn-no-lane class root turn found)
+    ∙ ap (option_and_then (worst_in_turn settings.mtu)) found

@@ -16,7 +16,7 @@ use Rattle.q_model.specs.Events.{IsEvent}
 use Rattle.q_model.specs.Node.{Drr, Node, children, each, shape}
 use Rattle.q_model.specs.Settings.{DeviceSettings, IsInRange}
 use Rattle.q_model.specs.Step.{DeviceState, step}
-use Rattle.q_model.specs.Stretches.{bytes_sent, length_held, class_in, qdisc, Throughout}
+use Rattle.q_model.specs.Stretches.{bytes_sent, length_held, ClassAt, class_in, qdisc, Throughout}
 use Rattle.q_model.specs.Tally.{Note, history}
 use Rattle.q_model.specs.Work.{Worked, booked}
 use Rattle.q_invariants.proofs.ClassChildren.{child-at, place_in}
@@ -74,20 +74,33 @@ held-queued n p e =
     let one = ap (λ (o : Option Descriptor). length (option_to_list o)) e in
     ne_eqb (length (beneath n)) 0 (λ nothing. absurd (omega (arith, nothing, front, whole, one)))
 
-module _ (settings : DeviceSettings) (range : IsInRange settings) (before during : List Event) (major i quantum bytes : ℕ) (classes : List Class)
+-- The classes of the drr send no more than this before the packet that is last in the fifo of class i has left.
+abbrev pub SendNoMore : DeviceSettings → List Event → ℕ → ℕ → ℕ → List Class → ℕ → Type 0
+SendNoMore settings before major i quantum classes most =
+    (seen : List Event) (last : ClassAt) (t : ℕ) → All IsEvent seen → Throughout (HasClasses major classes) settings before seen
+    → Throughout (IsFifoClass major i quantum) settings before seen → KeepFifo major i (device_after settings before) seen
+    → IsInFifo major i (device_after settings before) (device_after settings (before ++ seen))
+    → class_in major i (device_after settings (before ++ seen)) ≡ Some last → (device_after settings (before ++ seen)).clock ≤ t → t ≤ 2 ^ 62
+    → all_sent major classes (device_after settings before) seen + shown_by t last ≤ most
+
+-- in any state
+pub send-at-most : (settings : DeviceSettings) → IsInRange settings → (before : List Event) (major i quantum bytes : ℕ) (classes : List Class)
+    → All IsEvent before → bytes_in (class_line major i (device_after settings before)) ≤ bytes
+    → SendNoMore settings before major i quantum classes (most_of_turn settings.mtu bytes (share_among (record { name = i; quantum = quantum }) classes))
+send-at-most settings range before major i quantum bytes classes earlier few seen last t happen has stays keep inside there order low =
+    fifos-wait-at-most settings range before seen major i quantum bytes classes last t earlier happen has stays keep inside few there order low
+
+module _ (settings : DeviceSettings) (range : IsInRange settings) (before during : List Event) (major i quantum most : ℕ) (classes : List Class)
     (earlier : All IsEvent before) (happen : All IsEvent during)
     (has : Throughout (HasClasses major classes) settings before during) (stays : Throughout (IsFifoClass major i quantum) settings before during)
     (keep : KeepFifo major i (device_after settings before) during)
     (waits : (seen : List Event) (x : Event) (later : List Event) → seen ++ x ∷ later ≡ during → IsWaiting major i (device_after settings before) (device_after settings (before ++ seen)))
-    (few : bytes_in (class_line major i (device_after settings before)) ≤ bytes) where
+    (law : SendNoMore settings before major i quantum classes most) where
   abbrev start : DeviceState (List Note)
   start = device_after settings before
 
   abbrev at : List Event → DeviceState (List Note)
   at seen = device_after settings (before ++ seen)
-
-  abbrev most : ℕ
-  most = most_of_turn settings.mtu bytes (share_among (record { name = i; quantum = quantum }) classes)
 
   front-happens : (seen later : List Event) → seen ++ later ≡ during → All IsEvent seen
   front-happens seen later e = All-front IsEvent seen later (subst (All IsEvent) (sym e) happen)
@@ -118,9 +131,8 @@ module _ (settings : DeviceSettings) (range : IsInRange settings) (before during
   waits-in-fifo : (seen later : List Event) (e : seen ++ later ≡ during) → IsInFifo major i start (at seen) → (t : ℕ) → (at seen).clock ≤ t → t ≤ 2 ^ 62
       → all_sent major classes start seen + shown_by t (stays seen later e).class ≤ most
   waits-in-fifo seen later e inside t order low =
-      fifos-wait-at-most settings range before seen major i quantum bytes classes (stays seen later e).class t earlier (front-happens seen later e)
-      (so-far (HasClasses major classes) has seen later e) (so-far (IsFifoClass major i quantum) stays seen later e) (keep-so-far seen later e)
-      inside few (stays seen later e).there order low
+      law seen (stays seen later e).class t (front-happens seen later e) (so-far (HasClasses major classes) has seen later e)
+      (so-far (IsFifoClass major i quantum) stays seen later e) (keep-so-far seen later e) inside (stays seen later e).there order low
 
   abbrev IsReached : List Event → Type 0
   IsReached seen = (m : Node (List Note)) → qdisc major (at seen) ≡ Some m → reached m ≤ top
@@ -289,12 +301,12 @@ module _ (settings : DeviceSettings) (range : IsInRange settings) (before during
         let stays_now = one-more-holds (IsFifoClass major i quantum) settings before seen (event.Poll moment)
         (so-far (IsFifoClass major i quantum) stays seen later e) (subst (IsFifoClass major i quantum) back g) in
         let clock = ap (λ (z : DeviceState (List Note)). z.clock) back in
-        let law = fifos-wait-at-most settings range before seen_now major i quantum bytes classes g.class next.clock earlier happen_now has_now stays_now
-        (keeps-poll major i start seen moment (keep-so-far seen later e)) (subst (IsInFifo major i start) back still) few
-        (subst (λ (z : DeviceState (List Note)). class_in major i z ≡ Some g.class) back g.there) (omega (arith, clock)) kept_next.moment in
+        let sends = law seen_now g.class next.clock happen_now has_now stays_now (keeps-poll major i start seen moment (keep-so-far seen later e))
+        (subst (IsInFifo major i start) back still) (subst (λ (z : DeviceState (List Note)). class_in major i z ≡ Some g.class) back g.there)
+        (omega (arith, clock)) kept_next.moment in
         let sum = reaches major i classes settings before seen_now range earlier happen_now has_now start-drr.node (booked history n w) start-drr.there
         (subst (λ (z : DeviceState (List Note)). qdisc major z ≡ Some (booked history n w)) back there) in
-        omega (arith, law, sum, booked-sent n w, hands)
+        omega (arith, sends, sum, booked-sent n w, hands)
 
     shown-next : bytes_sent n.memory + length_held (ask now (shape n)).shown ≤ top
     shown-next = by waiting
@@ -308,9 +320,9 @@ module _ (settings : DeviceSettings) (range : IsInRange settings) (before during
         inside-it inside (inl held) = omega (arith, held, hands, so_far)
         inside-it inside (inr (inl shown)) =
             let kept_next : IsKept next = step-kept (at seen) (event.Poll moment) kept low in
-            let law = waits-in-fifo seen later e inside now (not-before (at seen).clock moment) kept_next.moment in
+            let waits_now = waits-in-fifo seen later e inside now (not-before (at seen).clock moment) kept_next.moment in
             let p = passes seen later e n is in
-            omega (arith, shown, law, p, hands)
+            omega (arith, shown, waits_now, p, hands)
         inside-it inside (inr (inr silent)) = gone-on inside silent
 
         by : IsWaiting major i start (at seen) → bytes_sent n.memory + length_held (ask now (shape n)).shown ≤ top

@@ -49,7 +49,7 @@ use Rattle.q_laws.proofs.PromiseKept.{IsLinked, bare, link-of, linked, path-of-w
 use Rattle.q_laws.proofs.PromiseNumbers.{late-room}
 use Rattle.q_laws.proofs.PromiseWays.{of-child, on-way, queued-above, step-of}
 use Rattle.q_laws.proofs.ShareInTime.{held-in}
-use Rattle.q_laws.proofs.TurnBounds.{shown-at, start-drr, waiting-queued}
+use Rattle.q_laws.proofs.TurnBounds.{SendNoMore, send-at-most, shown-at, start-drr, waiting-queued}
 use Rattle.q_laws.proofs.TurnLimits.{turns-keep-limits}
 use Rattle.q_laws.proofs.TurnPaid.{given-next, next-is-drr, pays, sends}
 use Rattle.q_laws.proofs.TurnPolls.{IsOver}
@@ -90,16 +90,13 @@ module _ (dev : DeviceState (List Note)) (kept : IsKept dev) where
 
 -- ---- while a packet waits
 
-module _ (settings : DeviceSettings) (range : IsInRange settings) (before during : List Event) (d : DrrClass) (bytes : ℕ)
+module _ (settings : DeviceSettings) (range : IsInRange settings) (before during : List Event) (d : DrrClass) (most : ℕ)
     (earlier : All IsEvent before) (happen : All IsEvent during) where
   abbrev start : DeviceState (List Note)
   start = device_after settings before
 
   abbrev at : List Event → DeviceState (List Note)
   at seen = device_after settings (before ++ seen)
-
-  abbrev most : ℕ
-  most = most_of_turn settings.mtu bytes (share_of d)
 
   kept-in : (seen later : List Event) → seen ++ later ≡ during → IsKept (at seen)
   kept-in seen later e = kept-at settings range before during earlier happen seen later e
@@ -116,7 +113,7 @@ module _ (settings : DeviceSettings) (range : IsInRange settings) (before during
 
   module _ (link : Option Link) (stays : Throughout (IsTurn link d) settings before during) (keep : KeepFifo d.major d.class.name (device_after settings before) during)
       (waits : Throughout (IsWaiting d.major d.class.name (device_after settings before)) settings before during)
-      (few : bytes_in (turn_line d (device_after settings before)) ≤ bytes) where
+      (law : SendNoMore settings before d.major d.class.name d.class.quantum d.classes most) where
     stand : (seen later : List Event) (e : seen ++ later ≡ during) → Stands (at seen) (kept-in seen later e) link d
     stand seen later e = stands (at seen) (kept-in seen later e) link d (stays seen later e).0
 
@@ -133,10 +130,10 @@ module _ (settings : DeviceSettings) (range : IsInRange settings) (before during
     waits-before seen x later e = waits seen (x ∷ later) e
 
     abbrev first : Node (List Note)
-    first = (start-drr settings range before during d.major d.class.name d.class.quantum bytes d.classes earlier happen has fifo keep waits-before few).node
+    first = (start-drr settings range before during d.major d.class.name d.class.quantum most d.classes earlier happen has fifo keep waits-before law).node
 
     first-is : qdisc d.major (device_after settings before) ≡ Some first
-    first-is = (start-drr settings range before during d.major d.class.name d.class.quantum bytes d.classes earlier happen has fifo keep waits-before few).there
+    first-is = (start-drr settings range before during d.major d.class.name d.class.quantum most d.classes earlier happen has fifo keep waits-before law).there
 
     -- the drr in a state of the stretch
     drr : (seen later : List Event) → seen ++ later ≡ during → Node (List Note)
@@ -149,26 +146,26 @@ module _ (settings : DeviceSettings) (range : IsInRange settings) (before during
     shows : (seen later : List Event) (e : seen ++ later ≡ during) (t : ℕ) → (at seen).clock ≤ t → t ≤ 2 ^ 62
         → bytes_sent (drr seen later e).memory + length_held (ask t (shape (drr seen later e))).shown ≤ bytes_sent first.memory + length_held first.own.held + most
     shows seen later e t order low =
-        shown-at settings range before during d.major d.class.name d.class.quantum bytes d.classes earlier happen has fifo keep waits-before few
+        shown-at settings range before during d.major d.class.name d.class.quantum most d.classes earlier happen has fifo keep waits-before law
         seen later e (waits seen later e) link (over seen later e) (free seen later e) (drr seen later e) (drr-is seen later e) t order low
 
   -- ---- a drr at the root
 
   pub bare-enough : Throughout (IsTurn None d) settings before during → KeepFifo d.major d.class.name (device_after settings before) during
-      → Throughout (IsWaiting d.major d.class.name (device_after settings before)) settings before during → bytes_in (turn_line d (device_after settings before)) ≤ bytes
+      → Throughout (IsWaiting d.major d.class.name (device_after settings before)) settings before during → SendNoMore settings before d.major d.class.name d.class.quantum d.classes most
       → (t : ℕ) → (device_after settings (before ++ during)).clock ≤ t → t ≤ 2 ^ 62
       → bytes_in (filter_map given_in (answers (device_after settings before) during)) + length_held (given t (device_after settings (before ++ during)).tree) ≤ most
-  bare-enough stays keep waits few t order low =
+  bare-enough stays keep waits law t order low =
       let all = append-nil during in
-      let n : Node (List Note) = drr None stays keep waits few during [] all in
+      let n : Node (List Note) = drr None stays keep waits law during [] all in
       let end : DeviceState (List Note) = at during in
       let same : n ≡ end.tree.root = same_Some n end.tree.root
-      (sym (drr-is None stays keep waits few during [] all) ∙ root-at d.major end (over None stays keep waits few during [] all)) in
-      let over_first = at-start (IsOver None d.major) settings before during (over None stays keep waits few) in
-      let same_first : first None stays keep waits few ≡ start.tree.root = same_Some (first None stays keep waits few) start.tree.root
-      (sym (first-is None stays keep waits few) ∙ root-at d.major start over_first) in
-      let sent = sends d.major settings before during range earlier happen (over None stays keep waits few) in
-      let shown = shows None stays keep waits few during [] all t order low in
+      (sym (drr-is None stays keep waits law during [] all) ∙ root-at d.major end (over None stays keep waits law during [] all)) in
+      let over_first = at-start (IsOver None d.major) settings before during (over None stays keep waits law) in
+      let same_first : first None stays keep waits law ≡ start.tree.root = same_Some (first None stays keep waits law) start.tree.root
+      (sym (first-is None stays keep waits law) ∙ root-at d.major start over_first) in
+      let sent = sends d.major settings before during range earlier happen (over None stays keep waits law) in
+      let shown = shows None stays keep waits law during [] all t order low in
       let memory = ap (λ (m : Node (List Note)). bytes_sent m.memory) same in
       let asked = ap (λ (m : Node (List Note)). length_held (ask t (shape m)).shown) same in
       let memory_first = ap (λ (m : Node (List Note)). bytes_sent m.memory) same_first in
@@ -180,53 +177,54 @@ module _ (settings : DeviceSettings) (range : IsInRange settings) (before during
   module _ (link : Link) (stays : Throughout (IsTurn (Some link) d) settings before during)
       (keep : KeepFifo d.major d.class.name (device_after settings before) during)
       (waits : Throughout (IsWaiting d.major d.class.name (device_after settings before)) settings before during)
-      (few : bytes_in (turn_line d (device_after settings before)) ≤ bytes) where
-    first-held : length_held (first (Some link) stays keep waits few).own.held ≤ settings.mtu
-    first-held = held-in settings range before earlier d.major (first (Some link) stays keep waits few) (first-is (Some link) stays keep waits few)
+      (law : SendNoMore settings before d.major d.class.name d.class.quantum d.classes most) (held : ℕ)
+      (holds : (n : Node (List Note)) → qdisc d.major (device_after settings before) ≡ Some n → length_held n.own.held ≤ held) where
+    first-held : length_held (first (Some link) stays keep waits law).own.held ≤ held
+    first-held = holds (first (Some link) stays keep waits law) (first-is (Some link) stays keep waits law)
 
     pays-so-far : (seen later : List Event) (e : seen ++ later ≡ during)
-        → paid_so_far link.handle (at seen) + bytes_sent (first (Some link) stays keep waits few).memory
-        ≡ paid_so_far link.handle start + bytes_sent (drr (Some link) stays keep waits few seen later e).memory
+        → paid_so_far link.handle (at seen) + bytes_sent (first (Some link) stays keep waits law).memory
+        ≡ paid_so_far link.handle start + bytes_sent (drr (Some link) stays keep waits law seen later e).memory
     pays-so-far seen later e =
         pays link d.major settings before seen range earlier (front-happens seen later e)
-        (so-far (IsOver (Some link) d.major) (over (Some link) stays keep waits few) seen later e) (first (Some link) stays keep waits few)
-        (drr (Some link) stays keep waits few seen later e) (first-is (Some link) stays keep waits few) (drr-is (Some link) stays keep waits few seen later e)
+        (so-far (IsOver (Some link) d.major) (over (Some link) stays keep waits law) seen later e) (first (Some link) stays keep waits law)
+        (drr (Some link) stays keep waits law seen later e) (first-is (Some link) stays keep waits law) (drr-is (Some link) stays keep waits law seen later e)
 
-    pub linked-left : Throughout (IsLeft link.handle (settings.mtu + most) (device_after settings before)) settings before during
+    pub linked-left : Throughout (IsLeft link.handle (held + most) (device_after settings before)) settings before during
     linked-left seen later e t order low =
-        let shown = shows (Some link) stays keep waits few seen later e t order low in
+        let shown = shows (Some link) stays keep waits law seen later e t order low in
         let paid = pays-so-far seen later e in
-        let next = next-is-drr link d.major t (at seen) (drr (Some link) stays keep waits few seen later e) (over (Some link) stays keep waits few seen later e)
-        (drr-is (Some link) stays keep waits few seen later e) in
+        let next = next-is-drr link d.major t (at seen) (drr (Some link) stays keep waits law seen later e) (over (Some link) stays keep waits law seen later e)
+        (drr-is (Some link) stays keep waits law seen later e) in
         omega (arith, shown, paid, next, first-held)
 
     pub linked-enough : (t : ℕ) → (device_after settings (before ++ during)).clock ≤ t → t ≤ 2 ^ 62
         → bytes_in (filter_map given_in (answers (device_after settings before) during)) + length_held (given t (device_after settings (before ++ during)).tree)
-        ≤ settings.mtu + most
+        ≤ held + most
     linked-enough t order low =
         let all = append-nil during in
         let left = linked-left during [] all t order low in
         let paid = given-paid link.handle link.rate link.burst settings before during range earlier happen
-        (λ seen later e. ((over (Some link) stays keep waits few seen later e).0, free seen later e)) in
-        let gives = given-next link d.major t (at during) (drr (Some link) stays keep waits few during [] all)
-        (over (Some link) stays keep waits few during [] all) (free during [] all) (drr-is (Some link) stays keep waits few during [] all) in
-        let next = next-is-drr link d.major t (at during) (drr (Some link) stays keep waits few during [] all)
-        (over (Some link) stays keep waits few during [] all) (drr-is (Some link) stays keep waits few during [] all) in
+        (λ seen later e. ((over (Some link) stays keep waits law seen later e).0, free seen later e)) in
+        let gives = given-next link d.major t (at during) (drr (Some link) stays keep waits law during [] all)
+        (over (Some link) stays keep waits law during [] all) (free during [] all) (drr-is (Some link) stays keep waits law during [] all) in
+        let next = next-is-drr link d.major t (at during) (drr (Some link) stays keep waits law during [] all)
+        (over (Some link) stays keep waits law during [] all) (drr-is (Some link) stays keep waits law during [] all) in
         omega (arith, left, paid, gives, next)
 
     -- something is queued all the while
-    drr-queued : (seen later : List Event) (e : seen ++ later ≡ during) → is_empty (drr (Some link) stays keep waits few seen later e) ≡ false
+    drr-queued : (seen later : List Event) (e : seen ++ later ≡ during) → is_empty (drr (Some link) stays keep waits law seen later e) ≡ false
     drr-queued seen later e =
-        waiting-queued settings range before during d.major d.class.name d.class.quantum bytes d.classes earlier happen (has (Some link) stays keep waits few)
-        (fifo (Some link) stays keep waits few) keep (waits-before (Some link) stays keep waits few) few seen later e (waits seen later e)
-        (drr (Some link) stays keep waits few seen later e) (drr-is (Some link) stays keep waits few seen later e)
+        waiting-queued settings range before during d.major d.class.name d.class.quantum most d.classes earlier happen (has (Some link) stays keep waits law)
+        (fifo (Some link) stays keep waits law) keep (waits-before (Some link) stays keep waits law) law seen later e (waits seen later e)
+        (drr (Some link) stays keep waits law seen later e) (drr-is (Some link) stays keep waits law seen later e)
 
     pub linked-backlogged : Throughout (IsBackloggedLink link.handle link.rate link.burst) settings before during
     linked-backlogged seen later e =
-        let o = over (Some link) stays keep waits few seen later e in
-        let n : Node (List Note) = drr (Some link) stays keep waits few seen later e in
+        let o = over (Some link) stays keep waits law seen later e in
+        let n : Node (List Note) = drr (Some link) stays keep waits law seen later e in
         let only : children (at seen).tree.root ≡ n ∷ [] =
-        o.3 ∙ ap (λ (m : Node (List Note)). m ∷ []) (same_Some o.1 n (sym o.2 ∙ drr-is (Some link) stays keep waits few seen later e)) in
+        o.3 ∙ ap (λ (m : Node (List Note)). m ∷ []) (same_Some o.1 n (sym o.2 ∙ drr-is (Some link) stays keep waits law seen later e)) in
         record {
           tbf = o.0.tbf;
           root = o.0.root;
@@ -240,6 +238,18 @@ pub turn-is-enough : (settings : DeviceSettings) → IsInRange settings → Turn
 turn-is-enough settings range before during p moment link d limit w t earlier comes happen leads found worst kept stays keep waits order low =
     by link leads found stays (turn-bytes settings.mtu (turn_of link d limit) w worst)
   where
+    upto : List Event
+    upto = with_arrival before p moment
+
+    all : All IsEvent (with_arrival before p moment)
+    all = all-with before p moment earlier comes
+
+    sends : bytes_in (turn_line d (device_after settings (with_arrival before p moment))) ≤ most_bytes settings.mtu limit
+        → SendNoMore settings (with_arrival before p moment) d.major d.class.name d.class.quantum d.classes
+        (most_of_turn settings.mtu (most_bytes settings.mtu limit) (share_of d))
+    sends within = send-at-most settings range (with_arrival before p moment) d.major d.class.name d.class.quantum (most_bytes settings.mtu limit) d.classes
+        (all-with before p moment earlier comes) within
+
     by : (o : Option Link) → LeadsTo o d (device_after settings before)
         → turn_to (place.Class (id_of d)) (device_after settings before).tree.root ≡ Some (turn_of o d limit)
         → Throughout (IsTurn o d) settings (with_arrival before p moment) during → w.bytes ≡ bytes_in_turn settings.mtu (turn_of o d limit)
@@ -247,13 +257,13 @@ turn-is-enough settings range before during p moment link d limit w t earlier co
         + length_held (given t (device_after settings (with_arrival before p moment ++ during)).tree) ≤ w.bytes
     by None leads found stays bytes_are =
         let within = (turns-keep-limits settings range before p moment None d limit earlier comes leads found kept).within in
-        let enough = bare-enough settings range (with_arrival before p moment) during d (most_bytes settings.mtu limit)
-        (all-with before p moment earlier comes) happen stays keep waits within t order low in
+        let enough = bare-enough settings range upto during d (most_of_turn settings.mtu (most_bytes settings.mtu limit) (share_of d)) all happen
+        stays keep waits (sends within) t order low in
         omega (arith, enough, bytes_are)
     by (Some l) leads found stays bytes_are =
         let within = (turns-keep-limits settings range before p moment (Some l) d limit earlier comes leads found kept).within in
-        let enough = linked-enough settings range (with_arrival before p moment) during d (most_bytes settings.mtu limit)
-        (all-with before p moment earlier comes) happen l stays keep waits within t order low in
+        let enough = linked-enough settings range upto during d (most_of_turn settings.mtu (most_bytes settings.mtu limit) (share_of d)) all happen l
+        stays keep waits (sends within) settings.mtu (held-in settings range upto all d.major) t order low in
         omega (arith, enough, bytes_are)
 
 pub turn-is-in-time : (settings : DeviceSettings) → IsInRange settings → TurnIsInTime settings
@@ -265,8 +275,11 @@ turn-is-in-time settings range before during e p moment link d limit w ns most l
     let within = (turns-keep-limits settings range before p moment (Some link) d limit earlier comes leads found kept).within in
     let bytes : ℕ = bytes_in_turn settings.mtu (turn_of (Some link) d limit) in
     let is : WorstIs settings.mtu bytes link w = turn-is settings.mtu link (share_of d) limit w worst in
-    let left = linked-left settings range upto during d queue all happen link stays keep waits within in
-    let queued = linked-backlogged settings range upto during d queue all happen link stays keep waits within in
+    let turn : ℕ = most_of_turn settings.mtu queue (share_of d) in
+    let sends = send-at-most settings range upto d.major d.class.name d.class.quantum queue d.classes all within in
+    let holds = held-in settings range upto all d.major in
+    let left = linked-left settings range upto during d turn all happen link stays keep waits sends settings.mtu holds in
+    let queued = linked-backlogged settings range upto during d turn all happen link stays keep waits sends settings.mtu holds in
     let here = at-start (IsBackloggedLink link.handle link.rate link.burst) settings upto during queued in
     let first : TbfAt = here.tbf.tbf in
     let some : 1 ≤ link.rate = subst (λ n. 1 ≤ n) here.tbf.same_rate (rate-some link.handle start first (replay-kept settings upto range all) here.tbf.there) in

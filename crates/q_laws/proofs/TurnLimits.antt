@@ -42,6 +42,7 @@ use Rattle.q_device.specs.Worst.{most_bytes}
 use Rattle.q_device.proofs.ClassStretches.{mtu-stays}
 use Rattle.q_laws.specs.FifoTurn.{class_line}
 use Rattle.q_laws.specs.Line.{bytes_in, line, line_own}
+use Rattle.q_tree.specs.TurnNow.{bytes_along}
 use Rattle.q_laws.specs.TurnWorst.{TurnsKeepLimits, id_of, turn_of}
 use Rattle.q_laws.specs.Worst.{EndsWithin, with_arrival}
 use Rattle.q_laws.proofs.FifoTurns.{fifo-line, line-at}
@@ -54,12 +55,13 @@ use Rattle.q_laws.proofs.WorstKept.{arrived, bytes-last, no-loss, not-refused}
 -- ---- where a way ends
 
 -- the drr at the end of a path, and the child of its class
-record EndOfWay (path : List ℕ) (root : Node (List Note)) (d : DrrClass) : Type 0 where
-  drr : Node (List Note)
-  within : IsOf drr root
-  place : ℕ
-  step : IsStep place [] drr d []
-  ends : node_at path root ≡ Some step.child
+pub record EndOfWay (path : List ℕ) (root : Node (List Note)) (d : DrrClass) : Type 0 where
+  pub drr : Node (List Note)
+  pub within : IsOf drr root
+  pub place : ℕ
+  pub step : IsStep place [] drr d []
+  pub ends : node_at path root ≡ Some step.child
+  pub along : (len : ℕ) → bytes_along len path root ≡ bytes_along len (place ∷ []) drr
 
 -- a path that has no class more goes no further
 last-step : (i : ℕ) (rest : List ℕ) (n : Node (List Note)) (d : DrrClass) → drrs_on (i ∷ rest) n ≡ Some (d ∷ []) → rest ≡ []
@@ -76,13 +78,13 @@ last-step i (j ∷ rest) n d e = by (step-of i (j ∷ rest) n d [] e).child (ste
         (drr_class j c.own) [] at (λ k there some. absurd (more_than k (option_and_then (drrs_on rest) (slice_get (children c) j)) some))
 
 ends-at : (i : ℕ) (rest : List ℕ) (n : Node (List Note)) (d : DrrClass) → drrs_on (i ∷ rest) n ≡ Some (d ∷ [])
-    → (s : IsStep i [] n d []) × (node_at (i ∷ rest) n ≡ Some s.child)
+    → (s : IsStep i [] n d []) × (node_at (i ∷ rest) n ≡ Some s.child) × ((len : ℕ) → bytes_along len (i ∷ rest) n ≡ bytes_along len (i ∷ []) n)
 ends-at i rest n d e =
     let none = last-step i rest n d e in
     let s = step-of i [] n d [] (ap (λ xs. drrs_on (i ∷ xs) n) (sym none) ∙ e) in
-    (s, ap (λ xs. node_at (i ∷ xs) n) none ∙ ap (option_and_then (node_at [])) s.there)
+    (s, ap (λ xs. node_at (i ∷ xs) n) none ∙ ap (option_and_then (node_at [])) s.there, λ len. ap (λ xs. bytes_along len (i ∷ xs) n) none)
 
-end-of-way : (path : List ℕ) (root : Node (List Note)) (link : Option Link) (d : DrrClass)
+pub end-of-way : (path : List ℕ) (root : Node (List Note)) (link : Option Link) (d : DrrClass)
     → way_from path root root.own.discipline ≡ Some (record { link = link; drrs = d ∷ [] }) → EndOfWay path root d
 end-of-way path root None d e = by path (bare root (d ∷ []) path e)
   where
@@ -90,7 +92,7 @@ end-of-way path root None d e = by path (bare root (d ∷ []) path e)
     by [] at = absurd (let size = ap (λ (xs : List DrrClass). length xs) (same_Some [] (d ∷ []) at) in omega (arith, size))
     by (i ∷ rest) at =
         let s = ends-at i rest root d at in
-        record { drr = root; within = inl refl; place = i; step = s.0; ends = s.1 }
+        record { drr = root; within = inl refl; place = i; step = s.0; ends = s.1; along = s.2 }
 end-of-way path root (Some link) d e = by path root.own.discipline e
   where
     w : Way
@@ -113,6 +115,7 @@ end-of-way path root (Some link) d e = by path root.own.discipline e
           place = i;
           step = s.0;
           ends = ap (option_and_then (node_at (i ∷ rest))) there ∙ s.1;
+          along = λ len. ap (option_and_then (bytes_along len (i ∷ rest))) there ∙ s.2 len;
         }
 
     beneath : (j : ℕ) (l : Link) (rest : List ℕ) (o : Option (Node (List Note))) → slice_get (children root) j ≡ o → option_and_then (way_below l rest) o ≡ Some w
@@ -140,13 +143,13 @@ end-of-way path root (Some link) d e = by path root.own.discipline e
 
 -- ---- the node at the end of a path, after a packet was put there
 
-booked-at : (x : Forest (List Note)) (i : ℕ) (c : Node (List Note)) (w : Worked) → slice_get (nodes_in x) i ≡ Some c
+pub booked-at : (x : Forest (List Note)) (i : ℕ) (c : Node (List Note)) (w : Worked) → slice_get (nodes_in x) i ≡ Some c
     → slice_get (nodes_in (each_booked history x (side_by_side (set (map quiet (nodes_in (forget x))) i w)))) i ≡ Some (booked history c w)
 booked-at none i c w e = absurd (none-some c e)
 booked-at (more own m below others) zero c w e = ap (λ (k : Node (List Note)). Some (booked history k w)) (same_Some (record { own = own; memory = m; below = below }) c e)
 booked-at (more own m below others) (suc i) c w e = booked-at others i c w e
 
-put-at : (now : ℕ) (p : Descriptor) (path : List ℕ) (n c : Node (List Note)) → node_at path n ≡ Some c
+pub put-at : (now : ℕ) (p : Descriptor) (path : List ℕ) (n c : Node (List Note)) → node_at path n ≡ Some c
     → node_at path (booked history n (put_along now p None path (shape n)).node) ≡ Some (booked history c (put_here now p None (shape c)).node)
 put-at now p [] n c e = ap (λ (k : Node (List Note)). Some (booked history k (put_here now p None (shape k)).node)) (same_Some n c e)
 put-at now p (i ∷ path) n c e = option_and_then_some (node_at path) (slice_get (children n) i) c e (λ k there rest. by k there (put-at now p path k c rest))
@@ -165,7 +168,7 @@ put-at now p (i ∷ path) n c e = option_and_then_some (node_at path) (slice_get
 -- ---- the packet is last in the fifo
 
 module _ (mtu now : ℕ) (p : Descriptor) (short : p.len ≤ mtu) (limit : Limit) where
-  puts-last : (path : List ℕ) (s c : Shape) → IsLawfulRoot mtu now s → node_at path s ≡ Some c → route p s ≡ record { path = path; refusal = None }
+  pub puts-last : (path : List ℕ) (s c : Shape) → IsLawfulRoot mtu now s → node_at path s ≡ Some c → route p s ≡ record { path = path; refusal = None }
       → limit_of c.own.discipline ≡ Some limit → IsPutLast (most_bytes mtu limit) p (line c) (line (put_here now p None c).node)
   puts-last [] s c h e goes is =
       subst (λ (x : Shape). IsPutLast (most_bytes mtu limit) p (line x) (line (put_here now p None x).node)) (same_Some s c e)
@@ -175,7 +178,7 @@ module _ (mtu now : ℕ) (p : Descriptor) (short : p.len ≤ mtu) (limit : Limit
       puts-last path on.child c (child-lawful mtu now s.below i on.child h.1 on.there) (sym (ap (option_and_then (node_at path)) on.there) ∙ e) on.way is
 
 -- a fifo's line is that of what was made of it
-put-fifo : (now : ℕ) (p : Descriptor) (d : Discipline) (limit : Limit) → limit_of d ≡ Some limit → limit_of (queued_in p now d) ≡ Some limit
+pub put-fifo : (now : ℕ) (p : Descriptor) (d : Discipline) (limit : Limit) → limit_of d ≡ Some limit → limit_of (queued_in p now d) ≡ Some limit
 put-fifo now p (Fifo most queue) limit e = e
 put-fifo now p (Prio priomap) limit e = absurd (none-some limit e)
 put-fifo now p (Tbf b most) limit e = absurd (none-some limit e)
@@ -185,7 +188,7 @@ put-fifo now p (FqCodel s) limit e = absurd (none-some limit e)
 -- ---- in a device
 
 -- a fifo at the end of a path, in a shape too
-shape-at : (path : List ℕ) (n c : Node (List Note)) → node_at path n ≡ Some c → node_at path (shape n) ≡ Some (shape c)
+pub shape-at : (path : List ℕ) (n c : Node (List Note)) → node_at path n ≡ Some c → node_at path (shape n) ≡ Some (shape c)
 shape-at [] n c e = ap (λ (o : Option (Node (List Note))). option_map shape o) e
 shape-at (i ∷ path) n c e =
     option_and_then_some (node_at path) (slice_get (children n) i) c e
@@ -197,11 +200,23 @@ limit-on link [] l turn e = absurd (none-some turn e)
 limit-on link (share ∷ []) l turn e = ap (λ (t : Turn). t.limit) (same_Some (record { link = link; share = share; limit = l }) turn e)
 limit-on link (share ∷ other ∷ shares) l turn e = absurd (none-some turn e)
 
-turn-limit : (class : ClassId) (root : Node (List Note)) (turn : Turn) → turn_to (place.Class class) root ≡ Some turn → limit_in class root ≡ Some turn.limit
+pub turn-limit : (class : ClassId) (root : Node (List Note)) (turn : Turn) → turn_to (place.Class class) root ≡ Some turn → limit_in class root ≡ Some turn.limit
 turn-limit class root turn e =
     option_and_then_some (λ (w : Way). option_and_then (turn_on w.link (shares_of w)) (limit_in class root)) (way_to class root) turn e
     (λ w there rest. option_and_then_some (turn_on w.link (shares_of w)) (limit_in class root) turn rest
     (λ l found made. found ∙ ap Some (limit-on w.link (shares_of w) l turn made)))
+
+-- the route of a packet that is kept
+pub kept-route : (dev : DeviceState (List Note)) (now : ℕ) (p : Descriptor) (path : List ℕ) → (route p dev.tree.root).path ≡ path
+    → loss_on now p (Some (route p (shape dev.tree.root))) (shape dev.tree.root) ≡ None
+    → route p (shape dev.tree.root) ≡ record { path = path; refusal = None }
+kept-route dev now p path goes loss =
+    let root : Node (List Note) = dev.tree.root in
+    let r : Route = route p (shape root) in
+    let same : r ≡ route p root = found_in_shape (λ own below. way p own below own.discipline) root in
+    let refusal : r.refusal ≡ None = not-refused now p (shape root) r.path r.refusal loss in
+    let steps : r.path ≡ path = ap (λ (x : Route). x.path) same ∙ goes in
+    ap (λ (o : Option Cause). record { path = r.path; refusal = o }) refusal ∙ ap (λ (xs : List ℕ). record { path = xs; refusal = None }) steps
 
 module _ (dev next : DeviceState (List Note)) (now : ℕ) (kept : IsKept dev) (kept_next : IsKept next) (later : dev.clock ≤ now) (p : Descriptor)
     (link : Option Link) (d : DrrClass) (limit : Limit) where
@@ -244,12 +259,7 @@ module _ (dev next : DeviceState (List Note)) (now : ℕ) (kept : IsKept dev) (k
       → IsPutLast (most_bytes mtu limit) p (line c) (class_line d.major d.class.name next)
   put-kept path goes true e becomes alike found c there is loss = absurd (none-some TooLong (sym loss))
   put-kept path goes false e becomes alike found c there is loss =
-      let r : Route = route p (shape root) in
-      let same : r ≡ route p root = found_in_shape (λ own below. way p own below own.discipline) root in
-      let refusal : r.refusal ≡ None = not-refused now p (shape root) r.path r.refusal loss in
-      let steps : r.path ≡ path = ap (λ (x : Route). x.path) same ∙ goes in
-      let on : r ≡ record { path = path; refusal = None } =
-      ap (λ (o : Option Cause). record { path = r.path; refusal = o }) refusal ∙ ap (λ (xs : List ℕ). record { path = xs; refusal = None }) steps in
+      let on = kept-route dev now p path goes loss in
       put-there (ltb-false mtu p.len e) path
       (becomes ∙ ap (λ (x : Route). booked history root (put_along now p x.refusal x.path (shape root)).node) on) alike found on c there is
 

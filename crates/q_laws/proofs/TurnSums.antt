@@ -7,6 +7,7 @@ use Rattle.std.proofs.lemmas.Bool.{cases_Bool, eqb-true, eqb-false, false≢true
 use Rattle.std.proofs.lemmas.List.Elements.{All-head, All-tail, All-nil, All-cons}
 use Rattle.std.proofs.lemmas.List.Sums.{sum_by-cons}
 use Rattle.q_drr.specs.Schedule.{Class, Entry, has_class, quantum_of, deficit_of}
+use Rattle.q_drr.specs.Waiting.{bytes_of_turn, deficit_ahead, deficits_ahead}
 use Rattle.q_drr.specs.Stretch.{stands_first}
 use Rattle.q_drr.proofs.DifferLemmas.{ClassesDiffer}
 use Rattle.q_drr.proofs.TakeLemmas.{has_quantum}
@@ -21,7 +22,7 @@ use Rattle.q_invariants.proofs.Replays.{replay-kept}
 use Rattle.q_device.specs.Sharing.{device_after}
 use Rattle.q_device.proofs.ClassStretches.{at-start}
 use Rattle.q_laws.specs.Service.{all_sent, class_sent, HasClasses, quanta_of}
-use Rattle.q_laws.specs.Turn.{bytes_of_turn, deficit_ahead, deficits_ahead, shown_by, ClassesWaitTheirTurn}
+use Rattle.q_laws.specs.Turn.{shown_by, ClassesWaitTheirTurn}
 use Rattle.q_laws.proofs.LeastShare.{drr-node, is-class, classes-differ, IsOwn, own-quanta, kept-at, Stands, stands-among}
 use Rattle.q_laws.proofs.ServiceStretches.{class-against-any}
 use Rattle.q_laws.proofs.TurnStretches.{few-grants, left-at-end, left-within, StaysWithin, Waits, class-waits}

@@ -4,6 +4,7 @@
 use Rattle.std.specs.Prelude.{◌≡◌, ◌≢◌, ℕ, ◌+◌, ◌-◌, ◌*◌, ◌^◌, ◌≤◌, true, false, List, ◌++◌, All, Some, length}
 use Rattle.std.specs.Int.{div_ceil}
 use Rattle.q_drr.specs.Schedule.{Class, Entry, quantum_of, deficit_of}
+use Rattle.q_drr.specs.Waiting.{bytes_of_turn}
 use Rattle.q_drr.specs.Stretch.{stands_first}
 use Rattle.q_model.specs.declared.event.Event.{Event}
 use Rattle.q_model.specs.Beneath.{is_empty}
@@ -15,7 +16,7 @@ use Rattle.q_tree.specs.Ways.{share_among}
 use Rattle.q_device.specs.Sharing.{device_after}
 use Rattle.q_laws.specs.MostOfTurn.{share_in}
 use Rattle.q_laws.specs.Service.{class_sent, IsClass, HasClasses, quanta_of, all_sent}
-use Rattle.q_laws.specs.Turn.{StaysLeft, bytes_of_turn, shown_by}
+use Rattle.q_laws.specs.Turn.{StaysLeft, shown_by}
 
 -- ---- the deficit of a class that is not in front
 

@@ -14,6 +14,7 @@ pub mod Rate
 pub mod Rest
 pub mod Service
 pub mod Turn
+pub mod TurnLatest
 pub mod TurnWorst
 pub mod Work
 pub mod Worst

@@ -3,6 +3,7 @@
 -- Round-Robin" (1995)), and it is what `bytes_of_turn` comes to where each of the others has the greatest.
 use Rattle.std.specs.Prelude.{◌≡◌, ℕ, ◌+◌, ◌^◌, ◌≤◌, List, ◌++◌, All, Some}
 use Rattle.q_drr.specs.Schedule.{Class, Schedule, quantum_of}
+use Rattle.q_drr.specs.Waiting.{bytes_of_turn}
 use Rattle.q_model.specs.declared.event.Event.{Event}
 use Rattle.q_model.specs.Events.{IsEvent}
 use Rattle.q_model.specs.Settings.{DeviceSettings}
@@ -12,7 +13,7 @@ use Rattle.q_tree.specs.Ways.{share_among}
 use Rattle.q_device.specs.Sharing.{device_after}
 use Rattle.q_device.specs.Worst.{most_of_turn}
 use Rattle.q_laws.specs.Service.{HasClasses, all_sent}
-use Rattle.q_laws.specs.Turn.{StaysLeft, bytes_of_turn, shown_by}
+use Rattle.q_laws.specs.Turn.{StaysLeft, shown_by}
 
 -- the share of class i
 abbrev pub share_in : ℕ → Schedule → Share

@@ -2,10 +2,9 @@
 -- deficits at first, whatever comes to the others. M. Shreedhar and G. Varghese, "Efficient Fair Queuing Using Deficit Round-Robin" (1995),
 -- and tc-drr(8); how it grows with the bytes is the staircase of S. M. Tabatabaee and J.-Y. Le Boudec, "Deficit Round-Robin: A Second
 -- Network Calculus Analysis" (2022).
-use Rattle.std.specs.Prelude.{◌≡◌, ℕ, ◌+◌, ◌-◌, ◌*◌, ◌^◌, ◌≤◌, ◌==◌, if◌then◌else◌, List, [], ◌∷◌, ◌++◌, All, Some, sum_by}
-use Rattle.std.specs.Int.{div_ceil}
-use Rattle.q_drr.specs.Schedule.{Class, Entry, deficit_of}
-use Rattle.q_drr.specs.Stretch.{stands_first}
+use Rattle.std.specs.Prelude.{◌≡◌, ℕ, ◌+◌, ◌-◌, ◌^◌, ◌≤◌, List, [], ◌∷◌, ◌++◌, All, Some}
+use Rattle.q_drr.specs.Schedule.{Class}
+use Rattle.q_drr.specs.Waiting.{bytes_of_turn}
 use Rattle.q_model.specs.declared.event.Event.{Event}
 use Rattle.q_model.specs.Ask.{ask}
 use Rattle.q_model.specs.Events.{IsEvent}
@@ -15,7 +14,7 @@ use Rattle.q_model.specs.Step.{DeviceState, step}
 use Rattle.q_model.specs.Stretches.{length_held, ClassAt, class_in, IsBackloggedClass, Throughout}
 use Rattle.q_model.specs.Tally.{Note, history}
 use Rattle.q_device.specs.Sharing.{device_after}
-use Rattle.q_laws.specs.Service.{given_so_far, HasClasses, quanta_of, all_sent}
+use Rattle.q_laws.specs.Service.{given_so_far, HasClasses, all_sent}
 
 -- ---- the bytes of the class itself
 
@@ -35,20 +34,7 @@ StaysLeft major i bytes sent d (e ∷ events) =
     let next = (step history d e).device in
     IsClassLeft major i bytes sent d × StaysLeft major i bytes (sent + (given_so_far major i next - given_so_far major i d)) next events
 
--- ---- the others
-
--- what another class may send of its deficit: all of it where it is before class i in the active list, else only what is above a quantum
-abbrev pub deficit_ahead : ℕ → List Entry → Class → ℕ
-deficit_ahead i active c = if stands_first c.name i active then deficit_of c.name active else deficit_of c.name active - c.quantum
-
-abbrev pub deficits_ahead : ℕ → List Entry → List Class → ℕ
-deficits_ahead i active classes = sum_by (λ (c : Class). if i == c.name then 0 else deficit_ahead i active c) classes
-
--- All that is sent until a packet of class i has left that ends within so many bytes of it: those, for each grant that class i may need the
--- quanta of the others, and their deficits.
-abbrev pub bytes_of_turn : ℕ → ℕ → List Class → List Entry → ℕ → ℕ
-bytes_of_turn i quantum classes active bytes =
-    bytes + div_ceil (bytes - deficit_of i active) quantum * (quanta_of classes - quantum) + deficits_ahead i active classes
+-- ---- with the others
 
 abbrev pub ClassesWaitTheirTurn : DeviceSettings → Type 0
 ClassesWaitTheirTurn settings =

@@ -15,6 +15,7 @@ ghost use Rattle.q_laws.specs.Rate.{NeverLateIsDrained, RateIsDelivered, RateIsS
 ghost use Rattle.q_laws.specs.Rest.{JoiningFlowsAreSpared};
 ghost use Rattle.q_laws.specs.Service.{ClassAgainstAny, ClassesGetTheirParts, FlowAgainstAny, NoFlowStarves, NewFlowFirst};
 ghost use Rattle.q_laws.specs.Turn.{ClassesWaitTheirTurn};
+ghost use Rattle.q_laws.specs.TurnLatest.{LatestTurnIsAnswered, LatestTurnIsEnough, LatestTurnIsInTime};
 ghost use Rattle.q_laws.specs.TurnWorst.{TurnIsAnswered, TurnIsEnough, TurnIsInTime, TurnsKeepLimits};
 ghost use Rattle.q_laws.specs.Work.{BandsAreStrict, WorkIsConserved};
 ghost use Rattle.q_laws.specs.Worst.{LinesKeepLimits, WorstIsEnough, WorstIsInTime};
@@ -264,7 +265,7 @@ pub fn worst_is_enough(settings: Settings)
 ///
 /// No tbf is added below the root, the one at the root stays as it is, and a command leaves the line as it was, or longer at its end.
 ///
-/// What it answers of a packet that is to come next, by its length, is what it answers of that packet right after the fifo kept it, if it
+/// What it answers of a packet that is to come next, by its length, in a fifo in line or in the fifo of a class of a drr, is what it answers of that packet right after the fifo kept it, if it
 /// came at no time ahead of the clock (`told_before`). If it came later, the same bytes are answered then, and a time that is later by no
 /// more than that (`rises_no_faster`), and no later than the first answer or than that which a full bucket would give then
 /// (`stands_as_it_fills`). For all settings and every list of events whose fields are in their ranges.
@@ -365,6 +366,23 @@ pub fn turn_is_enough(settings: Settings)
     ensures limit { TurnsKeepLimits settings }
     ensures enough { TurnIsEnough settings }
     ensures in_time { TurnIsInTime settings }
+{
+    settings.ranges();
+}
+
+/// What `Device::latest` of `q_device` answers of a class of a drr (`answered`) is true of the packet that was queued last in the class's fifo, from
+/// the state on in which it was asked, with the deficits and the active list of that state. Until the packet has left the device, what polls gave
+/// since, and what a poll at any time gives next, have no more bytes than were answered, itself among them (`enough`). Where a tbf is at the root,
+/// the next event comes by the time that was answered, or `late` after that, as long as the packet has not left; and a poll that gives nothing was
+/// before that (`in_time`). The device is polled as [`rate_is_delivered`] says, and no later than was answered.
+///
+/// When the packet has left is said as in [`turn_is_enough`], and under the same conditions. What is answered of a packet that is to come next is
+/// among what [`latest_is_enough`] says (`told_before`, `rises_no_faster`). For all settings and every list of events whose fields are in their
+/// ranges, whatever comes to the other classes.
+pub fn latest_turn_is_enough(settings: Settings)
+    ensures answered { LatestTurnIsAnswered settings }
+    ensures enough { LatestTurnIsEnough settings }
+    ensures in_time { LatestTurnIsInTime settings }
 {
     settings.ranges();
 }

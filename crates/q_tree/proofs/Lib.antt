@@ -75,4 +75,5 @@ pub mod TreeEdits
 pub mod TreeIndex
 pub mod TreeLemmas
 pub mod TreePuts
+pub mod TurnNowLemmas
 pub mod WayLemmas

@@ -47,5 +47,6 @@ pub mod SendSteps
 pub mod Showing
 pub mod Shown
 pub mod TreeSeen
+pub mod TurnNow
 pub mod Turns
 pub mod Ways

@@ -161,8 +161,8 @@ impl Node {
     }
 }
 
-// The class in this place, in numbers.
-fn share_in(active: &Active, place: usize) -> Option<Share>
+/// The class in this place, in numbers.
+pub(crate) fn share_in(active: &Active, place: usize) -> Option<Share>
     ensures value { result ≡ option_map (λ c. share_among c active.now.classes) (slice_get active.now.classes place) }
     ensures ranges { IfSome result IsShare }
 {

@@ -232,3 +232,77 @@ fn tells_bytes(device: &mut Device) -> Result<(), Fail> {
 fn without_a_tbf_there_are_bytes_alone(rt: HostRuntime) -> Result<(), Fail> {
     tells_bytes(&mut opened(rt.alloc())?)
 }
+
+// ---- a class of a drr
+
+// The drr 2: in this place, with classes that get 3000 and 1500 of every 4500 bytes.
+fn shared(device: &mut Device, spot: Spot) -> Result<(), Fail> {
+    set_up(
+        device,
+        &[
+            Ask::Graft(spot, 2, New::Drr),
+            Ask::AddClass(2, 1, 3_000),
+            Ask::AddClass(2, 2, 1_500),
+            Ask::Match(2, 1, 1),
+            Ask::Match(2, 2, 2),
+        ],
+    )
+}
+
+const FIRST: Spot = Spot::Class(2, 1);
+
+const SECOND: Spot = Spot::Class(2, 2);
+
+// Nothing waits in the class: it is last in the list as a packet comes, with a deficit of 3000.
+fn wakes_a_class(device: &mut Device) -> Result<(), Fail> {
+    shared(device, Spot::Root)?;
+    tells(device, FIRST, 0, Some((0, None)))?;
+    comes(device, packet(1, 700, 2)?, at(0)?)?;
+    tells(device, FIRST, 100, Some((1_600, None)))?;
+    comes(device, packet(2, 100, 1)?, at(0)?)?;
+    tells(device, FIRST, 0, Some((1_600, None)))
+}
+
+#[test]
+fn a_packet_that_wakes_its_class_waits_for_the_deficit_before_it(
+    rt: HostRuntime,
+) -> Result<(), Fail> {
+    wakes_a_class(&mut opened(rt.alloc())?)
+}
+
+// The last byte needs a grant, in which the other class may send its quantum.
+fn needs_a_grant(device: &mut Device) -> Result<(), Fail> {
+    wakes_a_class(device)?;
+    comes(device, packet(3, 1_500, 1)?, at(0)?)?;
+    tells(device, FIRST, 1_400, Some((4_500, None)))?;
+    tells(device, FIRST, 1_401, Some((6_001, None)))?;
+    tells(device, SECOND, 0, Some((700, None)))?;
+    leaves(device, at(0)?, true)?;
+    tells(device, FIRST, 0, Some((1_600, None)))
+}
+
+#[test]
+fn a_byte_above_the_deficit_waits_for_a_grant(rt: HostRuntime) -> Result<(), Fail> {
+    needs_a_grant(&mut opened(rt.alloc())?)
+}
+
+// The drr holds a packet of 1000 bytes of the second class, which has nothing else.
+fn waits_for_what_is_held(device: &mut Device) -> Result<(), Fail> {
+    shared(device, Spot::Class(1, 1))?;
+    comes(device, packet(1, 1_500, 2)?, at(0)?)?;
+    comes(device, packet(2, 1_000, 2)?, at(0)?)?;
+    leaves(device, at(0)?, true)?;
+    leaves(device, at(0)?, false)?;
+    tells(device, FIRST, 800, Some((1_800, Some((13_280_000, LATE)))))?;
+    comes(device, packet(3, 800, 1)?, at(0)?)?;
+    tells(device, FIRST, 0, Some((1_800, Some((13_280_000, LATE)))))?;
+    leaves(device, at(6_880_000)?, true)?;
+    tells(device, FIRST, 0, Some((800, Some((13_280_000, LATE)))))?;
+    leaves(device, at(13_279_999)?, false)?;
+    leaves(device, at(13_280_000)?, true)
+}
+
+#[test]
+fn a_class_waits_for_the_packet_that_its_drr_holds(rt: HostRuntime) -> Result<(), Fail> {
+    waits_for_what_is_held(&mut shaped(rt.alloc())?)
+}

@@ -4,11 +4,11 @@ ghost use Rattle.q_model.specs.Tally.{totals};
 ghost use Rattle.q_tree.specs.Lanes.{lane_to};
 ghost use Rattle.q_tree.specs.Turns.{turn_to};
 ghost use Rattle.q_tree.specs.Ways.{IsShare};
-ghost use Rattle.q_device.specs.Latest.{latest_below, latest_of};
+ghost use Rattle.q_device.specs.Latest.{latest_at_turn, latest_below, latest_of};
 ghost use Rattle.q_device.specs.Worst.{worst_of};
 
 use crate::device::Device;
-use crate::latest::{Latest, latest_in};
+use crate::latest::{Latest, latest_in, latest_on};
 use crate::worst::{Worst, worst_in, worst_in_turn};
 use q_model::Place;
 use q_tree::{Lane, Link, Turn};
@@ -42,15 +42,30 @@ impl Device {
     }
 
     /// Computes by when a packet of `len` bytes has left, if it comes next to the pfifo or bfifo in this place and is kept. With a `len` of 0, computes
-    /// by when the packet has left that was queued there last. Returns `None` if [`Device::worst`] would do so with any limit of the fifo, if the
-    /// place is a class of a drr, or if a number would be too large. Allocates nothing.
+    /// by when the packet has left that was queued there last. Returns `None` if [`Device::worst`] would do so with any limit of the fifo, or if a
+    /// number would be too large. Allocates nothing.
     pub fn latest(&self, place: Place, len: u16) -> Option<Latest>
         ensures { result ≡ latest_of totals place len self.now.settings.mtu self.now.device }
     {
-        let Some(lane) = self.lane_at(&place) else {
+        if let Some(lane) = self.lane_at(&place) {
+            return self.latest_below(lane.link, &place, len);
+        }
+        let Some(turn) = self.turn_at(&place) else {
             return None;
         };
-        self.latest_below(lane.link, &place, len)
+        self.latest_at_turn(&turn, place, len)
+    }
+
+    // The same for the fifo of the class of a drr in this place.
+    fn latest_at_turn(&self, turn: &Turn, place: Place, len: u16) -> Option<Latest>
+        ensures { result ≡ latest_at_turn place len self.now.settings.mtu self.now.device turn.now }
+    {
+        let Place::Class(class) = place else {
+            return None;
+        };
+        let bytes = self.tree.bytes_before(class, len)?;
+        let (level, now) = (self.tree.level(), self.tree.clock());
+        latest_on(turn.link, bytes, level, now, self.settings)
     }
 
     // The lane to a place that is used again.

@@ -3,5 +3,5 @@ use Rattle.q_drr.specs.Links.{Circle, next_of}
 use Rattle.q_drr.proofs.RingLemmas.{length-walk}
 use Rattle.q_drr.proofs.ring.Ring.len.Goals as goal
 
-pub returns : goal.returns
-returns c = sym (length-walk (next_of c.self.inside.links.items) c.self.inside.count c.self.inside.front) ∙ ap (λ (v : Circle). length v.order) c.self.view_is
+pub returns-clause-value : goal.returns-clause-value
+returns-clause-value c = sym (length-walk (next_of c.self.inside.links.items) c.self.inside.count c.self.inside.front) ∙ ap (λ (v : Circle). length v.order) c.self.view_is
