@@ -151,11 +151,11 @@ found place len mtu d w e = by (lane_to place d.tree.root) refl e
     by (Some lane) is e = inl (record { lane = lane; there = is })
 
 -- what a turn was found by
-record IsOneDrr (class : ClassId) (root : Node (List Note)) (turn : Turn) : Type 0 where
-  drr : DrrClass
-  leads : way_to class root ≡ Some (record { link = turn.link; drrs = drr ∷ [] })
+pub record IsOneDrr (class : ClassId) (root : Node (List Note)) (turn : Turn) : Type 0 where
+  pub drr : DrrClass
+  pub leads : way_to class root ≡ Some (record { link = turn.link; drrs = drr ∷ [] })
 
-one-drr : (class : ClassId) (root : Node (List Note)) (turn : Turn) → turn_to (places.Class class) root ≡ Some turn → IsOneDrr class root turn
+pub one-drr : (class : ClassId) (root : Node (List Note)) (turn : Turn) → turn_to (places.Class class) root ≡ Some turn → IsOneDrr class root turn
 one-drr class root turn e =
     option_and_then_some (λ (w : Way). option_and_then (turn_on w.link (shares_of w)) (limit_in class root)) (way_to class root) turn e
     (λ w leads rest. option_and_then_some (turn_on w.link (shares_of w)) (limit_in class root) turn rest (λ limit there made. by w.link w.drrs limit leads made))
@@ -220,7 +220,7 @@ module _ (settings : DeviceSettings) (range : IsInRange settings) (before : List
       ∙ ap (λ k. latest_on settings.mtu k bytes (level_of k start.tree.root.own.discipline) lane.link) clock
 
   -- the class of a drr that was found answers for the packet once it has come
-  turn-becomes : (class : ClassId) → place ≡ places.Class class → (turn : Turn) → turn_to (places.Class class) start.tree.root ≡ Some turn
+  pub turn-becomes : (class : ClassId) → place ≡ places.Class class → (turn : Turn) → turn_to (places.Class class) start.tree.root ≡ Some turn
       → latest_of history place 0 settings.mtu next
       ≡ option_and_then (λ n. latest_on settings.mtu now n (level_of now start.tree.root.own.discipline) turn.link) (bytes_before class p.len start.tree.root)
   turn-becomes class is turn there =

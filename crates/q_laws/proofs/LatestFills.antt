@@ -1,6 +1,6 @@
 -- A packet that comes later finds a bucket that has filled meanwhile: what a device answers of it then.
 use Rattle.std.proofs.Common.{◌≡◌, ℕ, ◌+◌, ◌-◌, ◌*◌, ◌≤◌, inl, inr, max, min, refl, sym, ap, subst, ◌∙◌, List, [], ◌∷◌, Option, Some, None, option_map, option_and_then, arith}
-use Rattle.std.specs.Prelude.{Bool, true, false, slice_get, if◌then◌else◌}
+use Rattle.std.specs.Prelude.{All, Bool, true, false, slice_get, if◌then◌else◌}
 use Rattle.std.specs.Int.{div_ceil}
 use Rattle.std.proofs.Math.Nat.{mul-add, mul-le-mul_left, mul_comm}
 use Rattle.std.proofs.lemmas.Bool.{cases_lt}
@@ -15,12 +15,15 @@ use Rattle.q_model.specs.Node.{Discipline, Fifo, Prio, Tbf, Drr, FqCodel, Node, 
 use Rattle.q_model.specs.Settings.{DeviceSettings, IsInRange}
 use Rattle.q_model.specs.Step.{DeviceState}
 use Rattle.q_model.specs.Tally.{Note}
+use Rattle.q_model.specs.declared.event.Event.{Event}
 use Rattle.q_model.specs.declared.place.Place.{Place}
+use Rattle.q_model.specs.Events.{IsEvent}
 use Rattle.q_invariants.proofs.Replays.{replay-kept}
 use Rattle.q_tree.specs.declared.lanes.Lane.{Lane}
 use Rattle.q_tree.specs.declared.ways.Link.{Link}
 use Rattle.q_tree.specs.Lanes.{lane_below, lane_from, lane_to, level_of, limit_along}
 use Rattle.q_tree.specs.Ways.{has_tbf}
+use Rattle.q_device.specs.declared.latest.Latest.{Latest}
 use Rattle.q_device.specs.Latest.{counted_level, latest_on, paid_at}
 use Rattle.q_device.specs.Promise.{late_on}
 use Rattle.q_device.specs.Sharing.{device_after}
@@ -32,12 +35,12 @@ use Rattle.q_laws.proofs.LineDelay.{ceil-rises, ceil-under}
 
 -- ---- the bucket of a lane
 
-record IsItsBucket (d : Discipline) (link : Link) : Type 0 where
-  bucket : TokenBucket
-  most : ℕ
-  is : d ≡ Tbf bucket most
-  rate : bucket.rate ≡ link.rate
-  burst : bucket.burst ≡ link.burst
+pub record IsItsBucket (d : Discipline) (link : Link) : Type 0 where
+  pub bucket : TokenBucket
+  pub most : ℕ
+  pub is : d ≡ Tbf bucket most
+  pub rate : bucket.rate ≡ link.rate
+  pub burst : bucket.burst ≡ link.burst
 
 link-of : (link : Option Link) (path : List ℕ) (n : Node (List Note)) (lane : Lane) → lane_below link path n ≡ Some lane → link ≡ lane.link
 link-of link path n lane e = by (has_tbf n) (limit_along path n) e
@@ -113,59 +116,62 @@ ceil-later x y z wait r some less = elim (cases_lt y x) [
 
 -- ---- the law
 
+-- What is answered of so many bytes then, whatever the device answers it of.
+module _ (settings : DeviceSettings) (range : IsInRange settings) (before : List Event) (moment : ℕ) (all_before : All IsEvent before)
+    (link : Link) (bytes : ℕ) (w : Latest) (at : ℕ) where
+  abbrev start : DeviceState (List Note)
+  start = device_after settings before
+
+  abbrev now : ℕ
+  now = max (device_after settings before).clock moment
+
+  abbrev by : ℕ
+  by = max at (at_best settings.mtu (max (device_after settings before).clock moment) link w.bytes)
+
+  pub stands-on : IsItsBucket start.tree.root.own.discipline link
+      → latest_on settings.mtu start.clock bytes (level_of start.clock start.tree.root.own.discipline) (Some link) ≡ Some w → w.at ≡ Some at → by ≤ 2 ^ 62
+      → IsToldBy by w (latest_on settings.mtu now bytes (level_of now start.tree.root.own.discipline) (Some link))
+  stands-on its told timed early = on (level_of start.clock start.tree.root.own.discipline) refl told
+    where
+      on : (level : Option ℕ) → level_of start.clock start.tree.root.own.discipline ≡ level
+          → latest_on settings.mtu start.clock bytes level (Some link) ≡ Some w
+          → IsToldBy by w (latest_on settings.mtu now bytes (level_of now start.tree.root.own.discipline) (Some link))
+      on None is e = absurd (none-some w (fits settings.mtu start.clock bytes None (Some link) w e).is)
+      on (Some level) is e =
+          let root : Node (List Note) = start.tree.root in
+          let law = subst (IsLawfulDiscipline start.tree.device.mtu start.clock (each beneath_own root.below)) its.is
+          (replay-kept settings before range all_before).lawful.0.discipline in
+          let told_is = fits settings.mtu start.clock bytes (Some level) (Some link) w e in
+          let numbers = below-is settings.mtu start.clock bytes level link w told_is.is in
+          let late : ℕ = late_on settings.mtu link in
+          let most : ℕ = link.burst * units_in_byte - link.rate * late in
+          let higher : ℕ = level_at its.bucket now in
+          let level_is : level_at its.bucket start.clock ≡ level =
+          same_Some (level_at its.bucket start.clock) level (sym (ap (level_of start.clock) its.is) ∙ is) in
+          let some : 1 ≤ max link.rate 1 = omega arith in
+          let rate : its.bucket.rate ≡ max link.rate 1 = let from = law.level.rate_from in let same = its.rate in omega (arith, from, same) in
+          let wait : ℕ = now - start.clock in
+          let rises = level-fills its.bucket start.clock now law.last (omega arith) in
+          let brings : its.bucket.rate * wait ≡ max link.rate 1 * wait = ap (λ r. r * wait) rate in
+          let burst = its.burst in
+          let missing : ℕ = bytes * units_in_byte - counted_level late link level in
+          let less : bytes * units_in_byte - counted_level late link higher ≤ max (bytes * units_in_byte - most) (missing - max link.rate 1 * wait) =
+          omega (arith, rises, brings, burst, level_is) in
+          let ceil = ceil-later (bytes * units_in_byte - counted_level late link higher) (bytes * units_in_byte - most) missing wait
+          (max link.rate 1) some less in
+          let same : at ≡ start.clock + div_ceil (bytes * units_in_byte - counted_level late link level) (max link.rate 1) =
+          same_Some at (paid_at start.clock link (counted_level late link level) bytes) (sym timed ∙ numbers.at) in
+          let best : at_best settings.mtu now link w.bytes ≡ now + div_ceil (bytes * units_in_byte - most) (max link.rate 1) =
+          ap (at_best settings.mtu now link) numbers.bytes_are in
+          subst (λ (l : Option ℕ). IsToldBy by w (latest_on settings.mtu now bytes l (Some link))) (sym (ap (level_of now) its.is))
+          (told-at settings.mtu start.clock now bytes level higher by link w (omega (arith, ceil, same, best)) early told_is.small numbers)
+
 pub latest-stands-as-it-fills : (settings : DeviceSettings) → IsInRange settings → LatestStandsAsItFills settings
 latest-stands-as-it-fills settings range before p moment place link limit w at all_before comes found answered kept timed early =
+    let start : DeviceState (List Note) = device_after settings before in
+    let lane : Lane = record { link = Some link; limit = limit } in
+    let bytes : ℕ = bytes_in (line_at_root start) + p.len in
+    let by : ℕ = max at (at_best settings.mtu (max start.clock moment) link w.bytes) in
     subst (IsToldBy by w) (sym (becomes settings range before p moment place all_before comes kept lane found))
-    (on (level_of start.clock start.tree.root.own.discipline) refl told)
-  where
-    start : DeviceState (List Note)
-    start = device_after settings before
-
-    lane : Lane
-    lane = record { link = Some link; limit = limit }
-
-    now : ℕ
-    now = max (device_after settings before).clock moment
-
-    bytes : ℕ
-    bytes = bytes_in (line_at_root (device_after settings before)) + p.len
-
-    by : ℕ
-    by = max at (at_best settings.mtu (max (device_after settings before).clock moment) link w.bytes)
-
-    told : latest_on settings.mtu start.clock bytes (level_of start.clock start.tree.root.own.discipline) (Some link) ≡ Some w
-    told = sym (was settings range before p moment place all_before comes kept lane found) ∙ answered
-
-    on : (level : Option ℕ) → level_of start.clock start.tree.root.own.discipline ≡ level
-        → latest_on settings.mtu start.clock bytes level (Some link) ≡ Some w
-        → IsToldBy by w (latest_on settings.mtu now bytes (level_of now start.tree.root.own.discipline) (Some link))
-    on None is e = absurd (none-some w (fits settings.mtu start.clock bytes None (Some link) w e).is)
-    on (Some level) is e =
-        let root : Node (List Note) = start.tree.root in
-        let its = bucket-to root place lane link found refl in
-        let law = subst (IsLawfulDiscipline start.tree.device.mtu start.clock (each beneath_own root.below)) its.is
-        (replay-kept settings before range all_before).lawful.0.discipline in
-        let told_is = fits settings.mtu start.clock bytes (Some level) (Some link) w e in
-        let numbers = below-is settings.mtu start.clock bytes level link w told_is.is in
-        let late : ℕ = late_on settings.mtu link in
-        let most : ℕ = link.burst * units_in_byte - link.rate * late in
-        let higher : ℕ = level_at its.bucket now in
-        let level_is : level_at its.bucket start.clock ≡ level =
-        same_Some (level_at its.bucket start.clock) level (sym (ap (level_of start.clock) its.is) ∙ is) in
-        let some : 1 ≤ max link.rate 1 = omega arith in
-        let rate : its.bucket.rate ≡ max link.rate 1 = let from = law.level.rate_from in let same = its.rate in omega (arith, from, same) in
-        let wait : ℕ = now - start.clock in
-        let rises = level-fills its.bucket start.clock now law.last (omega arith) in
-        let brings : its.bucket.rate * wait ≡ max link.rate 1 * wait = ap (λ r. r * wait) rate in
-        let burst = its.burst in
-        let missing : ℕ = bytes * units_in_byte - counted_level late link level in
-        let less : bytes * units_in_byte - counted_level late link higher ≤ max (bytes * units_in_byte - most) (missing - max link.rate 1 * wait) =
-        omega (arith, rises, brings, burst, level_is) in
-        let ceil = ceil-later (bytes * units_in_byte - counted_level late link higher) (bytes * units_in_byte - most) missing wait
-        (max link.rate 1) some less in
-        let same : at ≡ start.clock + div_ceil (bytes * units_in_byte - counted_level late link level) (max link.rate 1) =
-        same_Some at (paid_at start.clock link (counted_level late link level) bytes) (sym timed ∙ numbers.at) in
-        let best : at_best settings.mtu now link w.bytes ≡ now + div_ceil (bytes * units_in_byte - most) (max link.rate 1) =
-        ap (at_best settings.mtu now link) numbers.bytes_are in
-        subst (λ (l : Option ℕ). IsToldBy by w (latest_on settings.mtu now bytes l (Some link))) (sym (ap (level_of now) its.is))
-        (told-at settings.mtu start.clock now bytes level higher by link w (omega (arith, ceil, same, best)) early told_is.small numbers)
+    (stands-on settings range before moment all_before link bytes w at (bucket-to start.tree.root place lane link found refl)
+    (sym (was settings range before p moment place all_before comes kept lane found) ∙ answered) timed early)

@@ -15,6 +15,7 @@ mod LanesStay
 mod LatestArrives
 mod LatestFills
 mod LatestKept
+mod LatestTurnFills
 mod LatestTurnKept
 mod LatestTurnRows
 mod LatestTurnTold

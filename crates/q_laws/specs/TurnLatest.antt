@@ -1,9 +1,11 @@
 -- That what a device answers of the packet that was queued last in the fifo of a class of a drr is true of it, from the state of the moment, over
 -- every interval of every replay: q_device's specs/Latest.antt has the numbers. tc-drr(8), tc-pfifo(8), tc-bfifo(8) and tc-tbf(8).
-use Rattle.std.specs.Prelude.{◌≡◌, ℕ, ◌+◌, ◌^◌, ◌≤◌, List, [], ◌∷◌, ◌++◌, All, Option, Some}
+use Rattle.std.specs.Prelude.{◌≡◌, ℕ, ◌+◌, ◌^◌, ◌≤◌, max, List, [], ◌∷◌, ◌++◌, All, Option, Some}
 use Rattle.std.specs.List.{filter_map}
+use Rattle.q_packet.specs.Descriptor.{Descriptor}
 use Rattle.q_model.specs.declared.class_id.ClassId.{ClassId}
 use Rattle.q_model.specs.declared.event.Event.{Event}
+use Rattle.q_model.specs.declared.event.Event.TheVariants as event
 use Rattle.q_model.specs.declared.place.Place.TheVariants as place
 use Rattle.q_model.specs.Events.{IsEvent}
 use Rattle.q_model.specs.Settings.{DeviceSettings}
@@ -20,11 +22,13 @@ use Rattle.q_device.specs.Laws.{given_in}
 use Rattle.q_device.specs.Sharing.{device_after}
 use Rattle.q_laws.specs.Delay.{PaysInTime}
 use Rattle.q_laws.specs.FifoTurn.{KeepFifo}
+use Rattle.q_laws.specs.Latest.{IsToldBy, at_best}
 use Rattle.q_laws.specs.Line.{bytes_in}
 use Rattle.q_laws.specs.Order.{answers}
 use Rattle.q_laws.specs.Rate.{IsDrained}
 use Rattle.q_device.specs.Latest.{latest_in_turn, latest_of}
 use Rattle.q_laws.specs.TurnWorst.{IsTurn, IsWaiting, id_of}
+use Rattle.q_laws.specs.Worst.{IsKeptAt, with_arrival}
 
 -- what a device answers of such a class is what follows
 abbrev pub LatestTurnIsAnswered : DeviceSettings → Type 0
@@ -56,3 +60,16 @@ LatestTurnIsInTime settings =
     → Throughout (IsWaiting d.major d.class.name (device_after settings before)) settings before during
     → IsDrained late (device_after settings before) (during ++ e ∷ [])
     → PaysInTime at late (device_after settings (before ++ during)) (step history (device_after settings (before ++ during)) e).device
+
+-- What was answered of a packet before it came, if it came later: the bucket fills meanwhile, so a time is answered that is no later than that, or
+-- than what the bucket would pay by then if it counted for as much as it can.
+abbrev pub LatestTurnStandsAsItFills : DeviceSettings → Type 0
+LatestTurnStandsAsItFills settings =
+    (before : List Event) (p : Descriptor) (moment : ℕ) (class : ClassId) (turn : Turn) (link : Link) (w : Latest) (at : ℕ) → All IsEvent before
+    → IsEvent (event.Arrive p moment)
+    → turn_to (place.Class class) (device_after settings before).tree.root ≡ Some turn → turn.link ≡ Some link
+    → latest_of history (place.Class class) p.len settings.mtu (device_after settings before) ≡ Some w
+    → IsKeptAt (place.Class class) p moment (device_after settings before)
+    → w.at ≡ Some at → max at (at_best settings.mtu (max (device_after settings before).clock moment) link w.bytes) ≤ 2 ^ 62
+    → IsToldBy (max at (at_best settings.mtu (max (device_after settings before).clock moment) link w.bytes)) w
+    (latest_of history (place.Class class) 0 settings.mtu (device_after settings (with_arrival before p moment)))

@@ -15,7 +15,7 @@ ghost use Rattle.q_laws.specs.Rate.{NeverLateIsDrained, RateIsDelivered, RateIsS
 ghost use Rattle.q_laws.specs.Rest.{JoiningFlowsAreSpared};
 ghost use Rattle.q_laws.specs.Service.{ClassAgainstAny, ClassesGetTheirParts, FlowAgainstAny, NoFlowStarves, NewFlowFirst};
 ghost use Rattle.q_laws.specs.Turn.{ClassesWaitTheirTurn};
-ghost use Rattle.q_laws.specs.TurnLatest.{LatestTurnIsAnswered, LatestTurnIsEnough, LatestTurnIsInTime};
+ghost use Rattle.q_laws.specs.TurnLatest.{LatestTurnIsAnswered, LatestTurnIsEnough, LatestTurnIsInTime, LatestTurnStandsAsItFills};
 ghost use Rattle.q_laws.specs.TurnWorst.{TurnIsAnswered, TurnIsEnough, TurnIsInTime, TurnsKeepLimits};
 ghost use Rattle.q_laws.specs.Work.{BandsAreStrict, WorkIsConserved};
 ghost use Rattle.q_laws.specs.Worst.{LinesKeepLimits, WorstIsEnough, WorstIsInTime};
@@ -265,10 +265,11 @@ pub fn worst_is_enough(settings: Settings)
 ///
 /// No tbf is added below the root, the one at the root stays as it is, and a command leaves the line as it was, or longer at its end.
 ///
-/// What it answers of a packet that is to come next, by its length, in a fifo in line or in the fifo of a class of a drr, is what it answers of that packet right after the fifo kept it, if it
-/// came at no time ahead of the clock (`told_before`). If it came later, the same bytes are answered then, and a time that is later by no
-/// more than that (`rises_no_faster`), and no later than the first answer or than that which a full bucket would give then
-/// (`stands_as_it_fills`). For all settings and every list of events whose fields are in their ranges.
+/// What it answers of a packet that is to come next, by its length, in a fifo in line or in the fifo of a class of a drr, is what it answers of
+/// that packet right after the fifo kept it, if it came at no time ahead of the clock (`told_before`). If it came later, the same bytes are answered
+/// then, and a time that is later by no more than that (`rises_no_faster`). In a fifo in line that time is also no later than the first answer or
+/// than that which a full bucket would give then (`stands_as_it_fills`), as [`latest_turn_is_enough`] says it of a class of a drr. For all
+/// settings and every list of events whose fields are in their ranges.
 pub fn latest_is_enough(settings: Settings)
     ensures enough { LatestIsEnough settings }
     ensures in_time { LatestIsInTime settings }
@@ -377,12 +378,14 @@ pub fn turn_is_enough(settings: Settings)
 /// before that (`in_time`). The device is polled as [`rate_is_delivered`] says, and no later than was answered.
 ///
 /// When the packet has left is said as in [`turn_is_enough`], and under the same conditions. What is answered of a packet that is to come next is
-/// among what [`latest_is_enough`] says (`told_before`, `rises_no_faster`). For all settings and every list of events whose fields are in their
-/// ranges, whatever comes to the other classes.
+/// among what [`latest_is_enough`] says (`told_before`, `rises_no_faster`); and if it comes later, the time that is answered then is no later
+/// than the first answer or than that which a full bucket would give then (`stands_as_it_fills`). For all settings and every list of events whose
+/// fields are in their ranges, whatever comes to the other classes.
 pub fn latest_turn_is_enough(settings: Settings)
     ensures answered { LatestTurnIsAnswered settings }
     ensures enough { LatestTurnIsEnough settings }
     ensures in_time { LatestTurnIsInTime settings }
+    ensures stands_as_it_fills { LatestTurnStandsAsItFills settings }
 {
     settings.ranges();
 }

@@ -5,7 +5,7 @@ ghost use Rattle.q_ports.specs.Placed.{placed_by, ring_of_port, share_of};
 ghost use Rattle.q_ports.specs.Rings.{all_of, ring_id, received_from, ring_seen, AreEmptyWithin, AreSameFrom, AreSeenEmpty, Looks, LooksBeside, RingSeen};
 ghost use Rattle.q_device.specs.Room.{StaysButForPlaces};
 ghost use Rattle.q_ports.specs.Stopped.{HasNoRoomForNext, Stops, StopsSome};
-ghost use Rattle.q_ports.specs.TakenAt.{TakesAt, TakesKnown};
+ghost use Rattle.q_ports.specs.TakenAt.{HasTried, TakesAt, TakesKnown};
 
 use crate::booked::Booked;
 use crate::laws::booked_has_its_memory;
@@ -134,16 +134,9 @@ impl<P: Ledger, B: Ledger> Intake<P, B> {
         now: Moment,
     ) -> Result<Option<usize>, AllocError>
         requires { to ≤ length self.old }
-        ensures rings { map ring_id self.new ≡ map ring_id self.old }
+        ensures tried { HasTried now self.old self.new booked.old booked.new result }
         ensures others { AreSameFrom to self.old self.new }
-        ensures ring { IfOk result (λ taken. IfSome taken (λ at. at < length self.old)) }
-        ensures some { IfOk result (λ taken. IfSome taken (λ at. TakesAt at now (map received_from self.old) (map received_from self.new) booked.old booked.new)) }
-        ensures none { IfOk result (λ taken. IfNone taken (map received_from self.new ≡ map received_from self.old)) }
         ensures empty { IfOk result (λ taken. IfNone taken (AreEmptyWithin from to self.new)) }
-        ensures none_device { IfOk result (λ taken. IfNone taken (booked.new ≡ booked.old)) }
-        ensures err { OnErr result (map received_from self.new ≡ map received_from self.old) }
-        ensures err_device { OnErr result (StaysButForPlaces booked.old booked.new) }
-        ensures refused { OnErr result (HasNoRoomForNext booked.old self.new) }
     {
         for at in from..to {
             let is_taken = self.take_at(at, booked, now)?;
@@ -177,15 +170,8 @@ impl<P: Ledger, B: Ledger> Intake<P, B> {
         booked: &mut Booked<P, B>,
         now: Moment,
     ) -> Result<Option<usize>, AllocError>
-        ensures rings { map ring_id self.new ≡ map ring_id self.old }
-        ensures ring { IfOk result (λ taken. IfSome taken (λ at. at < length self.old)) }
-        ensures some { IfOk result (λ taken. IfSome taken (λ at. TakesAt at now (map received_from self.old) (map received_from self.new) booked.old booked.new)) }
-        ensures none { IfOk result (λ taken. IfNone taken (map received_from self.new ≡ map received_from self.old)) }
+        ensures tried { HasTried now self.old self.new booked.old booked.new result }
         ensures empty { IfOk result (λ taken. IfNone taken (AreSeenEmpty self.new)) }
-        ensures none_device { IfOk result (λ taken. IfNone taken (booked.new ≡ booked.old)) }
-        ensures err { OnErr result (map received_from self.new ≡ map received_from self.old) }
-        ensures err_device { OnErr result (StaysButForPlaces booked.old booked.new) }
-        ensures refused { OnErr result (HasNoRoomForNext booked.old self.new) }
     {
         let start = self.start();
         let count = self.count();

@@ -35,7 +35,8 @@ impl Model for Shown {
     ghost invariant = { λ s.
         (s.len ≡ specs.length_of s.packet.value)
         × (IfSome s.packet.value (λ (p : Descriptor). 1 ≤ p.len))
-        × (s.is_quiet ≡ true → s.signals.value ≡ no_signals) };
+        × (s.is_quiet ≡ true → s.signals.value ≡ no_signals)
+        × (s.signals.value ≡ no_signals → s.is_quiet ≡ true) };
 }
 
 impl Shown {
@@ -151,7 +152,8 @@ impl Shown {
     /// Whether nothing was dropped and nothing was marked.
     #[inline(always)]
     pub(crate) fn is_quiet(&self) -> bool
-        ensures { result ≡ true → signals_of self.now ≡ no_signals }
+        ensures means { result ≡ true → signals_of self.now ≡ no_signals }
+        ensures comes { signals_of self.now ≡ no_signals → result ≡ true }
     {
         self.is_quiet
     }

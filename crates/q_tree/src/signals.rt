@@ -22,7 +22,8 @@ impl Signals {
     /// Whether nothing was dropped and nothing was marked.
     #[inline(always)]
     pub(crate) fn is_nothing(&self) -> bool
-        ensures { result ≡ true → self.now ≡ no_signals }
+        ensures means { result ≡ true → self.now ≡ no_signals }
+        ensures comes { self.now ≡ no_signals → result ≡ true }
     {
         self.dropped.packets == 0
             && self.dropped.bytes == 0

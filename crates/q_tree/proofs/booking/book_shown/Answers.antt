@@ -31,7 +31,7 @@ book_signals-requires-clause-dropped_bytes c = omega (arith, c.requires.balanced
 
 pub returns-then-is_quiet : goal.returns-then-is_quiet
 returns-then-is_quiet c =
-    let quiet = c.is_quiet.ensures c.if-is_quiet.true in
+    let quiet = c.is_quiet.ensures.means c.if-is_quiet.true in
     shown-nothing c.args.shown.now c.args.row.now (ap (λ (t : Signals). t.dropped) quiet) (ap (λ (t : Signals). t.marked) quiet)
 
 pub returns : goal.returns

@@ -12,10 +12,10 @@ pub loop-taken-preserved : goal.loop-taken-preserved
 loop-taken-preserved g c =
     let at = c.in-Ok-Some.field-0-0 in
     let before = c.loop-taken.self in
-    let ring = rw c.in-Ok-Some.field-0-is at c.in-Ok-Some.ensures.ring in
-    let some = rw c.in-Ok-Some.field-0-is at c.in-Ok-Some.ensures.some in
+    let ring = rw c.in-Ok-Some.field-0-is at c.in-Ok-Some.ensures.tried.ring in
+    let some = rw c.in-Ok-Some.field-0-is at c.in-Ok-Some.ensures.tried.some in
     record {
-      rings = c.take_next.ensures.rings ∙ c.loop-taken.invariant.rings;
+      rings = c.take_next.ensures.tried.rings ∙ c.loop-taken.invariant.rings;
       collected =
           collects-more c.args.now (map received_from c.args.self.now) (map received_from before) (map received_from c.take_next.new.self)
           c.args.booked.now c.loop-taken.booked c.take_next.new.booked c.loop-taken.taken (take at some.packet)
@@ -27,4 +27,4 @@ pub returns-in-Err-clause-stopped : goal.returns-in-Err-clause-stopped
 returns-in-Err-clause-stopped g c h =
     let inv = c.loop-taken.invariant in
     stops-here c.args.now (map received_from c.args.self.now) c.loop-taken.self c.take_next.new.self c.args.booked.now c.loop-taken.booked c.take_next.new.booked c.loop-taken.taken
-    inv.collected inv.first c.in-Err.ensures.err c.in-Err.ensures.refused c.in-Err.ensures.err_device
+    inv.collected inv.first c.in-Err.ensures.tried.err c.in-Err.ensures.tried.refused c.in-Err.ensures.tried.err_device
