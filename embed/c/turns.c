@@ -3,12 +3,14 @@
  * bytes, so that they leave nothing of what they may send. In most rounds the fifo is filled for the first time in the worst state that a drr can
  * be in: commands that change quanta have left the other classes the greatest deficits and this one a byte, the others are before it, the drr holds
  * a longest packet, and nothing is left of the burst. Packets come in bursts and pauses then, and polls are as late as they may be. Before each
- * packet for the fifo the program asks qtree_worst, and compares with that what the device sends until the packet has left, and when it leaves. It
+ * packet for the fifo the program asks qtree_worst and qtree_latest, right after it qtree_latest again, and then after every seventh packet that
+ * leaves, as long as it is the last one in the fifo. It compares with that what the device sends until the packet has left, and when it leaves. It
  * counts how often each bound is met exactly, and fails if one never is, since a smaller one would do then.
  *
- *   build/turns [ROUNDS [SEED]]            the test; on failure it prints the seed and the round
- *   build/turns --sooner [ROUNDS [SEED]]   with each bound a byte or a nanosecond less, which has to fail
- *   build/turns --later [ROUNDS [SEED]]    with polls later than is allowed, which has to fail */
+ *   build/turns [ROUNDS [SEED]]                   the test; on failure it prints the seed and the round
+ *   build/turns --sooner [ROUNDS [SEED]]          with each bound a byte or a nanosecond less, which has to fail
+ *   build/turns --sooner-latest [ROUNDS [SEED]]   the same of the bounds of qtree_latest alone
+ *   build/turns --later [ROUNDS [SEED]]           with polls later than is allowed, which has to fail */
 #include "qtree.h"
 
 #include <errno.h>
@@ -21,17 +23,28 @@
 #include <string.h>
 
 /* The most packets of the fifo in a round, and those that come at once. A packet has the number of its class for its port. */
-enum { ROUNDS = 2000, STEPS = 30, AT_ONCE = 24, MOST = 8192, CLASSES = 3, WAITING = 3, ENOUGH_ROUNDS = 50 };
+enum { ROUNDS = 2000, STEPS = 30, AT_ONCE = 24, MOST = 8192, CLASSES = 3, WAITING = 3, ENOUGH_ROUNDS = 50, POLLS_PER_ASK = 7 };
 
 /* The tokens of a byte: the rate in bits a second is also how many come in a nanosecond. */
 static const uint64_t BYTE = UINT64_C(8000000000);
 __extension__ typedef unsigned __int128 wide;
 
-enum bound { BYTES, TIME, BOUNDS };
-static const char *const names[BOUNDS] = { "bytes", "time" };
+/* The bounds. The first ones are compared when a packet leaves: what the device has sent, and the time, less the lateness of the poll. AGAIN is the
+ * least answer since the packet came. The last one is a bound of the answer right after it came. */
+enum bound { WORST_BYTES, ASKED_BYTES, AGAIN_BYTES, WORST_TIME, ASKED_TIME, TOLD_TIME, AGAIN_TIME, LEAVING, RISES = LEAVING, BOUNDS };
+static const char *const names[BOUNDS] = {
+    "bytes of qtree_worst",
+    "bytes of qtree_latest, asked before",
+    "bytes of qtree_latest, asked later",
+    "ns of qtree_worst",
+    "time of qtree_latest, asked before",
+    "time of qtree_latest, asked after",
+    "time of qtree_latest, asked later",
+    "first answer, for the second one",
+};
 
 struct kept {
-    uint64_t bounds[BOUNDS]; /* of the bytes that the device has sent, and of the time less the lateness of the poll */
+    uint64_t bounds[LEAVING]; /* of bytes that the device has sent, and of time; UINT64_MAX where nothing is promised */
 };
 
 struct play {
@@ -40,9 +53,11 @@ struct play {
     uint64_t limit;       /* of the fifo, in bytes, or in packets of a pfifo */
     uint64_t tick;        /* in which the rate brings a longest packet */
     uint64_t greatest;    /* lateness of a poll */
-    uint64_t clock;       /* the time of the last event */
+    uint64_t clock;       /* the time of what happens */
+    uint64_t event;       /* the time of the device's last event */
     uint64_t due, poll_at; /* since when a poll is due, and when it comes; UINT64_MAX if none is due */
     uint64_t sent;        /* bytes */
+    uint64_t left;        /* packets of all classes */
     uint32_t quanta[CLASSES + 1];
     uint16_t own, mtu; /* the class of the fifo, 1 to 3 */
     bool is_pfifo, is_single;
@@ -52,7 +67,7 @@ struct play {
 
 static uint64_t state, seed = 7, compared, met[BOUNDS];
 static unsigned round_now;
-static bool is_sooner, is_later;
+static bool is_sooner, is_latest_sooner, is_later;
 
 /* A random number below this one. */
 static uint64_t below(uint64_t end) {
@@ -87,9 +102,10 @@ static void must(const struct play *play, bool holds, const char *what) {
 /* A number is no more than a bound. */
 static void is_within(const struct play *play, enum bound which, uint64_t number, uint64_t bound) {
     char text[160];
+    uint64_t least = bound - (is_sooner || (is_latest_sooner && which != WORST_BYTES && which != WORST_TIME));
     met[which] += number == bound;
-    if (number > bound - is_sooner) {
-        snprintf(text, sizeof text, "%" PRIu64 " is past the bound by the %s, %" PRIu64, number, names[which], bound - is_sooner);
+    if (number > least) {
+        snprintf(text, sizeof text, "%" PRIu64 " is past the bound by the %s, %" PRIu64, number, names[which], least);
         fail(play, text);
     }
 }
@@ -101,6 +117,7 @@ __attribute__((format(printf, 2, 3))) static void tc(struct play *play, const ch
     vsnprintf(line, sizeof line, format, words);
     va_end(words);
     must(play, qtree_run(&play->device, line, play->clock, NULL) == QTREE_DONE, line);
+    play->event = play->clock;
 }
 
 /* How late the next poll is. */
@@ -133,8 +150,17 @@ static qtree_delay worst(const struct play *play) {
     return it;
 }
 
+/* By when a packet of this length leaves the fifo that arrives as the device's next event, or the last one. */
+static qtree_departure latest(const struct play *play, uint64_t len) {
+    qtree_departure it = { 0 };
+    must(play, qtree_latest(&play->device, QTREE_CLASS, 2, play->own, (uint16_t)len, &it) == QTREE_DONE, "qtree_latest has no promise");
+    must(play, (it.at == UINT64_MAX) == (play->rate == 0) && (it.late == UINT64_MAX) == (play->rate == 0), "qtree_latest has a time without a tbf");
+    return it;
+}
+
 static qtree_code arrive(struct play *play, uint16_t class, uint64_t len) {
     qtree_packet packet = { .len = (uint16_t)len, .buf = (uint32_t)play->tail, .port = class, .sport = class };
+    play->event = play->clock;
     return qtree_arrive(&play->device, &packet, play->clock);
 }
 
@@ -143,15 +169,53 @@ static void arrive_other(struct play *play, uint16_t class) {
     must(play, arrive(play, class, play->is_single ? 1 : 1 + below(play->mtu)) == QTREE_DONE, "a packet of another class is lost");
 }
 
-/* A packet for the fifo; whether it is kept. Nothing was promised of it if quanta are to change. */
+/* The fifo keeps a packet: what was answered before and what is answered now agree, and both bound when it leaves. Nothing is promised yet if
+ * quanta are to change. */
+static void keep(struct play *play, const qtree_delay *delay, const qtree_departure *asked, uint64_t passed, bool is_promised) {
+    qtree_departure told = latest(play, 0);
+    must(play, play->tail < MOST, "too many packets");
+    struct kept *kept = &play->line[play->tail++];
+    must(play, told.bytes == asked->bytes && told.bytes <= delay->bytes, "other bytes are answered after the packet came");
+    must(play, passed != 0 || told.at == asked->at, "another time is answered right after the packet came");
+    must(play, told.late == asked->late && told.late == delay->late, "qtree_latest and qtree_worst differ");
+    for (enum bound which = 0; which < LEAVING; which++) {
+        kept->bounds[which] = UINT64_MAX;
+    }
+    if (play->rate != 0 && passed != 0) {
+        is_within(play, RISES, told.at, asked->at + passed);
+    }
+    if (!is_promised) {
+        return;
+    }
+    kept->bounds[WORST_BYTES] = play->sent + delay->bytes;
+    kept->bounds[ASKED_BYTES] = play->sent + asked->bytes;
+    if (play->rate != 0) {
+        kept->bounds[WORST_TIME] = play->clock + delay->ns;
+        kept->bounds[ASKED_TIME] = asked->at + passed;
+        kept->bounds[TOLD_TIME] = told.at;
+    }
+}
+
+/* Asks by when the last packet of the fifo leaves, from the state of the moment. */
+static void ask_again(struct play *play) {
+    if (play->head == play->tail) {
+        return;
+    }
+    struct kept *kept = &play->line[play->tail - 1];
+    qtree_departure told = latest(play, 0);
+    kept->bounds[AGAIN_BYTES] = less(kept->bounds[AGAIN_BYTES], play->sent + told.bytes);
+    kept->bounds[AGAIN_TIME] = less(kept->bounds[AGAIN_TIME], told.at);
+}
+
+/* A packet for the fifo; whether it is kept. */
 static bool arrive_own(struct play *play, uint64_t len, bool is_promised) {
+    uint64_t passed = play->clock - play->event;
     qtree_delay delay = worst(play);
+    qtree_departure asked = latest(play, len);
     qtree_code code = arrive(play, play->own, len);
     must(play, code == QTREE_DONE || code == QTREE_LOST_OVER_LIMIT, "a packet for the fifo is lost");
     if (code == QTREE_DONE) {
-        must(play, play->tail < MOST, "too many packets");
-        play->line[play->tail++] = is_promised ? (struct kept){ { play->sent + delay.bytes, play->clock + delay.ns } }
-                                               : (struct kept){ { UINT64_MAX, UINT64_MAX } };
+        keep(play, &delay, &asked, passed, is_promised);
     }
     qtree_loss loss;
     while (qtree_reap(&play->device, &loss) == QTREE_DONE) {
@@ -164,17 +228,20 @@ static bool arrive_own(struct play *play, uint64_t len, bool is_promised) {
 static void leave(struct play *play, uint32_t buf, uint64_t now, uint64_t late) {
     const struct kept *kept = &play->line[play->head];
     must(play, play->head < play->tail && buf == play->head, "a packet of the fifo leaves out of turn");
+    for (enum bound which = 0; which < LEAVING; which++) {
+        bool is_bytes = which < WORST_TIME;
+        if (is_bytes || play->rate != 0) {
+            is_within(play, which, is_bytes ? play->sent : now - late, kept->bounds[which]);
+        }
+    }
     play->head++;
     compared++;
-    is_within(play, BYTES, play->sent, kept->bounds[BYTES]);
-    if (play->rate != 0) {
-        is_within(play, TIME, now - late, kept->bounds[TIME]);
-    }
 }
 
 /* One poll. After a packet of another class the next one comes there. */
 static bool polled(struct play *play, uint64_t now) {
     qtree_sent sent;
+    play->event = now;
     if (qtree_poll_buf(&play->device, now, &sent) != QTREE_DONE) {
         return false;
     }
@@ -185,6 +252,9 @@ static bool polled(struct play *play, uint64_t now) {
         leave(play, sent.buf, now, now - play->due);
     } else {
         arrive_other(play, (uint16_t)sent.port);
+    }
+    if (++play->left % POLLS_PER_ASK == 0) {
+        ask_again(play);
     }
     return true;
 }
@@ -288,6 +358,7 @@ static void begin_in_spite(struct play *play) {
     for (uint16_t class = 1; class <= CLASSES; class++) {
         change_quantum(play, class, play->quanta[class]);
     }
+    ask_again(play);
     plan(play, 0);
 }
 
@@ -382,13 +453,83 @@ static void ask_figures(struct play *play) {
     qtree_close(&play->device);
 }
 
-/* Whether this line is done, and qtree_worst then answers the class major:minor something. */
+/* What is answered of a packet of this length in the class 2:1, or with 0 of the last one there. */
+static void must_leave(struct play *play, uint16_t len, uint64_t bytes, uint64_t at, uint64_t late, const char *what) {
+    qtree_departure departure = { 0 };
+    must(play, qtree_latest(&play->device, QTREE_CLASS, 2, 1, len, &departure) == QTREE_DONE, what);
+    must(play, departure.bytes == bytes && departure.at == at && departure.late == late, what);
+}
+
+static void must_poll(struct play *play, uint64_t now, uint16_t port, uint64_t len) {
+    qtree_sent sent = { 0 };
+    must(play, qtree_poll_buf(&play->device, now, &sent) == QTREE_DONE && sent.port == port && sent.len == len, "another packet leaves");
+}
+
+/* Classes that get 3000 and 1500 of every 4500 bytes. */
+static void add_two_classes(struct play *play) {
+    play->own = 0;
+    add_class(play, 1, 3000);
+    add_class(play, 2, 1500);
+}
+
+/* The last byte of the class 2:1 is one more than its deficit. It waits for a grant, in which the other class sends its quantum; what that may
+ * send at first comes before it, too. What is answered after each packet is what is left of the first answer. */
+static void leave_in_turn(struct play *play) {
+    static const uint16_t lens[] = { 1500, 1500, 1 };
+    static const uint64_t bytes[] = { 3000, 4500, 6001 };
+    static const struct { uint16_t port, len; } sent[] = { { 2, 1500 }, { 1, 1500 }, { 1, 1500 }, { 2, 1500 }, { 1, 1 } };
+    uint64_t left = bytes[2];
+    must(play, qtree_open(&play->device, &(qtree_settings){ 1000, 0, 1514 }) == QTREE_DONE, "no device");
+    tc(play, "tc qdisc add dev wan root handle 2: drr");
+    add_two_classes(play);
+    must_leave(play, 1500, 1500, UINT64_MAX, UINT64_MAX, "other bytes of a packet that comes to an empty drr");
+    for (unsigned i = 0; i < 2; i++) {
+        must(play, arrive(play, 2, 1500) == QTREE_DONE, "a packet is lost");
+    }
+    for (unsigned i = 0; i < sizeof lens / sizeof lens[0]; i++) {
+        must_leave(play, lens[i], bytes[i], UINT64_MAX, UINT64_MAX, "other bytes of a packet that comes next to a class");
+        must(play, arrive(play, 1, lens[i]) == QTREE_DONE, "a packet is lost");
+    }
+    for (unsigned i = 0; i < sizeof sent / sizeof sent[0]; i++) {
+        must_leave(play, 0, left, UINT64_MAX, UINT64_MAX, "other bytes of the last packet of a class");
+        must_poll(play, 0, sent[i].port, sent[i].len);
+        left -= sent[i].len;
+    }
+    must(play, left == 0, "other bytes left than were answered");
+    qtree_close(&play->device);
+}
+
+/* The drr holds a packet of the other class, which has to wait for the tbf. The packet of the class 2:1 leaves at the nanosecond that was
+ * answered. */
+static void leave_in_time(struct play *play) {
+    const uint64_t late = 1119999, at = 13280000;
+    qtree_sent sent;
+    must(play, qtree_open(&play->device, &(qtree_settings){ 1000, 0, 1500 }) == QTREE_DONE, "no device");
+    tc(play, "tc qdisc add dev wan root handle 1: tbf rate 1mbit burst 1640 limit 9000");
+    tc(play, "tc qdisc add dev wan parent 1:1 handle 2: drr");
+    add_two_classes(play);
+    must(play, arrive(play, 2, 1500) == QTREE_DONE && arrive(play, 2, 1000) == QTREE_DONE, "a packet is lost");
+    must_poll(play, 0, 2, 1500);
+    must(play, qtree_poll_buf(&play->device, 0, &sent) == QTREE_LATER, "more leaves than the burst");
+    must_leave(play, 800, 1800, at, late, "another time of a packet that comes next to a class");
+    must(play, arrive(play, 1, 800) == QTREE_DONE, "a packet is lost");
+    must_leave(play, 0, 1800, at, late, "another time of the last packet of a class");
+    must_poll(play, 6880000, 2, 1000);
+    must_leave(play, 0, 800, at, late, "another time once the drr holds nothing");
+    must(play, qtree_poll_buf(&play->device, at - 1, &sent) == QTREE_LATER, "the packet leaves before the time that was answered");
+    must_poll(play, at, 1, 800);
+    qtree_close(&play->device);
+}
+
+/* Whether this line is done, and qtree_worst then answers the class major:minor something; qtree_latest does so, too, or neither. */
 static bool is_answered(struct play *play, const char *line, uint16_t major, uint16_t minor) {
     qtree_delay delay;
     qtree_departure departure;
     tc(play, "%s", line);
-    must(play, qtree_latest(&play->device, QTREE_CLASS, major, minor, 0, &departure) == QTREE_NOTHING, "qtree_latest has a promise");
-    return qtree_worst(&play->device, QTREE_CLASS, major, minor, &delay) == QTREE_DONE;
+    qtree_code code = qtree_worst(&play->device, QTREE_CLASS, major, minor, &delay);
+    must(play, qtree_latest(&play->device, QTREE_CLASS, major, minor, 0, &departure) == code, "qtree_latest and qtree_worst differ");
+    must(play, code == QTREE_DONE || code == QTREE_NOTHING, "qtree_worst has another answer");
+    return code == QTREE_DONE;
 }
 
 static void ask_elsewhere(struct play *play) {
@@ -422,21 +563,24 @@ int main(int argc, char **argv) {
     uint64_t rounds = ROUNDS;
     int at = 1;
     is_sooner = argc > 1 && strcmp(argv[1], "--sooner") == 0;
+    is_latest_sooner = argc > 1 && strcmp(argv[1], "--sooner-latest") == 0;
     is_later = argc > 1 && strcmp(argv[1], "--later") == 0;
-    at += is_sooner || is_later;
+    at += is_sooner || is_latest_sooner || is_later;
     if (argc - at > 2 || (argc > at && !read_number(argv[at], &rounds)) || (argc > at + 1 && !read_number(argv[at + 1], &seed))) {
-        fprintf(stderr, "usage: turns [--sooner | --later] [ROUNDS [SEED]]\n");
+        fprintf(stderr, "usage: turns [--sooner | --sooner-latest | --later] [ROUNDS [SEED]]\n");
         return 2;
     }
     state = seed;
     ask_figures(&play);
+    leave_in_turn(&play);
+    leave_in_time(&play);
     ask_elsewhere(&play);
     for (; round_now < rounds; round_now++) {
         play_round(&play);
     }
     bool is_met = true;
     for (enum bound which = 0; which < BOUNDS; which++) {
-        printf("turns: the bound by the %-5s is met exactly %7" PRIu64 " times\n", names[which], met[which]);
+        printf("turns: the bound by the %-35s is met exactly %7" PRIu64 " times\n", names[which], met[which]);
         is_met = is_met && (met[which] != 0 || rounds < ENOUGH_ROUNDS);
     }
     printf("turns: %" PRIu64 " packets left in %" PRIu64 " rounds, each as soon as was promised\n", compared, rounds);
