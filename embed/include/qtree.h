@@ -728,17 +728,17 @@ typedef struct qtree_delay {
  *   QTREE_IS_CLOSED     the device is closed */
 qtree_code qtree_worst(const qtree_device *device, uint32_t place, uint16_t major, uint16_t minor, qtree_delay *delay);
 
-/* By when a packet has left that is last in a pfifo or bfifo whose packets no other packet overtakes, whatever comes
- * meanwhile. Until it has left, the device sends no more bytes than the field bytes says, including those of the packet
- * itself. A qtree_delay comes from the settings alone; this comes from what is queued, and from what is left of the
- * burst of a tbf at the root.
+/* By when a packet has left that is last in a pfifo or bfifo whose packets no other packet overtakes, or in one in a
+ * class of a drr, whatever comes meanwhile. Until it has left, the device sends no more bytes than the field bytes
+ * says, including those of the packet itself. A qtree_delay comes from the settings alone; this comes from what is
+ * queued, from the turn and the deficits of the drr's classes, and from what is left of the burst of a tbf at the root.
  *
  * With a tbf at the root, let the program never be late by more than x nanoseconds, as qtree_ready_at counts it, where
  * x is at most late. Then the packet has left as soon as the program has polled until no packet came at the time at, or
  * later, and so by at + x. Without a tbf at the root, at and late are UINT64_MAX.
  *
  * This holds as long as commands take no packet from the qdisc and put none before it, leave a tbf at the root as it
- * is, and add no other tbf. */
+ * is, add no other tbf, and leave the classes of such a drr and their quanta as they are. */
 typedef struct qtree_departure {
     uint64_t bytes; /* including those of the packet */
     uint64_t at;    /* a time in nanoseconds, rounded up */
@@ -755,19 +755,28 @@ typedef struct qtree_departure {
  *                      last event: an arrival, a poll or a command that was carried out. If the packet arrives t
  *                      nanoseconds after that, the time by which it has left is later by at most t.
  *
+ * The place is one of those for which qtree_worst answers. In a class of a drr, the packet has to be the device's next
+ * event: if another packet arrives first, or a poll comes first, other classes may have their turn before it, and the
+ * program asks again.
+ *
  * To refuse a packet the program has to see it before it arrives: qtree_take_in gives no chance for that.
  *
  * Returns
  *   QTREE_DONE          *departure is by when the packet has left if it is queued, since the call does not look at the
- *                       limit; if len is 0 and nothing is queued there, bytes is 0, and at the time of the last event
- *   QTREE_NOTHING       nothing is promised, for one of the reasons for which qtree_worst returns this, or since the
- *                       place is a class of a drr
+ *                       limit. If len is 0 and nothing is queued there, bytes is 0, and at the time of the last event;
+ *                       in a class of a drr, they are then for the bytes that may be sent before the class's turn.
+ *   QTREE_NOTHING       nothing is promised, for one of the reasons for which qtree_worst returns this
  *   QTREE_OUT_OF_RANGE  place, major or minor is out of its range
  *   QTREE_IS_CLOSED     the device is closed
  *
  * For example, with a tbf with rate 8mbit at the root, which sends a byte in a microsecond, let 2000 bytes be queued
  * and nothing be left of its burst. Then qtree_latest(&device, QTREE_CLASS, 1, 1, 1000, &departure) writes the bytes
- * 3000, and a time 3,000,000 nanoseconds after the last event. */
+ * 3000, and a time 3,000,000 nanoseconds after the last event.
+ *
+ * Or let a drr 2: be at the root whose classes 2:1 and 2:2 have the quanta 1000 and 500. Nothing is queued in 2:1, and
+ * 2:2 has packets and may send 500 bytes before its next quantum. Then qtree_latest(&device, QTREE_CLASS, 2, 1, 1000,
+ * &departure) writes the bytes 1500: those that 2:2 may send first, and the packet's. For a packet of 1001 bytes it
+ * writes 2001, since that waits for a second quantum of its class, and 2:2 may send one more, too. */
 qtree_code qtree_latest(const qtree_device *device, uint32_t place, uint16_t major, uint16_t minor, uint16_t len,
                         qtree_departure *departure);
 

@@ -17,8 +17,8 @@ abbrev pub departure_or : CDeparture → Option Latest → CDeparture
 departure_or before None = before
 departure_or before (Some w) = departure_told w
 
--- by when a packet of this length has left that comes next to the fifo in this place, or with 0 the one that was queued there last (0); or
--- nothing is promised to it (32), and what was there stays
+-- by when a packet of this length has left that comes next to the fifo in this place, one in line or in a class of a drr, or with 0 the one that
+-- was queued there last (0); or nothing is promised to it (32), and what was there stays
 pub record IsDeparture (place : Place) (len code : ℕ) (before after : CDeparture) (d n : DeviceSeen) : Type 0 where
   pub same : n ≡ d
   pub answer : code ≡ found_number (latest_of totals place len d.settings.mtu d.device)

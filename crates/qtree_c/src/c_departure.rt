@@ -4,7 +4,8 @@ ghost use Rattle.qtree_c.specs.Departures.{departure_told};
 use q_device::Latest;
 use q_packet::Moment;
 
-/// By when a packet has left that is last in a fifo, as C has it. The greatest number stands for a time where no tbf is at the root.
+/// By when a packet has left that is last in a fifo that no other packet overtakes, or in one in a class of a drr, as C has it. The greatest number
+/// stands for a time where no tbf is at the root.
 #[repr(C)]
 #[derive(Clone, Copy, Drop)]
 pub struct CDeparture {

@@ -10,8 +10,9 @@ use crate::codes::{DONE, IS_CLOSED, NOTHING, OUT_OF_RANGE};
 use crate::counters::place_at;
 use q_device::Place;
 
-/// By when a packet of this length has left, if it comes next to the fifo in a place; for a length of 0 by when the packet has left that was
-/// queued there last.
+/// By when a packet of this length has left, if the device's next event is that it comes to the fifo in a place; for a length of 0 by when the packet
+/// has left that was queued there last. The fifo is one that no other packet overtakes, or that of a class of a drr at the root or below a tbf at the
+/// root.
 #[unsafe(no_mangle)]
 pub extern "C" fn qtree_latest(
     device: &mut CDevice,
