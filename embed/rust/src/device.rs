@@ -477,10 +477,34 @@ impl Device {
     /// command. If the packet arrives some nanoseconds after that, the time by which it has left is
     /// later by at most as many. It has left by then if it is queued: the limit of the qdisc is not
     /// looked at. If the length is 0 and nothing is queued there, `bytes` is 0, and `at` is the time
-    /// of the last event.
+    /// of the last event; in a class of a drr, they are then for the bytes that may be sent before
+    /// the class's turn.
     ///
-    /// Returns `None` if nothing is promised, for one of the reasons of [`Device::worst`], or since
-    /// the place is a class of a drr.
+    /// In a class of a drr, the packet has to be the device's next event: if another packet arrives
+    /// first, or a poll comes first, other classes may have their turn before it, and the program
+    /// asks again. Here a packet that comes to the first class waits for the 500 bytes that the other
+    /// class may send before its next quantum. A byte more than the first class's quantum waits for
+    /// another one, and the other class may send one more, too.
+    ///
+    /// ```
+    /// # use qtree::{Device, Error, Packet, Place, Settings};
+    /// let mut device = Device::open(Settings::default())?;
+    /// for line in [
+    ///     "tc qdisc add dev wan root handle 1: drr",
+    ///     "tc class add dev wan parent 1: classid 1:1 drr quantum 1000",
+    ///     "tc class add dev wan parent 1: classid 1:2 drr quantum 500",
+    ///     "tc filter add dev wan parent 1: prio 1 flower dst_port 443 classid 1:2",
+    /// ] {
+    ///     device.command(line, 0)?;
+    /// }
+    /// device.arrive(&Packet::builder(400).ports(4096, 443).build()?, 5)?;
+    /// let latest = |len| device.latest(Place::Class(1, 1), len).expect("a class of a drr");
+    /// assert_eq!((latest(1000).bytes, latest(1000).at), (1500, None));
+    /// assert_eq!(latest(1001).bytes, 2001);
+    /// # Ok::<(), Error>(())
+    /// ```
+    ///
+    /// Returns `None` if nothing is promised, for one of the reasons of [`Device::worst`].
     #[must_use]
     pub fn latest(&self, place: Place, len: u16) -> Option<Latest> {
         let (code, departure) = self.0.latest(place.to_c(), len);

@@ -1,10 +1,15 @@
 use crate::raw::sys;
 
 /// By when a packet has left that is last in a pfifo or bfifo whose packets no other packet
-/// overtakes, whatever comes meanwhile.
+/// overtakes, or in one in a class of a drr, whatever comes meanwhile.
+///
+/// While [`Worst`](crate::Worst) comes from the settings alone, this comes from what is queued,
+/// from the turn and the deficits of the drr's classes, and from what is left of the burst of a tbf
+/// at the root.
 ///
 /// This holds as long as commands take no packet from the qdisc and put none before it, leave a tbf
-/// at the root as it is, and add no other tbf.
+/// at the root as it is, add no other tbf, and leave the classes of such a drr and their quanta as
+/// they are.
 #[derive(Clone, Copy, Debug, PartialEq, Eq)]
 #[non_exhaustive]
 pub struct Latest {

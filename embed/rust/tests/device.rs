@@ -139,7 +139,45 @@ fn a_class_of_a_drr_is_promised_a_delay() -> Result<(), Error> {
     assert_eq!((worst.bytes, worst.ns), (7527, Some(3_010_800)));
     assert_eq!(worst.late, Some(50_399));
     assert_eq!(device.worst(Place::Class(2, 2)), None);
-    assert_eq!(device.latest(Place::Class(2, 1), 0), None);
+    assert_eq!(device.latest(Place::Class(2, 2), 0), None);
+    Ok(())
+}
+
+#[test]
+fn a_packet_of_a_class_of_a_drr_is_told_when_it_has_left() -> Result<(), Error> {
+    let mut device = Device::open(Settings::default())?;
+    for line in [
+        "tc qdisc add dev wan root handle 1: tbf rate 1mbit burst 1640 limit 9000",
+        "tc qdisc add dev wan parent 1:1 handle 2: drr",
+        "tc class add dev wan parent 2: classid 2:1 drr quantum 3000",
+        "tc class add dev wan parent 2: classid 2:2 drr quantum 1500",
+        "tc filter add dev wan parent 2: prio 1 flower dst_port 443 classid 2:2",
+        "tc filter add dev wan parent 2: prio 2 flower dst_port 53 classid 2:1",
+    ] {
+        device.command(line, 0)?;
+    }
+    let packet = |len, port| {
+        Packet::builder(len)
+            .ports(4096, port)
+            .build()
+            .expect("a length")
+    };
+    device.arrive(&packet(1500, 443), 0)?;
+    device.arrive(&packet(1000, 443), 0)?;
+    assert!(matches!(device.poll(0)?, Polled::Packet(_)));
+    // The drr holds the second one, for which the tbf has not paid.
+    assert!(matches!(device.poll(0)?, Polled::Later));
+    let first = Place::Class(2, 1);
+    let latest = device.latest(first, 800).expect("the first class");
+    assert_eq!((latest.bytes, latest.at), (1800, Some(13_280_000)));
+    assert_eq!(latest.late, Some(1_007_999));
+    device.arrive(&packet(800, 53), 0)?;
+    assert_eq!(device.latest(first, 0), Some(latest));
+    assert!(matches!(device.poll(6_880_000)?, Polled::Packet(_)));
+    let latest = device.latest(first, 0).expect("the first class");
+    assert_eq!((latest.bytes, latest.at), (800, Some(13_280_000)));
+    assert!(matches!(device.poll(13_279_999)?, Polled::Later));
+    assert!(matches!(device.poll(13_280_000)?, Polled::Packet(_)));
     Ok(())
 }
 
