@@ -8,8 +8,8 @@
  * counts how often each bound is met exactly, and fails if one never is, since a smaller one would do then.
  *
  *   build/turns [ROUNDS [SEED]]                   the test; on failure it prints the seed and the round
- *   build/turns --sooner [ROUNDS [SEED]]          with each bound a byte or a nanosecond less, which has to fail
- *   build/turns --sooner-latest [ROUNDS [SEED]]   the same of the bounds of qtree_latest alone
+ *   build/turns --sooner [ROUNDS [SEED]]          with each bound of qtree_worst a byte or a nanosecond less, which has to fail
+ *   build/turns --sooner-latest [ROUNDS [SEED]]   the same with those of qtree_latest
  *   build/turns --later [ROUNDS [SEED]]           with polls later than is allowed, which has to fail */
 #include "qtree.h"
 
@@ -30,17 +30,23 @@ static const uint64_t BYTE = UINT64_C(8000000000);
 __extension__ typedef unsigned __int128 wide;
 
 /* The bounds. The first ones are compared when a packet leaves: what the device has sent, and the time, less the lateness of the poll. AGAIN is the
- * least answer since the packet came. The last one is a bound of the answer right after it came. */
-enum bound { WORST_BYTES, ASKED_BYTES, AGAIN_BYTES, WORST_TIME, ASKED_TIME, TOLD_TIME, AGAIN_TIME, LEAVING, RISES = LEAVING, BOUNDS };
+ * least answer since the packet came. The last two are bounds of the answer right after it came. */
+enum bound {
+    WORST_BYTES, ASKED_BYTES, AGAIN_BYTES,
+    WORST_TIME, ASKED_TIME, FILLED_TIME, TOLD_TIME, AGAIN_TIME, LEAVING,
+    RISES = LEAVING, STANDS, BOUNDS
+};
 static const char *const names[BOUNDS] = {
     "bytes of qtree_worst",
     "bytes of qtree_latest, asked before",
     "bytes of qtree_latest, asked later",
     "ns of qtree_worst",
     "time of qtree_latest, asked before",
+    "time of a bucket that fills before",
     "time of qtree_latest, asked after",
     "time of qtree_latest, asked later",
     "first answer, for the second one",
+    "full bucket, for the second answer",
 };
 
 struct kept {
@@ -67,7 +73,7 @@ struct play {
 
 static uint64_t state, seed = 7, compared, met[BOUNDS];
 static unsigned round_now;
-static bool is_sooner, is_latest_sooner, is_later;
+static bool is_worst_sooner, is_latest_sooner, is_later;
 
 /* A random number below this one. */
 static uint64_t below(uint64_t end) {
@@ -102,10 +108,11 @@ static void must(const struct play *play, bool holds, const char *what) {
 /* A number is no more than a bound. */
 static void is_within(const struct play *play, enum bound which, uint64_t number, uint64_t bound) {
     char text[160];
-    uint64_t least = bound - (is_sooner || (is_latest_sooner && which != WORST_BYTES && which != WORST_TIME));
+    bool is_worst = which == WORST_BYTES || which == WORST_TIME;
     met[which] += number == bound;
-    if (number > least) {
-        snprintf(text, sizeof text, "%" PRIu64 " is past the bound by the %s, %" PRIu64, number, names[which], least);
+    bound -= is_worst ? is_worst_sooner : is_latest_sooner;
+    if (number > bound) {
+        snprintf(text, sizeof text, "%" PRIu64 " is past the bound by the %s, %" PRIu64, number, names[which], bound);
         fail(play, text);
     }
 }
@@ -169,6 +176,12 @@ static void arrive_other(struct play *play, uint16_t class) {
     must(play, arrive(play, class, play->is_single ? 1 : 1 + below(play->mtu)) == QTREE_DONE, "a packet of another class is lost");
 }
 
+/* The time at which the tbf has paid so many bytes if its bucket is full now, less what a late poll may lose; or the answered one, if later. */
+static uint64_t filled(const struct play *play, const qtree_departure *asked) {
+    wide level = (wide)play->burst * BYTE - (wide)play->rate * asked->late, wanted = (wide)asked->bytes * BYTE;
+    return greater(asked->at, play->clock + (uint64_t)(wanted <= level ? 0 : (wanted - level + play->rate - 1) / play->rate));
+}
+
 /* The fifo keeps a packet: what was answered before and what is answered now agree, and both bound when it leaves. Nothing is promised yet if
  * quanta are to change. */
 static void keep(struct play *play, const qtree_delay *delay, const qtree_departure *asked, uint64_t passed, bool is_promised) {
@@ -183,6 +196,7 @@ static void keep(struct play *play, const qtree_delay *delay, const qtree_depart
     }
     if (play->rate != 0 && passed != 0) {
         is_within(play, RISES, told.at, asked->at + passed);
+        is_within(play, STANDS, told.at, filled(play, asked));
     }
     if (!is_promised) {
         return;
@@ -192,6 +206,7 @@ static void keep(struct play *play, const qtree_delay *delay, const qtree_depart
     if (play->rate != 0) {
         kept->bounds[WORST_TIME] = play->clock + delay->ns;
         kept->bounds[ASKED_TIME] = asked->at + passed;
+        kept->bounds[FILLED_TIME] = filled(play, asked);
         kept->bounds[TOLD_TIME] = told.at;
     }
 }
@@ -499,6 +514,22 @@ static void leave_in_turn(struct play *play) {
     qtree_close(&play->device);
 }
 
+/* A poll between the answer and the arrival leaves nothing in the class: so it is last in the list as the packet comes, and another answer counts. */
+static void ask_anew(struct play *play) {
+    must(play, qtree_open(&play->device, &(qtree_settings){ 1000, 0, 1514 }) == QTREE_DONE, "no device");
+    tc(play, "tc qdisc add dev wan root handle 2: drr");
+    add_two_classes(play);
+    must(play, arrive(play, 1, 1) == QTREE_DONE && arrive(play, 2, 1500) == QTREE_DONE, "a packet is lost");
+    must_leave(play, 999, 1000, UINT64_MAX, UINT64_MAX, "other bytes of a packet that comes to a class in front");
+    must_poll(play, 0, 1, 1);
+    must_leave(play, 999, 2499, UINT64_MAX, UINT64_MAX, "other bytes of a packet that wakes its class");
+    must(play, arrive(play, 1, 999) == QTREE_DONE, "a packet is lost");
+    must_leave(play, 0, 2499, UINT64_MAX, UINT64_MAX, "other bytes of a packet that woke its class");
+    must_poll(play, 0, 2, 1500);
+    must_poll(play, 0, 1, 999);
+    qtree_close(&play->device);
+}
+
 /* The drr holds a packet of the other class, which has to wait for the tbf. The packet of the class 2:1 leaves at the nanosecond that was
  * answered. */
 static void leave_in_time(struct play *play) {
@@ -562,10 +593,10 @@ int main(int argc, char **argv) {
     static struct play play = { .device = QTREE_CLOSED };
     uint64_t rounds = ROUNDS;
     int at = 1;
-    is_sooner = argc > 1 && strcmp(argv[1], "--sooner") == 0;
+    is_worst_sooner = argc > 1 && strcmp(argv[1], "--sooner") == 0;
     is_latest_sooner = argc > 1 && strcmp(argv[1], "--sooner-latest") == 0;
     is_later = argc > 1 && strcmp(argv[1], "--later") == 0;
-    at += is_sooner || is_latest_sooner || is_later;
+    at += is_worst_sooner || is_latest_sooner || is_later;
     if (argc - at > 2 || (argc > at && !read_number(argv[at], &rounds)) || (argc > at + 1 && !read_number(argv[at + 1], &seed))) {
         fprintf(stderr, "usage: turns [--sooner | --sooner-latest | --later] [ROUNDS [SEED]]\n");
         return 2;
@@ -573,6 +604,7 @@ int main(int argc, char **argv) {
     state = seed;
     ask_figures(&play);
     leave_in_turn(&play);
+    ask_anew(&play);
     leave_in_time(&play);
     ask_elsewhere(&play);
     for (; round_now < rounds; round_now++) {
