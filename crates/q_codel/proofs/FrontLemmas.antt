@@ -5,10 +5,11 @@ use Rattle.q_packet.proofs.TotalsLemmas.{size-cons}
 use Rattle.q_packet.specs.Totals.{count, size}
 use Rattle.q_packet.specs.declared.stamped.Stamped.{Stamped}
 use Rattle.q_packet.specs.declared.cause.Cause.{Cause}
+use Rattle.q_packet.specs.declared.cause.Cause.TheVariants.{CoDel}
 use Rattle.q_codel.specs.declared.front.Front.{Front}
-use Rattle.q_codel.specs.Codel.{CodelState, is_late, Chooses, HasChosen}
+use Rattle.q_codel.specs.Codel.{CodelState, is_late, drops, Chooses, HasChosen}
 use Rattle.q_codel.specs.Losses.{AreLost, SinkState}
-use Rattle.q_codel.proofs.Law.{OnTheWay, OnTheWay_start}
+use Rattle.q_codel.proofs.Law.{OnTheWay, OnTheWay_start, Ends, lost_at}
 use Rattle.q_codel.specs.Front.{front_of, IsFront}
 
 -- a queue, split at its head
@@ -48,14 +49,18 @@ pub head_lost : (old new : SinkState) (cause : Cause) (queue : List Stamped) (he
 head_lost old new cause queue head rest is e = subst (λ (q : List Stamped). AreLost cause (take 1 q) old new) is e
 
 -- what is chosen, where a caller knows what waits by its head and the rest
-pub chosen_at : (s : CodelState) (now : ℕ) (all : List Stamped) (head : Stamped) (marked : Bool) (rest : List Stamped) (t : CodelState) (waiting : List Stamped)
-    → Chooses s now all head marked rest t → waiting ≡ head ∷ rest → HasChosen s now all marked waiting t
-chosen_at s now all head marked rest t waiting chosen is = record {
+pub chosen_at : (s : CodelState) (now : ℕ) (all : List Stamped) (j : ℕ) (head : Stamped) (marked : Bool) (rest : List Stamped) (t : CodelState) (waiting : List Stamped)
+    (before after : SinkState) (Kept SinkKept : Type 0) → Ends s now all j head marked rest t → waiting ≡ head ∷ rest
+    → AreLost CoDel (take j all) before after → Kept → SinkKept → HasChosen s now all marked waiting t before after Kept SinkKept
+chosen_at s now all j head marked rest t waiting before after Kept SinkKept ends is lost kept sink_kept = record {
   some = omega (arith, ap count is);
   chosen = λ h r e.
       let first : head ≡ h = cc in
       let others : rest ≡ r = cc in
-      subst (λ (x : Stamped). Chooses s now all x marked r t) first (subst (λ (x : List Stamped). Chooses s now all head marked x t) others chosen);
+      subst (λ (x : Stamped). Chooses s now all x marked r t) first (subst (λ (x : List Stamped). Chooses s now all head marked x t) others ends.chosen);
+  lost = lost_at CoDel all j (drops s now all) before after ends.count lost;
+  kept = kept;
+  sink_kept = sink_kept;
 }
 
 -- dropping goes on from the head of a queue that is late

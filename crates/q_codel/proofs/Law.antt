@@ -69,25 +69,33 @@ marks_is s now all j head rest dropping count place =
     ∙ ap (λ (k : ℕ). marks_at s now (drop k all) k) count
     ∙ ap (λ (q : List Stamped). marks_at s now q j) place
 
--- where k heads go, the next one is sent, and the control law leaves t: what is chosen
-pub Chooses_of : (s : CodelState) (now : ℕ) (all : List Stamped) (k : ℕ) (head : Stamped) (rest : List Stamped) (marked : Bool) (t : CodelState)
+-- what is known where the heads have ceased to go
+pub record Ends (s : CodelState) (now : ℕ) (all : List Stamped) (j : ℕ) (head : Stamped) (marked : Bool) (rest : List Stamped) (t : CodelState) : Type 0 where
+  pub chosen : Chooses s now all head marked rest t
+  pub count : drops s now all ≡ j
+
+-- where k heads go, the next one is sent, and the control law leaves t
+pub Ends_of : (s : CodelState) (now : ℕ) (all : List Stamped) (k : ℕ) (head : Stamped) (rest : List Stamped) (marked : Bool) (t : CodelState)
     → drops s now all ≡ k → drop k all ≡ head ∷ rest → marks s now all ≡ marked → control_after s now all ≡ t
-    → Chooses s now all head marked rest (record t { first_above_time = above_after s now (head ∷ rest) })
-Chooses_of s now all k head rest marked t count place mark control = record {
-  head_is = drop_at all k head rest place ∙ ap (λ (i : ℕ). slice_get all i) (sym count);
-  marked_is = sym mark;
-  rest_is = drop_behind all k head rest place ∙ ap (λ (i : ℕ). drop (suc i) all) (sym count);
-  state_is = sym (ap (λ (u : CodelState). record u { first_above_time = above_after s now (drop (drops s now all) all) }) control
-      ∙ ap (λ (q : List Stamped). record t { first_above_time = above_after s now q }) (ap (λ (i : ℕ). drop i all) count ∙ place));
+    → Ends s now all k head marked rest (record t { first_above_time = above_after s now (head ∷ rest) })
+Ends_of s now all k head rest marked t count place mark control = record {
+  chosen = record {
+    head_is = drop_at all k head rest place ∙ ap (λ (i : ℕ). slice_get all i) (sym count);
+    marked_is = sym mark;
+    rest_is = drop_behind all k head rest place ∙ ap (λ (i : ℕ). drop (suc i) all) (sym count);
+    state_is = sym (ap (λ (u : CodelState). record u { first_above_time = above_after s now (drop (drops s now all) all) }) control
+        ∙ ap (λ (q : List Stamped). record t { first_above_time = above_after s now q }) (ap (λ (i : ℕ). drop i all) count ∙ place));
+  };
+  count = count;
 }
 
 -- while dropping, head j is sent, marked or not, late or not
-pub Chooses_at : (s : CodelState) (now : ℕ) (all : List Stamped) (j : ℕ) (head : Stamped) (rest : List Stamped) (marked late : Bool)
+pub Ends_at : (s : CodelState) (now : ℕ) (all : List Stamped) (j : ℕ) (head : Stamped) (rest : List Stamped) (marked late : Bool)
     → s.dropping ≡ true → drops s now all ≡ j → drop j all ≡ head ∷ rest → marks_at s now (head ∷ rest) j ≡ marked
     → is_late s now (head ∷ rest) ≡ late
-    → Chooses s now all head marked rest (record (gone_on s j marked late) { first_above_time = above_after s now (head ∷ rest) })
-Chooses_at s now all j head rest marked late dropping count place mark is_so =
-    Chooses_of s now all j head rest marked (gone_on s j marked late) count place same_mark
+    → Ends s now all j head marked rest (record (gone_on s j marked late) { first_above_time = above_after s now (head ∷ rest) })
+Ends_at s now all j head rest marked late dropping count place mark is_so =
+    Ends_of s now all j head rest marked (gone_on s j marked late) count place same_mark
     (cond-true s.dropping _ _ dropping
     ∙ ap (λ (k : ℕ). gone_on s k (marks s now all) (is_late s now (drop k all))) count
     ∙ ap (λ (m : Bool). gone_on s j m (is_late s now (drop j all))) same_mark
@@ -120,54 +128,45 @@ pub stops_markable : (s : CodelState) (now : ℕ) (all : List Stamped) (j : ℕ)
 stops_markable s now all j markable =
     or_right (not (is_late s now (drop j all)) || nat_lt now (moment s j)) (is_markable s (drop j all)) markable
 
--- what is known where the heads have ceased to go
-pub record Ends (s : CodelState) (now : ℕ) (all : List Stamped) (j : ℕ) (head : Stamped) (marked : Bool) (rest : List Stamped) (t : CodelState) : Type 0 where
-  pub chosen : Chooses s now all head marked rest t
-  pub count : drops s now all ≡ j
-
 -- the moment of head j is yet to come
 pub OnTheWay_waits : (s : CodelState) (now : ℕ) (all : List Stamped) (j : ℕ) (t : CodelState) (head : Stamped) (rest : List Stamped)
     → s.dropping ≡ true → OnTheWay s now all j t head rest → now < t.drop_next → Ends s now all j head false rest t
-OnTheWay_waits s now all j t head rest dropping way waits = record {
-  chosen = subst (λ (u : CodelState). Chooses s now all head false rest u) (sym way.state)
-      (subst (λ (a : ℕ). Chooses s now all head false rest (record s { count = count_after s j; drop_next = moment s j; first_above_time = a })) (above_late s now head rest way.late)
-      (Chooses_at s now all j head rest false true dropping count way.place not_due way.late));
-  count = count;
-} where
-  not_yet : now < moment s j
-  not_yet = let e : t.drop_next ≡ moment s j = ap (λ (u : CodelState). u.drop_next) way.state in omega arith
+OnTheWay_waits s now all j t head rest dropping way waits =
+    subst (λ (u : CodelState). Ends s now all j head false rest u) (sym way.state)
+    (subst (λ (a : ℕ). Ends s now all j head false rest (record s { count = count_after s j; drop_next = moment s j; first_above_time = a })) (above_late s now head rest way.late)
+    (Ends_at s now all j head rest false true dropping count way.place not_due way.late)) where
+      not_yet : now < moment s j
+      not_yet = let e : t.drop_next ≡ moment s j = ap (λ (u : CodelState). u.drop_next) way.state in omega arith
 
-  count : drops s now all ≡ j
-  count = drops_is s now all j dropping (drop_within all j head rest way.place) way.passed (stops_waiting s now all j not_yet)
+      count : drops s now all ≡ j
+      count = drops_is s now all j dropping (drop_within all j head rest way.place) way.passed (stops_waiting s now all j not_yet)
 
-  not_due : marks_at s now (head ∷ rest) j ≡ false
-  not_due =
-      ap (λ (b : Bool). b && nat_le (moment s j) now && is_markable s (head ∷ rest)) way.late
-      ∙ ap (λ (b : Bool). b && is_markable s (head ∷ rest)) (lt-leb (moment s j) now not_yet)
+      not_due : marks_at s now (head ∷ rest) j ≡ false
+      not_due =
+          ap (λ (b : Bool). b && nat_le (moment s j) now && is_markable s (head ∷ rest)) way.late
+          ∙ ap (λ (b : Bool). b && is_markable s (head ∷ rest)) (lt-leb (moment s j) now not_yet)
 
 -- head j is due and markable
 pub OnTheWay_marks : (s : CodelState) (now : ℕ) (all : List Stamped) (j : ℕ) (t : CodelState) (head : Stamped) (rest : List Stamped)
     → s.dropping ≡ true → OnTheWay s now all j t head rest → t.drop_next ≤ now → (s.ecn && is_capable head.packet.ecn) ≡ true
     → Ends s now all j head true rest (record s { count = count_after s (suc j); drop_next = moment s (suc j) })
-OnTheWay_marks s now all j t head rest dropping way is_due markable = record {
-  chosen = subst (λ (a : ℕ). Chooses s now all head true rest (record s { count = count_after s (suc j); drop_next = moment s (suc j); first_above_time = a })) (above_late s now head rest way.late)
-      (Chooses_at s now all j head rest true true dropping count way.place mark way.late);
-  count = count;
-} where
-  due : moment s j ≤ now
-  due = let e : t.drop_next ≡ moment s j = ap (λ (u : CodelState). u.drop_next) way.state in omega arith
+OnTheWay_marks s now all j t head rest dropping way is_due markable =
+    subst (λ (a : ℕ). Ends s now all j head true rest (record s { count = count_after s (suc j); drop_next = moment s (suc j); first_above_time = a })) (above_late s now head rest way.late)
+    (Ends_at s now all j head rest true true dropping count way.place mark way.late) where
+      due : moment s j ≤ now
+      due = let e : t.drop_next ≡ moment s j = ap (λ (u : CodelState). u.drop_next) way.state in omega arith
 
-  markable_there : is_markable s (drop j all) ≡ true
-  markable_there = ap (is_markable s) way.place ∙ markable
+      markable_there : is_markable s (drop j all) ≡ true
+      markable_there = ap (is_markable s) way.place ∙ markable
 
-  count : drops s now all ≡ j
-  count = drops_is s now all j dropping (drop_within all j head rest way.place) way.passed (stops_markable s now all j markable_there)
+      count : drops s now all ≡ j
+      count = drops_is s now all j dropping (drop_within all j head rest way.place) way.passed (stops_markable s now all j markable_there)
 
-  mark : marks_at s now (head ∷ rest) j ≡ true
-  mark =
-      ap (λ (b : Bool). b && nat_le (moment s j) now && is_markable s (head ∷ rest)) way.late
-      ∙ ap (λ (b : Bool). b && is_markable s (head ∷ rest)) (le-leb (moment s j) now due)
-      ∙ markable
+      mark : marks_at s now (head ∷ rest) j ≡ true
+      mark =
+          ap (λ (b : Bool). b && nat_le (moment s j) now && is_markable s (head ∷ rest)) way.late
+          ∙ ap (λ (b : Bool). b && is_markable s (head ∷ rest)) (le-leb (moment s j) now due)
+          ∙ markable
 
 -- head j goes, and the next one is late too
 pub OnTheWay_more : (s : CodelState) (now : ℕ) (all : List Stamped) (j : ℕ) (t : CodelState) (head next : Stamped) (rest behind : List Stamped)
@@ -189,31 +188,28 @@ pub OnTheWay_ends : (s : CodelState) (now : ℕ) (all : List Stamped) (j : ℕ) 
     → is_late s now (next ∷ behind) ≡ false
     → Ends s now all (suc j) next false behind
     (record s { count = count_after s (suc j); drop_next = moment s j; dropping = false; first_above_time = above_after s now (next ∷ behind) })
-OnTheWay_ends s now all j t head next rest behind dropping way is_due plain behind_is early = record {
-  chosen =
-      subst (λ (n : ℕ). Chooses s now all next false behind
-      (record s { count = count_after s (suc j); drop_next = moment s n; dropping = false; first_above_time = above_after s now (next ∷ behind) }))
-      before
-      (Chooses_at s now all (suc j) next behind false false dropping count place unmarked early);
-  count = count;
-} where
-  due : moment s j ≤ now
-  due = let e : t.drop_next ≡ moment s j = ap (λ (u : CodelState). u.drop_next) way.state in omega arith
+OnTheWay_ends s now all j t head next rest behind dropping way is_due plain behind_is early =
+    subst (λ (n : ℕ). Ends s now all (suc j) next false behind
+    (record s { count = count_after s (suc j); drop_next = moment s n; dropping = false; first_above_time = above_after s now (next ∷ behind) }))
+    before
+    (Ends_at s now all (suc j) next behind false false dropping count place unmarked early) where
+      due : moment s j ≤ now
+      due = let e : t.drop_next ≡ moment s j = ap (λ (u : CodelState). u.drop_next) way.state in omega arith
 
-  before : suc j - 1 ≡ j
-  before = omega arith
+      before : suc j - 1 ≡ j
+      before = omega arith
 
-  place : drop (suc j) all ≡ next ∷ behind
-  place = sym (drop_behind all j head rest way.place) ∙ behind_is
+      place : drop (suc j) all ≡ next ∷ behind
+      place = sym (drop_behind all j head rest way.place) ∙ behind_is
 
-  passed : (i : ℕ) → i < suc j → stops s now all i ≡ false
-  passed = below_suc (λ i. stops s now all i ≡ false) j way.passed (stops_not s now all j head rest way.place way.late due plain)
+      passed : (i : ℕ) → i < suc j → stops s now all i ≡ false
+      passed = below_suc (λ i. stops s now all i ≡ false) j way.passed (stops_not s now all j head rest way.place way.late due plain)
 
-  count : drops s now all ≡ suc j
-  count = drops_is s now all (suc j) dropping (drop_within all (suc j) next behind place) passed (stops_early s now all (suc j) (ap (is_late s now) place ∙ early))
+      count : drops s now all ≡ suc j
+      count = drops_is s now all (suc j) dropping (drop_within all (suc j) next behind place) passed (stops_early s now all (suc j) (ap (is_late s now) place ∙ early))
 
-  unmarked : marks_at s now (next ∷ behind) (suc j) ≡ false
-  unmarked = ap (λ (b : Bool). b && nat_le (moment s (suc j)) now && is_markable s (next ∷ behind)) early
+      unmarked : marks_at s now (next ∷ behind) (suc j) ≡ false
+      unmarked = ap (λ (b : Bool). b && nat_le (moment s (suc j)) now && is_markable s (next ∷ behind)) early
 
 -- The ways on from a late head, in what the code holds: the settings p and the state u, the next count m, the next gap g,
 -- and, where one more head was looked at, the state x after that.

@@ -238,12 +238,8 @@ impl ControlState {
     ) -> bool
         requires front { IsFront front (Q.packets queue.old) }
         requires room { count (Q.packets queue.old) ≤ (S.state sink.old).room }
-        ensures chosen { HasChosen (joined parameters.now self.old) now (Q.packets queue.old) result (Q.packets queue.new)
-            (joined parameters.now self.new) }
-        ensures lost { let all = Q.packets queue.old in
-            AreLost Cause.CoDel (take (drops (joined parameters.now self.old) now all) all) (S.state sink.old) (S.state sink.new) }
-        ensures kept { Q.keeps queue.old queue.new }
-        ensures sink_kept { S.keeps sink.old sink.new }
+        ensures { HasChosen (joined parameters.now self.old) now (Q.packets queue.old) result (Q.packets queue.new) (joined parameters.now self.new)
+            (S.state sink.old) (S.state sink.new) (Q.keeps queue.old queue.new) (S.keeps sink.old sink.new) }
     {
         let behind = queue.bytes() - front.len as u64;
         if !self.should_drop(parameters, &front, behind, now) {
@@ -268,12 +264,8 @@ impl ControlState {
         requires front { IsFront front (Q.packets queue.old) }
         requires room { count (Q.packets queue.old) ≤ (S.state sink.old).room }
         requires late { is_late (joined parameters.now self.old) now (Q.packets queue.old) ≡ true }
-        ensures chosen { HasChosen (joined parameters.now self.old) now (Q.packets queue.old) result (Q.packets queue.new)
-            (joined parameters.now self.new) }
-        ensures lost { let all = Q.packets queue.old in
-            AreLost Cause.CoDel (take (drops (joined parameters.now self.old) now all) all) (S.state sink.old) (S.state sink.new) }
-        ensures kept { Q.keeps queue.old queue.new }
-        ensures sink_kept { S.keeps sink.old sink.new }
+        ensures { HasChosen (joined parameters.now self.old) now (Q.packets queue.old) result (Q.packets queue.new) (joined parameters.now self.new)
+            (S.state sink.old) (S.state sink.new) (Q.keeps queue.old queue.new) (S.keeps sink.old sink.new) }
     {
         self.drop_or_mark(parameters, front, queue, now, sink)
     }
@@ -291,12 +283,8 @@ impl ControlState {
         requires front { IsFront front (Q.packets queue.old) }
         requires room { count (Q.packets queue.old) ≤ (S.state sink.old).room }
         requires late { is_late (joined parameters.now self.old) now (Q.packets queue.old) ≡ true }
-        ensures chosen { HasChosen (joined parameters.now self.old) now (Q.packets queue.old) result (Q.packets queue.new)
-            (joined parameters.now self.new) }
-        ensures lost { let all = Q.packets queue.old in
-            AreLost Cause.CoDel (take (drops (joined parameters.now self.old) now all) all) (S.state sink.old) (S.state sink.new) }
-        ensures kept { Q.keeps queue.old queue.new }
-        ensures sink_kept { S.keeps sink.old sink.new }
+        ensures { HasChosen (joined parameters.now self.old) now (Q.packets queue.old) result (Q.packets queue.new) (joined parameters.now self.new)
+            (S.state sink.old) (S.state sink.new) (Q.keeps queue.old queue.new) (S.keeps sink.old sink.new) }
     {
         if self.dropping {
             return self.go_on(parameters, front, queue, now, sink);
@@ -329,12 +317,8 @@ impl ControlState {
         requires counted { self.old.count < 2 ^ 32 }
         requires dropping { self.old.dropping ≡ true }
         requires late { is_late (joined parameters.now self.old) now (Q.packets queue.old) ≡ true }
-        ensures chosen { HasChosen (joined parameters.now self.old) now (Q.packets queue.old) result (Q.packets queue.new)
-            (joined parameters.now self.new) }
-        ensures lost { let all = Q.packets queue.old in
-            AreLost Cause.CoDel (take (drops (joined parameters.now self.old) now all) all) (S.state sink.old) (S.state sink.new) }
-        ensures kept { Q.keeps queue.old queue.new }
-        ensures sink_kept { S.keeps sink.old sink.new }
+        ensures { HasChosen (joined parameters.now self.old) now (Q.packets queue.old) result (Q.packets queue.new) (joined parameters.now self.new)
+            (S.state sink.old) (S.state sink.new) (Q.keeps queue.old queue.new) (S.keeps sink.old sink.new) }
     {
         let mut front = first;
         // Each time is computed from the one before and not from now. So one call drops what several would have dropped,

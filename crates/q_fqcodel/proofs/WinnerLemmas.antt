@@ -4,7 +4,7 @@ use Rattle.std.proofs.Math.Nat.{max_comm}
 use Rattle.std.proofs.lemmas.Bool.{cases_lt, cases_eq}
 use Rattle.std.proofs.Math.ListN.{get_or-map}
 use Rattle.std.proofs.lemmas.List.{get_or-set_same, get_or-set_other, get_or-drop, get_or-replicate, length-set, length-drop, length-map, length-replicate, drop-set-add, map-set, ext_get_or}
-use Rattle.q_fqcodel.specs.Winners.{rank, rank_at, above, bytes_in, bytes_at, Leads, IsRightBut, IsTournament}
+use Rattle.q_fqcodel.specs.Winners.{rank, rank_at, above, bytes_in, bytes_at, Leads, IsRightBut, IsTournament, AreRight}
 
 -- ---- the root
 
@@ -168,8 +168,7 @@ bytes_none ranks n even leaves =
 -- ---- the leaf of a flow is written, and the ranks above it are right
 
 module _ (ranks now : List ℕ) (flow bytes v leaf : ℕ) (tree : IsTournament ranks) (within : flow < length ranks / 2) (small : flow < 65536)
-    (low : bytes < 2 ^ 48 - 1) (is : v ≡ rank flow bytes) (place : leaf ≡ length ranks / 2 + flow)
-    (len : length now ≡ length (set ranks leaf v)) (leaves : drop (length (set ranks leaf v) / 2) now ≡ drop (length (set ranks leaf v) / 2) (set ranks leaf v)) where
+    (low : bytes < 2 ^ 48 - 1) (is : v ≡ rank flow bytes) (place : leaf ≡ length ranks / 2 + flow) (right : AreRight (set ranks leaf v) now) where
   abbrev lot : ℕ
   lot = length ranks / 2
 
@@ -177,12 +176,12 @@ module _ (ranks now : List ℕ) (flow bytes v leaf : ℕ) (tree : IsTournament r
   written_lot = ap (λ (m : ℕ). m / 2) (length-set ranks leaf v)
 
   now_lot : length now / 2 ≡ lot
-  now_lot = ap (λ (m : ℕ). m / 2) len ∙ written_lot
+  now_lot = ap (λ (m : ℕ). m / 2) right.len ∙ written_lot
 
   at_leaf : (i : ℕ) → rank_at now (length now / 2 + i) ≡ rank_at (set ranks leaf v) (lot + i)
   at_leaf i =
       ap (λ (m : ℕ). rank_at now (m + i)) (now_lot ∙ sym written_lot)
-      ∙ leaf_kept (set ranks leaf v) now i leaves
+      ∙ leaf_kept (set ranks leaf v) now i right.leaves
       ∙ ap (λ (m : ℕ). rank_at (set ranks leaf v) (m + i)) written_lot
 
   leaf_right : (i : ℕ) → i < length now / 2 → rank_at now (length now / 2 + i) % 65536 ≡ 65535 - i
@@ -207,19 +206,19 @@ module _ (ranks now : List ℕ) (flow bytes v leaf : ℕ) (tree : IsTournament r
       omega (arith, at_leaf i, there, tree.below i (omega (arith, h, now_lot))))
       (cases_eq i flow)
 
-  pub tree_written : rank_at now 0 ≡ above → IsRightBut 0 now → IsTournament now
-  tree_written past each = record {
-    even = omega (arith, len, length-set ranks leaf v, tree.even);
+  pub tree_written : IsTournament now
+  tree_written = record {
+    even = omega (arith, right.len, length-set ranks leaf v, tree.even);
     leaf = leaf_right;
     below = leaf_below;
-    past = past;
-    each = each;
+    past = right.past;
+    each = right.each;
   }
 
   pub bytes_renewed : bytes_in now ≡ set (bytes_in ranks) flow bytes
   bytes_renewed =
       let told : v / 65536 ≡ bytes = omega (arith, is, small) in
-      bytes_kept (set ranks leaf v) now len leaves
+      bytes_kept (set ranks leaf v) now right.len right.leaves
       ∙ ap (λ (m : ℕ). bytes_in (set ranks m v)) place
       ∙ bytes_written ranks flow v
       ∙ ap (set (bytes_in ranks) flow) told

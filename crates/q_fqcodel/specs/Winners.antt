@@ -41,3 +41,19 @@ pub record IsTournament (ranks : List ℕ) : Type 0 where
   pub below : (i : ℕ) → i < length ranks / 2 → rank_at ranks (length ranks / 2 + i) < above
   pub past : rank_at ranks 0 ≡ above
   pub each : IsRightBut 0 ranks
+
+-- the ranks of a tournament, and one of its leaves
+pub record AreRanks (ranks : List ℕ) (leaf : ℕ) : Type 0 where
+  pub even : length ranks ≡ 2 * (length ranks / 2)
+  pub few : length ranks ≤ 131072
+  pub low : length ranks / 2 ≤ leaf
+  pub high : leaf < length ranks
+  pub past : rank_at ranks 0 ≡ above
+  pub each : IsRightBut 0 ranks
+
+-- the ranks, once those above the leaves are right again: the leaves are as they were written
+pub record AreRight (written ranks : List ℕ) : Type 0 where
+  pub len : length ranks ≡ length written
+  pub leaves : drop (length written / 2) ranks ≡ drop (length written / 2) written
+  pub past : rank_at ranks 0 ≡ above
+  pub each : IsRightBut 0 ranks

@@ -299,6 +299,7 @@ impl Flows {
     fn sheds_one(&self, fat: u32, batch: u32) -> bool
         ensures one { result ≡ true → batch ≡ 1 }
         ensures held { result ≡ true → 0 < count (queue_of self.now.flows fat) }
+        ensures comes { batch ≡ 1 → 0 < count (queue_of self.now.flows fat) → result ≡ true }
     {
         if batch != 1 {
             return false;

@@ -1,7 +1,7 @@
 //! Which flow has the most bytes, known at all times: a tournament in which each flow plays its neighbour, and winners play winners. A put
 //! or a take changes the games from one leaf up, a step for each doubling of the number of flows.
 ghost use Rattle.std.specs.Prelude.{ℕ, ◌≡◌, ◌+◌, ◌-◌, ◌*◌, ◌/◌, ◌%◌, ◌^◌, ◌<◌, ◌≤◌, max, length, drop, set, replicate, IfOk};
-ghost use Rattle.q_fqcodel.specs.Winners.{rank, rank_at, above, bytes_at, Leads, IsRightBut};
+ghost use Rattle.q_fqcodel.specs.Winners.{rank, rank_at, above, bytes_at, Leads, IsRightBut, AreRanks, AreRight};
 
 use crate::course::Course;
 use std::alloc::{AllocError, Global};
@@ -118,19 +118,11 @@ fn play(ranks: &mut Vec<u64>)
 // or now, says at each node whether the climb ends there, so that this does not wait for what is found below.
 #[inline(always)]
 fn climb(ranks: &mut [u64], leaf: usize, rank: u64, course: Course)
-    requires even { length ranks.old ≡ 2 * (length ranks.old / 2) }
-    requires few { length ranks.old ≤ 131072 }
-    requires low { length ranks.old / 2 ≤ leaf }
-    requires high { leaf < length ranks.old }
-    requires past { rank_at ranks.old 0 ≡ above }
+    requires ranks { AreRanks ranks.old leaf }
     requires below { rank_at ranks.old leaf < above }
     requires rose { course ≡ Course.Rose → rank_at ranks.old leaf ≤ rank }
     requires fell { course ≡ Course.Fell → rank ≤ rank_at ranks.old leaf }
-    requires each { IsRightBut 0 ranks.old }
-    ensures len { length ranks.new ≡ length ranks.old }
-    ensures leaves { drop (length ranks.old / 2) ranks.new ≡ drop (length ranks.old / 2) (set ranks.old leaf rank) }
-    ensures past { rank_at ranks.new 0 ≡ above }
-    ensures each { IsRightBut 0 ranks.new }
+    ensures { AreRight (set ranks.old leaf rank) ranks.new }
 {
     match course {
         Course::Rose => raise(ranks, leaf, rank),
@@ -153,17 +145,9 @@ fn climb(ranks: &mut [u64], leaf: usize, rank: u64, course: Course)
 // is greater than the one above it.
 #[inline(always)]
 fn raise(ranks: &mut [u64], leaf: usize, rank: u64)
-    requires even { length ranks.old ≡ 2 * (length ranks.old / 2) }
-    requires few { length ranks.old ≤ 131072 }
-    requires low { length ranks.old / 2 ≤ leaf }
-    requires high { leaf < length ranks.old }
-    requires past { rank_at ranks.old 0 ≡ above }
+    requires ranks { AreRanks ranks.old leaf }
     requires grown { rank_at ranks.old leaf ≤ rank }
-    requires each { IsRightBut 0 ranks.old }
-    ensures len { length ranks.new ≡ length ranks.old }
-    ensures leaves { drop (length ranks.old / 2) ranks.new ≡ drop (length ranks.old / 2) (set ranks.old leaf rank) }
-    ensures past { rank_at ranks.new 0 ≡ above }
-    ensures each { IsRightBut 0 ranks.new }
+    ensures { AreRight (set ranks.old leaf rank) ranks.new }
 {
     ranks[leaf] = rank;
     let mut node = leaf / 2;
@@ -177,18 +161,10 @@ fn raise(ranks: &mut [u64], leaf: usize, rank: u64)
 // that had another rank had the greater one, and keeps it.
 #[inline(always)]
 fn lower(ranks: &mut [u64], leaf: usize, rank: u64)
-    requires even { length ranks.old ≡ 2 * (length ranks.old / 2) }
-    requires few { length ranks.old ≤ 131072 }
-    requires low { length ranks.old / 2 ≤ leaf }
-    requires high { leaf < length ranks.old }
-    requires past { rank_at ranks.old 0 ≡ above }
+    requires ranks { AreRanks ranks.old leaf }
     requires below { rank_at ranks.old leaf < above }
     requires fallen { rank ≤ rank_at ranks.old leaf }
-    requires each { IsRightBut 0 ranks.old }
-    ensures len { length ranks.new ≡ length ranks.old }
-    ensures leaves { drop (length ranks.old / 2) ranks.new ≡ drop (length ranks.old / 2) (set ranks.old leaf rank) }
-    ensures past { rank_at ranks.new 0 ≡ above }
-    ensures each { IsRightBut 0 ranks.new }
+    ensures { AreRight (set ranks.old leaf rank) ranks.new }
 {
     let old = ranks[leaf];
     let mut node = leaf;

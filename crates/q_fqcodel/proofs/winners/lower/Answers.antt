@@ -37,14 +37,14 @@ loop-ranks-preserved c =
       high = omega (arith, len, i.high);
       len = len ∙ i.len;
       past = past;
-      first = λ h. absurd (omega (arith, h, i.high, i.len, c.requires.even));
+      first = λ h. absurd (omega (arith, h, i.high, i.len, c.requires.ranks.even));
       leaves = λ h. leaves_written c.args.ranks.now ranks c.args.leaf node c.args.rank rank (omega (arith, i.high, i.len)) i.first i.leaves;
       right = step_right ranks node rank some i.high i.right (λ h. i.best (omega (arith, h, i.len)));
       best = λ h. next ∙ above_is ranks node rank some i.high i.right;
       fallen = λ h.
           ⊎_elim
           (λ (e : node / 2 ≡ 0). absurd (omega (arith, ap (rank_at (set ranks node rank)) e, past, h, c.requires.below)))
-          (λ (ne : node / 2 ≢ 0). omega (arith, next, kept, h, was (omega (arith, ne)) (omega (arith, i.high, i.len, c.requires.even)), here, fallen))
+          (λ (ne : node / 2 ≢ 0). omega (arith, next, kept, h, was (omega (arith, ne)) (omega (arith, i.high, i.len, c.requires.ranks.even)), here, fallen))
           (cases_eq (node / 2) 0);
       stays = λ h low high. omega (arith, next, kept, h, was low (omega (arith, high, i.len)), here, fallen);
     }

@@ -10,7 +10,7 @@ loop-ranks-init c =
     let ranks : List ℕ = c.args.ranks.now in
     let leaf : ℕ = c.args.leaf in
     let rank : ℕ = c.args.rank in
-    let r = c.requires in
+    let r = c.requires.ranks in
     let some : 1 ≤ leaf = omega (arith, r.low, r.high, r.even) in
     let right = λ (k : ℕ) (low : 1 ≤ k) (high : k < length ranks / 2) (ne : k ≢ leaf). r.each k low high (λ e. absurd (omega (arith, e, low))) in
     let fits : rank ≤ above = omega (arith, c.ranges.rank.fits) in
@@ -19,11 +19,11 @@ loop-ranks-init c =
     record {
       low = omega (arith, low, len);
       len = len;
-      past = past_kept ranks leaf rank some r.high right r.past fits r.grown low;
+      past = past_kept ranks leaf rank some r.high right r.past fits c.requires.grown low;
       leaves = refl;
       right = step_right ranks leaf rank some r.high right (λ h. absurd (omega (arith, h, r.low)));
-      greater = greater_above ranks leaf rank some r.high right r.past fits r.grown low;
-      stays = stays_above ranks leaf rank some r.high right r.past fits r.grown low;
+      greater = greater_above ranks leaf rank some r.high right r.past fits c.requires.grown low;
+      stays = stays_above ranks leaf rank some r.high right r.past fits c.requires.grown low;
     }
 
 pub loop-ranks-preserved : goal.loop-ranks-preserved

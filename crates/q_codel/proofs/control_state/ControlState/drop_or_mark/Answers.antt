@@ -23,16 +23,16 @@ overflow_sub-behind g c =
     len_within _ _ _ _ _ c.bytes.ensures n.here (ap (λ (f : Front). f.len) n.front_is)
 
 -- one is dropped, and the next one goes
-pub returns-clause-chosen : goal.returns-clause-chosen
-returns-clause-chosen g c =
+pub returns : goal.returns
+returns g c =
     let s = split _ _ c.requires.front in
     let late = sym (ap (is_late (joined c.args.parameters.now c.args.self.now) c.args.now) s.is) ∙ c.requires.late in
     let n = next _ _ _ _ _ s.is c.drop_head-next.ensures.rest c.drop_head-next.ensures.front in
     let further = behind_is _ _ _ _ _ c.bytes.ensures n.here (ap (λ (f : Front). f.len) n.front_is) in
     let plain = sym (c.if-marks.ensures ∙ ap (λ (f : Front). c.args.parameters.now.ecn && is_capable f.ecn) s.front_is) in
-    chosen_at _ _ _ _ _ _ _ _
-    (chosen_in _ _ _ _ _ _ _ _ s.is
+    chosen_at _ _ _ _ _ _ _ _ _ _ _ _ _
+    (chosen_in _ _ _ _ _ _ _ _ _ s.is
     (chosen_behind c.args.parameters.now c.args.self.now c.args.self.now _ _ c.args.now s.head s.rest n.head n.behind
     (sym (ap (λ (v : CodelVars). v.dropping) c.self.view_is) ∙ c.if-self.false) late refl plain c.begin.ensures
     n.rest_is (c.should_drop-is_late.ensures.noted n.head n.behind n.front_is further)))
-    n.here
+    n.here c.drop_head-next.ensures.lost c.drop_head-next.ensures.kept c.drop_head-next.ensures.sink_kept

@@ -5,7 +5,7 @@ use Rattle.q_codel.specs.Gap.{gap_of}
 use Rattle.q_codel.specs.Codel.{CodelParams, joined, is_capable}
 use Rattle.q_codel.specs.declared.front.Front.{Front}
 use Rattle.q_codel.proofs.FrontLemmas.{split, next, head_lost, chosen_at, behind_is, len_within, way_from}
-use Rattle.q_codel.proofs.Law.{turn_waits, turn_marks, turn_ends, turn_goes_on, losses_more, lost_at}
+use Rattle.q_codel.proofs.Law.{turn_waits, turn_marks, turn_ends, turn_goes_on, losses_more}
 use Rattle.q_codel.proofs.SinkLemmas.{told_nothing}
 use Rattle.q_codel.proofs.control_state.ControlState.go_on.Goals as goal
 
@@ -32,12 +32,7 @@ returns g c =
     let i = c.loop-self.invariant in
     let waits : c.args.now < c.self.inside.drop_next = let t = c.loop-self-test.false in let n = c.ns.ensures.value in omega arith in
     let ends = turn_waits _ _ _ i.0 _ _ _ _ _ c.requires.dropping i.3.way (ap (joined c.args.parameters.now) c.self.view_is) waits in
-    record {
-      chosen = chosen_at _ _ _ _ _ _ _ _ ends.chosen i.3.packets;
-      lost = lost_at _ _ i.0 _ _ _ ends.count i.3.lost;
-      kept = i.3.kept;
-      sink_kept = i.3.sink_kept;
-    }
+    chosen_at _ _ _ _ _ _ _ _ _ _ _ _ _ ends i.3.packets i.3.lost i.3.kept i.3.sink_kept
 
 -- the head is marked
 pub returns-then-marks : goal.returns-then-marks
@@ -48,12 +43,7 @@ returns-then-marks g c =
     c.gap.ensures.value ∙ ap (λ (p : CodelParams). gap_of p.interval c.saturating_add-self-inside.result) c.parameters.view_is in
     let markable = sym (c.if-marks.ensures ∙ ap (λ (f : Front). c.args.parameters.now.ecn && is_capable f.ecn) i.3.front) in
     let ends = turn_marks _ _ _ i.0 _ i.1 _ _ _ _ i.3.way (ap (joined c.args.parameters.now) c.self.view_is) due c.saturating_add-self-inside.ensures _ c.requires.dropping markable length in
-    record {
-      chosen = chosen_at _ _ _ _ _ _ _ _ ends.chosen i.3.packets;
-      lost = lost_at _ _ i.0 _ _ _ ends.count i.3.lost;
-      kept = i.3.kept;
-      sink_kept = i.3.sink_kept;
-    }
+    chosen_at _ _ _ _ _ _ _ _ _ _ _ _ _ ends i.3.packets i.3.lost i.3.kept i.3.sink_kept
 
 pub overflow_sub-behind : goal.overflow_sub-behind
 overflow_sub-behind g c =
@@ -74,12 +64,8 @@ returns-then-not-should_drop g c =
     plain n.rest_is (c.self-in-loop-self.view_is ∙ c.if-not-should_drop.ensures.noted n.head n.behind n.front_is behind) c.requires.dropping
     (sym (c.if-not-should_drop.ensures.late n.head n.behind n.front_is behind)) in
     let lost = losses_more _ _ i.0 _ _ _ _ _ i.3.way.place i.3.lost (head_lost _ _ _ _ _ _ i.3.packets c.drop_head-front.ensures.lost) in
-    record {
-      chosen = chosen_at _ _ _ _ _ _ _ _ ends.chosen n.here;
-      lost = lost_at _ _ _ _ _ _ ends.count lost;
-      kept = g.met.Q.Queue.keeps_on _ _ _ i.3.kept c.drop_head-front.ensures.kept;
-      sink_kept = g.met.S.Sink.keeps_on _ _ _ i.3.sink_kept c.drop_head-front.ensures.sink_kept;
-    }
+    chosen_at _ _ _ _ _ _ _ _ _ _ _ _ _ ends n.here lost
+    (g.met.Q.Queue.keeps_on _ _ _ i.3.kept c.drop_head-front.ensures.kept) (g.met.S.Sink.keeps_on _ _ _ i.3.sink_kept c.drop_head-front.ensures.sink_kept)
 
 -- the head is dropped, and the next one is late too
 pub loop-self-preserved : goal.loop-self-preserved

@@ -1,6 +1,6 @@
 use Rattle.std.proofs.Common.{◌≡◌, ℕ, ◌+◌, ◌/◌, ◌<◌, ◌≤◌, List, ◌++◌, length, take, drop, set, sym, ap, ◌∙◌, arith, subst}
 use Rattle.std.proofs.lemmas.List.{length-set, take-append-le, take_all}
-use Rattle.q_fqcodel.specs.Winners.{rank, rank_at, bytes_in, bytes_at, IsTournament}
+use Rattle.q_fqcodel.specs.Winners.{rank, rank_at, bytes_in, bytes_at, IsTournament, AreRanks, AreRight}
 use Rattle.q_fqcodel.proofs.WinnerLemmas.{length-bytes_in, bytes_read, tree_written, bytes_renewed}
 use Rattle.q_fqcodel.proofs.winners.Winners.renew.Goals as goal
 use Rattle.q_fqcodel.proofs.winners.Winners.renew.Goals.{After-self, After-climb}
@@ -14,15 +14,17 @@ place c = ap (λ (m : ℕ). m + c.args.flow) c.self.invariant.2
 pub rank_of-requires-clause-flow : goal.rank_of-requires-clause-flow
 rank_of-requires-clause-flow c = omega (arith, within (goal.at.rank_of-requires-clause-flow c).After-self, c.self.invariant.1)
 
-pub climb-requires-clause-low : goal.climb-requires-clause-low
-climb-requires-clause-low c =
-    let d = (goal.at.climb-requires-clause-low c).After-self in
-    omega (arith, place d, ap length c.deref_mut.ensures.value)
-
-pub climb-requires-clause-high : goal.climb-requires-clause-high
-climb-requires-clause-high c =
-    let d = (goal.at.climb-requires-clause-high c).After-self in
-    omega (arith, within d, place d, c.self.invariant.0.even, ap length c.deref_mut.ensures.value)
+pub climb-requires-clause-ranks : goal.climb-requires-clause-ranks
+climb-requires-clause-ranks c =
+    let d = (goal.at.climb-requires-clause-ranks c).After-self in
+    subst (λ (l : List ℕ). AreRanks l (c.self.inside.leaves + c.args.flow)) (sym c.deref_mut.ensures.value) (record {
+      even = c.self.invariant.0.even;
+      few = c.self.invariant.1;
+      low = omega (arith, place d);
+      high = omega (arith, within d, place d, c.self.invariant.0.even);
+      past = c.self.invariant.0.past;
+      each = c.self.invariant.0.each;
+    })
 
 -- the rank of the leaf before
 leaf_was : (c : After-self) → rank_at c.self.inside.ranks.items (c.self.inside.leaves + c.args.flow) ≡ rank c.args.flow (bytes_at c.args.self.now c.args.flow)
@@ -50,19 +52,13 @@ climb-requires-clause-fell c h =
 abbrev told : After-climb → List ℕ
 told c = set c.self.inside.ranks.items (c.self.inside.leaves + c.args.flow) c.rank_of.result
 
-len_is : (c : After-climb) → length c.climb.new.ranks ≡ length (told c)
-len_is c = c.climb.ensures.len ∙ ap length c.deref_mut.ensures.value ∙ sym (length-set c.self.inside.ranks.items (c.self.inside.leaves + c.args.flow) c.rank_of.result)
-
-leaves_are : (c : After-climb) → drop (length (told c) / 2) c.climb.new.ranks ≡ drop (length (told c) / 2) (told c)
-leaves_are c =
-    subst (λ (n : ℕ). drop (n / 2) c.climb.new.ranks ≡ drop (n / 2) (told c))
-    (sym (length-set c.self.inside.ranks.items (c.self.inside.leaves + c.args.flow) c.rank_of.result))
-    (subst (λ (l : List ℕ). drop (length l / 2) c.climb.new.ranks ≡ drop (length l / 2) (set l (c.self.inside.leaves + c.args.flow) c.rank_of.result)) c.deref_mut.ensures.value c.climb.ensures.leaves)
+renewed : (c : After-climb) → AreRight (told c) c.climb.new.ranks
+renewed c = subst (λ (l : List ℕ). AreRight (set l (c.self.inside.leaves + c.args.flow) c.rank_of.result) c.climb.new.ranks) c.deref_mut.ensures.value c.climb.ensures
 
 all_written : (c : After-climb) → take c.self.inside.ranks.len (c.climb.new.ranks ++ drop (length c.climb.new.ranks) c.self.inside.ranks.items) ≡ c.climb.new.ranks
 all_written c =
     let xs : List ℕ = c.self.inside.ranks.items in
-    let long : length c.climb.new.ranks ≡ c.self.inside.ranks.len = omega (arith, len_is c, length-set xs (c.self.inside.leaves + c.args.flow) c.rank_of.result, c.self.inside.ranks.ok.0) in
+    let long : length c.climb.new.ranks ≡ c.self.inside.ranks.len = omega (arith, (renewed c).len, length-set xs (c.self.inside.leaves + c.args.flow) c.rank_of.result, c.self.inside.ranks.ok.0) in
     take-append-le c.self.inside.ranks.len c.climb.new.ranks (drop (length c.climb.new.ranks) xs) (omega (arith, long))
     ∙ take_all c.self.inside.ranks.len c.climb.new.ranks (omega (arith, long))
 
@@ -75,9 +71,9 @@ invariant_of-self c =
     let v : ℕ = c.rank_of.result in
     subst (λ (l : List ℕ). IsTournament l × (length l ≤ 131072) × (c.self.inside.leaves ≡ length l / 2)) (sym (all_written e)) (
       tree_written xs c.climb.new.ranks c.args.flow c.args.bytes v leaf c.self.invariant.0 (within d) (omega (arith, within d, c.self.invariant.1))
-          c.requires.few c.rank_of.ensures (place d) (len_is e) (leaves_are e) c.climb.ensures.past c.climb.ensures.each,
-      omega (arith, len_is e, length-set xs leaf v, c.self.invariant.1),
-      c.self.invariant.2 ∙ ap (λ (n : ℕ). n / 2) (sym (len_is e ∙ length-set xs leaf v)),
+          c.requires.few c.rank_of.ensures (place d) (renewed e),
+      omega (arith, (renewed e).len, length-set xs leaf v, c.self.invariant.1),
+      c.self.invariant.2 ∙ ap (λ (n : ℕ). n / 2) (sym ((renewed e).len ∙ length-set xs leaf v)),
     )
 
 pub returns : goal.returns
@@ -88,5 +84,5 @@ returns c =
     let leaf : ℕ = c.self.inside.leaves + c.args.flow in
     ap bytes_in (all_written e)
     ∙ bytes_renewed xs c.climb.new.ranks c.args.flow c.args.bytes c.rank_of.result leaf c.self.invariant.0 (within d)
-    (omega (arith, within d, c.self.invariant.1)) c.requires.few c.rank_of.ensures (place d) (len_is e) (leaves_are e)
+    (omega (arith, within d, c.self.invariant.1)) c.requires.few c.rank_of.ensures (place d) (renewed e)
     ∙ ap (λ (l : List ℕ). set l c.args.flow c.args.bytes) c.self.view_is
