@@ -38,9 +38,9 @@ impl Tree {
         turn_on(&way, self.limit_in(class)?)
     }
 
-    /// The bytes that leave the drr of this class, from now on, until the packet has left it that is queued last in the class, or, with a `len` above 0,
-    /// one of so many bytes that comes there next. It is said of a class of a drr in any place. Returns `None` if there is no such class. Allocates
-    /// nothing, and takes time in proportion to the number of classes.
+    /// The bytes that leave the drr of this class, from now on, until the packet has left it that is queued last in the class, or, with a `len` above
+    /// 0, one of so many bytes that comes there next. It is said of a class of a drr in any place. Returns `None` if there is no such class.
+    /// Allocates nothing, and takes time in proportion to the number of classes.
     pub fn bytes_before(&self, class: ClassId, len: u16) -> Option<u128>
         ensures { result ≡ bytes_before class len self.now.tree.root }
     {

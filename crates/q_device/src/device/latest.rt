@@ -41,9 +41,10 @@ impl Device {
         self.tree.turn_to(*place)
     }
 
-    /// Computes by when a packet of `len` bytes has left, if it comes next to the pfifo or bfifo in this place and is kept. With a `len` of 0, computes
-    /// by when the packet has left that was queued there last. Returns `None` if [`Device::worst`] would do so with any limit of the fifo, or if a
-    /// number would be too large. Allocates nothing.
+    /// Computes by when a packet of `len` bytes has left, if the next event of the device is that it comes to the pfifo or bfifo in this place and is
+    /// kept. With a `len` of 0, computes by when the packet has left that was queued there last; in a class of a drr with nothing queued, when its
+    /// turn would come. Returns `None` if [`Device::worst`] would do so with any limit of the fifo, or if a number would be too large. Allocates
+    /// nothing.
     pub fn latest(&self, place: Place, len: u16) -> Option<Latest>
         ensures { result ≡ latest_of totals place len self.now.settings.mtu self.now.device }
     {
