@@ -1,5 +1,5 @@
 -- A packet that comes later finds a bucket that has filled meanwhile: what a device answers of it then.
-use Rattle.std.proofs.Common.{◌≡◌, ℕ, ◌+◌, ◌-◌, ◌*◌, ◌≤◌, inl, inr, max, min, refl, sym, ap, subst, ◌∙◌, List, [], ◌∷◌, Option, Some, None, option_map, option_and_then, arith}
+use Rattle.std.proofs.Common.{◌≡◌, ℕ, ◌+◌, ◌-◌, ◌*◌, ◌≤◌, ◌^◌, inl, inr, max, min, refl, sym, ap, subst, ◌∙◌, List, [], ◌∷◌, Option, Some, None, option_map, option_and_then, arith}
 use Rattle.std.specs.Prelude.{All, Bool, true, false, slice_get, if◌then◌else◌}
 use Rattle.std.specs.Int.{div_ceil}
 use Rattle.std.proofs.Math.Nat.{mul-add, mul-le-mul_left, mul_comm}

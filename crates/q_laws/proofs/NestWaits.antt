@@ -271,13 +271,15 @@ event-keeps major i classes d kept e happens h k n m is at x y there then_there 
         let next : DeviceState (List Note) = (step history d (event.Arrive p moment)).device in
         let same = quiet-reached n m (put-quiet next.clock p n m (becomes major d (event.Arrive p moment) n m kept range is at)) in (
           omega (arith, same),
-          λ below a b. (let none = quiet-child x.child y.child (put-quiet next.clock p x.child y.child (becomes below d (event.Arrive p moment) x.child y.child kept range a b)) in omega (arith, same, none)),
+          λ below a b. (let none = quiet-child x.child y.child (put-quiet next.clock p x.child y.child
+              (becomes below d (event.Arrive p moment) x.child y.child kept range a b)) in omega (arith, same, none)),
         )
     by (event.Command c moment) range k at at_y =
         let next : DeviceState (List Note) = (step history d (event.Command c moment)).device in
         let same = quiet-reached n m (command-quiet next.clock n m (becomes major d (event.Command c moment) n m kept range is at)) in (
           omega (arith, same),
-          λ below a b. (let none = quiet-child x.child y.child (command-quiet next.clock x.child y.child (becomes below d (event.Command c moment) x.child y.child kept range a b)) in omega (arith, same, none)),
+          λ below a b. (let none = quiet-child x.child y.child (command-quiet next.clock x.child y.child
+              (becomes below d (event.Command c moment) x.child y.child kept range a b)) in omega (arith, same, none)),
         )
     by (event.Poll moment) low k at at_y =
         let drr_now = drr major i classes d moment kept low h k x y there at_y in

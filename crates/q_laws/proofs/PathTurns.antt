@@ -169,7 +169,8 @@ module _ (settings : DeviceSettings) (range : IsInRange settings) (before : List
   stays-front l (k ∷ levels) seen later events e (inr t) =
       by (λ zs join. stays-front k levels seen zs t.during join t.waits) (split-at seen later t.during t.later t.taken_at (e ∙ sym t.parts))
     where
-      by : ((zs : List Event) → seen ++ zs ≡ t.during → StaysOn k levels settings before seen) → ((zs : List Event) × (seen ++ zs ≡ t.during)) ⊎ ((zs : List Event) × ((seen ≡ t.during ++ t.taken_at ∷ zs) × (zs ++ later ≡ t.later)))
+      by : ((zs : List Event) → seen ++ zs ≡ t.during → StaysOn k levels settings before seen)
+          → ((zs : List Event) × (seen ++ zs ≡ t.during)) ⊎ ((zs : List Event) × ((seen ≡ t.during ++ t.taken_at ∷ zs) × (zs ++ later ≡ t.later)))
           → StaysOn l (k ∷ levels) settings before seen
       by front (inl o) = inl (front o.0 o.1)
       by front (inr o) = inr (record {
@@ -354,12 +355,16 @@ module _ (settings : DeviceSettings) (range : IsInRange settings) (before : List
 
   reached-on : (l : Level) (levels : List Level) (during : List Event) (e : Event) → Reaches l levels during e
   reached-on l [] during e s h n m is there =
-      let waits : (seen : List Event) (x : Event) (later : List Event) → seen ++ x ∷ later ≡ during ++ e ∷ [] → IsWaiting l.major l.minor (device_after settings before) (device_after settings (before ++ seen)) =
+      let waits : (seen : List Event) (x : Event) (later : List Event) → seen ++ x ∷ later ≡ during ++ e ∷ []
+      → IsWaiting l.major l.minor (device_after settings before) (device_after settings (before ++ seen)) =
       λ seen x later split. (let o = front-before seen later during x e split in h seen o.0 o.1) in
-      let first_drr = start-drr settings range before (during ++ e ∷ []) l.major l.minor l.quantum (most_of_turns settings.mtu bytes (share_at l) []) l.classes earlier s.happen (λ xs ys j. (s.path xs ys j).0)
+      let first_drr = start-drr settings range before (during ++ e ∷ []) l.major l.minor l.quantum (most_of_turns settings.mtu bytes (share_at l) [])
+      l.classes earlier s.happen (λ xs ys j. (s.path xs ys j).0)
       (λ xs ys j. (s.path xs ys j).1) s.keep waits (send-at-most settings range before l.major l.minor l.quantum bytes l.classes earlier s.few) in
-      let r = all-reached settings range before (during ++ e ∷ []) l.major l.minor l.quantum (most_of_turns settings.mtu bytes (share_at l) []) l.classes earlier s.happen (λ xs ys j. (s.path xs ys j).0)
-      (λ xs ys j. (s.path xs ys j).1) s.keep waits (send-at-most settings range before l.major l.minor l.quantum bytes l.classes earlier s.few) (during ++ e ∷ []) [] (append-nil (during ++ e ∷ [])) m there in
+      let r = all-reached settings range before (during ++ e ∷ []) l.major l.minor l.quantum (most_of_turns settings.mtu bytes (share_at l) [])
+      l.classes earlier s.happen (λ xs ys j. (s.path xs ys j).0)
+      (λ xs ys j. (s.path xs ys j).1) s.keep waits (send-at-most settings range before l.major l.minor l.quantum bytes l.classes earlier s.few)
+      (during ++ e ∷ []) [] (append-nil (during ++ e ∷ [])) m there in
       omega (arith, r, ap reached (same_Some first_drr.node n (sym first_drr.there ∙ is)))
   reached-on l (k ∷ levels) during e s (inl h) n m is there = below-reached l k levels (reached-on k levels) during e s h n m is there
   reached-on l (k ∷ levels) during e s (inr t) n m is there =
