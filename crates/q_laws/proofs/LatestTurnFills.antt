@@ -1,8 +1,7 @@
 -- A packet of a class of a drr that comes later finds a bucket that has filled meanwhile: what a device answers of it then.
-use Rattle.std.proofs.Common.{◌≡◌, ℕ, ◌≤◌, ◌^◌, max, refl, sym, ap, subst, ◌∙◌, List, [], ◌∷◌, Option, Some, None, option_map, option_and_then}
-use Rattle.std.specs.Prelude.{All, Bool, true, false, slice_get, if◌then◌else◌}
+use Rattle.std.proofs.Common.{◌≡◌, ℕ, max, refl, sym, ap, subst, ◌∙◌, List, [], ◌∷◌, Option, Some, None, option_map, option_and_then}
+use Rattle.std.specs.Prelude.{Bool, true, false, slice_get, if◌then◌else◌}
 use Rattle.std.proofs.lemmas.Option.{none-some, same_Some, option_and_then_some}
-use Rattle.q_bucket.specs.Level.{TokenBucket}
 use Rattle.q_model.specs.declared.class_id.ClassId.{ClassId}
 use Rattle.q_model.specs.declared.place.Place.TheVariants as place
 use Rattle.q_model.specs.Find.{class_path}
@@ -10,11 +9,9 @@ use Rattle.q_model.specs.Node.{Discipline, Fifo, Prio, Tbf, Drr, FqCodel, Node, 
 use Rattle.q_model.specs.Settings.{DeviceSettings, IsInRange}
 use Rattle.q_model.specs.Step.{DeviceState}
 use Rattle.q_model.specs.Tally.{Note}
-use Rattle.q_tree.specs.declared.turns.Turn.{Turn}
 use Rattle.q_tree.specs.declared.ways.Link.{Link}
 use Rattle.q_tree.specs.Lanes.{level_of}
 use Rattle.q_tree.specs.TurnNow.{bytes_before}
-use Rattle.q_tree.specs.Turns.{turn_to}
 use Rattle.q_tree.specs.Ways.{DrrClass, Way, drrs_on, has_tbf, way_below, way_from, way_to}
 use Rattle.q_device.specs.Latest.{latest_on}
 use Rattle.q_device.specs.Sharing.{device_after}
