@@ -5,7 +5,8 @@ use Rattle.std.specs.Prelude.{if◌then◌else◌}
 use Rattle.std.proofs.lemmas.Bool.{cases_Bool, cond-false, and_parts, ltb-true}
 use Rattle.q_packet.specs.Totals.{size}
 use Rattle.q_packet.specs.declared.stamped.Stamped.{Stamped}
-use Rattle.q_codel.specs.Codel.{CodelState, CodelParams, CodelVars, joined, is_standing, is_late, is_capable, is_markable, moment, begun, above_after, count_after, HasChosen}
+use Rattle.q_codel.specs.Chosen.{HasChosen}
+use Rattle.q_codel.specs.Codel.{CodelState, CodelParams, CodelVars, joined, is_standing, is_late, is_capable, is_markable, moment, begun, above_after, count_after}
 use Rattle.q_codel.specs.Losses.{SinkState}
 use Rattle.q_codel.proofs.Law.{drops_is, stops_early, marks_at, Ends, Ends_of, Ends_at, above_late}
 

@@ -7,7 +7,8 @@ use Rattle.q_packet.specs.declared.stamped.Stamped.{Stamped}
 use Rattle.q_packet.specs.declared.cause.Cause.{Cause}
 use Rattle.q_packet.specs.declared.cause.Cause.TheVariants.{CoDel}
 use Rattle.q_codel.specs.declared.front.Front.{Front}
-use Rattle.q_codel.specs.Codel.{CodelState, is_late, drops, Chooses, HasChosen}
+use Rattle.q_codel.specs.Chosen.{HasChosen}
+use Rattle.q_codel.specs.Codel.{CodelState, is_late, drops, Chooses}
 use Rattle.q_codel.specs.Losses.{AreLost, SinkState}
 use Rattle.q_codel.proofs.Law.{OnTheWay, OnTheWay_start, Ends, lost_at}
 use Rattle.q_codel.specs.Front.{front_of, IsFront}

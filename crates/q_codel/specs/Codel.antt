@@ -1,16 +1,14 @@
 -- CoDel on one queue (RFC 8289, sections 5.5 and 5.6), in whole nanoseconds. The heads that go are counted by a least
 -- number. Marks are not in the RFC's pseudocode: that a mark takes a drop's place where ECN allows it, does to the state
 -- what a drop does, and ends the call is this project's choice.
-use Rattle.std.specs.Prelude.{◌≡◌, ℕ, zero, suc, ◌≤◌, ◌<◌, ◌+◌, ◌-◌, ◌*◌, ◌^◌, min, Bool, true, false, not, ◌&&◌, ◌||◌, ◌==◌, nat_lt, nat_le, if◌then◌else◌, List, [], ◌∷◌, length, take, drop, Option, Some, slice_get, option_map}
+use Rattle.std.specs.Prelude.{◌≡◌, ℕ, zero, suc, ◌≤◌, ◌<◌, ◌+◌, ◌-◌, ◌*◌, ◌^◌, min, Bool, true, false, not, ◌&&◌, ◌||◌, ◌==◌, nat_lt, nat_le, if◌then◌else◌, List, [], ◌∷◌, length, drop, Option, Some, slice_get, option_map}
 use Rattle.q_packet.specs.Least.{least}
-use Rattle.q_packet.specs.Totals.{count, size}
+use Rattle.q_packet.specs.Totals.{size}
 use Rattle.q_packet.specs.Descriptor.{Descriptor}
 pub use Rattle.q_packet.specs.Ecn.{is_capable}
-use Rattle.q_packet.specs.declared.cause.Cause.TheVariants.{CoDel}
 use Rattle.q_packet.specs.declared.ecn.Ecn.TheVariants.{Ce}
 use Rattle.q_packet.specs.declared.stamped.Stamped.{Stamped}
 use Rattle.q_codel.specs.Gap.{gap_of}
-use Rattle.q_codel.specs.Losses.{AreLost, SinkState}
 use Rattle.q_codel.specs.declared.codel.Taken.{Taken}
 
 -- The settings and the state of one queue's CoDel. Times are in nanoseconds and `mtu` in bytes; `first_above_time`
@@ -195,12 +193,3 @@ pub record Chooses (s : CodelState) (now : ℕ) (queue : List Stamped) (head : S
   pub marked_is : marked ≡ marks s now queue
   pub rest_is : rest ≡ left s now queue
   pub state_is : t ≡ after s now queue
-
--- the heads that go have gone, and are lost: one to be sent is in front of what waits, to be marked or not, and this is the state
-pub record HasChosen (s : CodelState) (now : ℕ) (queue : List Stamped) (marked : Bool) (waiting : List Stamped) (t : CodelState)
-    (sink_before sink_after : SinkState) (Kept SinkKept : Type 0) : Type 0 where
-  pub some : 0 < count waiting
-  pub chosen : (head : Stamped) (rest : List Stamped) → waiting ≡ head ∷ rest → Chooses s now queue head marked rest t
-  pub lost : AreLost CoDel (take (drops s now queue) queue) sink_before sink_after
-  pub kept : Kept
-  pub sink_kept : SinkKept

@@ -1,4 +1,5 @@
 pub mod Bursts
+pub mod Chosen
 pub mod Codel
 pub mod FifoState
 pub mod Front

@@ -77,7 +77,8 @@ pub struct Leaving {
 }
 
 impl ControlState {
-    ghost use Rattle.q_codel.specs.Codel.{joined, vars_at_first, sent, taken, drops, left, after, begun, above_after, is_late, Chooses, HasChosen};
+    ghost use Rattle.q_codel.specs.Chosen.{HasChosen};
+    ghost use Rattle.q_codel.specs.Codel.{joined, vars_at_first, sent, taken, drops, left, after, begun, above_after, is_late, Chooses};
 
     /// The state of a queue that has not sent yet.
     pub fn new() -> ControlState
