@@ -4,6 +4,7 @@ use Rattle.std.specs.Prelude.{true, is_some, slice_get, if◌then◌else◌}
 use Rattle.std.proofs.lemmas.List.{length-set, set-set}
 use Rattle.std.proofs.lemmas.Option.{same_Some, slice_get_within}
 use Rattle.q_packet.specs.Descriptor.{Descriptor}
+use Rattle.q_codel.specs.Losses.{SinkState}
 use Rattle.q_model.specs.Ask.{Asked, befores, ask, ask_prio}
 use Rattle.q_model.specs.Node.{Node, Own, shape, side_by_side}
 use Rattle.q_model.specs.Pop.{pop}
@@ -43,7 +44,7 @@ taken-below own below k p is some =
     sym (ap (λ n. side_by_side (taken_at n below)) is) ∙ sym (ap (λ (o : Option Descriptor). (if is_some o then a.taken else a.peeked).below) some)
 
 module _ (now : ℕ) (ns ms : List (Node Kept)) (i : ℕ) (s : Shown) (each : CanAskEach now ns) (h : AreBandsAsked now ns ms i s) (c : Node Kept) (at : slice_get ns i ≡ Some c)
-    (m : Node Kept) (result : Shown) (asked : IsAskedOnce now c m s result) (p : Descriptor) (some : result.packet ≡ Some p) where
+    {told_before told : SinkState} (m : Node Kept) (result : Shown) (asked : IsAskedOnce now c m s result told_before told) (p : Descriptor) (some : result.packet ≡ Some p) where
   shows : is_some result.packet ≡ true
   shows = ap is_some some
 

@@ -93,10 +93,11 @@ own_of handle filters d = record { handle = handle; discipline = d; held = None;
 abbrev pub answer_of : ℕ → Option ℕ → List Filter → Discipline → Asked
 answer_of now handle filters d = ask_discipline now (own_of handle filters (discipline_seen d)) (answers now (children_seen d)) (discipline_seen d)
 
-pub record IsAskedIn (a : Asked) (before after : Discipline) (s : Shown) : Type 0 where
+pub record IsAskedIn (a : Asked) (before after : Discipline) (s : Shown) (sink sink_after : SinkState) : Type 0 where
   pub discipline : discipline_seen after ≡ a.peeked.own.discipline
   pub children : AreAsked a (children_seen before) (children_seen after) s
   pub places : places_seen after ≡ places_seen before
+  pub told : IsToldOf a.rises sink sink_after
 
 -- the packet that a node with this discipline holds where it shows this one: those that can hold a packet have dequeued it
 abbrev pub held_in : spec.Discipline → Option Descriptor → Option Descriptor
@@ -115,12 +116,13 @@ pub record CanAskOnce (now : ℕ) (n : spec.Node Kept) (so_far : Shown) (room : 
   pub marked_packets : so_far.marked.packets + length (beneath n) < 2 ^ 64
   pub marked_bytes : so_far.marked.bytes + (totals_in (beneath n)).bytes < 2 ^ 64
 
-pub record IsAskedOnce (now : ℕ) (before after : spec.Node Kept) (so_far s : Shown) : Type 0 where
+pub record IsAskedOnce (now : ℕ) (before after : spec.Node Kept) (so_far s : Shown) (sink sink_after : SinkState) : Type 0 where
   pub peeked : after ≡ booked kept before (ask now (shape before)).peeked
   pub arrived : after.memory.counts.arrived ≡ before.memory.counts.arrived
   pub packet : s.packet ≡ (ask now (shape before)).shown
   pub dropped : s.dropped ≡ plus so_far.dropped (counts_in (ask now (shape before)).rises).dropped
   pub marked : s.marked ≡ plus so_far.marked (counts_in (ask now (shape before)).rises).marked
+  pub told : IsToldOf (ask now (shape before)).rises sink sink_after
 
 -- a class that hands out its packet, and the schedule then
 pub record IsGivenBy (place : ℕ) (c : spec.Node Kept) (before after : Schedule) (ns ms : List (spec.Node Kept)) : Type 0 where
@@ -149,9 +151,11 @@ no_signals = record { dropped = no_totals; marked = no_totals }
 abbrev pub signals_of : Shown → Signals
 signals_of s = record { dropped = s.dropped; marked = s.marked }
 
--- a node that was asked for its packet: what the node is then, what is in the caller's place for the counts, and what was shown
-pub record IsPeeked (now : ℕ) (old new : spec.Node Kept) (counted : Signals) (s : Shown) : Type 0 where
+-- A node that was asked for its packet: what the node is then, what is in the caller's place for the counts, what was shown, and what
+-- the sink was told.
+pub record IsPeeked (now : ℕ) (old new : spec.Node Kept) (counted : Signals) (s : Shown) (sink sink_after : SinkState) : Type 0 where
   pub after : new ≡ booked kept old (ask now (shape old)).peeked
   pub arrived : new.memory.counts.arrived ≡ old.memory.counts.arrived
   pub shown : IsShown (ask now (shape old)) s
   pub signals : counted ≡ signals_of s
+  pub told : IsToldOf (ask now (shape old)).rises sink sink_after

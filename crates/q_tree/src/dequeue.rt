@@ -8,9 +8,7 @@
 ghost use Rattle.std.specs.Prelude.{◌≡◌, ◌≤◌, List, None, Option, Some, is_some, length, true, unwrap_or, ℕ};
 ghost use Rattle.std.specs.Option.{option_map_or};
 ghost use Rattle.q_packet.specs.Stored.{stored_of};
-ghost use Rattle.q_model.specs.Ask.{ask};
 ghost use Rattle.q_model.specs.Beneath.{beneath};
-ghost use Rattle.q_model.specs.Node.{shape};
 ghost use Rattle.q_model.specs.Pop.{pop};
 ghost use Rattle.q_model.specs.TreeState.{given, noted_by_take, take_packet};
 ghost use Rattle.q_model.specs.Work.{booked};
@@ -187,8 +185,7 @@ impl Node {
         requires ready { CanAsk now self.old }
         requires sink { length (beneath self.old) ≤ (S.state sink.old).room }
         requires clean { signals.old ≡ no_signals }
-        ensures dequeued { IsDequeued now self.old self.new out.old out.new signals.new result }
-        ensures told { IsToldOf (ask now (shape self.old)).rises (S.state sink.old) (S.state sink.new) }
+        ensures dequeued { IsDequeued now self.old self.new out.old out.new signals.new result (S.state sink.old) (S.state sink.new) }
         ensures kept { S.keeps sink.old sink.new }
     {
         self.row.fit();
@@ -243,9 +240,8 @@ impl Discipline {
         requires ready { CanAskIn now self.old }
         requires sink { length (packets_within self.old) ≤ (S.state sink.old).room }
         requires clean { signals.old ≡ no_signals }
-        ensures after { (handle : Option ℕ) (filters : List Filter) → IsSentIn (answer_of now handle filters self.old) self.old self.new result }
+        ensures after { (handle : Option ℕ) (filters : List Filter) → IsSentIn (answer_of now handle filters self.old) self.old self.new result (S.state sink.old) (S.state sink.new) }
         ensures packet { out.new ≡ unwrap_or result.packet out.old }
-        ensures told { (handle : Option ℕ) (filters : List Filter) → IsToldOf (answer_of now handle filters self.old).rises (S.state sink.old) (S.state sink.new) }
         ensures signals { signals.new ≡ signals_of result }
         ensures kept { S.keeps sink.old sink.new }
     {

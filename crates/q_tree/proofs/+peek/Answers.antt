@@ -18,7 +18,7 @@ use Rattle.q_tree.proofs.AskBands.{band-at, band-once, band-shown, bands-go-on, 
 use Rattle.q_tree.proofs.AskOnce.{fits-beside}
 use Rattle.q_tree.proofs.AtHandLemmas.{shown-len}
 use Rattle.q_tree.proofs.HereLemmas.{flow-packets}
-use Rattle.q_tree.proofs.Peeks.{asked-in, fifo-asked, fifo-peeked, held-of, told-in, each-of, room-of, own-room, items-are, serve-of, holding-after, can-in, enough, can-book, peeked-done, shown-here, told-here, tbf-none, tbf-allowed, tbf-none-since, tbf-waiting}
+use Rattle.q_tree.proofs.Peeks.{asked-in, fifo-asked, fifo-peeked, held-of, each-of, room-of, own-room, items-are, serve-of, holding-after, can-in, enough, can-book, peeked-done, shown-here, told-here, tbf-none, tbf-allowed, tbf-none-since, tbf-waiting}
 use Rattle.q_tree.proofs.ServeLemmas.{classes-go-on, classes-start, class-once, class-shown, class-size, fewer-grants, front-met, given-told, nothing-told, place-within, short-enough, class-given, class-sends, class-unserved}
 use Rattle.q_tree.proofs.IdleClasses.{idle-told, idle-unserved}
 use Rattle.q_tree.proofs.Quiet.{shown-nothing}
@@ -132,7 +132,7 @@ disciplines::drr::meet_class-peek_class-shown-requires g t c κs within =
 pub disciplines::drr::meet_class-returns-in_default-packet_len-clause-told : goal.disciplines::drr::meet_class-returns-in_default-packet_len-clause-told
 disciplines::drr::meet_class-returns-in_default-packet_len-clause-told g t c =
     let met = front-met c.requires.ready c.loop-place.invariant.0 c.front_place.ensures.lawful c.in-Some.place (sym c.in-Some.is ∙ c.front_place.ensures.place) in
-    let shows = class-shown met c.index-classes-place.result c.peek_class-shown.ensures.asked c.peek_class-shown.ensures.told c.peek_class-shown.ensures.at_hand c.peek_class-shown.ensures.not_lost in
+    let shows = class-shown met c.index-classes-place.result c.peek_class-shown.ensures.asked c.peek_class-shown.ensures.at_hand c.peek_class-shown.ensures.not_lost in
     nothing-told met shows (c.packet_len.ensures.none c.in_default-packet_len.is)
 
 pub disciplines::drr::meet_class-returns-in_default-packet_len-clause-kept : goal.disciplines::drr::meet_class-returns-in_default-packet_len-clause-kept
@@ -142,14 +142,14 @@ disciplines::drr::meet_class-returns-in_default-packet_len-clause-kept g t c =
 pub disciplines::drr::meet_class-turn-requires-clause-in_range : goal.disciplines::drr::meet_class-turn-requires-clause-in_range
 disciplines::drr::meet_class-turn-requires-clause-in_range g t c =
     let met = front-met c.requires.ready c.loop-place.invariant.0 c.front_place.ensures.lawful c.in-Some.place (sym c.in-Some.is ∙ c.front_place.ensures.place) in
-    let shows = class-shown met c.index-classes-place.result c.peek_class-shown.ensures.asked c.peek_class-shown.ensures.told c.peek_class-shown.ensures.at_hand c.peek_class-shown.ensures.not_lost in
+    let shows = class-shown met c.index-classes-place.result c.peek_class-shown.ensures.asked c.peek_class-shown.ensures.at_hand c.peek_class-shown.ensures.not_lost in
     let offer = shown-len c.peek_class-shown.result.packet c.packet_len.result c.in-Some-packet_len.len c.packet_len.ensures.some c.in-Some-packet_len.is in
     short-enough met shows offer
 
 pub disciplines::drr::meet_class-returns-in-Send-clause-told : goal.disciplines::drr::meet_class-returns-in-Send-clause-told
 disciplines::drr::meet_class-returns-in-Send-clause-told g t c =
     let met = front-met c.requires.ready c.loop-place.invariant.0 c.front_place.ensures.lawful c.in-Some.place (sym c.in-Some.is ∙ c.front_place.ensures.place) in
-    let shows = class-shown met c.index-classes-place.result c.peek_class-shown.ensures.asked c.peek_class-shown.ensures.told c.peek_class-shown.ensures.at_hand c.peek_class-shown.ensures.not_lost in
+    let shows = class-shown met c.index-classes-place.result c.peek_class-shown.ensures.asked c.peek_class-shown.ensures.at_hand c.peek_class-shown.ensures.not_lost in
     let offer = shown-len c.peek_class-shown.result.packet c.packet_len.result c.in-Some-packet_len.len c.packet_len.ensures.some c.in-Some-packet_len.is in
     given-told met shows offer (sym c.in-Send.is ∙ c.turn.ensures.answer) c.turn.ensures.after
 
@@ -160,14 +160,14 @@ disciplines::drr::meet_class-returns-in-Send-clause-kept g t c =
 pub disciplines::drr::meet_class-loop-place-smaller : goal.disciplines::drr::meet_class-loop-place-smaller
 disciplines::drr::meet_class-loop-place-smaller g t c =
     let met = front-met c.requires.ready c.loop-place.invariant.0 c.front_place.ensures.lawful c.in-Some.place (sym c.in-Some.is ∙ c.front_place.ensures.place) in
-    let shows = class-shown met c.index-classes-place.result c.peek_class-shown.ensures.asked c.peek_class-shown.ensures.told c.peek_class-shown.ensures.at_hand c.peek_class-shown.ensures.not_lost in
+    let shows = class-shown met c.index-classes-place.result c.peek_class-shown.ensures.asked c.peek_class-shown.ensures.at_hand c.peek_class-shown.ensures.not_lost in
     let offer = shown-len c.peek_class-shown.result.packet c.packet_len.result c.in-Some-packet_len.len c.packet_len.ensures.some c.in-Some-packet_len.is in
     fewer-grants met shows offer (sym c.in-Granted.is ∙ c.turn.ensures.answer) c.turn.ensures.after
 
 pub disciplines::drr::meet_class-loop-place-preserved : goal.disciplines::drr::meet_class-loop-place-preserved
 disciplines::drr::meet_class-loop-place-preserved g t c =
     let met = front-met c.requires.ready c.loop-place.invariant.0 c.front_place.ensures.lawful c.in-Some.place (sym c.in-Some.is ∙ c.front_place.ensures.place) in
-    let shows = class-shown met c.index-classes-place.result c.peek_class-shown.ensures.asked c.peek_class-shown.ensures.told c.peek_class-shown.ensures.at_hand c.peek_class-shown.ensures.not_lost in
+    let shows = class-shown met c.index-classes-place.result c.peek_class-shown.ensures.asked c.peek_class-shown.ensures.at_hand c.peek_class-shown.ensures.not_lost in
     let offer = shown-len c.peek_class-shown.result.packet c.packet_len.result c.in-Some-packet_len.len c.packet_len.ensures.some c.in-Some-packet_len.is in (
       classes-go-on met shows offer (sym c.in-Granted.is ∙ c.turn.ensures.answer) c.turn.ensures.after c.saturating_sub-unasked.ensures,
       g.met.S.Sink.keeps_on c.args.sink.now c.loop-place.sink c.peek_class-shown.new.sink c.loop-place.invariant.1 c.peek_class-shown.ensures.kept,
@@ -186,7 +186,7 @@ disciplines::drr::meet_class-returns-clause-signals g t c = sym (ap signals_of c
 pub disciplines::drr::meet_class-returns-in_default-packet_len-clause-nothing : goal.disciplines::drr::meet_class-returns-in_default-packet_len-clause-nothing
 disciplines::drr::meet_class-returns-in_default-packet_len-clause-nothing g t c = λ none.
     let met = front-met c.requires.ready c.loop-place.invariant.0 c.front_place.ensures.lawful c.in-Some.place (sym c.in-Some.is ∙ c.front_place.ensures.place) in
-    let shows = class-shown met c.index-classes-place.result c.peek_class-shown.ensures.asked c.peek_class-shown.ensures.told c.peek_class-shown.ensures.at_hand c.peek_class-shown.ensures.not_lost in
+    let shows = class-shown met c.index-classes-place.result c.peek_class-shown.ensures.asked c.peek_class-shown.ensures.at_hand c.peek_class-shown.ensures.not_lost in
     class-unserved met shows (c.packet_len.ensures.none c.in_default-packet_len.is)
 
 pub disciplines::drr::meet_class-returns-clause-nothing : goal.disciplines::drr::meet_class-returns-clause-nothing
@@ -208,7 +208,7 @@ disciplines::drr::meet_class-returns-in-Send-clause-nothing g t c = λ none.
 pub disciplines::drr::meet_class-returns-in-Send-clause-met : goal.disciplines::drr::meet_class-returns-in-Send-clause-met
 disciplines::drr::meet_class-returns-in-Send-clause-met g t c = λ p is.
     let met = front-met c.requires.ready c.loop-place.invariant.0 c.front_place.ensures.lawful c.in-Some.place (sym c.in-Some.is ∙ c.front_place.ensures.place) in
-    let shows = class-shown met c.index-classes-place.result c.peek_class-shown.ensures.asked c.peek_class-shown.ensures.told c.peek_class-shown.ensures.at_hand c.peek_class-shown.ensures.not_lost in
+    let shows = class-shown met c.index-classes-place.result c.peek_class-shown.ensures.asked c.peek_class-shown.ensures.at_hand c.peek_class-shown.ensures.not_lost in
     let offer = shown-len c.peek_class-shown.result.packet c.packet_len.result c.in-Some-packet_len.len c.packet_len.ensures.some c.in-Some-packet_len.is in
     class-sends met shows offer (sym c.in-Send.is ∙ c.turn.ensures.answer) c.turn.ensures.after
 
@@ -271,19 +271,14 @@ node::Discipline::ask-returns-in-Prio-clause-after g t c = λ handle filters.
     let asked_bands = c.peek_bands.ensures.after (own_of handle filters (spec.Prio c.in-Prio.priomap)) in
     asked-in c.args.now handle filters c.args.self.now (code.Prio c.in-Prio.priomap (with_items c.in-Prio.bands c.peek_bands.new.bands)) (spec.Prio c.in-Prio.priomap) (spec.Prio c.in-Prio.priomap) c.deref_mut.result.now c.peek_bands.new.bands c.peek_bands.result
     (ap discipline_seen c.in-Prio.is) kids refl (items-are c.in-Prio.bands.items c.peek_bands.new.bands c.in-Prio.bands.len (sym c.in-Prio.bands.ok.0) (asked_bands.long ∙ ap (λ xs. length xs) c.deref_mut.ensures.value))
-    (sym (ap places_seen c.in-Prio.is)) refl asked_bands
-
-pub node::Discipline::ask-returns-in-Prio-clause-told : goal.node::Discipline::ask-returns-in-Prio-clause-told
-node::Discipline::ask-returns-in-Prio-clause-told g t c = λ handle filters.
-    told-in c.args.now handle filters c.args.self.now (spec.Prio c.in-Prio.priomap) c.deref_mut.result.now (g.S.Sink.state c.args.sink.now) (g.S.Sink.state c.peek_bands.new.sink)
-    (ap discipline_seen c.in-Prio.is) (sym (c.deref_mut.ensures.value ∙ sym (ap children_seen c.in-Prio.is))) (c.peek_bands.ensures.told (own_of handle filters (spec.Prio c.in-Prio.priomap)))
+    (sym (ap places_seen c.in-Prio.is)) refl asked_bands (c.peek_bands.ensures.told (own_of handle filters (spec.Prio c.in-Prio.priomap)))
 
 pub node::Discipline::ask-returns-in-Tbf-clause-after : goal.node::Discipline::ask-returns-in-Tbf-clause-after
 node::Discipline::ask-returns-in-Tbf-clause-after g t c = λ handle filters.
     let own = own_of handle filters (spec.Tbf c.in-Tbf.bucket c.in-Tbf.limit) in
     let kids = ap children_seen c.in-Tbf.is ∙ ap (λ x. x ∷ []) (sym c.deref_mut-in-Tbf.ensures.value) in
     asked-in c.args.now handle filters c.args.self.now (code.Tbf c.peek_child.new.bucket c.in-Tbf.limit (with_value c.in-Tbf.child c.peek_child.new.child)) (spec.Tbf c.in-Tbf.bucket c.in-Tbf.limit) (spec.Tbf c.peek_child.new.bucket c.in-Tbf.limit) (c.deref_mut-in-Tbf.result.now ∷ []) (c.peek_child.new.child ∷ []) c.peek_child.result
-    (ap discipline_seen c.in-Tbf.is) kids refl refl (sym (ap places_seen c.in-Tbf.is)) (c.peek_child.ensures.bucket own c.in-Tbf.limit refl) (c.peek_child.ensures.after own c.in-Tbf.limit)
+    (ap discipline_seen c.in-Tbf.is) kids refl refl (sym (ap places_seen c.in-Tbf.is)) (c.peek_child.ensures.bucket own c.in-Tbf.limit refl) (c.peek_child.ensures.after own c.in-Tbf.limit) (c.peek_child.ensures.told own c.in-Tbf.limit)
 
 pub node::Discipline::ask-returns-in-Tbf-clause-held : goal.node::Discipline::ask-returns-in-Tbf-clause-held
 node::Discipline::ask-returns-in-Tbf-clause-held g t c = λ handle filters.
@@ -291,12 +286,6 @@ node::Discipline::ask-returns-in-Tbf-clause-held g t c = λ handle filters.
     let kids = ap children_seen c.in-Tbf.is ∙ ap (λ x. x ∷ []) (sym c.deref_mut-in-Tbf.ensures.value) in
     held-of c.args.now handle filters c.args.self.now (spec.Tbf c.in-Tbf.bucket c.in-Tbf.limit) (c.deref_mut-in-Tbf.result.now ∷ []) c.peek_child.new.held c.peek_child.result.packet
     (ap discipline_seen c.in-Tbf.is) kids (c.peek_child.ensures.held own c.in-Tbf.limit)
-
-pub node::Discipline::ask-returns-in-Tbf-clause-told : goal.node::Discipline::ask-returns-in-Tbf-clause-told
-node::Discipline::ask-returns-in-Tbf-clause-told g t c = λ handle filters.
-    let own = own_of handle filters (spec.Tbf c.in-Tbf.bucket c.in-Tbf.limit) in
-    told-in c.args.now handle filters c.args.self.now (spec.Tbf c.in-Tbf.bucket c.in-Tbf.limit) (c.deref_mut-in-Tbf.result.now ∷ []) (g.S.Sink.state c.args.sink.now) (g.S.Sink.state c.peek_child.new.sink)
-    (ap discipline_seen c.in-Tbf.is) (ap children_seen c.in-Tbf.is ∙ ap (λ x. x ∷ []) (sym c.deref_mut-in-Tbf.ensures.value)) (c.peek_child.ensures.told own c.in-Tbf.limit)
 
 pub node::Discipline::ask-peek_classes-requires : goal.node::Discipline::ask-peek_classes-requires
 node::Discipline::ask-peek_classes-requires g t c κs within =
@@ -309,7 +298,7 @@ node::Discipline::ask-returns-in-Drr-clause-after g t c = λ handle filters.
     let kids = sym (c.deref_mut-in-Drr.ensures.value ∙ sym (ap children_seen c.in-Drr.is)) in
     asked-in c.args.now handle filters c.args.self.now (code.Drr c.peek_classes.new.active (with_items c.in-Drr.classes c.peek_classes.new.classes)) (spec.Drr c.in-Drr.active) (spec.Drr c.peek_classes.new.active) c.deref_mut-in-Drr.result.now c.peek_classes.new.classes c.peek_classes.result
     (ap discipline_seen c.in-Drr.is) kids refl (items-are c.in-Drr.classes.items c.peek_classes.new.classes c.in-Drr.classes.len (sym c.in-Drr.classes.ok.0) ((c.peek_classes.ensures.after own).long ∙ ap (λ xs. length xs) c.deref_mut-in-Drr.ensures.value))
-    (sym (ap places_seen c.in-Drr.is)) (c.peek_classes.ensures.active own) (c.peek_classes.ensures.after own)
+    (sym (ap places_seen c.in-Drr.is)) (c.peek_classes.ensures.active own) (c.peek_classes.ensures.after own) (c.peek_classes.ensures.told own)
 
 pub node::Discipline::ask-returns-in-Drr-clause-held : goal.node::Discipline::ask-returns-in-Drr-clause-held
 node::Discipline::ask-returns-in-Drr-clause-held g t c = λ handle filters.
@@ -317,11 +306,6 @@ node::Discipline::ask-returns-in-Drr-clause-held g t c = λ handle filters.
     let kids = sym (c.deref_mut-in-Drr.ensures.value ∙ sym (ap children_seen c.in-Drr.is)) in
     held-of c.args.now handle filters c.args.self.now (spec.Drr c.in-Drr.active) c.deref_mut-in-Drr.result.now c.peek_classes.new.held c.peek_classes.result.packet
     (ap discipline_seen c.in-Drr.is) kids (c.peek_classes.ensures.held own)
-
-pub node::Discipline::ask-returns-in-Drr-clause-told : goal.node::Discipline::ask-returns-in-Drr-clause-told
-node::Discipline::ask-returns-in-Drr-clause-told g t c = λ handle filters.
-    told-in c.args.now handle filters c.args.self.now (spec.Drr c.in-Drr.active) c.deref_mut-in-Drr.result.now (g.S.Sink.state c.args.sink.now) (g.S.Sink.state c.peek_classes.new.sink)
-    (ap discipline_seen c.in-Drr.is) (sym (c.deref_mut-in-Drr.ensures.value ∙ sym (ap children_seen c.in-Drr.is))) (c.peek_classes.ensures.told (own_of handle filters (spec.Drr c.in-Drr.active)))
 
 pub node::Discipline::ask-peek_flow-requires : goal.node::Discipline::ask-peek_flow-requires
 node::Discipline::ask-peek_flow-requires g t c =
@@ -338,6 +322,7 @@ node::Discipline::ask-returns-in-FqCodel-clause-after g t c = λ handle filters.
     asked-in c.args.now handle filters c.args.self.now (code.FqCodel (with_value c.in-FqCodel.queue c.peek_flow.new.queue)) (spec.FqCodel state) (spec.FqCodel c.peek_flow.new.queue.state) [] [] c.peek_flow.result
     is (ap children_seen c.in-FqCodel.is) refl refl places (ap spec.FqCodel e.after)
     (record { long = refl; nodes = refl; within = λ t h. h; shown = e.shown own [] })
+    (flow-told c.args.now state own [] (g.S.Sink.state c.args.sink.now) (g.S.Sink.state c.peek_flow.new.sink) e.told)
 
 pub node::Discipline::ask-returns-in-FqCodel-clause-held : goal.node::Discipline::ask-returns-in-FqCodel-clause-held
 node::Discipline::ask-returns-in-FqCodel-clause-held g t c = λ handle filters.
@@ -349,16 +334,6 @@ node::Discipline::ask-returns-in-FqCodel-clause-held g t c = λ handle filters.
     held-of c.args.now handle filters c.args.self.now (spec.FqCodel state) [] c.peek_flow.new.held c.peek_flow.result.packet is (ap children_seen c.in-FqCodel.is)
     (e.held ∙ held-with c.peek_flow.result.packet at (ask_fq_codel c.args.now own [] state).peeked.own.since (ap (λ (o : Option Descriptor). since_of o at) (e.shown own []).packet))
 
-pub node::Discipline::ask-returns-in-FqCodel-clause-told : goal.node::Discipline::ask-returns-in-FqCodel-clause-told
-node::Discipline::ask-returns-in-FqCodel-clause-told g t c = λ handle filters.
-    let e = c.peek_flow.ensures in
-    let state = c.deref_mut-in-FqCodel.result.now.state in
-    let own = own_of handle filters (spec.FqCodel state) in
-    let is = ap discipline_seen c.in-FqCodel.is ∙ ap (λ (q : FqView). spec.FqCodel q.state) (sym c.deref_mut-in-FqCodel.ensures.value) in
-    told-in c.args.now handle filters c.args.self.now (spec.FqCodel state) [] (g.S.Sink.state c.args.sink.now) (g.S.Sink.state c.peek_flow.new.sink)
-    is (ap children_seen c.in-FqCodel.is)
-    (flow-told c.args.now state own [] (g.S.Sink.state c.args.sink.now) (g.S.Sink.state c.peek_flow.new.sink) e.told)
-
 pub node::Node::peek-returns-then-is_some-clause-peeked : goal.node::Node::peek-returns-then-is_some-clause-peeked
 node::Node::peek-returns-then-is_some-clause-peeked g t c = record {
   after = (let held = some-kept c.self.inside.held (c.if-is_some.ensures) in
@@ -366,6 +341,7 @@ node::Node::peek-returns-then-is_some-clause-peeked g t c = record {
   arrived = search rules;
   shown = search rules;
   signals = search rules;
+  told = search rules;
 }
 
 pub node::Node::peek-returns-in-Fifo-clause-peeked : goal.node::Node::peek-returns-in-Fifo-clause-peeked
@@ -383,12 +359,9 @@ node::Node::peek-returns-in-Fifo-clause-peeked g t c =
       arrived = search rules;
       shown = shown-here c.args.now c.self.inside c.args.self.now c.self.invariant c.self.view_is c.requires.ready none c.at_hand-in-Fifo.result asked.children.shown;
       signals = c.requires.clean ∙ sym (ap signals_of c.at_hand-in-Fifo.ensures);
+      told = told-here c.args.now c.self.inside c.args.self.now c.self.invariant c.self.view_is c.requires.ready none (g.S.Sink.state c.args.sink.now) (g.S.Sink.state c.args.sink.now)
+          asked.told;
     }
-
-pub node::Node::peek-returns-in-Fifo-clause-told : goal.node::Node::peek-returns-in-Fifo-clause-told
-node::Node::peek-returns-in-Fifo-clause-told g t c =
-    told-here c.args.now c.self.inside c.args.self.now c.self.invariant c.self.view_is c.requires.ready (none-kept c.self.inside.held c.if-is_some.ensures) (g.S.Sink.state c.args.sink.now) (g.S.Sink.state c.args.sink.now)
-    (told-in c.args.now c.self.inside.handle c.self.inside.filters c.self.inside.discipline (spec.Fifo c.in-Fifo.fifo.limit c.in-Fifo.fifo.packets) [] (g.S.Sink.state c.args.sink.now) (g.S.Sink.state c.args.sink.now) (ap discipline_seen c.in-Fifo.is) (ap children_seen c.in-Fifo.is) (told_nothing (g.S.Sink.state c.args.sink.now)))
 
 pub node::Node::peek_further-ask-shown-requires : goal.node::Node::peek_further-ask-shown-requires
 node::Node::peek_further-ask-shown-requires g t c κs within =
@@ -421,11 +394,13 @@ node::Node::peek_further-returns-clause-peeked g t c =
     (omega (arith, c.self.ranges, c.fit.ensures.packets, c.fit.ensures.bytes)) (omega (arith, c.self.ranges, c.fit.ensures.packets, c.fit.ensures.bytes)) in
     let done = peeked-done c.args.now c.self.inside c.args.self.now c.self.invariant c.self.view_is c.requires.ready none c.ask-shown.new.self c.ask-shown.result asked c.book_shown.new.row c.ask-shown.new.held can c.book_shown.ensures
     (c.ask-shown.ensures.held c.self.inside.handle c.self.inside.filters) in
-    record { after = done.after; arrived = search rules; shown = shown-here c.args.now c.self.inside c.args.self.now c.self.invariant c.self.view_is c.requires.ready none c.ask-shown.result asked.children.shown; signals = search rules }
-
-pub node::Node::peek_further-returns-clause-told : goal.node::Node::peek_further-returns-clause-told
-node::Node::peek_further-returns-clause-told g t c =
-    told-here c.args.now c.self.inside c.args.self.now c.self.invariant c.self.view_is c.requires.ready (ap (λ (n : Node Kept). n.own.held) c.self.view_is ∙ c.requires.none) (g.S.Sink.state c.args.sink.now) (g.S.Sink.state c.ask-shown.new.sink) (c.ask-shown.ensures.told c.self.inside.handle c.self.inside.filters)
+    record {
+      after = done.after;
+      arrived = search rules;
+      shown = shown-here c.args.now c.self.inside c.args.self.now c.self.invariant c.self.view_is c.requires.ready none c.ask-shown.result asked.children.shown;
+      signals = search rules;
+      told = told-here c.args.now c.self.inside c.args.self.now c.self.invariant c.self.view_is c.requires.ready none (g.S.Sink.state c.args.sink.now) (g.S.Sink.state c.ask-shown.new.sink) asked.told;
+    }
 
 pub disciplines::prio::peek_bands-loop-place-init : goal.disciplines::prio::peek_bands-loop-place-init
 disciplines::prio::peek_bands-loop-place-init g t c = (
@@ -455,7 +430,7 @@ disciplines::prio::peek_bands-returns-then-has_packet-clause-told g t c = λ own
     let band = slice_index_or c.loop-place.bands c.loop-place.place c.index-bands-place.result in
     let at = band-at c.args.now c.args.bands.now c.loop-place.bands c.loop-place.place c.loop-place.shown c.loop-place.invariant.0 c.index-bands-place.result c.loop-place-test.true in
     bands-told c.args.now c.args.bands.now c.loop-place.bands c.loop-place.place c.loop-place.shown c.requires.ready c.loop-place.invariant.0 band at c.peek_after-shown.new.self c.peek_after-shown.result c.peek_after-shown.ensures.asked
-    (g.S.Sink.state c.args.sink.now) (g.S.Sink.state c.loop-place.sink) (g.S.Sink.state c.peek_after-shown.new.sink) c.loop-place.invariant.1 c.peek_after-shown.ensures.told (sym c.if-has_packet.ensures) own
+    (g.S.Sink.state c.args.sink.now) c.loop-place.invariant.1 (sym c.if-has_packet.ensures) own
 
 pub disciplines::prio::peek_bands-returns-then-has_packet-clause-kept : goal.disciplines::prio::peek_bands-returns-then-has_packet-clause-kept
 disciplines::prio::peek_bands-returns-then-has_packet-clause-kept g t c =
@@ -466,7 +441,7 @@ disciplines::prio::peek_bands-loop-place-preserved g t c =
     let band = slice_index_or c.loop-place.bands c.loop-place.place c.index-bands-place.result in
     let at = band-at c.args.now c.args.bands.now c.loop-place.bands c.loop-place.place c.loop-place.shown c.loop-place.invariant.0 c.index-bands-place.result c.loop-place-test.true in
     let goes = bands-go-on c.args.now c.args.bands.now c.loop-place.bands c.loop-place.place c.loop-place.shown c.requires.ready c.loop-place.invariant.0 band at c.peek_after-shown.new.self c.peek_after-shown.result c.peek_after-shown.ensures.asked
-    (g.S.Sink.state c.args.sink.now) (g.S.Sink.state c.loop-place.sink) (g.S.Sink.state c.peek_after-shown.new.sink) c.loop-place.invariant.1 c.peek_after-shown.ensures.told (sym c.if-has_packet.ensures) in
+    (g.S.Sink.state c.args.sink.now) c.loop-place.invariant.1 (sym c.if-has_packet.ensures) in
     (goes.0, goes.1, g.met.S.Sink.keeps_on c.args.sink.now c.loop-place.sink c.peek_after-shown.new.sink c.loop-place.invariant.2 c.peek_after-shown.ensures.kept, c.peek_after-shown.ensures.signals)
 
 pub disciplines::prio::peek_bands-returns-clause-after : goal.disciplines::prio::peek_bands-returns-clause-after

@@ -3,11 +3,11 @@ ghost use Rattle.std.specs.Prelude.{◌≡◌, ◌<◌, ◌≤◌, None, OnErr, 
 ghost use Rattle.q_drr.specs.Schedule.{place_of};
 ghost use Rattle.q_packet.specs.Descriptor.{Descriptor};
 ghost use Rattle.q_codel.specs.Losses.{IsTold};
-ghost use Rattle.q_model.specs.Ask.{ask, ask_drr};
+ghost use Rattle.q_model.specs.Ask.{ask_drr};
 ghost use Rattle.q_model.specs.Beneath.{totals_in};
 ghost use Rattle.q_model.specs.Filters.{named_class};
 ghost use Rattle.q_model.specs.Node as spec;
-ghost use Rattle.q_model.specs.Node.{Own, shape};
+ghost use Rattle.q_model.specs.Node.{Own};
 ghost use Rattle.q_model.specs.Pop.{pop};
 ghost use Rattle.q_model.specs.Work.{settled_class};
 ghost use Rattle.q_tree.specs.AskSteps.{AreAsked, CanAskOnce, CanServe, IsAskedOnce, IsGivenBy, IsToldOf, answers, no_signals, signals_of};
@@ -225,8 +225,7 @@ fn peek_class<S: Sink>(
 ) -> Shown
     requires ready { is_unasked ≡ true → CanAskOnce now class.old so_far (S.state sink.old).room }
     requires counted { signals.old ≡ signals_of so_far }
-    ensures asked { is_unasked ≡ true → IsAskedOnce now class.old class.new so_far result }
-    ensures told { is_unasked ≡ true → IsToldOf (ask now (shape class.old)).rises (S.state sink.old) (S.state sink.new) }
+    ensures asked { is_unasked ≡ true → IsAskedOnce now class.old class.new so_far result (S.state sink.old) (S.state sink.new) }
     ensures at_hand { is_unasked ≡ false → (class.new ≡ class.old) × (result ≡ record so_far { packet = (pop class.old).shown }) }
     ensures not_lost { is_unasked ≡ false → S.state sink.new ≡ S.state sink.old }
     ensures signals { signals.new ≡ signals_of result }

@@ -86,8 +86,7 @@ returns-then-has_packet-clause-told g c = λ own.
     let at = band-at c.args.now c.args.bands.now c.loop-place.bands c.loop-place.place c.loop-place.shown c.loop-place.invariant.0 c.index-bands-place-in-loop-place.result c.loop-place-test.true in
     bands-told c.args.now c.args.bands.now c.loop-place.bands c.loop-place.place c.loop-place.shown c.requires.ready c.loop-place.invariant.0 band at
     c.peek_after-shown.new.self c.peek_after-shown.result c.peek_after-shown.ensures.asked
-    (g.S.Sink.state c.args.sink.now) (g.S.Sink.state c.loop-place.sink) (g.S.Sink.state c.peek_after-shown.new.sink) c.loop-place.invariant.1
-    c.peek_after-shown.ensures.told (sym c.if-has_packet.ensures) own
+    (g.S.Sink.state c.args.sink.now) c.loop-place.invariant.1 (sym c.if-has_packet.ensures) own
 
 pub returns-then-has_packet-clause-kept : goal.returns-then-has_packet-clause-kept
 returns-then-has_packet-clause-kept g c =
@@ -100,8 +99,7 @@ loop-place-preserved g c =
     let goes =
     bands-go-on c.args.now c.args.bands.now c.loop-place.bands c.loop-place.place c.loop-place.shown c.requires.ready c.loop-place.invariant.0
     band at c.peek_after-shown.new.self c.peek_after-shown.result c.peek_after-shown.ensures.asked
-    (g.S.Sink.state c.args.sink.now) (g.S.Sink.state c.loop-place.sink) (g.S.Sink.state c.peek_after-shown.new.sink) c.loop-place.invariant.1
-    c.peek_after-shown.ensures.told (sym c.if-has_packet.ensures) in (
+    (g.S.Sink.state c.args.sink.now) c.loop-place.invariant.1 (sym c.if-has_packet.ensures) in (
       goes.0,
       goes.1,
       g.met.S.Sink.keeps_on c.args.sink.now c.loop-place.sink c.peek_after-shown.new.sink c.loop-place.invariant.2 c.peek_after-shown.ensures.kept,
