@@ -29,7 +29,7 @@ use Rattle.q_invariants.proofs.AskTbf.{spent-note}
 use Rattle.q_invariants.proofs.DrrService.{notes-silent}
 use Rattle.q_invariants.proofs.FlowNotes.{flow-silent}
 use Rattle.q_invariants.proofs.Weights.{IsQuiet}
-use Rattle.q_tree.specs.AskSteps.{CanAsk, CanShow, IsShown, IsAskedIn, IsToldOf, answers, answer_of, own_of, held_in, with_shown}
+use Rattle.q_tree.specs.AskSteps.{CanAsk, CanShow, IsShown, IsAskedIn, answers, answer_of, own_of, held_in, with_shown}
 use Rattle.q_tree.specs.Kept.{Kept, kept}
 use Rattle.q_tree.specs.PopSteps.{IsAmong, with_sent}
 use Rattle.q_tree.specs.Seen.{seen, discipline_seen, children_seen, places_seen, IsKept, IsCountedWithin}
@@ -157,25 +157,23 @@ asked-sent-in now handle filters before after s can q =
         nodes = q.children.nodes ∙ ap (each_booked kept (side_by_side (children_seen before))) (left-below x (is_some x.shown) h);
         within = q.children.within;
         shown = q.children.shown;
+        told = q.children.told;
       };
       places = q.places;
-      told = q.told;
     }
 
 pub sent-in : {sink sink2 : SinkState} (now : ℕ) (handle : Option ℕ) (filters : List Filter) (before after : Discipline) (k k2 : spec.Discipline) (ns ns2 : List (Node Kept))
     (s : Shown)
     → discipline_seen before ≡ k → children_seen before ≡ ns
     → discipline_seen after ≡ k2 → children_seen after ≡ ns2 → places_seen after ≡ places_seen before → k2 ≡ (left_of (ask_discipline now (own_of handle filters k) (answers now ns) k)).own.discipline
-    → AreSent (ask_discipline now (own_of handle filters k) (answers now ns) k) ns ns2 s
-    → IsToldOf (ask_discipline now (own_of handle filters k) (answers now ns) k).rises sink sink2 → IsSentIn (answer_of now handle filters before) before after s sink sink2
-sent-in {sink} {sink2} now handle filters before after k k2 ns ns2 s is kids is2 kids2 places discipline sent told =
+    → AreSent (ask_discipline now (own_of handle filters k) (answers now ns) k) ns ns2 s sink sink2 → IsSentIn (answer_of now handle filters before) before after s sink sink2
+sent-in {sink} {sink2} now handle filters before after k k2 ns ns2 s is kids is2 kids2 places discipline sent =
     let e = answer-is now handle filters before k ns is kids in
     subst (λ (a : Asked). IsSentIn a before after s sink sink2) (sym e) (record {
       discipline = is2 ∙ discipline;
-      children = subst (λ xs. AreSent (ask_discipline now (own_of handle filters k) (answers now ns) k) xs (children_seen after) s) (sym kids)
-          (subst (λ xs. AreSent (ask_discipline now (own_of handle filters k) (answers now ns) k) ns xs s) (sym kids2) sent);
+      children = subst (λ xs. AreSent (ask_discipline now (own_of handle filters k) (answers now ns) k) xs (children_seen after) s sink sink2) (sym kids)
+          (subst (λ xs. AreSent (ask_discipline now (own_of handle filters k) (answers now ns) k) ns xs s sink sink2) (sym kids2) sent);
       places = places;
-      told = told;
     })
 
 -- a prio keeps its own discipline
@@ -198,7 +196,7 @@ pub fifo-sent : {sink : SinkState} (now : ℕ) (handle : Option ℕ) (filters : 
     → IsSentIn (answer_of now handle filters before) before after s sink sink
 fifo-sent {sink} now handle filters before after limit queue s is kids is2 kids2 places packet dropped marked =
     sent-in now handle filters before after (spec.Fifo limit queue) (spec.Fifo limit (drop 1 queue)) [] [] s is kids is2 kids2 places (left queue)
-    (record { long = refl; nodes = alone queue; within = λ t h. h; shown = record { packet = packet; dropped = dropped; marked = marked } }) (told_nothing sink)
+    (record { long = refl; nodes = alone queue; within = λ t h. h; shown = record { packet = packet; dropped = dropped; marked = marked }; told = told_nothing sink })
   where
     left : (queue : List Stamped) → spec.Fifo limit (drop 1 queue) ≡ (left_of (ask_discipline now (own_of handle filters (spec.Fifo limit queue)) [] (spec.Fifo limit queue))).own.discipline
     left [] = refl
@@ -262,9 +260,9 @@ module _ (now : ℕ) (a : Inside) (n : Node Kept) (k : IsKept a) (view : seen a 
             nodes = q.children.nodes ∙ ap (λ (w : Worked). each_booked kept (side_by_side (children_seen a.discipline)) w.below) left;
             within = q.children.within;
             shown = q.children.shown;
+            told = q.children.told;
           };
           places = q.places;
-          told = q.told;
         } in
         let done =
         peeked-done now a n k view can none d s asked r a.held fit row

@@ -322,10 +322,10 @@ module _ {now : ℕ} {first s : Schedule} {ns ms : List (Node Kept)} {unasked : 
       nothing-since : (own : Own) → 0 ≡ (ask_drr own (answers now ns) first).peeked.own.since
       nothing-since own = ap (λ (x : Asked). x.peeked.own.since) (sym (drr-answer None silent uncovered own))
 
-      pub nothing-told : (own : Own) → IsToldOf (ask_drr own (answers now ns) first).rises sink sink3
+      nothing-told : (own : Own) → IsToldOf (ask_drr own (answers now ns) first).rises sink sink3
       nothing-told own = subst (λ notes. IsToldOf notes sink sink3) (sym (ap (λ (x : Asked). x.rises) (drr-answer None silent uncovered own) ∙ service-rises None silent uncovered)) shows.told
 
-      nothing-asked : (own : Own) → AreAsked (ask_drr own (answers now ns) first) ns (set ms place d) result
+      nothing-asked : (own : Own) → AreAsked (ask_drr own (answers now ns) first) ns (set ms place d) result sink sink3
       nothing-asked own =
           let rises : (ask_drr own (answers now ns) first).rises ≡ rises_to now first ns (suc met.asked.turns) = ap (λ (x : Asked). x.rises) (drr-answer None silent uncovered own) ∙ service-rises None silent uncovered in
           record {
@@ -339,9 +339,10 @@ module _ {now : ℕ} {first s : Schedule} {ns ms : List (Node Kept)} {unasked : 
               dropped = shows.counted.dropped ∙ ap (λ notes. (counts_in notes).dropped) (sym rises);
               marked = shows.counted.marked ∙ ap (λ notes. (counts_in notes).marked) (sym rises);
             };
+            told = nothing-told own;
           }
 
-      pub class-unserved : meeting.AreUnserved now first s ns (set ms place d) result
+      pub class-unserved : meeting.AreUnserved now first s ns (set ms place d) result sink sink3
       class-unserved = record { empty = empty; since = nothing-since; schedule = nothing-schedule; asked = nothing-asked }
 
     -- what it gives is what it showed
@@ -370,7 +371,7 @@ module _ {now : ℕ} {first s : Schedule} {ns ms : List (Node Kept)} {unasked : 
             ∙ ap (λ (o : Option ℕ). unwrap_or o 0) (since-asked now met.at.child d child-can shows.peeked)
             ∙ ap (λ (y : Asked). y.peeked.own.since) (sym (drr-answer (Some offer.0) offers enough own))
 
-        pub given-told : (own : Own) → IsToldOf (ask_drr own (answers now ns) first).rises sink sink3
+        given-told : (own : Own) → IsToldOf (ask_drr own (answers now ns) first).rises sink sink3
         given-told own =
             subst (λ notes. IsToldOf notes sink sink3) (sym (ap (λ (y : Asked). y.rises) (drr-answer (Some offer.0) offers enough own) ∙ service-rises (Some offer.0) offers enough)) shows.told
 
@@ -401,7 +402,7 @@ module _ {now : ℕ} {first s : Schedule} {ns ms : List (Node Kept)} {unasked : 
             ap spec.Drr (gift.schedule ∙ ap₂ (λ b t. settled_class place b t) emptied (served_head (heads_of now first ns) first s met.class len met.front offered-head pays (ready (Some offer.0) offers covered)))
             ∙ ap (λ (y : Asked). y.peeked.own.discipline) (sym (answer own))
 
-        given-asked : (own : Own) → AreAsked (ask_drr own (answers now ns) first) ns ms2 result
+        given-asked : (own : Own) → AreAsked (ask_drr own (answers now ns) first) ns ms2 result sink sink3
         given-asked own =
             let a : Asked = ask now (shape met.at.child) in
             let ws : List Worked = classes_to now first ns (suc met.asked.turns) in
@@ -423,14 +424,16 @@ module _ {now : ℕ} {first s : Schedule} {ns ms : List (Node Kept)} {unasked : 
                 dropped = shows.counted.dropped ∙ ap (λ notes. (counts_in notes).dropped) (sym rises);
                 marked = shows.counted.marked ∙ ap (λ notes. (counts_in notes).marked) (sym rises);
               };
+              told = given-told send turn own;
             }
 
-      pub class-sends : Send ≡ turn_answer len s.active → {s1 : Schedule} → s1 ≡ turned len s → meeting.IsMet now place first s1 ns (set ms place d) result
+      pub class-sends : Send ≡ turn_answer len s.active → {s1 : Schedule} → s1 ≡ turned len s → meeting.IsMet now place first s1 ns (set ms place d) result sink sink3
       class-sends send turn = record {
         inside = omega (arith, place-within, length-set ms place d);
         some = ap is_some offer.1;
         shown = λ class at. ap (λ (n : Node Kept). (pop n).shown) (here class at) ∙ given-packet;
         since = λ class at own. ap (λ (n : Node Kept). since_of result.packet (unwrap_or (at_hand_since n) 0)) (here class at) ∙ given-since send turn own;
+        told = given-told send turn;
         schedule = λ given ks gift own. given-schedule send turn gift own;
         asked = λ given ks gift own. given-asked send turn gift own;
       }

@@ -73,17 +73,18 @@ pub record IsShown (a : Asked) (s : Shown) : Type 0 where
   pub dropped : s.dropped ≡ (counts_in a.rises).dropped
   pub marked : s.marked ≡ (counts_in a.rises).marked
 
--- children that were asked by this answer, and what it came to
-pub record AreAsked (a : Asked) (before after : List (spec.Node Kept)) (s : Shown) : Type 0 where
+-- a sink that was told of the losses among these notes
+abbrev pub IsToldOf : List Note → SinkState → SinkState → Type 0
+IsToldOf rises = IsTold (losses_in rises)
+
+-- children that were asked by this answer, what it came to, and what the sink was told
+pub record AreAsked (a : Asked) (before after : List (spec.Node Kept)) (s : Shown) (sink sink_after : SinkState) : Type 0 where
   pub long : length after ≡ length before
   pub nodes : side_by_side after ≡ each_booked kept (side_by_side before) a.peeked.below
   pub within : (t : Totals) → All (λ (child : spec.Node Kept). IsCountedWithin child.memory.counts.arrived t) before
       → All (λ (child : spec.Node Kept). IsCountedWithin child.memory.counts.arrived t) after
   pub shown : IsShown a s
-
--- a sink that was told of the losses among these notes
-abbrev pub IsToldOf : List Note → SinkState → SinkState → Type 0
-IsToldOf rises = IsTold (losses_in rises)
+  pub told : IsToldOf a.rises sink sink_after
 
 -- a node that holds no packet
 abbrev pub own_of : Option ℕ → List Filter → spec.Discipline → Own
@@ -95,9 +96,8 @@ answer_of now handle filters d = ask_discipline now (own_of handle filters (disc
 
 pub record IsAskedIn (a : Asked) (before after : Discipline) (s : Shown) (sink sink_after : SinkState) : Type 0 where
   pub discipline : discipline_seen after ≡ a.peeked.own.discipline
-  pub children : AreAsked a (children_seen before) (children_seen after) s
+  pub children : AreAsked a (children_seen before) (children_seen after) s sink sink_after
   pub places : places_seen after ≡ places_seen before
-  pub told : IsToldOf a.rises sink sink_after
 
 -- the packet that a node with this discipline holds where it shows this one: those that can hold a packet have dequeued it
 abbrev pub held_in : spec.Discipline → Option Descriptor → Option Descriptor

@@ -20,18 +20,18 @@ abbrev pub left_of : Asked → Worked
 left_of a = if is_some a.shown then a.taken else a.peeked
 
 -- children of which a packet was sent
-pub record AreSent (a : Asked) (before after : List (spec.Node Kept)) (s : Shown) : Type 0 where
+pub record AreSent (a : Asked) (before after : List (spec.Node Kept)) (s : Shown) (sink sink_after : SinkState) : Type 0 where
   pub long : length after ≡ length before
   pub nodes : side_by_side after ≡ each_booked kept (side_by_side before) (left_of a).below
   pub within : (t : Totals) → All (λ (child : spec.Node Kept). IsCountedWithin child.memory.counts.arrived t) before
       → All (λ (child : spec.Node Kept). IsCountedWithin child.memory.counts.arrived t) after
   pub shown : IsShown a s
+  pub told : IsToldOf a.rises sink sink_after
 
 pub record IsSentIn (a : Asked) (before after : Discipline) (s : Shown) (sink sink_after : SinkState) : Type 0 where
   pub discipline : discipline_seen after ≡ (left_of a).own.discipline
-  pub children : AreSent a (children_seen before) (children_seen after) s
+  pub children : AreSent a (children_seen before) (children_seen after) s sink sink_after
   pub places : places_seen after ≡ places_seen before
-  pub told : IsToldOf a.rises sink sink_after
 
 -- A node that was asked for its packet and handed it out: what the node is then, what is in the caller's two places, and what was shown.
 pub record IsDequeued (now : ℕ) (old new : spec.Node Kept) (out out_new : Descriptor) (counted : Signals) (s : Shown) (sink sink_after : SinkState) : Type 0 where

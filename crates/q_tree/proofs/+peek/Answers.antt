@@ -1,4 +1,4 @@
-use Rattle.std.proofs.Common.{◌≡◌, ◌∙◌, [], ◌∷◌, set, length, refl, sym, ap, ap₂, subst, arith, rules, Option, Some}
+use Rattle.std.proofs.Common.{◌≡◌, ◌∙◌, [], ◌∷◌, set, length, refl, sym, ap, ap₂, arith, rules, Option, Some}
 use Rattle.std.specs.Prelude.{is_some, slice_index_or, unwrap_or, slice_get}
 use Rattle.std.specs.Box.{with_value}
 use Rattle.std.specs.Vec.{with_items}
@@ -8,19 +8,19 @@ use Rattle.q_fqcodel.specs.Take.{head_sent, selected}
 use Rattle.q_model.specs.Ask.{ask_tbf, ask_drr, ask_fq_codel}
 use Rattle.q_model.specs.Node as spec
 use Rattle.q_model.specs.Node.{Node, shape, side_by_side}
-use Rattle.q_tree.specs.AskSteps.{IsToldOf, answers, own_of, signals_of}
+use Rattle.q_tree.specs.AskSteps.{answers, own_of, signals_of}
 use Rattle.q_tree.specs.Kept.{Kept}
 use Rattle.q_tree.specs.NodeCode.{forest_size}
 use Rattle.q_tree.specs.Seen.{children_seen, discipline_seen, places_seen}
 use Rattle.q_tree.specs.declared.node.Discipline.TheVariants as code
 use Rattle.q_tree.specs.Shown.{Shown}
-use Rattle.q_tree.proofs.AskBands.{band-at, band-once, band-shown, bands-go-on, bands-told, bands-start, bands-end, bands-rises}
+use Rattle.q_tree.proofs.AskBands.{band-at, band-once, band-shown, bands-go-on, bands-start, bands-end}
 use Rattle.q_tree.proofs.AskOnce.{fits-beside}
 use Rattle.q_tree.proofs.AtHandLemmas.{shown-len}
 use Rattle.q_tree.proofs.HereLemmas.{flow-packets}
 use Rattle.q_tree.proofs.Peeks.{asked-in, fifo-asked, fifo-peeked, held-of, each-of, room-of, own-room, items-are, serve-of, holding-after, can-in, enough, can-book, peeked-done, shown-here, told-here, tbf-none, tbf-allowed, tbf-none-since, tbf-waiting}
-use Rattle.q_tree.proofs.ServeLemmas.{classes-go-on, classes-start, class-once, class-shown, class-size, fewer-grants, front-met, given-told, nothing-told, place-within, short-enough, class-given, class-sends, class-unserved}
-use Rattle.q_tree.proofs.IdleClasses.{idle-told, idle-unserved}
+use Rattle.q_tree.proofs.ServeLemmas.{classes-go-on, classes-start, class-once, class-shown, class-size, fewer-grants, front-met, place-within, short-enough, class-given, class-sends, class-unserved}
+use Rattle.q_tree.proofs.IdleClasses.{idle-unserved}
 use Rattle.q_tree.proofs.Quiet.{shown-nothing}
 use Rattle.q_tree.proofs.RouteLemmas.{child-size, children-size}
 use Rattle.q_tree.proofs.TakeCounts.{flow-told}
@@ -52,7 +52,7 @@ disciplines::tbf::allow_child-returns-in_default-clause-allowed g t c = λ p is.
 pub disciplines::tbf::allow_child-returns-in_default-clause-waits : goal.disciplines::tbf::allow_child-returns-in_default-clause-waits
 disciplines::tbf::allow_child-returns-in_default-clause-waits g t c = λ none own limit. record {
   since = tbf-none-since c.args.now own c.args.bucket.now limit c.args.child.now (sym c.peek-shown.ensures.peeked.shown.packet ∙ none);
-  asked = tbf-none c.args.now own c.args.bucket.now limit c.args.child.now c.peek-shown.new.self c.peek-shown.result c.peek-shown.ensures.peeked.after c.peek-shown.ensures.peeked.arrived c.peek-shown.ensures.peeked.shown none;
+  asked = tbf-none c.args.now own c.args.bucket.now limit c.args.child.now c.peek-shown.new.self c.peek-shown.result c.peek-shown.ensures.peeked.after c.peek-shown.ensures.peeked.arrived c.peek-shown.ensures.peeked.shown none c.peek-shown.ensures.peeked.told;
 }
 
 pub disciplines::tbf::allow_child-returns-then-not-spend-clause-allowed : goal.disciplines::tbf::allow_child-returns-then-not-spend-clause-allowed
@@ -129,12 +129,6 @@ disciplines::drr::meet_class-peek_class-shown-requires g t c κs within =
       (within, ((λ some. class-once met c.index-classes-place.result some c.requires.sink), c.loop-place.invariant.2)),
     )
 
-pub disciplines::drr::meet_class-returns-in_default-packet_len-clause-told : goal.disciplines::drr::meet_class-returns-in_default-packet_len-clause-told
-disciplines::drr::meet_class-returns-in_default-packet_len-clause-told g t c =
-    let met = front-met c.requires.ready c.loop-place.invariant.0 c.front_place.ensures.lawful c.in-Some.place (sym c.in-Some.is ∙ c.front_place.ensures.place) in
-    let shows = class-shown met c.index-classes-place.result c.peek_class-shown.ensures.asked c.peek_class-shown.ensures.at_hand c.peek_class-shown.ensures.not_lost in
-    nothing-told met shows (c.packet_len.ensures.none c.in_default-packet_len.is)
-
 pub disciplines::drr::meet_class-returns-in_default-packet_len-clause-kept : goal.disciplines::drr::meet_class-returns-in_default-packet_len-clause-kept
 disciplines::drr::meet_class-returns-in_default-packet_len-clause-kept g t c =
     g.met.S.Sink.keeps_on c.args.sink.now c.loop-place.sink c.peek_class-shown.new.sink c.loop-place.invariant.1 c.peek_class-shown.ensures.kept
@@ -145,13 +139,6 @@ disciplines::drr::meet_class-turn-requires-clause-in_range g t c =
     let shows = class-shown met c.index-classes-place.result c.peek_class-shown.ensures.asked c.peek_class-shown.ensures.at_hand c.peek_class-shown.ensures.not_lost in
     let offer = shown-len c.peek_class-shown.result.packet c.packet_len.result c.in-Some-packet_len.len c.packet_len.ensures.some c.in-Some-packet_len.is in
     short-enough met shows offer
-
-pub disciplines::drr::meet_class-returns-in-Send-clause-told : goal.disciplines::drr::meet_class-returns-in-Send-clause-told
-disciplines::drr::meet_class-returns-in-Send-clause-told g t c =
-    let met = front-met c.requires.ready c.loop-place.invariant.0 c.front_place.ensures.lawful c.in-Some.place (sym c.in-Some.is ∙ c.front_place.ensures.place) in
-    let shows = class-shown met c.index-classes-place.result c.peek_class-shown.ensures.asked c.peek_class-shown.ensures.at_hand c.peek_class-shown.ensures.not_lost in
-    let offer = shown-len c.peek_class-shown.result.packet c.packet_len.result c.in-Some-packet_len.len c.packet_len.ensures.some c.in-Some-packet_len.is in
-    given-told met shows offer (sym c.in-Send.is ∙ c.turn.ensures.answer) c.turn.ensures.after
 
 pub disciplines::drr::meet_class-returns-in-Send-clause-kept : goal.disciplines::drr::meet_class-returns-in-Send-clause-kept
 disciplines::drr::meet_class-returns-in-Send-clause-kept g t c =
@@ -173,9 +160,6 @@ disciplines::drr::meet_class-loop-place-preserved g t c =
       g.met.S.Sink.keeps_on c.args.sink.now c.loop-place.sink c.peek_class-shown.new.sink c.loop-place.invariant.1 c.peek_class-shown.ensures.kept,
       c.peek_class-shown.ensures.signals,
     )
-
-pub disciplines::drr::meet_class-returns-clause-told : goal.disciplines::drr::meet_class-returns-clause-told
-disciplines::drr::meet_class-returns-clause-told g t c = idle-told c.requires.ready c.loop-place.invariant.0 c.front_place.ensures.lawful _ c.in_default.is c.front_place.ensures.found
 
 pub disciplines::drr::meet_class-returns-clause-kept : goal.disciplines::drr::meet_class-returns-clause-kept
 disciplines::drr::meet_class-returns-clause-kept g t c = c.loop-place.invariant.1
@@ -271,14 +255,14 @@ node::Discipline::ask-returns-in-Prio-clause-after g t c = λ handle filters.
     let asked_bands = c.peek_bands.ensures.after (own_of handle filters (spec.Prio c.in-Prio.priomap)) in
     asked-in c.args.now handle filters c.args.self.now (code.Prio c.in-Prio.priomap (with_items c.in-Prio.bands c.peek_bands.new.bands)) (spec.Prio c.in-Prio.priomap) (spec.Prio c.in-Prio.priomap) c.deref_mut.result.now c.peek_bands.new.bands c.peek_bands.result
     (ap discipline_seen c.in-Prio.is) kids refl (items-are c.in-Prio.bands.items c.peek_bands.new.bands c.in-Prio.bands.len (sym c.in-Prio.bands.ok.0) (asked_bands.long ∙ ap (λ xs. length xs) c.deref_mut.ensures.value))
-    (sym (ap places_seen c.in-Prio.is)) refl asked_bands (c.peek_bands.ensures.told (own_of handle filters (spec.Prio c.in-Prio.priomap)))
+    (sym (ap places_seen c.in-Prio.is)) refl asked_bands
 
 pub node::Discipline::ask-returns-in-Tbf-clause-after : goal.node::Discipline::ask-returns-in-Tbf-clause-after
 node::Discipline::ask-returns-in-Tbf-clause-after g t c = λ handle filters.
     let own = own_of handle filters (spec.Tbf c.in-Tbf.bucket c.in-Tbf.limit) in
     let kids = ap children_seen c.in-Tbf.is ∙ ap (λ x. x ∷ []) (sym c.deref_mut-in-Tbf.ensures.value) in
     asked-in c.args.now handle filters c.args.self.now (code.Tbf c.peek_child.new.bucket c.in-Tbf.limit (with_value c.in-Tbf.child c.peek_child.new.child)) (spec.Tbf c.in-Tbf.bucket c.in-Tbf.limit) (spec.Tbf c.peek_child.new.bucket c.in-Tbf.limit) (c.deref_mut-in-Tbf.result.now ∷ []) (c.peek_child.new.child ∷ []) c.peek_child.result
-    (ap discipline_seen c.in-Tbf.is) kids refl refl (sym (ap places_seen c.in-Tbf.is)) (c.peek_child.ensures.bucket own c.in-Tbf.limit refl) (c.peek_child.ensures.after own c.in-Tbf.limit) (c.peek_child.ensures.told own c.in-Tbf.limit)
+    (ap discipline_seen c.in-Tbf.is) kids refl refl (sym (ap places_seen c.in-Tbf.is)) (c.peek_child.ensures.bucket own c.in-Tbf.limit refl) (c.peek_child.ensures.after own c.in-Tbf.limit)
 
 pub node::Discipline::ask-returns-in-Tbf-clause-held : goal.node::Discipline::ask-returns-in-Tbf-clause-held
 node::Discipline::ask-returns-in-Tbf-clause-held g t c = λ handle filters.
@@ -298,7 +282,7 @@ node::Discipline::ask-returns-in-Drr-clause-after g t c = λ handle filters.
     let kids = sym (c.deref_mut-in-Drr.ensures.value ∙ sym (ap children_seen c.in-Drr.is)) in
     asked-in c.args.now handle filters c.args.self.now (code.Drr c.peek_classes.new.active (with_items c.in-Drr.classes c.peek_classes.new.classes)) (spec.Drr c.in-Drr.active) (spec.Drr c.peek_classes.new.active) c.deref_mut-in-Drr.result.now c.peek_classes.new.classes c.peek_classes.result
     (ap discipline_seen c.in-Drr.is) kids refl (items-are c.in-Drr.classes.items c.peek_classes.new.classes c.in-Drr.classes.len (sym c.in-Drr.classes.ok.0) ((c.peek_classes.ensures.after own).long ∙ ap (λ xs. length xs) c.deref_mut-in-Drr.ensures.value))
-    (sym (ap places_seen c.in-Drr.is)) (c.peek_classes.ensures.active own) (c.peek_classes.ensures.after own) (c.peek_classes.ensures.told own)
+    (sym (ap places_seen c.in-Drr.is)) (c.peek_classes.ensures.active own) (c.peek_classes.ensures.after own)
 
 pub node::Discipline::ask-returns-in-Drr-clause-held : goal.node::Discipline::ask-returns-in-Drr-clause-held
 node::Discipline::ask-returns-in-Drr-clause-held g t c = λ handle filters.
@@ -321,8 +305,7 @@ node::Discipline::ask-returns-in-FqCodel-clause-after g t c = λ handle filters.
     let places = e.places ∙ ap (λ (q : FqView). q.places) c.deref_mut-in-FqCodel.ensures.value ∙ sym (ap places_seen c.in-FqCodel.is) in
     asked-in c.args.now handle filters c.args.self.now (code.FqCodel (with_value c.in-FqCodel.queue c.peek_flow.new.queue)) (spec.FqCodel state) (spec.FqCodel c.peek_flow.new.queue.state) [] [] c.peek_flow.result
     is (ap children_seen c.in-FqCodel.is) refl refl places (ap spec.FqCodel e.after)
-    (record { long = refl; nodes = refl; within = λ t h. h; shown = e.shown own [] })
-    (flow-told c.args.now state own [] (g.S.Sink.state c.args.sink.now) (g.S.Sink.state c.peek_flow.new.sink) e.told)
+    (record { long = refl; nodes = refl; within = λ t h. h; shown = e.shown own []; told = flow-told c.args.now state own [] (g.S.Sink.state c.args.sink.now) (g.S.Sink.state c.peek_flow.new.sink) e.told })
 
 pub node::Discipline::ask-returns-in-FqCodel-clause-held : goal.node::Discipline::ask-returns-in-FqCodel-clause-held
 node::Discipline::ask-returns-in-FqCodel-clause-held g t c = λ handle filters.
@@ -360,7 +343,7 @@ node::Node::peek-returns-in-Fifo-clause-peeked g t c =
       shown = shown-here c.args.now c.self.inside c.args.self.now c.self.invariant c.self.view_is c.requires.ready none c.at_hand-in-Fifo.result asked.children.shown;
       signals = c.requires.clean ∙ sym (ap signals_of c.at_hand-in-Fifo.ensures);
       told = told-here c.args.now c.self.inside c.args.self.now c.self.invariant c.self.view_is c.requires.ready none (g.S.Sink.state c.args.sink.now) (g.S.Sink.state c.args.sink.now)
-          asked.told;
+          asked.children.told;
     }
 
 pub node::Node::peek_further-ask-shown-requires : goal.node::Node::peek_further-ask-shown-requires
@@ -399,7 +382,7 @@ node::Node::peek_further-returns-clause-peeked g t c =
       arrived = search rules;
       shown = shown-here c.args.now c.self.inside c.args.self.now c.self.invariant c.self.view_is c.requires.ready none c.ask-shown.result asked.children.shown;
       signals = search rules;
-      told = told-here c.args.now c.self.inside c.args.self.now c.self.invariant c.self.view_is c.requires.ready none (g.S.Sink.state c.args.sink.now) (g.S.Sink.state c.ask-shown.new.sink) asked.told;
+      told = told-here c.args.now c.self.inside c.args.self.now c.self.invariant c.self.view_is c.requires.ready none (g.S.Sink.state c.args.sink.now) (g.S.Sink.state c.ask-shown.new.sink) asked.children.told;
     }
 
 pub disciplines::prio::peek_bands-loop-place-init : goal.disciplines::prio::peek_bands-loop-place-init
@@ -423,14 +406,7 @@ pub disciplines::prio::peek_bands-returns-then-has_packet-clause-after : goal.di
 disciplines::prio::peek_bands-returns-then-has_packet-clause-after g t c = λ own.
     let band = slice_index_or c.loop-place.bands c.loop-place.place c.index-bands-place.result in
     let at = band-at c.args.now c.args.bands.now c.loop-place.bands c.loop-place.place c.loop-place.shown c.loop-place.invariant.0 c.index-bands-place.result c.loop-place-test.true in
-    band-shown c.args.now c.args.bands.now c.loop-place.bands c.loop-place.place c.loop-place.shown c.requires.ready c.loop-place.invariant.0 band at c.peek_after-shown.new.self c.peek_after-shown.result c.peek_after-shown.ensures.asked (sym c.if-has_packet.ensures) own
-
-pub disciplines::prio::peek_bands-returns-then-has_packet-clause-told : goal.disciplines::prio::peek_bands-returns-then-has_packet-clause-told
-disciplines::prio::peek_bands-returns-then-has_packet-clause-told g t c = λ own.
-    let band = slice_index_or c.loop-place.bands c.loop-place.place c.index-bands-place.result in
-    let at = band-at c.args.now c.args.bands.now c.loop-place.bands c.loop-place.place c.loop-place.shown c.loop-place.invariant.0 c.index-bands-place.result c.loop-place-test.true in
-    bands-told c.args.now c.args.bands.now c.loop-place.bands c.loop-place.place c.loop-place.shown c.requires.ready c.loop-place.invariant.0 band at c.peek_after-shown.new.self c.peek_after-shown.result c.peek_after-shown.ensures.asked
-    (g.S.Sink.state c.args.sink.now) c.loop-place.invariant.1 (sym c.if-has_packet.ensures) own
+    band-shown c.args.now c.args.bands.now c.loop-place.bands c.loop-place.place c.loop-place.shown c.requires.ready c.loop-place.invariant.0 band at c.peek_after-shown.new.self c.peek_after-shown.result c.peek_after-shown.ensures.asked (g.S.Sink.state c.args.sink.now) c.loop-place.invariant.1 (sym c.if-has_packet.ensures) own
 
 pub disciplines::prio::peek_bands-returns-then-has_packet-clause-kept : goal.disciplines::prio::peek_bands-returns-then-has_packet-clause-kept
 disciplines::prio::peek_bands-returns-then-has_packet-clause-kept g t c =
@@ -445,11 +421,7 @@ disciplines::prio::peek_bands-loop-place-preserved g t c =
     (goes.0, goes.1, g.met.S.Sink.keeps_on c.args.sink.now c.loop-place.sink c.peek_after-shown.new.sink c.loop-place.invariant.2 c.peek_after-shown.ensures.kept, c.peek_after-shown.ensures.signals)
 
 pub disciplines::prio::peek_bands-returns-clause-after : goal.disciplines::prio::peek_bands-returns-clause-after
-disciplines::prio::peek_bands-returns-clause-after g t c = λ own. bands-end c.args.now c.args.bands.now c.loop-place.bands c.loop-place.place c.loop-place.shown c.loop-place.invariant.0 c.loop-place-test.false c.loop-place.auto.place-end own
-
-pub disciplines::prio::peek_bands-returns-clause-told : goal.disciplines::prio::peek_bands-returns-clause-told
-disciplines::prio::peek_bands-returns-clause-told g t c = λ own.
-    subst (λ notes. IsToldOf notes (g.S.Sink.state c.args.sink.now) (g.S.Sink.state c.loop-place.sink)) (bands-rises c.args.now c.args.bands.now c.loop-place.bands c.loop-place.place c.loop-place.shown c.loop-place.invariant.0 c.loop-place-test.false c.loop-place.auto.place-end own) c.loop-place.invariant.1
+disciplines::prio::peek_bands-returns-clause-after g t c = λ own. bands-end c.args.now c.args.bands.now c.loop-place.bands c.loop-place.place c.loop-place.shown c.loop-place.invariant.0 c.loop-place-test.false c.loop-place.auto.place-end c.loop-place.invariant.1 own
 
 pub disciplines::prio::peek_bands-returns-clause-kept : goal.disciplines::prio::peek_bands-returns-clause-kept
 disciplines::prio::peek_bands-returns-clause-kept g t c = c.loop-place.invariant.2

@@ -10,7 +10,7 @@ ghost use Rattle.q_model.specs.Node as spec;
 ghost use Rattle.q_model.specs.Node.{Own};
 ghost use Rattle.q_model.specs.Pop.{pop};
 ghost use Rattle.q_model.specs.Work.{settled_class};
-ghost use Rattle.q_tree.specs.AskSteps.{AreAsked, CanAskOnce, CanServe, IsAskedOnce, IsGivenBy, IsToldOf, answers, no_signals, signals_of};
+ghost use Rattle.q_tree.specs.AskSteps.{AreAsked, CanAskOnce, CanServe, IsAskedOnce, IsGivenBy, answers, no_signals, signals_of};
 ghost use Rattle.q_tree.specs.Changing.{drr_same};
 ghost use Rattle.q_tree.specs.Choosing.{drr_choice};
 ghost use Rattle.q_tree.specs.Holding.{held_with};
@@ -108,9 +108,8 @@ pub(crate) fn dequeue_class<S: Sink>(
     requires sink { length (packets_beneath classes.old) ≤ (S.state sink.old).room }
     requires clean { signals.old ≡ no_signals }
     ensures active { (own : Own) → spec.Drr active.new ≡ (ask_drr own (answers now classes.old) active.old).peeked.own.discipline }
-    ensures after { (own : Own) → AreAsked (ask_drr own (answers now classes.old) active.old) classes.old classes.new result }
+    ensures after { (own : Own) → AreAsked (ask_drr own (answers now classes.old) active.old) classes.old classes.new result (S.state sink.old) (S.state sink.new) }
     ensures packet { out.new ≡ unwrap_or result.packet out.old }
-    ensures told { (own : Own) → IsToldOf (ask_drr own (answers now classes.old) active.old).rises (S.state sink.old) (S.state sink.new) }
     ensures signals { signals.new ≡ signals_of result }
     ensures kept { S.keeps sink.old sink.new }
 {
@@ -138,9 +137,8 @@ fn meet_class<S: Sink>(
     requires ready { CanServe now active.old classes.old }
     requires sink { length (packets_beneath classes.old) ≤ (S.state sink.old).room }
     requires clean { signals.old ≡ no_signals }
-    ensures met { (p : Descriptor) → result.packet ≡ Some p → IsMet now met.new active.old active.new classes.old classes.new result }
-    ensures nothing { result.packet ≡ None → AreUnserved now active.old active.new classes.old classes.new result }
-    ensures told { (own : Own) → IsToldOf (ask_drr own (answers now classes.old) active.old).rises (S.state sink.old) (S.state sink.new) }
+    ensures met { (p : Descriptor) → result.packet ≡ Some p → IsMet now met.new active.old active.new classes.old classes.new result (S.state sink.old) (S.state sink.new) }
+    ensures nothing { result.packet ≡ None → AreUnserved now active.old active.new classes.old classes.new result (S.state sink.old) (S.state sink.new) }
     ensures signals { signals.new ≡ signals_of result }
     ensures kept { S.keeps sink.old sink.new }
 {
@@ -197,9 +195,8 @@ pub(crate) fn peek_classes<S: Sink>(
     requires sink { length (packets_beneath classes.old) ≤ (S.state sink.old).room }
     requires clean { signals.old ≡ no_signals }
     ensures active { (own : Own) → spec.Drr active.new ≡ (ask_drr own (answers now classes.old) active.old).peeked.own.discipline }
-    ensures after { (own : Own) → AreAsked (ask_drr own (answers now classes.old) active.old) classes.old classes.new result }
+    ensures after { (own : Own) → AreAsked (ask_drr own (answers now classes.old) active.old) classes.old classes.new result (S.state sink.old) (S.state sink.new) }
     ensures held { (own : Own) → held.new ≡ held_with result.packet (ask_drr own (answers now classes.old) active.old).peeked.own.since }
-    ensures told { (own : Own) → IsToldOf (ask_drr own (answers now classes.old) active.old).rises (S.state sink.old) (S.state sink.new) }
     ensures signals { signals.new ≡ signals_of result }
     ensures kept { S.keeps sink.old sink.new }
 {

@@ -91,8 +91,7 @@ pub(crate) fn dequeue_child<S: Sink>(
     requires sink { length (beneath child.old) ≤ (S.state sink.old).room }
     requires clean { signals.old ≡ no_signals }
     ensures bucket { (own : Own) (limit : ℕ) → own.discipline ≡ Tbf bucket.old limit → Tbf bucket.new limit ≡ (ask_tbf now own (answers now (child.old ∷ [])) bucket.old limit).peeked.own.discipline }
-    ensures after { (own : Own) (limit : ℕ) → AreAsked (ask_tbf now own (answers now (child.old ∷ [])) bucket.old limit) (child.old ∷ []) (child.new ∷ []) result }
-    ensures told { (own : Own) (limit : ℕ) → IsToldOf (ask_tbf now own (answers now (child.old ∷ [])) bucket.old limit).rises (S.state sink.old) (S.state sink.new) }
+    ensures after { (own : Own) (limit : ℕ) → AreAsked (ask_tbf now own (answers now (child.old ∷ [])) bucket.old limit) (child.old ∷ []) (child.new ∷ []) result (S.state sink.old) (S.state sink.new) }
     ensures packet { out.new ≡ unwrap_or result.packet out.old }
     ensures signals { signals.new ≡ signals_of result }
     ensures kept { S.keeps sink.old sink.new }
@@ -120,8 +119,8 @@ fn allow_child<S: Sink>(
     requires sink { length (beneath child.old) ≤ (S.state sink.old).room }
     requires clean { signals.old ≡ no_signals }
     ensures bucket { (own : Own) (limit : ℕ) → own.discipline ≡ Tbf bucket.old limit → Tbf bucket.new limit ≡ (ask_tbf now own (answers now (child.old ∷ [])) bucket.old limit).peeked.own.discipline }
-    ensures allowed { (p : Descriptor) → result.packet ≡ Some p → IsAllowed now p bucket.old child.old child.new result }
-    ensures waits { result.packet ≡ None → (own : Own) (limit : ℕ) → IsWaiting now own limit bucket.old child.old child.new result }
+    ensures allowed { (p : Descriptor) → result.packet ≡ Some p → IsAllowed now p bucket.old child.old child.new result (S.state sink.old) (S.state sink.new) }
+    ensures waits { result.packet ≡ None → (own : Own) (limit : ℕ) → IsWaiting now own limit bucket.old child.old child.new result (S.state sink.old) (S.state sink.new) }
     ensures told { (own : Own) (limit : ℕ) → IsToldOf (ask_tbf now own (answers now (child.old ∷ [])) bucket.old limit).rises (S.state sink.old) (S.state sink.new) }
     ensures signals { signals.new ≡ signals_of result }
     ensures kept { S.keeps sink.old sink.new }
@@ -153,8 +152,7 @@ pub(crate) fn peek_child<S: Sink>(
     requires sink { length (beneath child.old) ≤ (S.state sink.old).room }
     requires clean { signals.old ≡ no_signals }
     ensures bucket { (own : Own) (limit : ℕ) → own.discipline ≡ Tbf bucket.old limit → Tbf bucket.new limit ≡ (ask_tbf now own (answers now (child.old ∷ [])) bucket.old limit).peeked.own.discipline }
-    ensures after { (own : Own) (limit : ℕ) → AreAsked (ask_tbf now own (answers now (child.old ∷ [])) bucket.old limit) (child.old ∷ []) (child.new ∷ []) result }
-    ensures told { (own : Own) (limit : ℕ) → IsToldOf (ask_tbf now own (answers now (child.old ∷ [])) bucket.old limit).rises (S.state sink.old) (S.state sink.new) }
+    ensures after { (own : Own) (limit : ℕ) → AreAsked (ask_tbf now own (answers now (child.old ∷ [])) bucket.old limit) (child.old ∷ []) (child.new ∷ []) result (S.state sink.old) (S.state sink.new) }
     ensures held { (own : Own) (limit : ℕ) → held.new ≡ held_with result.packet (ask_tbf now own (answers now (child.old ∷ [])) bucket.old limit).peeked.own.since }
     ensures signals { signals.new ≡ signals_of result }
     ensures kept { S.keeps sink.old sink.new }

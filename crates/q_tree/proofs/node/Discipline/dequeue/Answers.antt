@@ -51,7 +51,6 @@ returns-in-Prio-clause-after g c =
     (items-are c.in-Prio.bands.items c.dequeue_bands.new.bands c.in-Prio.bands.len (sym c.in-Prio.bands.ok.0)
     (bands.long ∙ ap (λ xs. length xs) c.deref_mut.ensures.value))
     (sym (ap places_seen c.in-Prio.is)) (prio-left c.args.now handle filters (answers c.args.now c.deref_mut.result.now) c.in-Prio.priomap) bands
-    (c.dequeue_bands.ensures.told (own_of handle filters (spec.Prio c.in-Prio.priomap)))
 
 pub returns-in-Tbf-clause-after :
     goal.returns-in-Tbf-clause-after
@@ -65,8 +64,7 @@ returns-in-Tbf-clause-after g c = λ handle filters.
     (code.Tbf c.dequeue_child.new.bucket c.in-Tbf.limit (with_value c.in-Tbf.child c.dequeue_child.new.child))
     (spec.Tbf c.in-Tbf.bucket c.in-Tbf.limit) (spec.Tbf c.dequeue_child.new.bucket c.in-Tbf.limit) (c.deref_mut-in-Tbf.result.now ∷ [])
     (c.dequeue_child.new.child ∷ []) c.dequeue_child.result
-    (ap discipline_seen c.in-Tbf.is) kids refl refl (sym (ap places_seen c.in-Tbf.is)) (c.dequeue_child.ensures.bucket own c.in-Tbf.limit refl) (c.dequeue_child.ensures.after own c.in-Tbf.limit)
-    (c.dequeue_child.ensures.told own c.in-Tbf.limit))
+    (ap discipline_seen c.in-Tbf.is) kids refl refl (sym (ap places_seen c.in-Tbf.is)) (c.dequeue_child.ensures.bucket own c.in-Tbf.limit refl) (c.dequeue_child.ensures.after own c.in-Tbf.limit))
 
 pub dequeue_class-requires : goal.dequeue_class-requires
 dequeue_class-requires g c =
@@ -92,7 +90,7 @@ returns-in-Drr-clause-after g c = λ handle filters.
     (ap discipline_seen c.in-Drr.is) kids refl
     (items-are c.in-Drr.classes.items c.dequeue_class.new.classes c.in-Drr.classes.len (sym c.in-Drr.classes.ok.0)
     ((c.dequeue_class.ensures.after own).long ∙ ap (λ xs. length xs) c.deref_mut-in-Drr.ensures.value))
-    (sym (ap places_seen c.in-Drr.is)) (c.dequeue_class.ensures.active own) (c.dequeue_class.ensures.after own) (c.dequeue_class.ensures.told own))
+    (sym (ap places_seen c.in-Drr.is)) (c.dequeue_class.ensures.active own) (c.dequeue_class.ensures.after own))
 
 pub dequeue_flow-requires :
     goal.dequeue_flow-requires
@@ -113,5 +111,10 @@ returns-in-FqCodel-clause-after g c = λ handle filters.
     (asked-in c.args.now handle filters c.args.self.now (code.FqCodel (with_value c.in-FqCodel.queue c.dequeue_flow.new.queue)) (spec.FqCodel state)
     (spec.FqCodel c.dequeue_flow.new.queue.state) [] [] c.dequeue_flow.result
     is (ap children_seen c.in-FqCodel.is) refl refl places (ap spec.FqCodel e.after)
-    (record { long = refl; nodes = refl; within = λ t h. h; shown = e.shown own [] })
-    (flow-told c.args.now state own [] (g.S.Sink.state c.args.sink.now) (g.S.Sink.state c.dequeue_flow.new.sink) e.told))
+    (record {
+      long = refl;
+      nodes = refl;
+      within = λ t h. h;
+      shown = e.shown own [];
+      told = flow-told c.args.now state own [] (g.S.Sink.state c.args.sink.now) (g.S.Sink.state c.dequeue_flow.new.sink) e.told;
+    }))

@@ -76,7 +76,7 @@ returns-then-not-has_packet-clause-dequeued g c =
       packet = search rules;
       signals = search rules;
       told =
-          told-here c.args.now c.self.inside c.args.self.now c.self.invariant c.self.view_is c.requires.ready none (g.S.Sink.state c.args.sink.now) (g.S.Sink.state c.dequeue-shown.new.sink) sent.told;
+          told-here c.args.now c.self.inside c.args.self.now c.self.invariant c.self.view_is c.requires.ready none (g.S.Sink.state c.args.sink.now) (g.S.Sink.state c.dequeue-shown.new.sink) sent.children.told;
     }
 
 pub returns-clause-dequeued : goal.returns-clause-dequeued
@@ -96,7 +96,7 @@ returns-clause-dequeued g c =
       packet = search rules;
       signals = search rules;
       told =
-          told-here c.args.now c.self.inside c.args.self.now c.self.invariant c.self.view_is c.requires.ready none (g.S.Sink.state c.args.sink.now) (g.S.Sink.state c.dequeue-shown.new.sink) sent.told;
+          told-here c.args.now c.self.inside c.args.self.now c.self.invariant c.self.view_is c.requires.ready none (g.S.Sink.state c.args.sink.now) (g.S.Sink.state c.dequeue-shown.new.sink) sent.children.told;
     }
 
 pub book_sent-requires-2-clause-balanced : goal.book_sent-requires-2-clause-balanced
