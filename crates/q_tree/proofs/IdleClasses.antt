@@ -87,4 +87,4 @@ module _ {now : ℕ} {first s : Schedule} {ns ms : List (Node Kept)} {unasked : 
       }
 
   pub idle-unserved : {result : Shown} → result.packet ≡ None → IsCounted [] result → AreUnserved now first s ns ms result sink sink2
-  idle-unserved empty counted = record { empty = empty; since = idle-since; schedule = idle-schedule; asked = idle-asked empty counted }
+  idle-unserved empty counted = record { empty = empty; since = idle-since; served = λ own. record { schedule = idle-schedule own; asked = idle-asked empty counted own } }

@@ -343,7 +343,7 @@ module _ {now : ℕ} {first s : Schedule} {ns ms : List (Node Kept)} {unasked : 
           }
 
       pub class-unserved : meeting.AreUnserved now first s ns (set ms place d) result sink sink3
-      class-unserved = record { empty = empty; since = nothing-since; schedule = nothing-schedule; asked = nothing-asked }
+      class-unserved = record { empty = empty; since = nothing-since; served = λ own. record { schedule = nothing-schedule own; asked = nothing-asked own } }
 
     -- what it gives is what it showed
     given-packet : (pop d).shown ≡ result.packet
@@ -434,8 +434,7 @@ module _ {now : ℕ} {first s : Schedule} {ns ms : List (Node Kept)} {unasked : 
         shown = λ class at. ap (λ (n : Node Kept). (pop n).shown) (here class at) ∙ given-packet;
         since = λ class at own. ap (λ (n : Node Kept). since_of result.packet (unwrap_or (at_hand_since n) 0)) (here class at) ∙ given-since send turn own;
         told = given-told send turn;
-        schedule = λ given ks gift own. given-schedule send turn gift own;
-        asked = λ given ks gift own. given-asked send turn gift own;
+        served = λ given ks gift own. record { schedule = given-schedule send turn gift own; asked = given-asked send turn gift own };
       }
         where
           here : (class : Node Kept) → slice_get (set ms place d) place ≡ Some class → class ≡ d

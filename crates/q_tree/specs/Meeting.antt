@@ -15,6 +15,11 @@ use Rattle.q_model.specs.Work.{booked}
 use Rattle.q_tree.specs.Kept.{Kept, kept}
 use Rattle.q_tree.specs.Shown.{Shown}
 
+-- what a drr that was asked came to: its schedule and its classes then, and what the sink was told
+pub record HasServed (own : Own) (now : ℕ) (before after : Schedule) (ns ms : List (spec.Node Kept)) (s : Shown) (sink sink_after : SinkState) : Type 0 where
+  pub schedule : spec.Drr after ≡ (ask_drr own (answers now ns) before).peeked.own.discipline
+  pub asked : AreAsked (ask_drr own (answers now ns) before) ns ms s sink sink_after
+
 -- the class in this place can send the packet that is shown, and has it at hand
 pub record IsMet (now place : ℕ) (before after : Schedule) (ns ms : List (spec.Node Kept)) (s : Shown) (sink sink_after : SinkState) : Type 0 where
   pub inside : place < length ms
@@ -24,17 +29,14 @@ pub record IsMet (now place : ℕ) (before after : Schedule) (ns ms : List (spec
       → (own : Own) → since_of s.packet (unwrap_or (at_hand_since c) 0) ≡ (ask_drr own (answers now ns) before).peeked.own.since
   pub told : (own : Own) → IsToldOf (ask_drr own (answers now ns) before).rises sink sink_after
   -- once it has handed that out
-  pub schedule : (given : Schedule) (ks : List (spec.Node Kept)) → ((c : spec.Node Kept) → slice_get ms place ≡ Some c → IsGivenBy place c after given ms ks)
-      → (own : Own) → spec.Drr given ≡ (ask_drr own (answers now ns) before).peeked.own.discipline
-  pub asked : (given : Schedule) (ks : List (spec.Node Kept)) → ((c : spec.Node Kept) → slice_get ms place ≡ Some c → IsGivenBy place c after given ms ks)
-      → (own : Own) → AreAsked (ask_drr own (answers now ns) before) ns ks s sink sink_after
+  pub served : (given : Schedule) (ks : List (spec.Node Kept)) → ((c : spec.Node Kept) → slice_get ms place ≡ Some c → IsGivenBy place c after given ms ks)
+      → (own : Own) → HasServed own now before given ns ks s sink sink_after
 
 -- no class is met that can send, so that nothing is shown
 pub record AreUnserved (now : ℕ) (before after : Schedule) (ns ms : List (spec.Node Kept)) (s : Shown) (sink sink_after : SinkState) : Type 0 where
   pub empty : s.packet ≡ None
   pub since : (own : Own) → 0 ≡ (ask_drr own (answers now ns) before).peeked.own.since
-  pub schedule : (own : Own) → spec.Drr after ≡ (ask_drr own (answers now ns) before).peeked.own.discipline
-  pub asked : (own : Own) → AreAsked (ask_drr own (answers now ns) before) ns ms s sink sink_after
+  pub served : (own : Own) → HasServed own now before after ns ms s sink sink_after
 
 -- the bucket of a tbf has paid for the packet that its child shows, and still has at hand: what comes of it once the child hands it out
 pub record IsAllowed (now : ℕ) (p : Descriptor) (b : TokenBucket) (n m : spec.Node Kept) (s : Shown) (sink sink_after : SinkState) : Type 0 where

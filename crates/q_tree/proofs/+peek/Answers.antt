@@ -209,21 +209,13 @@ disciplines::drr::peek_classes-hold-requires g t c =
     let class : Node Kept = slice_index_or c.meet_class-shown.new.classes c.meet_class-shown.new.met c.index-classes-place.result in
     ap is_some (met.shown class (slice_get-get_or c.meet_class-shown.new.classes c.meet_class-shown.new.met c.index-classes-place.result met.inside) ∙ there.1)
 
-pub disciplines::drr::peek_classes-returns-then-has_packet-clause-active : goal.disciplines::drr::peek_classes-returns-then-has_packet-clause-active
-disciplines::drr::peek_classes-returns-then-has_packet-clause-active g t c = λ own.
+pub disciplines::drr::peek_classes-returns-then-has_packet-clause-served : goal.disciplines::drr::peek_classes-returns-then-has_packet-clause-served
+disciplines::drr::peek_classes-returns-then-has_packet-clause-served g t c = λ own.
     let there = some-there c.meet_class-shown.result.packet (sym c.has_packet.ensures ∙ c.if-has_packet.true) in
     let met = c.meet_class-shown.ensures.met there.0 there.1 in
     let given = λ (class : Node Kept) (at : slice_get c.meet_class-shown.new.classes c.meet_class-shown.new.met ≡ Some class). class-given c.meet_class-shown.new.classes c.meet_class-shown.new.met class c.index-classes-place.result c.hold.new.child c.index-classes-place-then-has_packet.result c.meet_class-shown.new.active c.settle.new.active c.is_empty.result
     at c.hold.ensures.after c.hold.ensures.arrived c.is_empty.ensures c.settle.ensures in
-    met.schedule c.settle.new.active (set c.meet_class-shown.new.classes c.meet_class-shown.new.met c.hold.new.child) given own
-
-pub disciplines::drr::peek_classes-returns-then-has_packet-clause-after : goal.disciplines::drr::peek_classes-returns-then-has_packet-clause-after
-disciplines::drr::peek_classes-returns-then-has_packet-clause-after g t c = λ own.
-    let there = some-there c.meet_class-shown.result.packet (sym c.has_packet.ensures ∙ c.if-has_packet.true) in
-    let met = c.meet_class-shown.ensures.met there.0 there.1 in
-    let given = λ (class : Node Kept) (at : slice_get c.meet_class-shown.new.classes c.meet_class-shown.new.met ≡ Some class). class-given c.meet_class-shown.new.classes c.meet_class-shown.new.met class c.index-classes-place.result c.hold.new.child c.index-classes-place-then-has_packet.result c.meet_class-shown.new.active c.settle.new.active c.is_empty.result
-    at c.hold.ensures.after c.hold.ensures.arrived c.is_empty.ensures c.settle.ensures in
-    met.asked c.settle.new.active (set c.meet_class-shown.new.classes c.meet_class-shown.new.met c.hold.new.child) given own
+    met.served c.settle.new.active (set c.meet_class-shown.new.classes c.meet_class-shown.new.met c.hold.new.child) given own
 
 pub disciplines::drr::peek_classes-returns-then-has_packet-clause-held : goal.disciplines::drr::peek_classes-returns-then-has_packet-clause-held
 disciplines::drr::peek_classes-returns-then-has_packet-clause-held g t c = λ own.
@@ -234,11 +226,8 @@ disciplines::drr::peek_classes-returns-then-has_packet-clause-held g t c = λ ow
     c.hold.ensures.held ∙ ap (λ (o : Option Descriptor). held_with o (unwrap_or (at_hand_since class) 0)) (met.shown class at)
     ∙ held-with c.meet_class-shown.result.packet (unwrap_or (at_hand_since class) 0) (ask_drr own (answers c.args.now c.args.classes.now) c.args.active.now).peeked.own.since (met.since class at own)
 
-pub disciplines::drr::peek_classes-returns-else-has_packet-clause-active : goal.disciplines::drr::peek_classes-returns-else-has_packet-clause-active
-disciplines::drr::peek_classes-returns-else-has_packet-clause-active g t c = λ own. (c.meet_class-shown.ensures.nothing (none-there c.meet_class-shown.result.packet (sym c.has_packet.ensures ∙ c.if-has_packet.false))).schedule own
-
-pub disciplines::drr::peek_classes-returns-else-has_packet-clause-after : goal.disciplines::drr::peek_classes-returns-else-has_packet-clause-after
-disciplines::drr::peek_classes-returns-else-has_packet-clause-after g t c = λ own. (c.meet_class-shown.ensures.nothing (none-there c.meet_class-shown.result.packet (sym c.has_packet.ensures ∙ c.if-has_packet.false))).asked own
+pub disciplines::drr::peek_classes-returns-else-has_packet-clause-served : goal.disciplines::drr::peek_classes-returns-else-has_packet-clause-served
+disciplines::drr::peek_classes-returns-else-has_packet-clause-served g t c = λ own. (c.meet_class-shown.ensures.nothing (none-there c.meet_class-shown.result.packet (sym c.has_packet.ensures ∙ c.if-has_packet.false))).served own
 
 pub disciplines::drr::peek_classes-returns-else-has_packet-clause-held : goal.disciplines::drr::peek_classes-returns-else-has_packet-clause-held
 disciplines::drr::peek_classes-returns-else-has_packet-clause-held g t c = λ own.
@@ -281,8 +270,8 @@ node::Discipline::ask-returns-in-Drr-clause-after g t c = λ handle filters.
     let own = own_of handle filters (spec.Drr c.in-Drr.active) in
     let kids = sym (c.deref_mut-in-Drr.ensures.value ∙ sym (ap children_seen c.in-Drr.is)) in
     asked-in c.args.now handle filters c.args.self.now (code.Drr c.peek_classes.new.active (with_items c.in-Drr.classes c.peek_classes.new.classes)) (spec.Drr c.in-Drr.active) (spec.Drr c.peek_classes.new.active) c.deref_mut-in-Drr.result.now c.peek_classes.new.classes c.peek_classes.result
-    (ap discipline_seen c.in-Drr.is) kids refl (items-are c.in-Drr.classes.items c.peek_classes.new.classes c.in-Drr.classes.len (sym c.in-Drr.classes.ok.0) ((c.peek_classes.ensures.after own).long ∙ ap (λ xs. length xs) c.deref_mut-in-Drr.ensures.value))
-    (sym (ap places_seen c.in-Drr.is)) (c.peek_classes.ensures.active own) (c.peek_classes.ensures.after own)
+    (ap discipline_seen c.in-Drr.is) kids refl (items-are c.in-Drr.classes.items c.peek_classes.new.classes c.in-Drr.classes.len (sym c.in-Drr.classes.ok.0) ((c.peek_classes.ensures.served own).asked.long ∙ ap (λ xs. length xs) c.deref_mut-in-Drr.ensures.value))
+    (sym (ap places_seen c.in-Drr.is)) (c.peek_classes.ensures.served own).schedule (c.peek_classes.ensures.served own).asked
 
 pub node::Discipline::ask-returns-in-Drr-clause-held : goal.node::Discipline::ask-returns-in-Drr-clause-held
 node::Discipline::ask-returns-in-Drr-clause-held g t c = λ handle filters.

@@ -10,12 +10,12 @@ ghost use Rattle.q_model.specs.Node as spec;
 ghost use Rattle.q_model.specs.Node.{Own};
 ghost use Rattle.q_model.specs.Pop.{pop};
 ghost use Rattle.q_model.specs.Work.{settled_class};
-ghost use Rattle.q_tree.specs.AskSteps.{AreAsked, CanAskOnce, CanServe, IsAskedOnce, IsGivenBy, answers, no_signals, signals_of};
+ghost use Rattle.q_tree.specs.AskSteps.{CanAskOnce, CanServe, IsAskedOnce, IsGivenBy, answers, no_signals, signals_of};
 ghost use Rattle.q_tree.specs.Changing.{drr_same};
 ghost use Rattle.q_tree.specs.Choosing.{drr_choice};
 ghost use Rattle.q_tree.specs.Holding.{held_with};
 ghost use Rattle.q_tree.specs.Kept.{Kept};
-ghost use Rattle.q_tree.specs.Meeting.{AreUnserved, IsMet};
+ghost use Rattle.q_tree.specs.Meeting.{AreUnserved, HasServed, IsMet};
 ghost use Rattle.q_tree.specs.Purging.{purged};
 ghost use Rattle.q_tree.specs.PutSteps.{packets_beneath};
 ghost use Rattle.q_tree.specs.ReadyAt.{of_class, outlook, paid};
@@ -107,8 +107,7 @@ pub(crate) fn dequeue_class<S: Sink>(
     requires ready { CanServe now active.old classes.old }
     requires sink { length (packets_beneath classes.old) ≤ (S.state sink.old).room }
     requires clean { signals.old ≡ no_signals }
-    ensures active { (own : Own) → spec.Drr active.new ≡ (ask_drr own (answers now classes.old) active.old).peeked.own.discipline }
-    ensures after { (own : Own) → AreAsked (ask_drr own (answers now classes.old) active.old) classes.old classes.new result (S.state sink.old) (S.state sink.new) }
+    ensures served { (own : Own) → HasServed own now active.old active.new classes.old classes.new result (S.state sink.old) (S.state sink.new) }
     ensures packet { out.new ≡ unwrap_or result.packet out.old }
     ensures signals { signals.new ≡ signals_of result }
     ensures kept { S.keeps sink.old sink.new }
@@ -194,8 +193,7 @@ pub(crate) fn peek_classes<S: Sink>(
     requires ready { CanServe now active.old classes.old }
     requires sink { length (packets_beneath classes.old) ≤ (S.state sink.old).room }
     requires clean { signals.old ≡ no_signals }
-    ensures active { (own : Own) → spec.Drr active.new ≡ (ask_drr own (answers now classes.old) active.old).peeked.own.discipline }
-    ensures after { (own : Own) → AreAsked (ask_drr own (answers now classes.old) active.old) classes.old classes.new result (S.state sink.old) (S.state sink.new) }
+    ensures served { (own : Own) → HasServed own now active.old active.new classes.old classes.new result (S.state sink.old) (S.state sink.new) }
     ensures held { (own : Own) → held.new ≡ held_with result.packet (ask_drr own (answers now classes.old) active.old).peeked.own.since }
     ensures signals { signals.new ≡ signals_of result }
     ensures kept { S.keeps sink.old sink.new }

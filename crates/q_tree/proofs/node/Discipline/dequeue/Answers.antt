@@ -89,8 +89,8 @@ returns-in-Drr-clause-after g c = λ handle filters.
     (spec.Drr c.dequeue_class.new.active) c.deref_mut-in-Drr.result.now c.dequeue_class.new.classes c.dequeue_class.result
     (ap discipline_seen c.in-Drr.is) kids refl
     (items-are c.in-Drr.classes.items c.dequeue_class.new.classes c.in-Drr.classes.len (sym c.in-Drr.classes.ok.0)
-    ((c.dequeue_class.ensures.after own).long ∙ ap (λ xs. length xs) c.deref_mut-in-Drr.ensures.value))
-    (sym (ap places_seen c.in-Drr.is)) (c.dequeue_class.ensures.active own) (c.dequeue_class.ensures.after own))
+    ((c.dequeue_class.ensures.served own).asked.long ∙ ap (λ xs. length xs) c.deref_mut-in-Drr.ensures.value))
+    (sym (ap places_seen c.in-Drr.is)) (c.dequeue_class.ensures.served own).schedule (c.dequeue_class.ensures.served own).asked)
 
 pub dequeue_flow-requires :
     goal.dequeue_flow-requires
