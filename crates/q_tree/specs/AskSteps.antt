@@ -151,6 +151,12 @@ no_signals = record { dropped = no_totals; marked = no_totals }
 abbrev pub signals_of : Shown → Signals
 signals_of s = record { dropped = s.dropped; marked = s.marked }
 
+-- what is to be asked is ready, the sink has room for what is queued there, and nothing is counted yet
+pub record CanBegin (Ready : Type 0) (queued room : ℕ) (counted : Signals) : Type 0 where
+  pub ready : Ready
+  pub sink : queued ≤ room
+  pub clean : counted ≡ no_signals
+
 -- A node that was asked for its packet: what the node is then, what is in the caller's place for the counts, what was shown, and what
 -- the sink was told.
 pub record IsPeeked (now : ℕ) (old new : spec.Node Kept) (counted : Signals) (s : Shown) (sink sink_after : SinkState) : Type 0 where

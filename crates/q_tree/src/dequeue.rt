@@ -13,7 +13,7 @@ ghost use Rattle.q_model.specs.Pop.{pop};
 ghost use Rattle.q_model.specs.TreeState.{given, noted_by_take, take_packet};
 ghost use Rattle.q_model.specs.Work.{booked};
 ghost use Rattle.q_model.specs.declared.filter.Filter.{Filter};
-ghost use Rattle.q_tree.specs.AskSteps.{CanAsk, CanAskIn, IsToldOf, answer_of, no_signals, packets_within, signals_of};
+ghost use Rattle.q_tree.specs.AskSteps.{CanAsk, CanAskIn, CanBegin, IsToldOf, answer_of, packets_within, signals_of};
 ghost use Rattle.q_tree.specs.Kept.{kept};
 ghost use Rattle.q_tree.specs.PopSteps.{HasHead, IsPoppedIn, popping_of};
 ghost use Rattle.q_tree.specs.SendSteps.{IsDequeued, IsSentIn};
@@ -182,9 +182,7 @@ impl Node {
         signals: &mut Signals,
         sink: &mut S,
     ) -> Shown
-        requires ready { CanAsk now self.old }
-        requires sink { length (beneath self.old) ≤ (S.state sink.old).room }
-        requires clean { signals.old ≡ no_signals }
+        requires { CanBegin (CanAsk now self.old) (length (beneath self.old)) (S.state sink.old).room signals.old }
         ensures dequeued { IsDequeued now self.old self.new out.old out.new signals.new result (S.state sink.old) (S.state sink.new) }
         ensures kept { S.keeps sink.old sink.new }
     {
@@ -237,9 +235,7 @@ impl Discipline {
         signals: &mut Signals,
         sink: &mut S,
     ) -> Shown
-        requires ready { CanAskIn now self.old }
-        requires sink { length (packets_within self.old) ≤ (S.state sink.old).room }
-        requires clean { signals.old ≡ no_signals }
+        requires { CanBegin (CanAskIn now self.old) (length (packets_within self.old)) (S.state sink.old).room signals.old }
         ensures after { (handle : Option ℕ) (filters : List Filter) → IsSentIn (answer_of now handle filters self.old) self.old self.new result (S.state sink.old) (S.state sink.new) }
         ensures packet { out.new ≡ unwrap_or result.packet out.old }
         ensures signals { signals.new ≡ signals_of result }

@@ -4,12 +4,12 @@
 //! dequeue a packet in order to show one, since a bucket pays for it, a deficit is spent on it, or CoDel decides on it. They hold it until
 //! it is taken, and show it again whenever they are asked. What CoDel drops or marks on the way is booked at each node, with the packet or
 //! without one.
-ghost use Rattle.std.specs.Prelude.{◌≡◌, ◌≤◌, List, None, Option, length, true, ℕ};
+ghost use Rattle.std.specs.Prelude.{◌≡◌, List, None, Option, length, true, ℕ};
 ghost use Rattle.q_model.specs.Beneath.{beneath};
 ghost use Rattle.q_model.specs.Pop.{pop};
 ghost use Rattle.q_model.specs.Since.{at_hand_since};
 ghost use Rattle.q_model.specs.declared.filter.Filter.{Filter};
-ghost use Rattle.q_tree.specs.AskSteps.{CanAsk, CanAskIn, CanAskOnce, IsAskedIn, IsAskedOnce, IsPeeked, answer_of, held_in, no_signals, packets_within, signals_of};
+ghost use Rattle.q_tree.specs.AskSteps.{CanAsk, CanAskIn, CanAskOnce, CanBegin, IsAskedIn, IsAskedOnce, IsPeeked, answer_of, held_in, packets_within, signals_of};
 ghost use Rattle.q_tree.specs.EmptyFifo.{IsEmptyFifo};
 ghost use Rattle.q_tree.specs.Holding.{held_with};
 ghost use Rattle.q_tree.specs.Seen.{discipline_seen};
@@ -41,9 +41,7 @@ impl Node {
         signals: &mut Signals,
         sink: &mut S,
     ) -> Shown
-        requires ready { CanAsk now self.old }
-        requires sink { length (beneath self.old) ≤ (S.state sink.old).room }
-        requires clean { signals.old ≡ no_signals }
+        requires { CanBegin (CanAsk now self.old) (length (beneath self.old)) (S.state sink.old).room signals.old }
         ensures peeked { IsPeeked now self.old self.new signals.new result (S.state sink.old) (S.state sink.new) }
         ensures kept { S.keeps sink.old sink.new }
     {
@@ -78,9 +76,7 @@ impl Node {
     #[inline(always)]
     fn peek_further<S: Sink>(&mut self, now: Moment, signals: &mut Signals, sink: &mut S) -> Shown
         requires none { self.old.own.held ≡ None }
-        requires ready { CanAsk now self.old }
-        requires sink { length (beneath self.old) ≤ (S.state sink.old).room }
-        requires clean { signals.old ≡ no_signals }
+        requires asks { CanBegin (CanAsk now self.old) (length (beneath self.old)) (S.state sink.old).room signals.old }
         ensures peeked { IsPeeked now self.old self.new signals.new result (S.state sink.old) (S.state sink.new) }
         ensures kept { S.keeps sink.old sink.new }
     {
@@ -205,9 +201,7 @@ impl Discipline {
         sink: &mut S,
     ) -> Shown
         requires none { held.old ≡ None }
-        requires ready { CanAskIn now self.old }
-        requires sink { length (packets_within self.old) ≤ (S.state sink.old).room }
-        requires clean { signals.old ≡ no_signals }
+        requires asks { CanBegin (CanAskIn now self.old) (length (packets_within self.old)) (S.state sink.old).room signals.old }
         ensures after { (handle : Option ℕ) (filters : List Filter) → IsAskedIn (answer_of now handle filters self.old) self.old self.new result (S.state sink.old) (S.state sink.new) }
         ensures held { (handle : Option ℕ) (filters : List Filter) → held.new ≡ held_with (held_in (discipline_seen self.new) result.packet) (answer_of now handle filters self.old).peeked.own.since }
         ensures signals { signals.new ≡ signals_of result }

@@ -72,7 +72,7 @@ pub disciplines::tbf::allow_child-returns-clause-allowed : goal.disciplines::tbf
 disciplines::tbf::allow_child-returns-clause-allowed g t c = λ p is.
     let offer = shown-len c.peek-shown.result.packet c.packet_len.result c.in-Some.len c.packet_len.ensures.some c.in-Some.is in
     let may = ap (allows c.args.bucket.now c.args.now) offer.2 ∙ sym c.spend.ensures.answer ∙ c.if-not-spend.false in
-    tbf-allowed c.args.now c.args.bucket.now c.args.child.now c.peek-shown.new.self c.peek-shown.new.signals c.peek-shown.result c.requires.ready c.peek-shown.ensures.peeked p offer.0 is offer.1 may
+    tbf-allowed c.args.now c.args.bucket.now c.args.child.now c.peek-shown.new.self c.peek-shown.new.signals c.peek-shown.result c.requires.asks.ready c.peek-shown.ensures.peeked p offer.0 is offer.1 may
 
 pub disciplines::tbf::allow_child-returns-clause-waits : goal.disciplines::tbf::allow_child-returns-clause-waits
 disciplines::tbf::allow_child-returns-clause-waits g t c = λ none own limit.
@@ -236,7 +236,7 @@ disciplines::drr::peek_classes-returns-else-has_packet-clause-held g t c = λ ow
 pub node::Discipline::ask-peek_bands-requires : goal.node::Discipline::ask-peek_bands-requires
 node::Discipline::ask-peek_bands-requires g t c κs within =
     let kids = c.deref_mut.ensures.value ∙ sym (ap children_seen c.in-Prio.is) in
-    (omega (arith, ap (λ xs. forest_size (side_by_side xs)) kids, c.decreases), (within, (each-of c.args.now c.args.self.now c.deref_mut.result.now c.requires.ready kids, (omega (arith, c.requires.sink, room-of c.args.self.now c.deref_mut.result.now kids), c.requires.clean))))
+    (omega (arith, ap (λ xs. forest_size (side_by_side xs)) kids, c.decreases), (within, record { ready = each-of c.args.now c.args.self.now c.deref_mut.result.now c.requires.asks.ready kids; sink = omega (arith, c.requires.asks.sink, room-of c.args.self.now c.deref_mut.result.now kids); clean = c.requires.asks.clean }))
 
 pub node::Discipline::ask-returns-in-Prio-clause-after : goal.node::Discipline::ask-returns-in-Prio-clause-after
 node::Discipline::ask-returns-in-Prio-clause-after g t c = λ handle filters.
@@ -263,7 +263,7 @@ node::Discipline::ask-returns-in-Tbf-clause-held g t c = λ handle filters.
 pub node::Discipline::ask-peek_classes-requires : goal.node::Discipline::ask-peek_classes-requires
 node::Discipline::ask-peek_classes-requires g t c κs within =
     let kids = c.deref_mut-in-Drr.ensures.value ∙ sym (ap children_seen c.in-Drr.is) in
-    (omega (arith, ap (λ xs. forest_size (side_by_side xs)) kids, c.decreases), (within, (c.requires.none, (serve-of c.args.now c.args.self.now c.in-Drr.active c.deref_mut-in-Drr.result.now c.requires.ready (ap discipline_seen c.in-Drr.is) kids, (omega (arith, c.requires.sink, room-of c.args.self.now c.deref_mut-in-Drr.result.now kids), c.requires.clean)))))
+    (omega (arith, ap (λ xs. forest_size (side_by_side xs)) kids, c.decreases), (within, (c.requires.none, record { ready = serve-of c.args.now c.args.self.now c.in-Drr.active c.deref_mut-in-Drr.result.now c.requires.asks.ready (ap discipline_seen c.in-Drr.is) kids; sink = omega (arith, c.requires.asks.sink, room-of c.args.self.now c.deref_mut-in-Drr.result.now kids); clean = c.requires.asks.clean })))
 
 pub node::Discipline::ask-returns-in-Drr-clause-after : goal.node::Discipline::ask-returns-in-Drr-clause-after
 node::Discipline::ask-returns-in-Drr-clause-after g t c = λ handle filters.
@@ -283,7 +283,7 @@ node::Discipline::ask-returns-in-Drr-clause-held g t c = λ handle filters.
 pub node::Discipline::ask-peek_flow-requires : goal.node::Discipline::ask-peek_flow-requires
 node::Discipline::ask-peek_flow-requires g t c =
     let is = ap discipline_seen c.in-FqCodel.is ∙ ap (λ (q : FqView). spec.FqCodel q.state) (sym c.deref_mut-in-FqCodel.ensures.value) in
-    record { none = c.requires.none; sink = omega (arith, c.requires.sink, own-room c.args.self.now, flow-packets c.args.self.now c.deref_mut-in-FqCodel.result.now.state is); clean = c.requires.clean }
+    record { none = c.requires.none; sink = omega (arith, c.requires.asks.sink, own-room c.args.self.now, flow-packets c.args.self.now c.deref_mut-in-FqCodel.result.now.state is); clean = c.requires.asks.clean }
 
 pub node::Discipline::ask-returns-in-FqCodel-clause-after : goal.node::Discipline::ask-returns-in-FqCodel-clause-after
 node::Discipline::ask-returns-in-FqCodel-clause-after g t c = λ handle filters.
@@ -338,23 +338,23 @@ node::Node::peek-returns-in-Fifo-clause-peeked g t c =
 pub node::Node::peek_further-ask-shown-requires : goal.node::Node::peek_further-ask-shown-requires
 node::Node::peek_further-ask-shown-requires g t c κs within =
     let none = empty-held c.self.inside.held (ap (λ (n : Node Kept). n.own.held) c.self.view_is ∙ c.requires.none) in
-    let can = can-in c.args.now c.self.inside c.args.self.now c.self.invariant c.self.view_is c.requires.ready (omega (arith, c.self.ranges, c.fit.ensures.packets, c.fit.ensures.bytes)) (omega (arith, c.self.ranges, c.fit.ensures.packets, c.fit.ensures.bytes)) in
-    let room = enough c.args.now c.self.inside c.args.self.now c.self.invariant c.self.view_is c.requires.ready (g.S.Sink.state c.args.sink.now).room c.requires.sink in
-    (omega (arith, children-size c.self.inside c.args.self.now (children_seen c.self.inside.discipline) c.self.view_is refl, c.decreases), (within, (none, (can, (room, c.requires.clean)))))
+    let can = can-in c.args.now c.self.inside c.args.self.now c.self.invariant c.self.view_is c.requires.asks.ready (omega (arith, c.self.ranges, c.fit.ensures.packets, c.fit.ensures.bytes)) (omega (arith, c.self.ranges, c.fit.ensures.packets, c.fit.ensures.bytes)) in
+    let room = enough c.args.now c.self.inside c.args.self.now c.self.invariant c.self.view_is c.requires.asks.ready (g.S.Sink.state c.args.sink.now).room c.requires.asks.sink in
+    (omega (arith, children-size c.self.inside c.args.self.now (children_seen c.self.inside.discipline) c.self.view_is refl, c.decreases), (within, (none, record { ready = can; sink = room; clean = c.requires.asks.clean })))
 
 pub node::Node::peek_further-book_shown-requires-clause-room : goal.node::Node::peek_further-book_shown-requires-clause-room
 node::Node::peek_further-book_shown-requires-clause-room g t c =
     let none = ap (λ (n : Node Kept). n.own.held) c.self.view_is ∙ c.requires.none in
-    can-book c.args.now c.self.inside c.args.self.now c.self.invariant c.self.view_is c.requires.ready none c.ask-shown.result (c.ask-shown.ensures.after c.self.inside.handle c.self.inside.filters).children.shown
+    can-book c.args.now c.self.inside c.args.self.now c.self.invariant c.self.view_is c.requires.asks.ready none c.ask-shown.result (c.ask-shown.ensures.after c.self.inside.handle c.self.inside.filters).children.shown
     (omega (arith, c.self.ranges, c.fit.ensures.packets, c.fit.ensures.bytes)) (omega (arith, c.self.ranges, c.fit.ensures.packets, c.fit.ensures.bytes))
 
 pub node::Node::peek_further-invariant_of-self : goal.node::Node::peek_further-invariant_of-self
 node::Node::peek_further-invariant_of-self g t c =
     let none = ap (λ (n : Node Kept). n.own.held) c.self.view_is ∙ c.requires.none in
     let asked = c.ask-shown.ensures.after c.self.inside.handle c.self.inside.filters in
-    let can = can-book c.args.now c.self.inside c.args.self.now c.self.invariant c.self.view_is c.requires.ready none c.ask-shown.result asked.children.shown
+    let can = can-book c.args.now c.self.inside c.args.self.now c.self.invariant c.self.view_is c.requires.asks.ready none c.ask-shown.result asked.children.shown
     (omega (arith, c.self.ranges, c.fit.ensures.packets, c.fit.ensures.bytes)) (omega (arith, c.self.ranges, c.fit.ensures.packets, c.fit.ensures.bytes)) in
-    let done = peeked-done c.args.now c.self.inside c.args.self.now c.self.invariant c.self.view_is c.requires.ready none c.ask-shown.new.self c.ask-shown.result asked c.book_shown.new.row c.ask-shown.new.held can c.book_shown.ensures
+    let done = peeked-done c.args.now c.self.inside c.args.self.now c.self.invariant c.self.view_is c.requires.asks.ready none c.ask-shown.new.self c.ask-shown.result asked c.book_shown.new.row c.ask-shown.new.held can c.book_shown.ensures
     (c.ask-shown.ensures.held c.self.inside.handle c.self.inside.filters) in
     done.stays
 
@@ -362,16 +362,16 @@ pub node::Node::peek_further-returns-clause-peeked : goal.node::Node::peek_furth
 node::Node::peek_further-returns-clause-peeked g t c =
     let none = ap (λ (n : Node Kept). n.own.held) c.self.view_is ∙ c.requires.none in
     let asked = c.ask-shown.ensures.after c.self.inside.handle c.self.inside.filters in
-    let can = can-book c.args.now c.self.inside c.args.self.now c.self.invariant c.self.view_is c.requires.ready none c.ask-shown.result asked.children.shown
+    let can = can-book c.args.now c.self.inside c.args.self.now c.self.invariant c.self.view_is c.requires.asks.ready none c.ask-shown.result asked.children.shown
     (omega (arith, c.self.ranges, c.fit.ensures.packets, c.fit.ensures.bytes)) (omega (arith, c.self.ranges, c.fit.ensures.packets, c.fit.ensures.bytes)) in
-    let done = peeked-done c.args.now c.self.inside c.args.self.now c.self.invariant c.self.view_is c.requires.ready none c.ask-shown.new.self c.ask-shown.result asked c.book_shown.new.row c.ask-shown.new.held can c.book_shown.ensures
+    let done = peeked-done c.args.now c.self.inside c.args.self.now c.self.invariant c.self.view_is c.requires.asks.ready none c.ask-shown.new.self c.ask-shown.result asked c.book_shown.new.row c.ask-shown.new.held can c.book_shown.ensures
     (c.ask-shown.ensures.held c.self.inside.handle c.self.inside.filters) in
     record {
       after = done.after;
       arrived = search rules;
-      shown = shown-here c.args.now c.self.inside c.args.self.now c.self.invariant c.self.view_is c.requires.ready none c.ask-shown.result asked.children.shown;
+      shown = shown-here c.args.now c.self.inside c.args.self.now c.self.invariant c.self.view_is c.requires.asks.ready none c.ask-shown.result asked.children.shown;
       signals = search rules;
-      told = told-here c.args.now c.self.inside c.args.self.now c.self.invariant c.self.view_is c.requires.ready none (g.S.Sink.state c.args.sink.now) (g.S.Sink.state c.ask-shown.new.sink) asked.children.told;
+      told = told-here c.args.now c.self.inside c.args.self.now c.self.invariant c.self.view_is c.requires.asks.ready none (g.S.Sink.state c.args.sink.now) (g.S.Sink.state c.ask-shown.new.sink) asked.children.told;
     }
 
 pub disciplines::prio::peek_bands-loop-place-init : goal.disciplines::prio::peek_bands-loop-place-init

@@ -10,7 +10,7 @@ ghost use Rattle.q_model.specs.Node as spec;
 ghost use Rattle.q_model.specs.Node.{Own};
 ghost use Rattle.q_model.specs.Pop.{pop};
 ghost use Rattle.q_model.specs.Work.{settled_class};
-ghost use Rattle.q_tree.specs.AskSteps.{CanAskOnce, CanServe, IsAskedOnce, IsGivenBy, answers, no_signals, signals_of};
+ghost use Rattle.q_tree.specs.AskSteps.{CanAskOnce, CanBegin, CanServe, IsAskedOnce, IsGivenBy, answers, signals_of};
 ghost use Rattle.q_tree.specs.Changing.{drr_same};
 ghost use Rattle.q_tree.specs.Choosing.{drr_choice};
 ghost use Rattle.q_tree.specs.Holding.{held_with};
@@ -104,9 +104,7 @@ pub(crate) fn dequeue_class<S: Sink>(
     signals: &mut Signals,
     sink: &mut S,
 ) -> Shown
-    requires ready { CanServe now active.old classes.old }
-    requires sink { length (packets_beneath classes.old) ≤ (S.state sink.old).room }
-    requires clean { signals.old ≡ no_signals }
+    requires { CanBegin (CanServe now active.old classes.old) (length (packets_beneath classes.old)) (S.state sink.old).room signals.old }
     ensures served { (own : Own) → HasServed own now active.old active.new classes.old classes.new result (S.state sink.old) (S.state sink.new) }
     ensures packet { out.new ≡ unwrap_or result.packet out.old }
     ensures signals { signals.new ≡ signals_of result }
@@ -133,9 +131,7 @@ fn meet_class<S: Sink>(
     signals: &mut Signals,
     sink: &mut S,
 ) -> Shown
-    requires ready { CanServe now active.old classes.old }
-    requires sink { length (packets_beneath classes.old) ≤ (S.state sink.old).room }
-    requires clean { signals.old ≡ no_signals }
+    requires { CanBegin (CanServe now active.old classes.old) (length (packets_beneath classes.old)) (S.state sink.old).room signals.old }
     ensures met { (p : Descriptor) → result.packet ≡ Some p → IsMet now met.new active.old active.new classes.old classes.new result (S.state sink.old) (S.state sink.new) }
     ensures nothing { result.packet ≡ None → AreUnserved now active.old active.new classes.old classes.new result (S.state sink.old) (S.state sink.new) }
     ensures signals { signals.new ≡ signals_of result }
@@ -190,9 +186,7 @@ pub(crate) fn peek_classes<S: Sink>(
     sink: &mut S,
 ) -> Shown
     requires none { held.old ≡ None }
-    requires ready { CanServe now active.old classes.old }
-    requires sink { length (packets_beneath classes.old) ≤ (S.state sink.old).room }
-    requires clean { signals.old ≡ no_signals }
+    requires asks { CanBegin (CanServe now active.old classes.old) (length (packets_beneath classes.old)) (S.state sink.old).room signals.old }
     ensures served { (own : Own) → HasServed own now active.old active.new classes.old classes.new result (S.state sink.old) (S.state sink.new) }
     ensures held { (own : Own) → held.new ≡ held_with result.packet (ask_drr own (answers now classes.old) active.old).peeked.own.since }
     ensures signals { signals.new ≡ signals_of result }

@@ -1,4 +1,4 @@
-use Rattle.std.proofs.Common.{◌∙◌, ◌≤◌, ◌^◌, refl, sym, ap, arith}
+use Rattle.std.proofs.Common.{◌∙◌, ◌≤◌, ◌^◌, refl, sym, ap, arith, rules}
 use Rattle.std.specs.Prelude.{is_some, unwrap_or}
 use Rattle.q_model.specs.declared.row.Row.{Row}
 use Rattle.q_model.specs.declared.totals.Totals.{Totals}
@@ -14,10 +14,10 @@ use Rattle.q_tree.proofs.TreeIndex.{peeked-form, still-indexed}
 use Rattle.q_tree.proofs.TreeLemmas.{top-row, can-ask-root, can-book-top, none-taken, none-kept}
 use Rattle.q_tree.proofs.tree.Tree.send_asked.Goals as goal
 
-pub dequeue-shown-requires-clause-ready : goal.dequeue-shown-requires-clause-ready
-dequeue-shown-requires-clause-ready g c =
+pub dequeue-shown-requires : goal.dequeue-shown-requires
+dequeue-shown-requires g c =
     let e = ap (λ (d : DeviceState Kept). d.clock) c.self.view_is in
-    can-ask-root c.self.inside c.self.invariant.device c.args.now (omega (arith, e, c.requires.order)) (omega (arith, c.ns.ensures.in_range, c.ns.ensures.value))
+    record { ready = can-ask-root c.self.inside c.self.invariant.device c.args.now (omega (arith, e, c.requires.order)) (omega (arith, c.ns.ensures.in_range, c.ns.ensures.value)); sink = search rules; clean = search rules }
 
 pub book_shown-requires-clause-balanced : goal.book_shown-requires-clause-balanced
 book_shown-requires-clause-balanced g c =
