@@ -1,12 +1,14 @@
 -- What asking a node and taking the packet that it shows come to, in one walk: what its discipline and its children are then.
 -- tc-prio(8), tc-tbf(8), tc-drr(8), tc-fq_codel(8).
-use Rattle.std.specs.Prelude.{◌≡◌, ℕ, List, All, length, is_some, unwrap_or, if◌then◌else◌}
+use Rattle.std.specs.Prelude.{◌≡◌, ℕ, Bool, List, All, length, is_some, unwrap_or, if◌then◌else◌}
 use Rattle.q_packet.specs.Descriptor.{Descriptor}
 use Rattle.q_codel.specs.Losses.{SinkState}
 use Rattle.q_model.specs.declared.totals.Totals.{Totals}
 use Rattle.q_model.specs.Ask.{Asked, ask, take_from}
 use Rattle.q_model.specs.Node as spec
 use Rattle.q_model.specs.Node.{shape, side_by_side}
+use Rattle.q_model.specs.Step.{DeviceState}
+use Rattle.q_model.specs.TreeState.{given, noted_by_take, take_packet}
 use Rattle.q_model.specs.Work.{Worked, booked, each_booked}
 use Rattle.q_tree.specs.AskSteps.{IsShown, IsToldOf, signals_of}
 use Rattle.q_tree.specs.Kept.{Kept, kept}
@@ -45,3 +47,11 @@ pub record IsDequeued (now : ℕ) (old new : spec.Node Kept) (out out_new : Desc
   pub signals : counted ≡ signals_of s
   -- and the sink was told of what was dropped
   pub told : IsToldOf (ask now (shape old)).rises sink sink_after
+
+-- A tree that was asked for its packet and gave it: whether there was one, what is in the caller's place, what the tree is then, and what
+-- the sink was told.
+pub record HasSent (now : ℕ) (old new : DeviceState Kept) (sent : Bool) (out out_new : Descriptor) (sink sink_after : SinkState) : Type 0 where
+  pub some : sent ≡ is_some (given now old.tree)
+  pub packet : out_new ≡ unwrap_or (given now old.tree) out
+  pub after : new ≡ record { clock = now; tree = take_packet kept now old.tree }
+  pub lost : IsToldOf (noted_by_take now old.tree) sink sink_after

@@ -16,7 +16,7 @@ ghost use Rattle.q_model.specs.declared.filter.Filter.{Filter};
 ghost use Rattle.q_tree.specs.AskSteps.{CanAsk, CanAskIn, CanBegin, IsToldOf, answer_of, packets_within, signals_of};
 ghost use Rattle.q_tree.specs.Kept.{kept};
 ghost use Rattle.q_tree.specs.PopSteps.{HasHead, IsPoppedIn, popping_of};
-ghost use Rattle.q_tree.specs.SendSteps.{IsDequeued, IsSentIn};
+ghost use Rattle.q_tree.specs.SendSteps.{HasSent, IsDequeued, IsSentIn};
 
 use crate::booking::{book_sent, book_shown};
 use crate::disciplines::drr::dequeue_class;
@@ -98,10 +98,7 @@ impl Tree {
     fn send_asked<S: Sink>(&mut self, now: Moment, out: &mut KeptPacket, sink: &mut S) -> bool
         requires order { self.old.clock ≤ now }
         requires sink { length (beneath self.old.tree.root) ≤ (S.state sink.old).room }
-        ensures sent { result ≡ is_some (given now self.old.tree) }
-        ensures packet { out.new ≡ unwrap_or (given now self.old.tree) out.old }
-        ensures after { self.new ≡ record { clock = now; tree = take_packet kept now self.old.tree } }
-        ensures lost { IsToldOf (noted_by_take now self.old.tree) (S.state sink.old) (S.state sink.new) }
+        ensures sent { HasSent now self.old self.new result out.old out.new (S.state sink.old) (S.state sink.new) }
         ensures kept { S.keeps sink.old sink.new }
     {
         let _ = now.ns();
