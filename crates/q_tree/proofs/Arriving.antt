@@ -30,7 +30,7 @@ use Rattle.q_model.specs.Work.{settled_in}
 use Rattle.q_model.proofs.ShrinkLemmas.{each-each_memory, shape-with_memory}
 use Rattle.q_tree.specs.Ahead.{ways}
 use Rattle.q_tree.specs.Arrivals.{HasPlace, HasPlaceIn}
-use Rattle.q_tree.specs.ArriveSteps.{HasCome, HasComeIn, HasPlaceOn, IsAsPlaced, IsPlaced, IsPlacedIn, IsPutOn, rises_along, way_in, IsPutInFlow}
+use Rattle.q_tree.specs.ArriveSteps.{HasArrived, HasCome, HasComeIn, HasPlaceOn, IsAsPlaced, IsPlaced, IsPlacedIn, IsPutOn, rises_along, way_in, IsPutInFlow}
 use Rattle.q_tree.specs.AskSteps.{IsToldOf, own_of}
 use Rattle.q_tree.specs.Kept.{Kept}
 use Rattle.q_tree.specs.Places.{unplaced, places_under}
@@ -286,28 +286,34 @@ lt-false a b h = by (nat_lt a b) refl
     by true e = absurd (omega (arith, h, ltb-true a b e))
     by false e = e
 
-pub gone-after : (now : ℕ) (p : Descriptor) (filters : List Filter) (before after : Discipline) (ns : List (Node Kept)) (i : ℕ) (x x2 : Node Kept)
-    → children_seen before ≡ ns → i < length ns → x ≡ slice_index_or ns i x
-    → way_in p filters before ≡ through (ways p ns) i → (place : Node Kept → Discipline) → ((m : Node Kept) → children_seen (place m) ≡ set ns i m)
-    → ((m : Node Kept) → discipline_seen (place m) ≡ discipline_seen before)
-    → ((m : Node Kept) → places_seen (place m) ≡ places_seen before) → children_seen after ≡ set ns i x2 → places_seen after ≡ places_seen before
-    → ((b : Bool) → discipline_seen after ≡ settled_in i b (discipline_seen before))
-    → (res : Result Outcome AllocError) (sink sink2 : SinkState) → IfOk res (λ o. HasCome now p x x2 o)
-    → OnOk res (IsToldOf (rises_along now p x) sink sink2) → IfOk res (λ o. HasComeIn now p filters before after o sink sink2)
-gone-after now p filters before after ns i x x2 kids inside is to place kids2 same2 places2 kids3 places3 settled (Err e) sink sink2 h told = tt
-gone-after now p filters before after ns i x x2 kids inside is to place kids2 same2 places2 kids3 places3 settled (Ok o) sink sink2 h told =
-    gone-in now p filters before (place h.placed) after ns i x x2 o kids inside is to h (kids2 h.placed) (same2 h.placed) (places2 h.placed) kids3 places3
-    (settled (is_empty (put_along now p (route p x).refusal (route p x).path (shape h.placed)).node)) sink sink2 told
-
-pub gone-same : (before after : Discipline) (ns : List (Node Kept)) (i : ℕ) (x x2 : Node Kept) (res : Result Outcome AllocError)
-    → children_seen before ≡ ns → x ≡ slice_index_or ns i x → children_seen after ≡ set ns i x2
-    → discipline_seen after ≡ discipline_seen before → places_seen after ≡ places_seen before → OnErr res (IsPlaced x x2) → OnErr res (IsPlacedIn before after)
-gone-same before after ns i x x2 (Ok o) kids is kids2 same places h = tt
-gone-same before after ns i x x2 (Err e) kids is kids2 same places h = placed-at before after ns i x x2 kids is h kids2 same places
-
 -- what a packet comes to where none was lost
 pub nobody : Outcome
 nobody = record { loss = None; refused = no_totals; dropped = no_totals }
+
+-- a packet that came, and one that came where a child was asked
+pub arrived-as : {Came : Outcome → Type 0} {Placed HasRoom : Type 0} {lost : Outcome} {sink sink2 : SinkState} (o : Outcome)
+    → Came o → lost ≡ o → HasArrived (Ok o) Came Placed HasRoom lost sink sink2
+arrived-as o came is = record { after = came; same = tt; not_lost = tt; succeeds = λ there. refl; lost_is = is }
+
+pub gone-arrived : (now : ℕ) (p : Descriptor) (filters : List Filter) (before : Discipline) (ns : List (Node Kept)) (i : ℕ) (x x2 : Node Kept)
+    → children_seen before ≡ ns → i < length ns → x ≡ slice_index_or ns i x
+    → way_in p filters before ≡ through (ways p ns) i → (place : Node Kept → Discipline) → ((m : Node Kept) → children_seen (place m) ≡ set ns i m)
+    → ((m : Node Kept) → discipline_seen (place m) ≡ discipline_seen before) → ((m : Node Kept) → places_seen (place m) ≡ places_seen before)
+    → ((b : Bool) → discipline_seen (place x2) ≡ settled_in i b (discipline_seen before)) → (res : Result Outcome AllocError) (lost : Outcome) (sink sink2 : SinkState)
+    → HasArrived res (HasCome now p x x2) (IsPlaced x x2) ((route p x).refusal ≡ None → HasPlace (route p x).path x) lost sink sink2
+    → OnOk res (IsToldOf (rises_along now p x) sink sink2) → HasArrived res (λ o. HasComeIn now p filters before (place x2) o sink sink2)
+    (IsPlacedIn before (place x2)) ((way_in p filters before).refusal ≡ None → HasPlaceOn (way_in p filters before).path before) lost sink sink2
+gone-arrived now p filters before ns i x x2 kids inside is to place kids2 same2 places2 settled (Err e) lost sink sink2 h told = record {
+  after = tt;
+  same = placed-at before (place x2) ns i x x2 kids is h.same (kids2 x2) (same2 x2) (places2 x2);
+  not_lost = h.not_lost;
+  succeeds = λ there. h.succeeds (place-below now p filters before before before ns i x x2 nobody kids inside is to there);
+  lost_is = tt;
+}
+gone-arrived now p filters before ns i x x2 kids inside is to place kids2 same2 places2 settled (Ok o) lost sink sink2 h told =
+    arrived-as o (gone-in now p filters before (place h.after.placed) (place x2) ns i x x2 o kids inside is to h.after (kids2 h.after.placed) (same2 h.after.placed)
+    (places2 h.after.placed) (kids2 x2) (places2 x2)
+    (settled (is_empty (put_along now p (route p x).refusal (route p x).path (shape h.after.placed)).node)) sink sink2 told) h.lost_is
 
 -- a fifo in which a place was made, and then the packet was put
 pub fifo-form : (f g f2 : FifoState) (places : ℕ) (q p : Descriptor) (now : ℕ) → g ≡ record { packets = f.packets; limit = f.limit; places = places } → q ≡ p

@@ -118,7 +118,7 @@ module _ (now : ℕ) (ns ms : List (Node Kept)) (i : ℕ) (s : Shown) (each : Ca
   pub band-once : (sink sink2 : SinkState) → IsToldOf (told_to i (answers now ns)) sink sink2 → length (packets_beneath ns) ≤ sink.room → CanAskOnce now c s sink2.room
   band-once sink sink2 told room = can-ask-once now ns ms (peeked_to i (answers now ns)) (told_to i (answers now ns)) each h.asking i c at band-before s h.counted sink sink2 told room
 
-  module _ (d : Node Kept) (result : Shown) (asked : IsAskedOnce now c d s result) where
+  module _ {told_before told : SinkState} (d : Node Kept) (result : Shown) (asked : IsAskedOnce now c d s result told_before told) where
     band-asked : IsAsking ns (set ms i d) (peeked_to (suc i) (answers now ns)) (told_to (suc i) (answers now ns))
     band-asked =
         subst (λ (notes : List Note). IsAsking ns (set ms i d) (peeked_to (suc i) (answers now ns)) notes) (told-next (answers now ns) i (ask now (shape c)) answer-at)
@@ -147,36 +147,33 @@ module _ (now : ℕ) (ns ms : List (Node Kept)) (i : ℕ) (s : Shown) (each : Ca
     pub band-place : is_some result.packet ≡ true → first_showing (answers now ns) ≡ i
     band-place some = omega (arith, h.nobody, first-here (answers now ns) i (ask now (shape c)) answer-at (sym (ap is_some asked.packet) ∙ some))
 
-    pub band-shown : is_some result.packet ≡ true → (own : Own) → AreAsked (ask_prio own (answers now ns)) ns (set ms i d) result
-    band-shown some own =
-        let k = band-place some in
-        let all = prio-rises own (answers now ns) i k in
-        record {
-          long = band-asked.long;
-          nodes = ap side_by_side band-asked.children ∙ side-all ns (peeked_to (suc i) (answers now ns)) ∙ ap (each_booked kept (side_by_side ns)) (sym (prio-below own (answers now ns) i k));
-          within = band-asked.within;
-          shown = record {
-            packet = asked.packet ∙ sym (ap (option_and_then (λ (a : Asked). a.shown)) answer-at) ∙ sym (prio-shown own (answers now ns) i k);
-            dropped = band-counted.dropped ∙ ap (λ notes. (counts_in notes).dropped) (sym all);
-            marked = band-counted.marked ∙ ap (λ notes. (counts_in notes).marked) (sym all);
-          };
-        }
-
-    module _ (sink sink_so_far sink2 : SinkState) (so_far : IsToldOf (told_to i (answers now ns)) sink sink_so_far)
-        (told : IsToldOf (ask now (shape c)).rises sink_so_far sink2) where
-      told-so-far : IsToldOf (told_to (suc i) (answers now ns)) sink sink2
+    module _ (sink : SinkState) (so_far : IsToldOf (told_to i (answers now ns)) sink told_before) where
+      told-so-far : IsToldOf (told_to (suc i) (answers now ns)) sink told
       told-so-far =
-          subst (λ notes. IsToldOf notes sink sink2) (told-next (answers now ns) i (ask now (shape c)) answer-at)
-          (told-then (told_to i (answers now ns)) (ask now (shape c)).rises sink sink_so_far sink2 so_far told)
+          subst (λ notes. IsToldOf notes sink told) (told-next (answers now ns) i (ask now (shape c)) answer-at)
+          (told-then (told_to i (answers now ns)) (ask now (shape c)).rises sink told_before told so_far asked.told)
 
-      pub bands-go-on : is_some result.packet ≡ false → AreBandsAsked now ns (set ms i d) (i + 1) result × IsToldOf (told_to (i + 1) (answers now ns)) sink sink2
+      pub bands-go-on : is_some result.packet ≡ false → AreBandsAsked now ns (set ms i d) (i + 1) result × IsToldOf (told_to (i + 1) (answers now ns)) sink told
       bands-go-on none = (
         subst (λ n. AreBandsAsked now ns (set ms i d) n result) (sym (add-one i)) (band-passed none),
-        subst (λ n. IsToldOf (told_to n (answers now ns)) sink sink2) (sym (add-one i)) told-so-far,
+        subst (λ n. IsToldOf (told_to n (answers now ns)) sink told) (sym (add-one i)) told-so-far,
       )
 
-      pub bands-told : is_some result.packet ≡ true → (own : Own) → IsToldOf (ask_prio own (answers now ns)).rises sink sink2
-      bands-told some own = subst (λ notes. IsToldOf notes sink sink2) (sym (prio-rises own (answers now ns) i (band-place some))) told-so-far
+      pub band-shown : is_some result.packet ≡ true → (own : Own) → AreAsked (ask_prio own (answers now ns)) ns (set ms i d) result sink told
+      band-shown some own =
+          let k = band-place some in
+          let all = prio-rises own (answers now ns) i k in
+          record {
+            long = band-asked.long;
+            nodes = ap side_by_side band-asked.children ∙ side-all ns (peeked_to (suc i) (answers now ns)) ∙ ap (each_booked kept (side_by_side ns)) (sym (prio-below own (answers now ns) i k));
+            within = band-asked.within;
+            shown = record {
+              packet = asked.packet ∙ sym (ap (option_and_then (λ (a : Asked). a.shown)) answer-at) ∙ sym (prio-shown own (answers now ns) i k);
+              dropped = band-counted.dropped ∙ ap (λ notes. (counts_in notes).dropped) (sym all);
+              marked = band-counted.marked ∙ ap (λ notes. (counts_in notes).marked) (sym all);
+            };
+            told = subst (λ notes. IsToldOf notes sink told) (sym all) told-so-far;
+          }
 
 -- where no band shows a packet, all were asked
 module _ (now : ℕ) (ns ms : List (Node Kept)) (i : ℕ) (s : Shown) (h : AreBandsAsked now ns ms i s) (past : length ns ≤ i) (inside : i ≤ length ns) where
@@ -192,13 +189,13 @@ module _ (now : ℕ) (ns ms : List (Node Kept)) (i : ℕ) (s : Shown) (h : AreBa
   all-told : (below : List Asked) (n : ℕ) → length below ≤ n → told_to n below ≡ flat_map (λ (a : Asked). a.rises) below
   all-told below n e = ap (flat_map (λ (a : Asked). a.rises)) (take_all n below e)
 
-  pub bands-rises : (own : Own) → told_to i (answers now ns) ≡ (ask_prio own (answers now ns)).rises
+  bands-rises : (own : Own) → told_to i (answers now ns) ≡ (ask_prio own (answers now ns)).rises
   bands-rises own =
       all-told (answers now ns) i (omega (arith, past, count)) ∙ sym (all-told (answers now ns) (suc (length (answers now ns))) (omega arith))
       ∙ sym (prio-rises own (answers now ns) (length (answers now ns)) nobody-shows)
 
-  pub bands-end : (own : Own) → AreAsked (ask_prio own (answers now ns)) ns ms s
-  bands-end own =
+  pub bands-end : {sink sink2 : SinkState} → IsToldOf (told_to i (answers now ns)) sink sink2 → (own : Own) → AreAsked (ask_prio own (answers now ns)) ns ms s sink sink2
+  bands-end {sink} {sink2} told own =
       let same : peeked_to i (answers now ns) ≡ peeked_to (suc (length (answers now ns))) (answers now ns) =
       all-peeked (answers now ns) i (omega (arith, past, count)) ∙ sym (all-peeked (answers now ns) (suc (length (answers now ns))) (omega arith)) in
       record {
@@ -211,4 +208,5 @@ module _ (now : ℕ) (ns ms : List (Node Kept)) (i : ℕ) (s : Shown) (h : AreBa
           dropped = h.counted.dropped ∙ ap (λ notes. (counts_in notes).dropped) (bands-rises own);
           marked = h.counted.marked ∙ ap (λ notes. (counts_in notes).marked) (bands-rises own);
         };
+        told = subst (λ notes. IsToldOf notes sink sink2) (bands-rises own) told;
       }

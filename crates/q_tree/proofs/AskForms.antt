@@ -5,6 +5,7 @@ use Rattle.std.specs.Prelude.{Bool, true, false, slice_get, if◌then◌else◌}
 use Rattle.std.specs.Option.{option_map_or}
 use Rattle.std.proofs.lemmas.List.{append-nil}
 use Rattle.q_packet.specs.Descriptor.{Descriptor}
+use Rattle.q_codel.specs.Losses.{SinkState}
 use Rattle.q_bucket.specs.Level.{TokenBucket, allows}
 use Rattle.q_drr.specs.Schedule.{Schedule}
 use Rattle.q_drr.specs.Take.{choice_of}
@@ -139,8 +140,8 @@ ask-none now a e =
     (record { handle = a.handle; discipline = discipline_seen a.discipline; held = packet_held o; since = since_held o; filters = a.filters })
     (answers now (children_seen a.discipline))) (empty-held a.held e)
 
-pub peeked-is : (now : ℕ) (a : Inside) (d : Discipline) (r : Row) (s : Shown) (held : Option Stamped) → packet_held a.held ≡ None
-    → IsAskedIn (answer_of now a.handle a.filters a.discipline) a.discipline d s
+pub peeked-is : {sink sink2 : SinkState} (now : ℕ) (a : Inside) (d : Discipline) (r : Row) (s : Shown) (held : Option Stamped) → packet_held a.held ≡ None
+    → IsAskedIn (answer_of now a.handle a.filters a.discipline) a.discipline d s sink sink2
     → IsQuiet (answer_of now a.handle a.filters a.discipline).rises → r ≡ with_shown s a.row
     → held ≡ held_with (held_in (discipline_seen d) s.packet) (answer_of now a.handle a.filters a.discipline).peeked.own.since
     → seen (record a { held = held; row = r; discipline = d }) ≡ booked kept (seen a) (ask now (shape (seen a))).peeked

@@ -53,17 +53,15 @@ module _ (now : ℕ) (n : Node Kept) (h : IsEmptyFifo n) where
       by (spec.FqCodel s) e empty = absurd empty
 
   -- so one that is passed over is as if it had been asked
-  pub idle-asked : (s : Shown) → s.packet ≡ None → IsAskedOnce now n n s s
-  idle-asked s nothing = record {
+  pub idle-asked : (s : Shown) → s.packet ≡ None → (sink : SinkState) → IsAskedOnce now n n s s sink sink
+  idle-asked s nothing sink = record {
     peeked = idle.peeked;
     arrived = refl;
     packet = nothing ∙ sym idle.shown;
     dropped = sym (plus-nothing s.dropped) ∙ ap (λ (notes : List Note). plus s.dropped (counts_in notes).dropped) (sym idle.rises);
     marked = sym (plus-nothing s.marked) ∙ ap (λ (notes : List Note). plus s.marked (counts_in notes).marked) (sym idle.rises);
+    told = subst (λ (notes : List Note). IsToldOf notes sink sink) (sym idle.rises) (told_nothing sink);
   }
-
-  pub idle-tells : (sink : SinkState) → IsToldOf (ask now (shape n)).rises sink sink
-  idle-tells sink = subst (λ (notes : List Note). IsToldOf notes sink sink) (sym idle.rises) (told_nothing sink)
 
 -- a fifo of the code that counts nothing as queued
 all-none : (o : Option Descriptor) (packets rest : List Descriptor) → length (option_to_list o ++ packets ++ rest) ≡ 0 → (o ≡ None) × (length packets ≡ 0)

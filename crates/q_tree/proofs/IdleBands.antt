@@ -9,7 +9,7 @@ use Rattle.q_tree.specs.Kept.{Kept}
 use Rattle.q_tree.specs.Shown.{Shown}
 use Rattle.q_tree.proofs.AskBands.{AreBandsAsked, band-before, bands-go-on, peeked_to, told_to}
 use Rattle.q_tree.proofs.Asking.{set-same, still-there}
-use Rattle.q_tree.proofs.EmptyFifo.{idle-asked, idle-tells}
+use Rattle.q_tree.proofs.EmptyFifo.{idle-asked}
 
 module _ (now : ℕ) (ns ms : List (Node Kept)) (i : ℕ) (s : Shown) (each : CanAskEach now ns) (h : AreBandsAsked now ns ms i s) (c : Node Kept)
     (at : slice_get ns i ≡ Some c) (empty : IsEmptyFifo c) where
@@ -19,5 +19,5 @@ module _ (now : ℕ) (ns ms : List (Node Kept)) (i : ℕ) (s : Shown) (each : Ca
   pub band-idle : (sink sink_so_far : SinkState) → IsToldOf (told_to i (answers now ns)) sink sink_so_far
       → AreBandsAsked now ns ms (i + 1) s × IsToldOf (told_to (i + 1) (answers now ns)) sink sink_so_far
   band-idle sink sink_so_far so_far =
-      let goes = bands-go-on now ns ms i s each h c at c s (idle-asked now c empty s h.nothing) sink sink_so_far sink_so_far so_far (idle-tells now c empty sink_so_far) (ap is_some h.nothing) in
+      let goes = bands-go-on now ns ms i s each h c at c s (idle-asked now c empty s h.nothing sink_so_far) sink so_far (ap is_some h.nothing) in
       (subst (λ (xs : List (Node Kept)). AreBandsAsked now ns xs (i + 1) s) still goes.0, goes.1)

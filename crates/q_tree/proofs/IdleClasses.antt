@@ -66,10 +66,10 @@ module _ {now : ℕ} {first s : Schedule} {ns ms : List (Node Kept)} {unasked : 
   idle-since : (own : Own) → 0 ≡ (ask_drr own (answers now ns) first).peeked.own.since
   idle-since own = ap (λ (x : Asked). x.peeked.own.since) (sym (idle-answer own))
 
-  pub idle-told : (own : Own) → IsToldOf (ask_drr own (answers now ns) first).rises sink sink2
+  idle-told : (own : Own) → IsToldOf (ask_drr own (answers now ns) first).rises sink sink2
   idle-told own = subst (λ notes. IsToldOf notes sink sink2) (sym (idle-rises own)) h.told
 
-  idle-asked : {result : Shown} → result.packet ≡ None → IsCounted [] result → (own : Own) → AreAsked (ask_drr own (answers now ns) first) ns ms result
+  idle-asked : {result : Shown} → result.packet ≡ None → IsCounted [] result → (own : Own) → AreAsked (ask_drr own (answers now ns) first) ns ms result sink sink2
   idle-asked empty counted own =
       let rises : rises_to now first ns h.turns ≡ [] = ap (λ k. rises_to now first ns k) idle.2 in
       record {
@@ -83,7 +83,8 @@ module _ {now : ℕ} {first s : Schedule} {ns ms : List (Node Kept)} {unasked : 
           dropped = counted.dropped ∙ ap (λ notes. (counts_in notes).dropped) (sym (idle-rises own ∙ rises));
           marked = counted.marked ∙ ap (λ notes. (counts_in notes).marked) (sym (idle-rises own ∙ rises));
         };
+        told = idle-told own;
       }
 
-  pub idle-unserved : {result : Shown} → result.packet ≡ None → IsCounted [] result → AreUnserved now first s ns ms result
-  idle-unserved empty counted = record { empty = empty; since = idle-since; schedule = idle-schedule; asked = idle-asked empty counted }
+  pub idle-unserved : {result : Shown} → result.packet ≡ None → IsCounted [] result → AreUnserved now first s ns ms result sink sink2
+  idle-unserved empty counted = record { empty = empty; since = idle-since; served = λ own. record { schedule = idle-schedule own; asked = idle-asked empty counted own } }

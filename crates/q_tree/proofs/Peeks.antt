@@ -8,6 +8,7 @@ use Rattle.std.proofs.lemmas.List.Sums.{sum_by-append}
 use Rattle.q_packet.specs.Descriptor.{Descriptor}
 use Rattle.q_codel.specs.declared.limit.Limit.{Limit}
 use Rattle.q_codel.specs.Losses.{SinkState}
+use Rattle.q_codel.proofs.SinkLemmas.{told_nothing}
 use Rattle.q_bucket.specs.Level.{TokenBucket, allows}
 use Rattle.q_drr.specs.Schedule.{Schedule, is_active}
 use Rattle.q_model.specs.declared.filter.Filter.{Filter}
@@ -72,40 +73,42 @@ popped-asked now n m p can new shown =
     }
 
 -- a tbf whose bucket allows the packet of its child
-tbf-gave : (now : ℕ) (own : Own) (b : TokenBucket) (limit : ℕ) (n m c : Node Kept) (p : Descriptor) (s : Shown) → CanAsk now n
+tbf-gave : {sink sink2 : SinkState} (now : ℕ) (own : Own) (b : TokenBucket) (limit : ℕ) (n m c : Node Kept) (p : Descriptor) (s : Shown) → CanAsk now n
     → m ≡ booked kept n (ask now (shape n)).peeked → (ask now (shape n)).shown ≡ Some p
     → allows b now p.len ≡ true → c ≡ booked kept m (pop m).after → c.memory.counts.arrived ≡ n.memory.counts.arrived → s.packet ≡ (pop m).shown
     → s.dropped ≡ (counts_in (ask now (shape n)).rises).dropped → s.marked ≡ (counts_in (ask now (shape n)).rises).marked
-    → AreAsked (ask_child now own (ask now (shape n) ∷ []) b limit (ask now (shape n))) (n ∷ []) (c ∷ []) s
-tbf-gave now own b limit n m c p s can new shown may given arrived packet dropped marked =
+    → IsToldOf (ask now (shape n)).rises sink sink2 → AreAsked (ask_child now own (ask now (shape n) ∷ []) b limit (ask now (shape n))) (n ∷ []) (c ∷ []) s sink sink2
+tbf-gave {sink} {sink2} now own b limit n m c p s can new shown may given arrived packet dropped marked told =
     let a : Asked = ask now (shape n) in
     let below : List Asked = a ∷ [] in
     let g = popped-asked now n m p can new shown in
     let is : ask_child now own below b limit a ≡ spends own below b limit now a p =
     ap (λ (o : Option Descriptor). option_map_or (λ (p : Descriptor). if allows b now p.len then spends own below b limit now a p else waits own below a) o (waits own below a)) shown
     ∙ ap (λ (t : Bool). if t then spends own below b limit now a p else waits own below a) may in
-    subst (λ (x : Asked). AreAsked x (n ∷ []) (c ∷ []) s) (sym is) (record {
+    subst (λ (x : Asked). AreAsked x (n ∷ []) (c ∷ []) s sink sink2) (sym is) (record {
       long = refl;
       nodes = ap (λ (x : Node Kept). side_by_side (x ∷ [])) (given ∙ g.left);
       within = λ t all. set-within (n ∷ []) 0 n c refl arrived t all;
       shown = record { packet = packet ∙ g.at_hand; dropped = dropped; marked = marked };
+      told = told;
     })
 
 -- and one whose child shows nothing
-pub tbf-none : (now : ℕ) (own : Own) (b : TokenBucket) (limit : ℕ) (n m : Node Kept) (s : Shown) → m ≡ booked kept n (ask now (shape n)).peeked
+pub tbf-none : {sink sink2 : SinkState} (now : ℕ) (own : Own) (b : TokenBucket) (limit : ℕ) (n m : Node Kept) (s : Shown) → m ≡ booked kept n (ask now (shape n)).peeked
     → m.memory.counts.arrived ≡ n.memory.counts.arrived → IsShown (ask now (shape n)) s → s.packet ≡ None
-    → AreAsked (ask_child now own (ask now (shape n) ∷ []) b limit (ask now (shape n))) (n ∷ []) (m ∷ []) s
-tbf-none now own b limit n m s new arrived shown none =
+    → IsToldOf (ask now (shape n)).rises sink sink2 → AreAsked (ask_child now own (ask now (shape n) ∷ []) b limit (ask now (shape n))) (n ∷ []) (m ∷ []) s sink sink2
+tbf-none {sink} {sink2} now own b limit n m s new arrived shown none told =
     let a : Asked = ask now (shape n) in
     let below : List Asked = a ∷ [] in
     let silent : a.shown ≡ None = sym shown.packet ∙ none in
     let is : ask_child now own below b limit a ≡ waits own below a =
     ap (λ (o : Option Descriptor). option_map_or (λ (p : Descriptor). if allows b now p.len then spends own below b limit now a p else waits own below a) o (waits own below a)) silent in
-    subst (λ (x : Asked). AreAsked x (n ∷ []) (m ∷ []) s) (sym is) (record {
+    subst (λ (x : Asked). AreAsked x (n ∷ []) (m ∷ []) s sink sink2) (sym is) (record {
       long = refl;
       nodes = ap (λ (x : Node Kept). side_by_side (x ∷ [])) new;
       within = λ t all. set-within (n ∷ []) 0 n m refl arrived t all;
       shown = record { packet = none; dropped = shown.dropped; marked = shown.marked };
+      told = told;
     })
 
 -- when the packet arrived that a tbf then has
@@ -131,9 +134,9 @@ tbf-none-since now own b limit n silent =
     (waits own below a)).peeked.own.since) (sym silent)
 
 -- the bucket allows what the child shows
-pub tbf-allowed : (now : ℕ) (b : TokenBucket) (n m : Node Kept) (counted : Signals) (s : Shown) → CanAsk now n → IsPeeked now n m counted s
+pub tbf-allowed : {sink sink2 : SinkState} (now : ℕ) (b : TokenBucket) (n m : Node Kept) (counted : Signals) (s : Shown) → CanAsk now n → IsPeeked now n m counted s sink sink2
     → (p q : Descriptor) → s.packet ≡ Some p → s.packet ≡ Some q → allows b now q.len ≡ true
-    → IsAllowed now p b n m s
+    → IsAllowed now p b n m s sink sink2
 tbf-allowed now b n m counted s can peeked p q is shown may =
     let offered : (ask now (shape n)).shown ≡ Some q = sym peeked.shown.packet ∙ shown in
     let given = hand-asked now n m can peeked.after in
@@ -141,25 +144,26 @@ tbf-allowed now b n m counted s can peeked p q is shown may =
       shown = given ∙ sym peeked.shown.packet ∙ is;
       since = λ own limit. tbf-gave-since now own b limit n m q can peeked.after offered may;
       asked = λ c after arrived own limit.
-          tbf-gave now own b limit n m c q s can peeked.after offered may after (arrived ∙ peeked.arrived) (peeked.shown.packet ∙ sym given) peeked.shown.dropped peeked.shown.marked;
+          tbf-gave now own b limit n m c q s can peeked.after offered may after (arrived ∙ peeked.arrived) (peeked.shown.packet ∙ sym given) peeked.shown.dropped peeked.shown.marked peeked.told;
     }
 
 -- one whose bucket does not allow what its child shows
-tbf-waits : (now : ℕ) (own : Own) (b : TokenBucket) (limit : ℕ) (n m : Node Kept) (p : Descriptor) (r s : Shown)
+tbf-waits : {sink sink2 : SinkState} (now : ℕ) (own : Own) (b : TokenBucket) (limit : ℕ) (n m : Node Kept) (p : Descriptor) (r s : Shown)
     → m ≡ booked kept n (ask now (shape n)).peeked → m.memory.counts.arrived ≡ n.memory.counts.arrived → IsShown (ask now (shape n)) r
     → (ask now (shape n)).shown ≡ Some p → allows b now p.len ≡ false → s.packet ≡ None → s.dropped ≡ r.dropped → s.marked ≡ r.marked
-    → AreAsked (ask_child now own (ask now (shape n) ∷ []) b limit (ask now (shape n))) (n ∷ []) (m ∷ []) s
-tbf-waits now own b limit n m p r s new arrived told shown may none dropped marked =
+    → IsToldOf (ask now (shape n)).rises sink sink2 → AreAsked (ask_child now own (ask now (shape n) ∷ []) b limit (ask now (shape n))) (n ∷ []) (m ∷ []) s sink sink2
+tbf-waits {sink} {sink2} now own b limit n m p r s new arrived offer shown may none dropped marked told =
     let a : Asked = ask now (shape n) in
     let below : List Asked = a ∷ [] in
     let is : ask_child now own below b limit a ≡ waits own below a =
     ap (λ (o : Option Descriptor). option_map_or (λ (p : Descriptor). if allows b now p.len then spends own below b limit now a p else waits own below a) o (waits own below a)) shown
     ∙ ap (λ (t : Bool). if t then spends own below b limit now a p else waits own below a) may in
-    subst (λ (x : Asked). AreAsked x (n ∷ []) (m ∷ []) s) (sym is) (record {
+    subst (λ (x : Asked). AreAsked x (n ∷ []) (m ∷ []) s sink sink2) (sym is) (record {
       long = refl;
       nodes = ap (λ (x : Node Kept). side_by_side (x ∷ [])) new;
       within = λ t all. set-within (n ∷ []) 0 n m refl arrived t all;
-      shown = record { packet = none; dropped = dropped ∙ told.dropped; marked = marked ∙ told.marked };
+      shown = record { packet = none; dropped = dropped ∙ offer.dropped; marked = marked ∙ offer.marked };
+      told = told;
     })
 
 tbf-waits-since : (now : ℕ) (own : Own) (b : TokenBucket) (limit : ℕ) (n : Node Kept) (p : Descriptor) → (ask now (shape n)).shown ≡ Some p → allows b now p.len ≡ false
@@ -173,14 +177,14 @@ tbf-waits-since now own b limit n p shown may =
     (waits own below a)).peeked.own.since) (sym shown)
 
 -- it does not allow what the child shows
-pub tbf-waiting : (now : ℕ) (own : Own) (b : TokenBucket) (limit : ℕ) (n m : Node Kept) (counted : Signals) (r s : Shown) → IsPeeked now n m counted r
+pub tbf-waiting : {sink sink2 : SinkState} (now : ℕ) (own : Own) (b : TokenBucket) (limit : ℕ) (n m : Node Kept) (counted : Signals) (r s : Shown) → IsPeeked now n m counted r sink sink2
     → (p : Descriptor) → r.packet ≡ Some p → allows b now p.len ≡ false
-    → s.packet ≡ None → s.dropped ≡ r.dropped → s.marked ≡ r.marked → IsWaiting now own limit b n m s
+    → s.packet ≡ None → s.dropped ≡ r.dropped → s.marked ≡ r.marked → IsWaiting now own limit b n m s sink sink2
 tbf-waiting now own b limit n m counted r s peeked p is may none dropped marked =
     let shown : (ask now (shape n)).shown ≡ Some p = sym peeked.shown.packet ∙ is in
     record {
       since = tbf-waits-since now own b limit n p shown may;
-      asked = tbf-waits now own b limit n m p r s peeked.after peeked.arrived peeked.shown shown may none dropped marked;
+      asked = tbf-waits now own b limit n m p r s peeked.after peeked.arrived peeked.shown shown may none dropped marked peeked.told;
     }
 
 -- children of a discipline that can be asked
@@ -232,33 +236,27 @@ pub held-of : (now : ℕ) (handle : Option ℕ) (filters : List Filter) (d : Dis
     → held ≡ held_with o (ask_discipline now (own_of handle filters k) (answers now ns) k).peeked.own.since → held ≡ held_with o (answer_of now handle filters d).peeked.own.since
 held-of now handle filters d k ns held o is kids holds = holds ∙ ap (λ (a : Asked). held_with o a.peeked.own.since) (sym (answer-is now handle filters d k ns is kids))
 
-pub asked-in : (now : ℕ) (handle : Option ℕ) (filters : List Filter) (before after : Discipline) (k k2 : spec.Discipline) (ns ns2 : List (Node Kept))
+pub asked-in : {sink sink2 : SinkState} (now : ℕ) (handle : Option ℕ) (filters : List Filter) (before after : Discipline) (k k2 : spec.Discipline) (ns ns2 : List (Node Kept))
     (s : Shown)
     → discipline_seen before ≡ k → children_seen before ≡ ns
     → discipline_seen after ≡ k2 → children_seen after ≡ ns2 → places_seen after ≡ places_seen before → k2 ≡ (ask_discipline now (own_of handle filters k) (answers now ns) k).peeked.own.discipline
-    → AreAsked (ask_discipline now (own_of handle filters k) (answers now ns) k) ns ns2 s → IsAskedIn (answer_of now handle filters before) before after s
-asked-in now handle filters before after k k2 ns ns2 s is kids is2 kids2 places discipline asked =
+    → AreAsked (ask_discipline now (own_of handle filters k) (answers now ns) k) ns ns2 s sink sink2 → IsAskedIn (answer_of now handle filters before) before after s sink sink2
+asked-in {sink} {sink2} now handle filters before after k k2 ns ns2 s is kids is2 kids2 places discipline asked =
     let e = answer-is now handle filters before k ns is kids in
-    subst (λ (a : Asked). IsAskedIn a before after s) (sym e) (record {
+    subst (λ (a : Asked). IsAskedIn a before after s sink sink2) (sym e) (record {
       discipline = is2 ∙ discipline;
-      children = subst (λ xs. AreAsked (ask_discipline now (own_of handle filters k) (answers now ns) k) xs (children_seen after) s) (sym kids)
-          (subst (λ xs. AreAsked (ask_discipline now (own_of handle filters k) (answers now ns) k) ns xs s) (sym kids2) asked);
+      children = subst (λ xs. AreAsked (ask_discipline now (own_of handle filters k) (answers now ns) k) xs (children_seen after) s sink sink2) (sym kids)
+          (subst (λ xs. AreAsked (ask_discipline now (own_of handle filters k) (answers now ns) k) ns xs s sink sink2) (sym kids2) asked);
       places = places;
     })
 
 -- a fifo that shows its head
-pub fifo-asked : (now : ℕ) (handle : Option ℕ) (filters : List Filter) (d : Discipline) (limit : Limit) (queue : List Stamped) (s : Shown)
+pub fifo-asked : {sink : SinkState} (now : ℕ) (handle : Option ℕ) (filters : List Filter) (d : Discipline) (limit : Limit) (queue : List Stamped) (s : Shown)
     → discipline_seen d ≡ spec.Fifo limit queue → children_seen d ≡ []
-    → s.packet ≡ slice_get (packets_of queue) 0 → s.dropped ≡ no_totals → s.marked ≡ no_totals → IsAskedIn (answer_of now handle filters d) d d s
-fifo-asked now handle filters d limit queue s is kids packet dropped marked =
+    → s.packet ≡ slice_get (packets_of queue) 0 → s.dropped ≡ no_totals → s.marked ≡ no_totals → IsAskedIn (answer_of now handle filters d) d d s sink sink
+fifo-asked {sink} now handle filters d limit queue s is kids packet dropped marked =
     asked-in now handle filters d d (spec.Fifo limit queue) (spec.Fifo limit queue) [] [] s is kids is kids refl refl
-    (record { long = refl; nodes = refl; within = λ t h. h; shown = record { packet = packet; dropped = dropped; marked = marked } })
-
-pub told-in : (now : ℕ) (handle : Option ℕ) (filters : List Filter) (d : Discipline) (k : spec.Discipline) (ns : List (Node Kept))
-    (sink sink2 : SinkState)
-    → discipline_seen d ≡ k → children_seen d ≡ ns
-    → IsToldOf (ask_discipline now (own_of handle filters k) (answers now ns) k).rises sink sink2 → IsToldOf (answer_of now handle filters d).rises sink sink2
-told-in now handle filters d k ns sink sink2 is kids h = subst (λ (a : Asked). IsToldOf a.rises sink sink2) (sym (answer-is now handle filters d k ns is kids)) h
+    (record { long = refl; nodes = refl; within = λ t h. h; shown = record { packet = packet; dropped = dropped; marked = marked }; told = told_nothing sink })
 
 -- a node that holds a packet stays as it is
 pub holding-after : (now : ℕ) (a : Inside) (n : Node Kept) (p : Descriptor) → seen a ≡ n → packet_held a.held ≡ Some p → n ≡ booked kept n (ask now (shape n)).peeked
@@ -344,7 +342,7 @@ module _ (now : ℕ) (a : Inside) (n : Node Kept) (k : IsKept a) (view : seen a 
           let x : Asked = ask now (shape (seen a)) in
           can-show (seen a) a.row (row-of a k) (booked kept (seen a) x.peeked) x.rises s (asked-weighs now (seen a) can-here) shown-inside.dropped shown-inside.marked packets_fit bytes_fit
 
-    module _ (d : Discipline) (s : Shown) (q : IsAskedIn (answer_of now a.handle a.filters a.discipline) a.discipline d s) where
+    module _ {sink sink2 : SinkState} (d : Discipline) (s : Shown) (q : IsAskedIn (answer_of now a.handle a.filters a.discipline) a.discipline d s sink sink2) where
       pub peeked-done : (r : Row) (held : Option Stamped) → CanShow s a.row → r ≡ with_shown s a.row
           → held ≡ held_with (held_in (discipline_seen d) s.packet) (answer_of now a.handle a.filters a.discipline).peeked.own.since
           → IsPeekedAs now n (record a { held = held; row = r; discipline = d })
@@ -362,8 +360,8 @@ module _ (now : ℕ) (a : Inside) (n : Node Kept) (k : IsKept a) (view : seen a 
           }
 
     -- a fifo shows its head, and stays as it is
-    pub fifo-peeked : (limit : Limit) (queue : List Stamped) (s : Shown) → discipline_seen a.discipline ≡ spec.Fifo limit queue
-        → IsAskedIn (answer_of now a.handle a.filters a.discipline) a.discipline a.discipline s
+    pub fifo-peeked : {sink sink2 : SinkState} (limit : Limit) (queue : List Stamped) (s : Shown) → discipline_seen a.discipline ≡ spec.Fifo limit queue
+        → IsAskedIn (answer_of now a.handle a.filters a.discipline) a.discipline a.discipline s sink sink2
         → CanShow s a.row → a.row ≡ with_shown s a.row → n ≡ booked kept n (ask now (shape n)).peeked
     fifo-peeked limit queue s is asked fit row =
         sym view

@@ -4,11 +4,12 @@ use Rattle.std.specs.Prelude.{true, is_some, slice_get, if◌then◌else◌}
 use Rattle.std.proofs.lemmas.List.{length-set, set-set}
 use Rattle.std.proofs.lemmas.Option.{same_Some, slice_get_within}
 use Rattle.q_packet.specs.Descriptor.{Descriptor}
+use Rattle.q_codel.specs.Losses.{SinkState}
 use Rattle.q_model.specs.Ask.{Asked, befores, ask, ask_prio}
 use Rattle.q_model.specs.Node.{Node, Own, shape, side_by_side}
 use Rattle.q_model.specs.Pop.{pop}
 use Rattle.q_model.specs.Work.{Worked, booked, each_booked}
-use Rattle.q_tree.specs.AskSteps.{CanAsk, CanAskEach, AreAsked, IsAskedOnce, answers}
+use Rattle.q_tree.specs.AskSteps.{CanAsk, CanAskEach, AreAsked, IsAskedOnce, IsToldOf, answers}
 use Rattle.q_tree.specs.Kept.{Kept, kept}
 use Rattle.q_tree.specs.SendSteps.{AreSent, left_of}
 use Rattle.q_tree.specs.Shown.{Shown}
@@ -19,12 +20,13 @@ use Rattle.q_tree.proofs.Peeks.{hand-asked, popped-asked}
 use Rattle.q_tree.proofs.PopLemmas.{set-within}
 
 -- where nothing is shown, nothing is taken
-pub asked-sent : (a : Asked) (ns ms : List (Node Kept)) (s : Shown) → a.shown ≡ None → AreAsked a ns ms s → AreSent a ns ms s
+pub asked-sent : {sink sink2 : SinkState} (a : Asked) (ns ms : List (Node Kept)) (s : Shown) → a.shown ≡ None → AreAsked a ns ms s sink sink2 → AreSent a ns ms s sink sink2
 asked-sent a ns ms s none h = record {
   long = h.long;
   nodes = h.nodes ∙ ap (λ (o : Option Descriptor). each_booked kept (side_by_side ns) (if is_some o then a.taken else a.peeked).below) (sym none);
   within = h.within;
   shown = h.shown;
+  told = h.told;
 }
 
 -- the bands before this place were asked, and the one there gave its packet
@@ -43,7 +45,7 @@ taken-below own below k p is some =
     sym (ap (λ n. side_by_side (taken_at n below)) is) ∙ sym (ap (λ (o : Option Descriptor). (if is_some o then a.taken else a.peeked).below) some)
 
 module _ (now : ℕ) (ns ms : List (Node Kept)) (i : ℕ) (s : Shown) (each : CanAskEach now ns) (h : AreBandsAsked now ns ms i s) (c : Node Kept) (at : slice_get ns i ≡ Some c)
-    (m : Node Kept) (result : Shown) (asked : IsAskedOnce now c m s result) (p : Descriptor) (some : result.packet ≡ Some p) where
+    {told_before told : SinkState} (m : Node Kept) (result : Shown) (asked : IsAskedOnce now c m s result told_before told) (p : Descriptor) (some : result.packet ≡ Some p) where
   shows : is_some result.packet ≡ true
   shows = ap is_some some
 
@@ -70,15 +72,17 @@ module _ (now : ℕ) (ns ms : List (Node Kept)) (i : ℕ) (s : Shown) (each : Ca
         set-set ms i m d ∙ ap (set ms i) taken ∙ ap (λ xs. set xs i (booked kept c a.taken)) h.asking.children ∙ all-set ns (peeked_to i (answers now ns)) i c a.taken at
         ∙ ap (booked_all ns) (taken-next (answers now ns) i a (answer-at now ns ms i s each h c at))
 
-    band-sent : (own : Own) → AreSent (ask_prio own (answers now ns)) ns (set (set ms i m) i d) result
-    band-sent own =
-        let all = band-shown now ns ms i s each h c at m result asked shows own in
+    band-sent : (sink : SinkState) → IsToldOf (told_to i (answers now ns)) sink told_before → (own : Own)
+        → AreSent (ask_prio own (answers now ns)) ns (set (set ms i m) i d) result sink told
+    band-sent sink so_far own =
+        let all = band-shown now ns ms i s each h c at m result asked sink so_far shows own in
         record {
           long = length-set (set ms i m) i d ∙ all.long;
           nodes = ap side_by_side given-bands ∙ side-all ns (taken_at i (answers now ns))
               ∙ ap (each_booked kept (side_by_side ns)) (taken-below own (answers now ns) i p place (sym all.shown.packet ∙ some));
           within = λ t fine. set-within (set ms i m) i m d (set-at ms i c m still) same t (all.within t fine);
           shown = all.shown;
+          told = all.told;
         }
 
   pub band-inside : i < length (set ms i m)
@@ -88,7 +92,8 @@ module _ (now : ℕ) (ns ms : List (Node Kept)) (i : ℕ) (s : Shown) (each : Ca
   band-hands n there = ap (λ (x : Node Kept). (pop x).shown) (here n there) ∙ hand-asked now c m can asked.peeked ∙ sym asked.packet
 
   pub band-gives : (n d : Node Kept) → slice_get (set ms i m) i ≡ Some n → d ≡ booked kept n (pop n).after → d.memory.counts.arrived ≡ n.memory.counts.arrived
-      → (own : Own) → AreSent (ask_prio own (answers now ns)) ns (set (set ms i m) i d) result
+      → (sink : SinkState) → IsToldOf (told_to i (answers now ns)) sink told_before → (own : Own)
+      → AreSent (ask_prio own (answers now ns)) ns (set (set ms i m) i d) result sink told
   band-gives n d there gone same =
       let is = here n there in
       band-sent d (gone ∙ ap (λ (x : Node Kept). booked kept x (pop x).after) is) (same ∙ ap (λ (x : Node Kept). x.memory.counts.arrived) is)

@@ -5,6 +5,8 @@ use Rattle.std.specs.List.{All}
 use Rattle.std.specs.Option.{option_map_or}
 use Rattle.std.proofs.lemmas.List.{append-nil}
 use Rattle.q_packet.specs.Descriptor.{Descriptor}
+use Rattle.q_codel.specs.Losses.{SinkState}
+use Rattle.q_codel.proofs.SinkLemmas.{told_nothing}
 use Rattle.q_packet.specs.declared.stamped.Stamped.{Stamped}
 use Rattle.q_codel.specs.declared.limit.Limit.{Limit}
 use Rattle.q_bucket.specs.Level.{TokenBucket, allows}
@@ -143,8 +145,8 @@ left-below a true h = h.below
 left-below a false h = refl
 
 -- a discipline that can hold a packet: once it was asked, whether the packet is held then or was given
-pub asked-sent-in : (now : ℕ) (handle : Option ℕ) (filters : List Filter) (before after : Discipline) (s : Shown) → CanHold (discipline_seen before)
-    → IsAskedIn (answer_of now handle filters before) before after s → IsSentIn (answer_of now handle filters before) before after s
+pub asked-sent-in : {sink sink2 : SinkState} (now : ℕ) (handle : Option ℕ) (filters : List Filter) (before after : Discipline) (s : Shown) → CanHold (discipline_seen before)
+    → IsAskedIn (answer_of now handle filters before) before after s sink sink2 → IsSentIn (answer_of now handle filters before) before after s sink sink2
 asked-sent-in now handle filters before after s can q =
     let x : Asked = answer_of now handle filters before in
     let h = apart now handle filters (answers now (children_seen before)) (discipline_seen before) can in
@@ -155,21 +157,22 @@ asked-sent-in now handle filters before after s can q =
         nodes = q.children.nodes ∙ ap (each_booked kept (side_by_side (children_seen before))) (left-below x (is_some x.shown) h);
         within = q.children.within;
         shown = q.children.shown;
+        told = q.children.told;
       };
       places = q.places;
     }
 
-pub sent-in : (now : ℕ) (handle : Option ℕ) (filters : List Filter) (before after : Discipline) (k k2 : spec.Discipline) (ns ns2 : List (Node Kept))
+pub sent-in : {sink sink2 : SinkState} (now : ℕ) (handle : Option ℕ) (filters : List Filter) (before after : Discipline) (k k2 : spec.Discipline) (ns ns2 : List (Node Kept))
     (s : Shown)
     → discipline_seen before ≡ k → children_seen before ≡ ns
     → discipline_seen after ≡ k2 → children_seen after ≡ ns2 → places_seen after ≡ places_seen before → k2 ≡ (left_of (ask_discipline now (own_of handle filters k) (answers now ns) k)).own.discipline
-    → AreSent (ask_discipline now (own_of handle filters k) (answers now ns) k) ns ns2 s → IsSentIn (answer_of now handle filters before) before after s
-sent-in now handle filters before after k k2 ns ns2 s is kids is2 kids2 places discipline sent =
+    → AreSent (ask_discipline now (own_of handle filters k) (answers now ns) k) ns ns2 s sink sink2 → IsSentIn (answer_of now handle filters before) before after s sink sink2
+sent-in {sink} {sink2} now handle filters before after k k2 ns ns2 s is kids is2 kids2 places discipline sent =
     let e = answer-is now handle filters before k ns is kids in
-    subst (λ (a : Asked). IsSentIn a before after s) (sym e) (record {
+    subst (λ (a : Asked). IsSentIn a before after s sink sink2) (sym e) (record {
       discipline = is2 ∙ discipline;
-      children = subst (λ xs. AreSent (ask_discipline now (own_of handle filters k) (answers now ns) k) xs (children_seen after) s) (sym kids)
-          (subst (λ xs. AreSent (ask_discipline now (own_of handle filters k) (answers now ns) k) ns xs s) (sym kids2) sent);
+      children = subst (λ xs. AreSent (ask_discipline now (own_of handle filters k) (answers now ns) k) xs (children_seen after) s sink sink2) (sym kids)
+          (subst (λ xs. AreSent (ask_discipline now (own_of handle filters k) (answers now ns) k) ns xs s sink sink2) (sym kids2) sent);
       places = places;
     })
 
@@ -186,14 +189,14 @@ prio-left now handle filters below priomap = by (is_some a.shown)
     by false = refl
 
 -- a fifo sends its head
-pub fifo-sent : (now : ℕ) (handle : Option ℕ) (filters : List Filter) (before after : Discipline) (limit : Limit) (queue : List Stamped) (s : Shown)
+pub fifo-sent : {sink : SinkState} (now : ℕ) (handle : Option ℕ) (filters : List Filter) (before after : Discipline) (limit : Limit) (queue : List Stamped) (s : Shown)
     → discipline_seen before ≡ spec.Fifo limit queue → children_seen before ≡ []
     → discipline_seen after ≡ spec.Fifo limit (drop 1 queue) → children_seen after ≡ [] → places_seen after ≡ places_seen before
     → s.packet ≡ slice_get (packets_of queue) 0 → s.dropped ≡ no_totals → s.marked ≡ no_totals
-    → IsSentIn (answer_of now handle filters before) before after s
-fifo-sent now handle filters before after limit queue s is kids is2 kids2 places packet dropped marked =
+    → IsSentIn (answer_of now handle filters before) before after s sink sink
+fifo-sent {sink} now handle filters before after limit queue s is kids is2 kids2 places packet dropped marked =
     sent-in now handle filters before after (spec.Fifo limit queue) (spec.Fifo limit (drop 1 queue)) [] [] s is kids is2 kids2 places (left queue)
-    (record { long = refl; nodes = alone queue; within = λ t h. h; shown = record { packet = packet; dropped = dropped; marked = marked } })
+    (record { long = refl; nodes = alone queue; within = λ t h. h; shown = record { packet = packet; dropped = dropped; marked = marked }; told = told_nothing sink })
   where
     left : (queue : List Stamped) → spec.Fifo limit (drop 1 queue) ≡ (left_of (ask_discipline now (own_of handle filters (spec.Fifo limit queue)) [] (spec.Fifo limit queue))).own.discipline
     left [] = refl
@@ -236,7 +239,7 @@ pub record IsSentAs (now : ℕ) (n : Node Kept) (inside : Inside) : Type 0 where
   pub after : seen inside ≡ booked kept n (take_from now (shape n)).node
 
 module _ (now : ℕ) (a : Inside) (n : Node Kept) (k : IsKept a) (view : seen a ≡ n) (can : CanAsk now n) (none : packet_held a.held ≡ None)
-    (d : Discipline) (s : Shown) (q : IsSentIn (answer_of now a.handle a.filters a.discipline) a.discipline d s) where
+    {sink sink2 : SinkState} (d : Discipline) (s : Shown) (q : IsSentIn (answer_of now a.handle a.filters a.discipline) a.discipline d s sink sink2) where
   here : CanAsk now (seen a)
   here = subst (CanAsk now) (sym view) can
 
@@ -250,13 +253,14 @@ module _ (now : ℕ) (a : Inside) (n : Node Kept) (k : IsKept a) (view : seen a 
         let x : Asked = answer_of now a.handle a.filters a.discipline in
         let silent : x.shown ≡ None = sym q.children.shown.packet ∙ empty in
         let left : left_of x ≡ x.peeked = ap (λ (o : Option Descriptor). if is_some o then x.taken else x.peeked) silent in
-        let asked : IsAskedIn x a.discipline d s = record {
+        let asked : IsAskedIn x a.discipline d s sink sink2 = record {
           discipline = q.discipline ∙ ap (λ (w : Worked). w.own.discipline) left;
           children = record {
             long = q.children.long;
             nodes = q.children.nodes ∙ ap (λ (w : Worked). each_booked kept (side_by_side (children_seen a.discipline)) w.below) left;
             within = q.children.within;
             shown = q.children.shown;
+            told = q.children.told;
           };
           places = q.places;
         } in

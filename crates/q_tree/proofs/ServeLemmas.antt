@@ -185,9 +185,9 @@ module _ {now : ℕ} {first s : Schedule} {ns ms : List (Node Kept)} {unasked : 
     early-once : (sink sink2 : SinkState) → IsToldOf (rises_to now first ns met.asked.turns) sink sink2 → length (packets_beneath ns) ≤ sink.room → CanAskOnce now met.at.child so_far sink2.room
     early-once sink sink2 told room = can-ask-once now ns ms (classes_to now first ns met.asked.turns) (rises_to now first ns met.asked.turns) met.can.each met.asked.asking place met.at.child met.at.there unasked-before so_far met.asked.counted sink sink2 told room
 
-    early-shown : (d : Node Kept) (result : Shown) (sink sink2 sink3 : SinkState) → IsToldOf (rises_to now first ns met.asked.turns) sink sink2 → IsAskedOnce now met.at.child d so_far result
-        → IsToldOf (ask now (shape met.at.child)).rises sink2 sink3 → IsClassShown now first ns ms met.asked.turns place met.at.child d result sink sink3
-    early-shown d result sink sink2 sink3 before asked told =
+    early-shown : (d : Node Kept) (result : Shown) (sink sink2 sink3 : SinkState) → IsToldOf (rises_to now first ns met.asked.turns) sink sink2 → IsAskedOnce now met.at.child d so_far result sink2 sink3
+        → IsClassShown now first ns ms met.asked.turns place met.at.child d result sink sink3
+    early-shown d result sink sink2 sink3 before asked =
         let a : Asked = ask now (shape met.at.child) in
         let rises : List Note = rises_to now first ns met.asked.turns in
         let more : rises ++ a.rises ≡ rises_to now first ns (suc met.asked.turns) = sym (next-rises first (answers now ns) met.asked.turns entry.0 place a entry.1 entry-place answer-there) in
@@ -198,7 +198,7 @@ module _ {now : ℕ} {first s : Schedule} {ns ms : List (Node Kept)} {unasked : 
               (subst (λ ws. IsAsking ns (set ms place d) ws (rises ++ a.rises)) next
               (asking-goes now ns ms (classes_to now first ns met.asked.turns) rises met.asked.asking place met.at.child met.at.there unasked-before (can-ask now ns ms (classes_to now first ns met.asked.turns) rises met.can.each met.asked.asking place met.at.child met.at.there unasked-before) d asked.peeked asked.arrived));
           counted = subst (λ notes. IsCounted notes result) more (counted-then rises a.rises so_far shown result met.asked.counted refl refl asked.dropped asked.marked);
-          told = subst (λ notes. IsToldOf notes sink sink3) more (told-then rises a.rises sink sink2 sink3 before told);
+          told = subst (λ notes. IsToldOf notes sink sink3) more (told-then rises a.rises sink sink2 sink3 before asked.told);
           shown = asked.packet;
           peeked = asked.peeked;
           stored = set-at ms place met.at.child d still-child;
@@ -252,15 +252,14 @@ module _ {now : ℕ} {first s : Schedule} {ns ms : List (Node Kept)} {unasked : 
         subst (λ (m : Node Kept). CanAskOnce now m so_far sink2.room) (sym (get_or_from_slice_get ms place met.at.child dummy (still-child early))) (early-once early sink sink2 met.asked.told room)
 
     pub class-shown : {d : Node Kept} {result : Shown} {sink3 : SinkState}
-        → (nat_lt 0 unasked ≡ true → IsAskedOnce now (slice_index_or ms place dummy) d so_far result)
-        → (nat_lt 0 unasked ≡ true → IsToldOf (ask now (shape (slice_index_or ms place dummy))).rises sink2 sink3)
+        → (nat_lt 0 unasked ≡ true → IsAskedOnce now (slice_index_or ms place dummy) d so_far result sink2 sink3)
         → (nat_lt 0 unasked ≡ false → (d ≡ slice_index_or ms place dummy) × (result ≡ record so_far { packet = (pop (slice_index_or ms place dummy)).shown }))
         → (nat_lt 0 unasked ≡ false → sink3 ≡ sink2) → IsClassShown now first ns ms met.asked.turns place met.at.child d result sink sink3
-    class-shown {d} {result} {sink3} asked told hand kept_told = elim (cases_Bool (nat_lt 0 unasked)) [
+    class-shown {d} {result} {sink3} asked hand kept_told = elim (cases_Bool (nat_lt 0 unasked)) [
       | inl some ↦
           let early : met.asked.turns < length first.active = omega (arith, ltb-true 0 unasked some, met.asked.remaining) in
           let is : slice_index_or ms place dummy ≡ met.at.child = get_or_from_slice_get ms place met.at.child dummy (still-child early) in
-          early-shown early d result sink sink2 sink3 met.asked.told (subst (λ (m : Node Kept). IsAskedOnce now m d so_far result) is (asked some)) (subst (λ (m : Node Kept). IsToldOf (ask now (shape m)).rises sink2 sink3) is (told some))
+          early-shown early d result sink sink2 sink3 met.asked.told (subst (λ (m : Node Kept). IsAskedOnce now m d so_far result sink2 sink3) is (asked some))
       | inr asked_all ↦
           let late : length first.active ≤ met.asked.turns = omega (arith, ltb-false 0 unasked asked_all, met.asked.remaining) in
           let is : slice_index_or ms place dummy ≡ booked kept met.at.child (ask now (shape met.at.child)).peeked = get_or_from_slice_get ms place (booked kept met.at.child (ask now (shape met.at.child)).peeked) dummy (peeked-child late) in
@@ -323,10 +322,10 @@ module _ {now : ℕ} {first s : Schedule} {ns ms : List (Node Kept)} {unasked : 
       nothing-since : (own : Own) → 0 ≡ (ask_drr own (answers now ns) first).peeked.own.since
       nothing-since own = ap (λ (x : Asked). x.peeked.own.since) (sym (drr-answer None silent uncovered own))
 
-      pub nothing-told : (own : Own) → IsToldOf (ask_drr own (answers now ns) first).rises sink sink3
+      nothing-told : (own : Own) → IsToldOf (ask_drr own (answers now ns) first).rises sink sink3
       nothing-told own = subst (λ notes. IsToldOf notes sink sink3) (sym (ap (λ (x : Asked). x.rises) (drr-answer None silent uncovered own) ∙ service-rises None silent uncovered)) shows.told
 
-      nothing-asked : (own : Own) → AreAsked (ask_drr own (answers now ns) first) ns (set ms place d) result
+      nothing-asked : (own : Own) → AreAsked (ask_drr own (answers now ns) first) ns (set ms place d) result sink sink3
       nothing-asked own =
           let rises : (ask_drr own (answers now ns) first).rises ≡ rises_to now first ns (suc met.asked.turns) = ap (λ (x : Asked). x.rises) (drr-answer None silent uncovered own) ∙ service-rises None silent uncovered in
           record {
@@ -340,10 +339,11 @@ module _ {now : ℕ} {first s : Schedule} {ns ms : List (Node Kept)} {unasked : 
               dropped = shows.counted.dropped ∙ ap (λ notes. (counts_in notes).dropped) (sym rises);
               marked = shows.counted.marked ∙ ap (λ notes. (counts_in notes).marked) (sym rises);
             };
+            told = nothing-told own;
           }
 
-      pub class-unserved : meeting.AreUnserved now first s ns (set ms place d) result
-      class-unserved = record { empty = empty; since = nothing-since; schedule = nothing-schedule; asked = nothing-asked }
+      pub class-unserved : meeting.AreUnserved now first s ns (set ms place d) result sink sink3
+      class-unserved = record { empty = empty; since = nothing-since; served = λ own. record { schedule = nothing-schedule own; asked = nothing-asked own } }
 
     -- what it gives is what it showed
     given-packet : (pop d).shown ≡ result.packet
@@ -371,7 +371,7 @@ module _ {now : ℕ} {first s : Schedule} {ns ms : List (Node Kept)} {unasked : 
             ∙ ap (λ (o : Option ℕ). unwrap_or o 0) (since-asked now met.at.child d child-can shows.peeked)
             ∙ ap (λ (y : Asked). y.peeked.own.since) (sym (drr-answer (Some offer.0) offers enough own))
 
-        pub given-told : (own : Own) → IsToldOf (ask_drr own (answers now ns) first).rises sink sink3
+        given-told : (own : Own) → IsToldOf (ask_drr own (answers now ns) first).rises sink sink3
         given-told own =
             subst (λ notes. IsToldOf notes sink sink3) (sym (ap (λ (y : Asked). y.rises) (drr-answer (Some offer.0) offers enough own) ∙ service-rises (Some offer.0) offers enough)) shows.told
 
@@ -402,7 +402,7 @@ module _ {now : ℕ} {first s : Schedule} {ns ms : List (Node Kept)} {unasked : 
             ap spec.Drr (gift.schedule ∙ ap₂ (λ b t. settled_class place b t) emptied (served_head (heads_of now first ns) first s met.class len met.front offered-head pays (ready (Some offer.0) offers covered)))
             ∙ ap (λ (y : Asked). y.peeked.own.discipline) (sym (answer own))
 
-        given-asked : (own : Own) → AreAsked (ask_drr own (answers now ns) first) ns ms2 result
+        given-asked : (own : Own) → AreAsked (ask_drr own (answers now ns) first) ns ms2 result sink sink3
         given-asked own =
             let a : Asked = ask now (shape met.at.child) in
             let ws : List Worked = classes_to now first ns (suc met.asked.turns) in
@@ -424,16 +424,17 @@ module _ {now : ℕ} {first s : Schedule} {ns ms : List (Node Kept)} {unasked : 
                 dropped = shows.counted.dropped ∙ ap (λ notes. (counts_in notes).dropped) (sym rises);
                 marked = shows.counted.marked ∙ ap (λ notes. (counts_in notes).marked) (sym rises);
               };
+              told = given-told send turn own;
             }
 
-      pub class-sends : Send ≡ turn_answer len s.active → {s1 : Schedule} → s1 ≡ turned len s → meeting.IsMet now place first s1 ns (set ms place d) result
+      pub class-sends : Send ≡ turn_answer len s.active → {s1 : Schedule} → s1 ≡ turned len s → meeting.IsMet now place first s1 ns (set ms place d) result sink sink3
       class-sends send turn = record {
         inside = omega (arith, place-within, length-set ms place d);
         some = ap is_some offer.1;
         shown = λ class at. ap (λ (n : Node Kept). (pop n).shown) (here class at) ∙ given-packet;
         since = λ class at own. ap (λ (n : Node Kept). since_of result.packet (unwrap_or (at_hand_since n) 0)) (here class at) ∙ given-since send turn own;
-        schedule = λ given ks gift own. given-schedule send turn gift own;
-        asked = λ given ks gift own. given-asked send turn gift own;
+        told = given-told send turn;
+        served = λ given ks gift own. record { schedule = given-schedule send turn gift own; asked = given-asked send turn gift own };
       }
         where
           here : (class : Node Kept) → slice_get (set ms place d) place ≡ Some class → class ≡ d

@@ -1,6 +1,7 @@
 -- What the arrival of a packet comes to at one node: a place is made where its route ends, if it is queued there, and the packet is
 -- put along that route. tc-prio(8), tc-drr(8), tc-tbf(8), tc-pfifo(8), tc-fq_codel(8).
-use Rattle.std.specs.Prelude.{◌≡◌, ℕ, ◌<◌, ◌≤◌, true, length, List, [], ◌∷◌, map, slice_get, Option, Some, None, IfSome, if◌then◌else◌}
+use Rattle.std.specs.Prelude.{◌≡◌, ℕ, ◌<◌, ◌≤◌, true, length, List, [], ◌∷◌, map, slice_get, Option, Some, None, IfSome, IfOk, IsOk, OnErr, Result, if◌then◌else◌}
+use Rattle.std.specs.declared.alloc.AllocError.{AllocError}
 use Rattle.q_packet.specs.Descriptor.{Descriptor}
 use Rattle.q_packet.specs.declared.cause.Cause.{Cause}
 use Rattle.q_packet.specs.declared.cause.Cause.TheVariants.{FatFlow}
@@ -80,6 +81,14 @@ pub record IsPlacedIn (before after : Discipline) : Type 0 where
 -- what is reported of the packet's losses above the node
 abbrev pub rises_along : ℕ → Descriptor → spec.Node Kept → List Note
 rises_along now p n = (put_along now p (route p n).refusal (route p n).path (shape n)).rises
+
+-- what a step of an arrival comes to: the packet came, and this is lost for it; or no place could be made, and nothing is lost
+pub record HasArrived (result : Result Outcome AllocError) (Came : Outcome → Type 0) (Placed HasRoom : Type 0) (lost : Outcome) (sink sink_after : SinkState) : Type 0 where
+  pub after : IfOk result Came
+  pub same : OnErr result Placed
+  pub not_lost : OnErr result (sink_after ≡ sink)
+  pub succeeds : HasRoom → IsOk result
+  pub lost_is : IfOk result (λ outcome. lost ≡ outcome)
 
 -- the packet came to the node: once its place was made, it was put along its route; where the place was there, nothing was made
 pub record HasCome (now : ℕ) (p : Descriptor) (before after : spec.Node Kept) (o : Outcome) : Type 0 where

@@ -73,17 +73,18 @@ pub record IsShown (a : Asked) (s : Shown) : Type 0 where
   pub dropped : s.dropped ≡ (counts_in a.rises).dropped
   pub marked : s.marked ≡ (counts_in a.rises).marked
 
--- children that were asked by this answer, and what it came to
-pub record AreAsked (a : Asked) (before after : List (spec.Node Kept)) (s : Shown) : Type 0 where
+-- a sink that was told of the losses among these notes
+abbrev pub IsToldOf : List Note → SinkState → SinkState → Type 0
+IsToldOf rises = IsTold (losses_in rises)
+
+-- children that were asked by this answer, what it came to, and what the sink was told
+pub record AreAsked (a : Asked) (before after : List (spec.Node Kept)) (s : Shown) (sink sink_after : SinkState) : Type 0 where
   pub long : length after ≡ length before
   pub nodes : side_by_side after ≡ each_booked kept (side_by_side before) a.peeked.below
   pub within : (t : Totals) → All (λ (child : spec.Node Kept). IsCountedWithin child.memory.counts.arrived t) before
       → All (λ (child : spec.Node Kept). IsCountedWithin child.memory.counts.arrived t) after
   pub shown : IsShown a s
-
--- a sink that was told of the losses among these notes
-abbrev pub IsToldOf : List Note → SinkState → SinkState → Type 0
-IsToldOf rises = IsTold (losses_in rises)
+  pub told : IsToldOf a.rises sink sink_after
 
 -- a node that holds no packet
 abbrev pub own_of : Option ℕ → List Filter → spec.Discipline → Own
@@ -93,9 +94,9 @@ own_of handle filters d = record { handle = handle; discipline = d; held = None;
 abbrev pub answer_of : ℕ → Option ℕ → List Filter → Discipline → Asked
 answer_of now handle filters d = ask_discipline now (own_of handle filters (discipline_seen d)) (answers now (children_seen d)) (discipline_seen d)
 
-pub record IsAskedIn (a : Asked) (before after : Discipline) (s : Shown) : Type 0 where
+pub record IsAskedIn (a : Asked) (before after : Discipline) (s : Shown) (sink sink_after : SinkState) : Type 0 where
   pub discipline : discipline_seen after ≡ a.peeked.own.discipline
-  pub children : AreAsked a (children_seen before) (children_seen after) s
+  pub children : AreAsked a (children_seen before) (children_seen after) s sink sink_after
   pub places : places_seen after ≡ places_seen before
 
 -- the packet that a node with this discipline holds where it shows this one: those that can hold a packet have dequeued it
@@ -115,12 +116,13 @@ pub record CanAskOnce (now : ℕ) (n : spec.Node Kept) (so_far : Shown) (room : 
   pub marked_packets : so_far.marked.packets + length (beneath n) < 2 ^ 64
   pub marked_bytes : so_far.marked.bytes + (totals_in (beneath n)).bytes < 2 ^ 64
 
-pub record IsAskedOnce (now : ℕ) (before after : spec.Node Kept) (so_far s : Shown) : Type 0 where
+pub record IsAskedOnce (now : ℕ) (before after : spec.Node Kept) (so_far s : Shown) (sink sink_after : SinkState) : Type 0 where
   pub peeked : after ≡ booked kept before (ask now (shape before)).peeked
   pub arrived : after.memory.counts.arrived ≡ before.memory.counts.arrived
   pub packet : s.packet ≡ (ask now (shape before)).shown
   pub dropped : s.dropped ≡ plus so_far.dropped (counts_in (ask now (shape before)).rises).dropped
   pub marked : s.marked ≡ plus so_far.marked (counts_in (ask now (shape before)).rises).marked
+  pub told : IsToldOf (ask now (shape before)).rises sink sink_after
 
 -- a class that hands out its packet, and the schedule then
 pub record IsGivenBy (place : ℕ) (c : spec.Node Kept) (before after : Schedule) (ns ms : List (spec.Node Kept)) : Type 0 where
@@ -149,9 +151,17 @@ no_signals = record { dropped = no_totals; marked = no_totals }
 abbrev pub signals_of : Shown → Signals
 signals_of s = record { dropped = s.dropped; marked = s.marked }
 
--- a node that was asked for its packet: what the node is then, what is in the caller's place for the counts, and what was shown
-pub record IsPeeked (now : ℕ) (old new : spec.Node Kept) (counted : Signals) (s : Shown) : Type 0 where
+-- what is to be asked is ready, the sink has room for what is queued there, and nothing is counted yet
+pub record CanBegin (Ready : Type 0) (queued room : ℕ) (counted : Signals) : Type 0 where
+  pub ready : Ready
+  pub sink : queued ≤ room
+  pub clean : counted ≡ no_signals
+
+-- A node that was asked for its packet: what the node is then, what is in the caller's place for the counts, what was shown, and what
+-- the sink was told.
+pub record IsPeeked (now : ℕ) (old new : spec.Node Kept) (counted : Signals) (s : Shown) (sink sink_after : SinkState) : Type 0 where
   pub after : new ≡ booked kept old (ask now (shape old)).peeked
   pub arrived : new.memory.counts.arrived ≡ old.memory.counts.arrived
   pub shown : IsShown (ask now (shape old)) s
   pub signals : counted ≡ signals_of s
+  pub told : IsToldOf (ask now (shape old)).rises sink sink_after

@@ -8,17 +8,15 @@
 ghost use Rattle.std.specs.Prelude.{◌≡◌, ◌≤◌, List, None, Option, Some, is_some, length, true, unwrap_or, ℕ};
 ghost use Rattle.std.specs.Option.{option_map_or};
 ghost use Rattle.q_packet.specs.Stored.{stored_of};
-ghost use Rattle.q_model.specs.Ask.{ask};
 ghost use Rattle.q_model.specs.Beneath.{beneath};
-ghost use Rattle.q_model.specs.Node.{shape};
 ghost use Rattle.q_model.specs.Pop.{pop};
 ghost use Rattle.q_model.specs.TreeState.{given, noted_by_take, take_packet};
 ghost use Rattle.q_model.specs.Work.{booked};
 ghost use Rattle.q_model.specs.declared.filter.Filter.{Filter};
-ghost use Rattle.q_tree.specs.AskSteps.{CanAsk, CanAskIn, IsToldOf, answer_of, no_signals, packets_within, signals_of};
+ghost use Rattle.q_tree.specs.AskSteps.{CanAsk, CanAskIn, CanBegin, IsToldOf, answer_of, packets_within, signals_of};
 ghost use Rattle.q_tree.specs.Kept.{kept};
 ghost use Rattle.q_tree.specs.PopSteps.{HasHead, IsPoppedIn, popping_of};
-ghost use Rattle.q_tree.specs.SendSteps.{IsDequeued, IsSentIn};
+ghost use Rattle.q_tree.specs.SendSteps.{HasSent, IsDequeued, IsSentIn};
 
 use crate::booking::{book_sent, book_shown};
 use crate::disciplines::drr::dequeue_class;
@@ -100,10 +98,7 @@ impl Tree {
     fn send_asked<S: Sink>(&mut self, now: Moment, out: &mut KeptPacket, sink: &mut S) -> bool
         requires order { self.old.clock ≤ now }
         requires sink { length (beneath self.old.tree.root) ≤ (S.state sink.old).room }
-        ensures sent { result ≡ is_some (given now self.old.tree) }
-        ensures packet { out.new ≡ unwrap_or (given now self.old.tree) out.old }
-        ensures after { self.new ≡ record { clock = now; tree = take_packet kept now self.old.tree } }
-        ensures lost { IsToldOf (noted_by_take now self.old.tree) (S.state sink.old) (S.state sink.new) }
+        ensures sent { HasSent now self.old self.new result out.old out.new (S.state sink.old) (S.state sink.new) }
         ensures kept { S.keeps sink.old sink.new }
     {
         let _ = now.ns();
@@ -184,11 +179,8 @@ impl Node {
         signals: &mut Signals,
         sink: &mut S,
     ) -> Shown
-        requires ready { CanAsk now self.old }
-        requires sink { length (beneath self.old) ≤ (S.state sink.old).room }
-        requires clean { signals.old ≡ no_signals }
-        ensures dequeued { IsDequeued now self.old self.new out.old out.new signals.new result }
-        ensures told { IsToldOf (ask now (shape self.old)).rises (S.state sink.old) (S.state sink.new) }
+        requires { CanBegin (CanAsk now self.old) (length (beneath self.old)) (S.state sink.old).room signals.old }
+        ensures dequeued { IsDequeued now self.old self.new out.old out.new signals.new result (S.state sink.old) (S.state sink.new) }
         ensures kept { S.keeps sink.old sink.new }
     {
         self.row.fit();
@@ -240,12 +232,9 @@ impl Discipline {
         signals: &mut Signals,
         sink: &mut S,
     ) -> Shown
-        requires ready { CanAskIn now self.old }
-        requires sink { length (packets_within self.old) ≤ (S.state sink.old).room }
-        requires clean { signals.old ≡ no_signals }
-        ensures after { (handle : Option ℕ) (filters : List Filter) → IsSentIn (answer_of now handle filters self.old) self.old self.new result }
+        requires { CanBegin (CanAskIn now self.old) (length (packets_within self.old)) (S.state sink.old).room signals.old }
+        ensures after { (handle : Option ℕ) (filters : List Filter) → IsSentIn (answer_of now handle filters self.old) self.old self.new result (S.state sink.old) (S.state sink.new) }
         ensures packet { out.new ≡ unwrap_or result.packet out.old }
-        ensures told { (handle : Option ℕ) (filters : List Filter) → IsToldOf (answer_of now handle filters self.old).rises (S.state sink.old) (S.state sink.new) }
         ensures signals { signals.new ≡ signals_of result }
         ensures kept { S.keeps sink.old sink.new }
     {

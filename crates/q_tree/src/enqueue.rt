@@ -19,7 +19,7 @@ ghost use Rattle.q_model.specs.TreeState.{noted_by_put, own_loss, put, put_on};
 ghost use Rattle.q_packet.specs.Descriptor.{Descriptor};
 ghost use Rattle.q_packet.specs.Stored.{descriptor, IsStored};
 ghost use Rattle.q_tree.specs.Arrivals.{CanCount, HasPlace};
-ghost use Rattle.q_tree.specs.ArriveSteps.{CanCome, CanComeIn, CanKeep, HasCome, HasComeBelow, HasComeIn, HasPlaceOn, IsPlaced, IsPlacedIn, nothing_lost, rises_along, way_in};
+ghost use Rattle.q_tree.specs.ArriveSteps.{CanCome, CanComeIn, CanKeep, HasArrived, HasCome, HasComeBelow, HasComeIn, HasPlaceOn, IsPlaced, IsPlacedIn, nothing_lost, rises_along, way_in};
 ghost use Rattle.q_tree.specs.AskSteps.{IsToldOf, packets_within};
 ghost use Rattle.q_tree.specs.Kept.{kept};
 ghost use Rattle.q_tree.specs.Places.{places_at};
@@ -257,12 +257,9 @@ impl Node {
         requires ready { CanCome now packet.now self.old }
         requires sink { length (beneath self.old) + 1 ≤ (S.state sink.old).room }
         requires clean { lost.old ≡ nothing_lost }
-        ensures after { IfOk result (λ outcome. HasCome now packet.now self.old self.new outcome) }
+        ensures arrives { HasArrived result (HasCome now packet.now self.old self.new) (IsPlaced self.old self.new)
+            ((route packet.now self.old).refusal ≡ None → HasPlace (route packet.now self.old).path self.old) lost.new (S.state sink.old) (S.state sink.new) }
         ensures told { OnOk result (IsToldOf (rises_along now packet.now self.old) (S.state sink.old) (S.state sink.new)) }
-        ensures same { OnErr result (IsPlaced self.old self.new) }
-        ensures not_lost { OnErr result (S.state sink.new ≡ S.state sink.old) }
-        ensures succeeds { ((route packet.now self.old).refusal ≡ None → HasPlace (route packet.now self.old).path self.old) → IsOk result }
-        ensures lost_is { IfOk result (λ outcome. lost.new ≡ outcome) }
         ensures kept { S.keeps sink.old sink.new }
     {
         // A fifo that has a place is met with no call: most packets end in one.
@@ -286,12 +283,9 @@ impl Node {
         requires ready { CanCome now packet.now self.old }
         requires sink { length (beneath self.old) + 1 ≤ (S.state sink.old).room }
         requires clean { lost.old ≡ nothing_lost }
-        ensures after { IfOk result (λ outcome. HasCome now packet.now self.old self.new outcome) }
+        ensures arrives { HasArrived result (HasCome now packet.now self.old self.new) (IsPlaced self.old self.new)
+            ((route packet.now self.old).refusal ≡ None → HasPlace (route packet.now self.old).path self.old) lost.new (S.state sink.old) (S.state sink.new) }
         ensures told { OnOk result (IsToldOf (rises_along now packet.now self.old) (S.state sink.old) (S.state sink.new)) }
-        ensures same { OnErr result (IsPlaced self.old self.new) }
-        ensures not_lost { OnErr result (S.state sink.new ≡ S.state sink.old) }
-        ensures succeeds { ((route packet.now self.old).refusal ≡ None → HasPlace (route packet.now self.old).path self.old) → IsOk result }
-        ensures lost_is { IfOk result (λ outcome. lost.new ≡ outcome) }
         ensures kept { S.keeps sink.old sink.new }
     {
         let outcome = self
@@ -317,11 +311,8 @@ impl Discipline {
         requires ready { CanComeIn now packet.now self.old }
         requires sink { length (packets_within self.old) + 1 ≤ (S.state sink.old).room }
         requires clean { lost.old ≡ nothing_lost }
-        ensures after { IfOk result (λ outcome. HasComeIn now packet.now filters.now self.old self.new outcome (S.state sink.old) (S.state sink.new)) }
-        ensures same { OnErr result (IsPlacedIn self.old self.new) }
-        ensures not_lost { OnErr result (S.state sink.new ≡ S.state sink.old) }
-        ensures succeeds { ((way_in packet.now filters.now self.old).refusal ≡ None → HasPlaceOn (way_in packet.now filters.now self.old).path self.old) → IsOk result }
-        ensures lost_is { IfOk result (λ outcome. lost.new ≡ outcome) }
+        ensures arrives { HasArrived result (λ outcome. HasComeIn now packet.now filters.now self.old self.new outcome (S.state sink.old) (S.state sink.new)) (IsPlacedIn self.old self.new)
+            ((way_in packet.now filters.now self.old).refusal ≡ None → HasPlaceOn (way_in packet.now filters.now self.old).path self.old) lost.new (S.state sink.old) (S.state sink.new) }
         ensures kept { S.keeps sink.old sink.new }
     {
         match self {
@@ -374,12 +365,9 @@ fn enqueue_below<S: Sink>(
     requires ready { packet.now.len ≤ mtu → CanCome now packet.now root.old }
     requires sink { length (beneath root.old) + 1 ≤ (S.state sink.old).room }
     requires clean { lost.old ≡ nothing_lost }
-    ensures after { IfOk result (λ outcome. HasComeBelow now packet.now (device_route packet.now mtu root.old) root.old root.new outcome) }
+    ensures arrives { HasArrived result (HasComeBelow now packet.now (device_route packet.now mtu root.old) root.old root.new) (IsPlaced root.old root.new)
+        (packet.now.len ≤ mtu → (route packet.now root.old).refusal ≡ None → HasPlace (route packet.now root.old).path root.old) lost.new (S.state sink.old) (S.state sink.new) }
     ensures told { OnOk result (IsToldOf (put_on now packet.now (device_route packet.now mtu root.old) (shape root.old)).rises (S.state sink.old) (S.state sink.new)) }
-    ensures same { OnErr result (IsPlaced root.old root.new) }
-    ensures not_lost { OnErr result (S.state sink.new ≡ S.state sink.old) }
-    ensures succeeds { (packet.now.len ≤ mtu → (route packet.now root.old).refusal ≡ None → HasPlace (route packet.now root.old).path root.old) → IsOk result }
-    ensures lost_is { IfOk result (λ outcome. lost.new ≡ outcome) }
     ensures kept { S.keeps sink.old sink.new }
 {
     if packet.stored.len > mtu {

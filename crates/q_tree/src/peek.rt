@@ -4,14 +4,12 @@
 //! dequeue a packet in order to show one, since a bucket pays for it, a deficit is spent on it, or CoDel decides on it. They hold it until
 //! it is taken, and show it again whenever they are asked. What CoDel drops or marks on the way is booked at each node, with the packet or
 //! without one.
-ghost use Rattle.std.specs.Prelude.{◌≡◌, ◌≤◌, List, None, Option, length, true, ℕ};
-ghost use Rattle.q_model.specs.Ask.{ask};
+ghost use Rattle.std.specs.Prelude.{◌≡◌, List, None, Option, length, true, ℕ};
 ghost use Rattle.q_model.specs.Beneath.{beneath};
-ghost use Rattle.q_model.specs.Node.{shape};
 ghost use Rattle.q_model.specs.Pop.{pop};
 ghost use Rattle.q_model.specs.Since.{at_hand_since};
 ghost use Rattle.q_model.specs.declared.filter.Filter.{Filter};
-ghost use Rattle.q_tree.specs.AskSteps.{CanAsk, CanAskIn, CanAskOnce, IsAskedIn, IsAskedOnce, IsPeeked, IsToldOf, answer_of, held_in, no_signals, packets_within, signals_of};
+ghost use Rattle.q_tree.specs.AskSteps.{CanAsk, CanAskIn, CanAskOnce, CanBegin, IsAskedIn, IsAskedOnce, IsPeeked, answer_of, held_in, packets_within, signals_of};
 ghost use Rattle.q_tree.specs.EmptyFifo.{IsEmptyFifo};
 ghost use Rattle.q_tree.specs.Holding.{held_with};
 ghost use Rattle.q_tree.specs.Seen.{discipline_seen};
@@ -43,11 +41,8 @@ impl Node {
         signals: &mut Signals,
         sink: &mut S,
     ) -> Shown
-        requires ready { CanAsk now self.old }
-        requires sink { length (beneath self.old) ≤ (S.state sink.old).room }
-        requires clean { signals.old ≡ no_signals }
-        ensures peeked { IsPeeked now self.old self.new signals.new result }
-        ensures told { IsToldOf (ask now (shape self.old)).rises (S.state sink.old) (S.state sink.new) }
+        requires { CanBegin (CanAsk now self.old) (length (beneath self.old)) (S.state sink.old).room signals.old }
+        ensures peeked { IsPeeked now self.old self.new signals.new result (S.state sink.old) (S.state sink.new) }
         ensures kept { S.keeps sink.old sink.new }
     {
         self.row.fit();
@@ -81,11 +76,8 @@ impl Node {
     #[inline(always)]
     fn peek_further<S: Sink>(&mut self, now: Moment, signals: &mut Signals, sink: &mut S) -> Shown
         requires none { self.old.own.held ≡ None }
-        requires ready { CanAsk now self.old }
-        requires sink { length (beneath self.old) ≤ (S.state sink.old).room }
-        requires clean { signals.old ≡ no_signals }
-        ensures peeked { IsPeeked now self.old self.new signals.new result }
-        ensures told { IsToldOf (ask now (shape self.old)).rises (S.state sink.old) (S.state sink.new) }
+        requires asks { CanBegin (CanAsk now self.old) (length (beneath self.old)) (S.state sink.old).room signals.old }
+        ensures peeked { IsPeeked now self.old self.new signals.new result (S.state sink.old) (S.state sink.new) }
         ensures kept { S.keeps sink.old sink.new }
     {
         self.row.fit();
@@ -107,8 +99,7 @@ impl Node {
     ) -> Shown
         requires ready { CanAskOnce now self.old so_far (S.state sink.old).room }
         requires counted { signals.old ≡ signals_of so_far }
-        ensures asked { IsAskedOnce now self.old self.new so_far result }
-        ensures told { IsToldOf (ask now (shape self.old)).rises (S.state sink.old) (S.state sink.new) }
+        ensures asked { IsAskedOnce now self.old self.new so_far result (S.state sink.old) (S.state sink.new) }
         ensures signals { signals.new ≡ signals_of result }
         ensures kept { S.keeps sink.old sink.new }
     {
@@ -132,8 +123,7 @@ impl Node {
     ) -> Shown
         requires ready { CanAskOnce now self.old so_far (S.state sink.old).room }
         requires counted { signals.old ≡ signals_of so_far }
-        ensures asked { IsAskedOnce now self.old self.new so_far result }
-        ensures told { IsToldOf (ask now (shape self.old)).rises (S.state sink.old) (S.state sink.new) }
+        ensures asked { IsAskedOnce now self.old self.new so_far result (S.state sink.old) (S.state sink.new) }
         ensures signals { signals.new ≡ signals_of result }
         ensures kept { S.keeps sink.old sink.new }
     {
@@ -211,12 +201,9 @@ impl Discipline {
         sink: &mut S,
     ) -> Shown
         requires none { held.old ≡ None }
-        requires ready { CanAskIn now self.old }
-        requires sink { length (packets_within self.old) ≤ (S.state sink.old).room }
-        requires clean { signals.old ≡ no_signals }
-        ensures after { (handle : Option ℕ) (filters : List Filter) → IsAskedIn (answer_of now handle filters self.old) self.old self.new result }
+        requires asks { CanBegin (CanAskIn now self.old) (length (packets_within self.old)) (S.state sink.old).room signals.old }
+        ensures after { (handle : Option ℕ) (filters : List Filter) → IsAskedIn (answer_of now handle filters self.old) self.old self.new result (S.state sink.old) (S.state sink.new) }
         ensures held { (handle : Option ℕ) (filters : List Filter) → held.new ≡ held_with (held_in (discipline_seen self.new) result.packet) (answer_of now handle filters self.old).peeked.own.since }
-        ensures told { (handle : Option ℕ) (filters : List Filter) → IsToldOf (answer_of now handle filters self.old).rises (S.state sink.old) (S.state sink.new) }
         ensures signals { signals.new ≡ signals_of result }
         ensures kept { S.keeps sink.old sink.new }
     {

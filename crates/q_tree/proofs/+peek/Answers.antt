@@ -1,4 +1,4 @@
-use Rattle.std.proofs.Common.{◌≡◌, ◌∙◌, [], ◌∷◌, set, length, refl, sym, ap, ap₂, subst, arith, rules, Option, Some}
+use Rattle.std.proofs.Common.{◌≡◌, ◌∙◌, [], ◌∷◌, set, length, refl, sym, ap, ap₂, arith, rules, Option, Some}
 use Rattle.std.specs.Prelude.{is_some, slice_index_or, unwrap_or, slice_get}
 use Rattle.std.specs.Box.{with_value}
 use Rattle.std.specs.Vec.{with_items}
@@ -8,19 +8,19 @@ use Rattle.q_fqcodel.specs.Take.{head_sent, selected}
 use Rattle.q_model.specs.Ask.{ask_tbf, ask_drr, ask_fq_codel}
 use Rattle.q_model.specs.Node as spec
 use Rattle.q_model.specs.Node.{Node, shape, side_by_side}
-use Rattle.q_tree.specs.AskSteps.{IsToldOf, answers, own_of, signals_of}
+use Rattle.q_tree.specs.AskSteps.{answers, own_of, signals_of}
 use Rattle.q_tree.specs.Kept.{Kept}
 use Rattle.q_tree.specs.NodeCode.{forest_size}
 use Rattle.q_tree.specs.Seen.{children_seen, discipline_seen, places_seen}
 use Rattle.q_tree.specs.declared.node.Discipline.TheVariants as code
 use Rattle.q_tree.specs.Shown.{Shown}
-use Rattle.q_tree.proofs.AskBands.{band-at, band-once, band-shown, bands-go-on, bands-told, bands-start, bands-end, bands-rises}
+use Rattle.q_tree.proofs.AskBands.{band-at, band-once, band-shown, bands-go-on, bands-start, bands-end}
 use Rattle.q_tree.proofs.AskOnce.{fits-beside}
 use Rattle.q_tree.proofs.AtHandLemmas.{shown-len}
 use Rattle.q_tree.proofs.HereLemmas.{flow-packets}
-use Rattle.q_tree.proofs.Peeks.{asked-in, fifo-asked, fifo-peeked, held-of, told-in, each-of, room-of, own-room, items-are, serve-of, holding-after, can-in, enough, can-book, peeked-done, shown-here, told-here, tbf-none, tbf-allowed, tbf-none-since, tbf-waiting}
-use Rattle.q_tree.proofs.ServeLemmas.{classes-go-on, classes-start, class-once, class-shown, class-size, fewer-grants, front-met, given-told, nothing-told, place-within, short-enough, class-given, class-sends, class-unserved}
-use Rattle.q_tree.proofs.IdleClasses.{idle-told, idle-unserved}
+use Rattle.q_tree.proofs.Peeks.{asked-in, fifo-asked, fifo-peeked, held-of, each-of, room-of, own-room, items-are, serve-of, holding-after, can-in, enough, can-book, peeked-done, shown-here, told-here, tbf-none, tbf-allowed, tbf-none-since, tbf-waiting}
+use Rattle.q_tree.proofs.ServeLemmas.{classes-go-on, classes-start, class-once, class-shown, class-size, fewer-grants, front-met, place-within, short-enough, class-given, class-sends, class-unserved}
+use Rattle.q_tree.proofs.IdleClasses.{idle-unserved}
 use Rattle.q_tree.proofs.Quiet.{shown-nothing}
 use Rattle.q_tree.proofs.RouteLemmas.{child-size, children-size}
 use Rattle.q_tree.proofs.TakeCounts.{flow-told}
@@ -52,7 +52,7 @@ disciplines::tbf::allow_child-returns-in_default-clause-allowed g t c = λ p is.
 pub disciplines::tbf::allow_child-returns-in_default-clause-waits : goal.disciplines::tbf::allow_child-returns-in_default-clause-waits
 disciplines::tbf::allow_child-returns-in_default-clause-waits g t c = λ none own limit. record {
   since = tbf-none-since c.args.now own c.args.bucket.now limit c.args.child.now (sym c.peek-shown.ensures.peeked.shown.packet ∙ none);
-  asked = tbf-none c.args.now own c.args.bucket.now limit c.args.child.now c.peek-shown.new.self c.peek-shown.result c.peek-shown.ensures.peeked.after c.peek-shown.ensures.peeked.arrived c.peek-shown.ensures.peeked.shown none;
+  asked = tbf-none c.args.now own c.args.bucket.now limit c.args.child.now c.peek-shown.new.self c.peek-shown.result c.peek-shown.ensures.peeked.after c.peek-shown.ensures.peeked.arrived c.peek-shown.ensures.peeked.shown none c.peek-shown.ensures.peeked.told;
 }
 
 pub disciplines::tbf::allow_child-returns-then-not-spend-clause-allowed : goal.disciplines::tbf::allow_child-returns-then-not-spend-clause-allowed
@@ -72,7 +72,7 @@ pub disciplines::tbf::allow_child-returns-clause-allowed : goal.disciplines::tbf
 disciplines::tbf::allow_child-returns-clause-allowed g t c = λ p is.
     let offer = shown-len c.peek-shown.result.packet c.packet_len.result c.in-Some.len c.packet_len.ensures.some c.in-Some.is in
     let may = ap (allows c.args.bucket.now c.args.now) offer.2 ∙ sym c.spend.ensures.answer ∙ c.if-not-spend.false in
-    tbf-allowed c.args.now c.args.bucket.now c.args.child.now c.peek-shown.new.self c.peek-shown.new.signals c.peek-shown.result c.requires.ready c.peek-shown.ensures.peeked p offer.0 is offer.1 may
+    tbf-allowed c.args.now c.args.bucket.now c.args.child.now c.peek-shown.new.self c.peek-shown.new.signals c.peek-shown.result c.requires.asks.ready c.peek-shown.ensures.peeked p offer.0 is offer.1 may
 
 pub disciplines::tbf::allow_child-returns-clause-waits : goal.disciplines::tbf::allow_child-returns-clause-waits
 disciplines::tbf::allow_child-returns-clause-waits g t c = λ none own limit.
@@ -129,12 +129,6 @@ disciplines::drr::meet_class-peek_class-shown-requires g t c κs within =
       (within, ((λ some. class-once met c.index-classes-place.result some c.requires.sink), c.loop-place.invariant.2)),
     )
 
-pub disciplines::drr::meet_class-returns-in_default-packet_len-clause-told : goal.disciplines::drr::meet_class-returns-in_default-packet_len-clause-told
-disciplines::drr::meet_class-returns-in_default-packet_len-clause-told g t c =
-    let met = front-met c.requires.ready c.loop-place.invariant.0 c.front_place.ensures.lawful c.in-Some.place (sym c.in-Some.is ∙ c.front_place.ensures.place) in
-    let shows = class-shown met c.index-classes-place.result c.peek_class-shown.ensures.asked c.peek_class-shown.ensures.told c.peek_class-shown.ensures.at_hand c.peek_class-shown.ensures.not_lost in
-    nothing-told met shows (c.packet_len.ensures.none c.in_default-packet_len.is)
-
 pub disciplines::drr::meet_class-returns-in_default-packet_len-clause-kept : goal.disciplines::drr::meet_class-returns-in_default-packet_len-clause-kept
 disciplines::drr::meet_class-returns-in_default-packet_len-clause-kept g t c =
     g.met.S.Sink.keeps_on c.args.sink.now c.loop-place.sink c.peek_class-shown.new.sink c.loop-place.invariant.1 c.peek_class-shown.ensures.kept
@@ -142,16 +136,9 @@ disciplines::drr::meet_class-returns-in_default-packet_len-clause-kept g t c =
 pub disciplines::drr::meet_class-turn-requires-clause-in_range : goal.disciplines::drr::meet_class-turn-requires-clause-in_range
 disciplines::drr::meet_class-turn-requires-clause-in_range g t c =
     let met = front-met c.requires.ready c.loop-place.invariant.0 c.front_place.ensures.lawful c.in-Some.place (sym c.in-Some.is ∙ c.front_place.ensures.place) in
-    let shows = class-shown met c.index-classes-place.result c.peek_class-shown.ensures.asked c.peek_class-shown.ensures.told c.peek_class-shown.ensures.at_hand c.peek_class-shown.ensures.not_lost in
+    let shows = class-shown met c.index-classes-place.result c.peek_class-shown.ensures.asked c.peek_class-shown.ensures.at_hand c.peek_class-shown.ensures.not_lost in
     let offer = shown-len c.peek_class-shown.result.packet c.packet_len.result c.in-Some-packet_len.len c.packet_len.ensures.some c.in-Some-packet_len.is in
     short-enough met shows offer
-
-pub disciplines::drr::meet_class-returns-in-Send-clause-told : goal.disciplines::drr::meet_class-returns-in-Send-clause-told
-disciplines::drr::meet_class-returns-in-Send-clause-told g t c =
-    let met = front-met c.requires.ready c.loop-place.invariant.0 c.front_place.ensures.lawful c.in-Some.place (sym c.in-Some.is ∙ c.front_place.ensures.place) in
-    let shows = class-shown met c.index-classes-place.result c.peek_class-shown.ensures.asked c.peek_class-shown.ensures.told c.peek_class-shown.ensures.at_hand c.peek_class-shown.ensures.not_lost in
-    let offer = shown-len c.peek_class-shown.result.packet c.packet_len.result c.in-Some-packet_len.len c.packet_len.ensures.some c.in-Some-packet_len.is in
-    given-told met shows offer (sym c.in-Send.is ∙ c.turn.ensures.answer) c.turn.ensures.after
 
 pub disciplines::drr::meet_class-returns-in-Send-clause-kept : goal.disciplines::drr::meet_class-returns-in-Send-clause-kept
 disciplines::drr::meet_class-returns-in-Send-clause-kept g t c =
@@ -160,22 +147,19 @@ disciplines::drr::meet_class-returns-in-Send-clause-kept g t c =
 pub disciplines::drr::meet_class-loop-place-smaller : goal.disciplines::drr::meet_class-loop-place-smaller
 disciplines::drr::meet_class-loop-place-smaller g t c =
     let met = front-met c.requires.ready c.loop-place.invariant.0 c.front_place.ensures.lawful c.in-Some.place (sym c.in-Some.is ∙ c.front_place.ensures.place) in
-    let shows = class-shown met c.index-classes-place.result c.peek_class-shown.ensures.asked c.peek_class-shown.ensures.told c.peek_class-shown.ensures.at_hand c.peek_class-shown.ensures.not_lost in
+    let shows = class-shown met c.index-classes-place.result c.peek_class-shown.ensures.asked c.peek_class-shown.ensures.at_hand c.peek_class-shown.ensures.not_lost in
     let offer = shown-len c.peek_class-shown.result.packet c.packet_len.result c.in-Some-packet_len.len c.packet_len.ensures.some c.in-Some-packet_len.is in
     fewer-grants met shows offer (sym c.in-Granted.is ∙ c.turn.ensures.answer) c.turn.ensures.after
 
 pub disciplines::drr::meet_class-loop-place-preserved : goal.disciplines::drr::meet_class-loop-place-preserved
 disciplines::drr::meet_class-loop-place-preserved g t c =
     let met = front-met c.requires.ready c.loop-place.invariant.0 c.front_place.ensures.lawful c.in-Some.place (sym c.in-Some.is ∙ c.front_place.ensures.place) in
-    let shows = class-shown met c.index-classes-place.result c.peek_class-shown.ensures.asked c.peek_class-shown.ensures.told c.peek_class-shown.ensures.at_hand c.peek_class-shown.ensures.not_lost in
+    let shows = class-shown met c.index-classes-place.result c.peek_class-shown.ensures.asked c.peek_class-shown.ensures.at_hand c.peek_class-shown.ensures.not_lost in
     let offer = shown-len c.peek_class-shown.result.packet c.packet_len.result c.in-Some-packet_len.len c.packet_len.ensures.some c.in-Some-packet_len.is in (
       classes-go-on met shows offer (sym c.in-Granted.is ∙ c.turn.ensures.answer) c.turn.ensures.after c.saturating_sub-unasked.ensures,
       g.met.S.Sink.keeps_on c.args.sink.now c.loop-place.sink c.peek_class-shown.new.sink c.loop-place.invariant.1 c.peek_class-shown.ensures.kept,
       c.peek_class-shown.ensures.signals,
     )
-
-pub disciplines::drr::meet_class-returns-clause-told : goal.disciplines::drr::meet_class-returns-clause-told
-disciplines::drr::meet_class-returns-clause-told g t c = idle-told c.requires.ready c.loop-place.invariant.0 c.front_place.ensures.lawful _ c.in_default.is c.front_place.ensures.found
 
 pub disciplines::drr::meet_class-returns-clause-kept : goal.disciplines::drr::meet_class-returns-clause-kept
 disciplines::drr::meet_class-returns-clause-kept g t c = c.loop-place.invariant.1
@@ -186,7 +170,7 @@ disciplines::drr::meet_class-returns-clause-signals g t c = sym (ap signals_of c
 pub disciplines::drr::meet_class-returns-in_default-packet_len-clause-nothing : goal.disciplines::drr::meet_class-returns-in_default-packet_len-clause-nothing
 disciplines::drr::meet_class-returns-in_default-packet_len-clause-nothing g t c = λ none.
     let met = front-met c.requires.ready c.loop-place.invariant.0 c.front_place.ensures.lawful c.in-Some.place (sym c.in-Some.is ∙ c.front_place.ensures.place) in
-    let shows = class-shown met c.index-classes-place.result c.peek_class-shown.ensures.asked c.peek_class-shown.ensures.told c.peek_class-shown.ensures.at_hand c.peek_class-shown.ensures.not_lost in
+    let shows = class-shown met c.index-classes-place.result c.peek_class-shown.ensures.asked c.peek_class-shown.ensures.at_hand c.peek_class-shown.ensures.not_lost in
     class-unserved met shows (c.packet_len.ensures.none c.in_default-packet_len.is)
 
 pub disciplines::drr::meet_class-returns-clause-nothing : goal.disciplines::drr::meet_class-returns-clause-nothing
@@ -208,7 +192,7 @@ disciplines::drr::meet_class-returns-in-Send-clause-nothing g t c = λ none.
 pub disciplines::drr::meet_class-returns-in-Send-clause-met : goal.disciplines::drr::meet_class-returns-in-Send-clause-met
 disciplines::drr::meet_class-returns-in-Send-clause-met g t c = λ p is.
     let met = front-met c.requires.ready c.loop-place.invariant.0 c.front_place.ensures.lawful c.in-Some.place (sym c.in-Some.is ∙ c.front_place.ensures.place) in
-    let shows = class-shown met c.index-classes-place.result c.peek_class-shown.ensures.asked c.peek_class-shown.ensures.told c.peek_class-shown.ensures.at_hand c.peek_class-shown.ensures.not_lost in
+    let shows = class-shown met c.index-classes-place.result c.peek_class-shown.ensures.asked c.peek_class-shown.ensures.at_hand c.peek_class-shown.ensures.not_lost in
     let offer = shown-len c.peek_class-shown.result.packet c.packet_len.result c.in-Some-packet_len.len c.packet_len.ensures.some c.in-Some-packet_len.is in
     class-sends met shows offer (sym c.in-Send.is ∙ c.turn.ensures.answer) c.turn.ensures.after
 
@@ -225,21 +209,13 @@ disciplines::drr::peek_classes-hold-requires g t c =
     let class : Node Kept = slice_index_or c.meet_class-shown.new.classes c.meet_class-shown.new.met c.index-classes-place.result in
     ap is_some (met.shown class (slice_get-get_or c.meet_class-shown.new.classes c.meet_class-shown.new.met c.index-classes-place.result met.inside) ∙ there.1)
 
-pub disciplines::drr::peek_classes-returns-then-has_packet-clause-active : goal.disciplines::drr::peek_classes-returns-then-has_packet-clause-active
-disciplines::drr::peek_classes-returns-then-has_packet-clause-active g t c = λ own.
+pub disciplines::drr::peek_classes-returns-then-has_packet-clause-served : goal.disciplines::drr::peek_classes-returns-then-has_packet-clause-served
+disciplines::drr::peek_classes-returns-then-has_packet-clause-served g t c = λ own.
     let there = some-there c.meet_class-shown.result.packet (sym c.has_packet.ensures ∙ c.if-has_packet.true) in
     let met = c.meet_class-shown.ensures.met there.0 there.1 in
     let given = λ (class : Node Kept) (at : slice_get c.meet_class-shown.new.classes c.meet_class-shown.new.met ≡ Some class). class-given c.meet_class-shown.new.classes c.meet_class-shown.new.met class c.index-classes-place.result c.hold.new.child c.index-classes-place-then-has_packet.result c.meet_class-shown.new.active c.settle.new.active c.is_empty.result
     at c.hold.ensures.after c.hold.ensures.arrived c.is_empty.ensures c.settle.ensures in
-    met.schedule c.settle.new.active (set c.meet_class-shown.new.classes c.meet_class-shown.new.met c.hold.new.child) given own
-
-pub disciplines::drr::peek_classes-returns-then-has_packet-clause-after : goal.disciplines::drr::peek_classes-returns-then-has_packet-clause-after
-disciplines::drr::peek_classes-returns-then-has_packet-clause-after g t c = λ own.
-    let there = some-there c.meet_class-shown.result.packet (sym c.has_packet.ensures ∙ c.if-has_packet.true) in
-    let met = c.meet_class-shown.ensures.met there.0 there.1 in
-    let given = λ (class : Node Kept) (at : slice_get c.meet_class-shown.new.classes c.meet_class-shown.new.met ≡ Some class). class-given c.meet_class-shown.new.classes c.meet_class-shown.new.met class c.index-classes-place.result c.hold.new.child c.index-classes-place-then-has_packet.result c.meet_class-shown.new.active c.settle.new.active c.is_empty.result
-    at c.hold.ensures.after c.hold.ensures.arrived c.is_empty.ensures c.settle.ensures in
-    met.asked c.settle.new.active (set c.meet_class-shown.new.classes c.meet_class-shown.new.met c.hold.new.child) given own
+    met.served c.settle.new.active (set c.meet_class-shown.new.classes c.meet_class-shown.new.met c.hold.new.child) given own
 
 pub disciplines::drr::peek_classes-returns-then-has_packet-clause-held : goal.disciplines::drr::peek_classes-returns-then-has_packet-clause-held
 disciplines::drr::peek_classes-returns-then-has_packet-clause-held g t c = λ own.
@@ -250,11 +226,8 @@ disciplines::drr::peek_classes-returns-then-has_packet-clause-held g t c = λ ow
     c.hold.ensures.held ∙ ap (λ (o : Option Descriptor). held_with o (unwrap_or (at_hand_since class) 0)) (met.shown class at)
     ∙ held-with c.meet_class-shown.result.packet (unwrap_or (at_hand_since class) 0) (ask_drr own (answers c.args.now c.args.classes.now) c.args.active.now).peeked.own.since (met.since class at own)
 
-pub disciplines::drr::peek_classes-returns-else-has_packet-clause-active : goal.disciplines::drr::peek_classes-returns-else-has_packet-clause-active
-disciplines::drr::peek_classes-returns-else-has_packet-clause-active g t c = λ own. (c.meet_class-shown.ensures.nothing (none-there c.meet_class-shown.result.packet (sym c.has_packet.ensures ∙ c.if-has_packet.false))).schedule own
-
-pub disciplines::drr::peek_classes-returns-else-has_packet-clause-after : goal.disciplines::drr::peek_classes-returns-else-has_packet-clause-after
-disciplines::drr::peek_classes-returns-else-has_packet-clause-after g t c = λ own. (c.meet_class-shown.ensures.nothing (none-there c.meet_class-shown.result.packet (sym c.has_packet.ensures ∙ c.if-has_packet.false))).asked own
+pub disciplines::drr::peek_classes-returns-else-has_packet-clause-served : goal.disciplines::drr::peek_classes-returns-else-has_packet-clause-served
+disciplines::drr::peek_classes-returns-else-has_packet-clause-served g t c = λ own. (c.meet_class-shown.ensures.nothing (none-there c.meet_class-shown.result.packet (sym c.has_packet.ensures ∙ c.if-has_packet.false))).served own
 
 pub disciplines::drr::peek_classes-returns-else-has_packet-clause-held : goal.disciplines::drr::peek_classes-returns-else-has_packet-clause-held
 disciplines::drr::peek_classes-returns-else-has_packet-clause-held g t c = λ own.
@@ -263,7 +236,7 @@ disciplines::drr::peek_classes-returns-else-has_packet-clause-held g t c = λ ow
 pub node::Discipline::ask-peek_bands-requires : goal.node::Discipline::ask-peek_bands-requires
 node::Discipline::ask-peek_bands-requires g t c κs within =
     let kids = c.deref_mut.ensures.value ∙ sym (ap children_seen c.in-Prio.is) in
-    (omega (arith, ap (λ xs. forest_size (side_by_side xs)) kids, c.decreases), (within, (each-of c.args.now c.args.self.now c.deref_mut.result.now c.requires.ready kids, (omega (arith, c.requires.sink, room-of c.args.self.now c.deref_mut.result.now kids), c.requires.clean))))
+    (omega (arith, ap (λ xs. forest_size (side_by_side xs)) kids, c.decreases), (within, record { ready = each-of c.args.now c.args.self.now c.deref_mut.result.now c.requires.asks.ready kids; sink = omega (arith, c.requires.asks.sink, room-of c.args.self.now c.deref_mut.result.now kids); clean = c.requires.asks.clean }))
 
 pub node::Discipline::ask-returns-in-Prio-clause-after : goal.node::Discipline::ask-returns-in-Prio-clause-after
 node::Discipline::ask-returns-in-Prio-clause-after g t c = λ handle filters.
@@ -272,11 +245,6 @@ node::Discipline::ask-returns-in-Prio-clause-after g t c = λ handle filters.
     asked-in c.args.now handle filters c.args.self.now (code.Prio c.in-Prio.priomap (with_items c.in-Prio.bands c.peek_bands.new.bands)) (spec.Prio c.in-Prio.priomap) (spec.Prio c.in-Prio.priomap) c.deref_mut.result.now c.peek_bands.new.bands c.peek_bands.result
     (ap discipline_seen c.in-Prio.is) kids refl (items-are c.in-Prio.bands.items c.peek_bands.new.bands c.in-Prio.bands.len (sym c.in-Prio.bands.ok.0) (asked_bands.long ∙ ap (λ xs. length xs) c.deref_mut.ensures.value))
     (sym (ap places_seen c.in-Prio.is)) refl asked_bands
-
-pub node::Discipline::ask-returns-in-Prio-clause-told : goal.node::Discipline::ask-returns-in-Prio-clause-told
-node::Discipline::ask-returns-in-Prio-clause-told g t c = λ handle filters.
-    told-in c.args.now handle filters c.args.self.now (spec.Prio c.in-Prio.priomap) c.deref_mut.result.now (g.S.Sink.state c.args.sink.now) (g.S.Sink.state c.peek_bands.new.sink)
-    (ap discipline_seen c.in-Prio.is) (sym (c.deref_mut.ensures.value ∙ sym (ap children_seen c.in-Prio.is))) (c.peek_bands.ensures.told (own_of handle filters (spec.Prio c.in-Prio.priomap)))
 
 pub node::Discipline::ask-returns-in-Tbf-clause-after : goal.node::Discipline::ask-returns-in-Tbf-clause-after
 node::Discipline::ask-returns-in-Tbf-clause-after g t c = λ handle filters.
@@ -292,24 +260,18 @@ node::Discipline::ask-returns-in-Tbf-clause-held g t c = λ handle filters.
     held-of c.args.now handle filters c.args.self.now (spec.Tbf c.in-Tbf.bucket c.in-Tbf.limit) (c.deref_mut-in-Tbf.result.now ∷ []) c.peek_child.new.held c.peek_child.result.packet
     (ap discipline_seen c.in-Tbf.is) kids (c.peek_child.ensures.held own c.in-Tbf.limit)
 
-pub node::Discipline::ask-returns-in-Tbf-clause-told : goal.node::Discipline::ask-returns-in-Tbf-clause-told
-node::Discipline::ask-returns-in-Tbf-clause-told g t c = λ handle filters.
-    let own = own_of handle filters (spec.Tbf c.in-Tbf.bucket c.in-Tbf.limit) in
-    told-in c.args.now handle filters c.args.self.now (spec.Tbf c.in-Tbf.bucket c.in-Tbf.limit) (c.deref_mut-in-Tbf.result.now ∷ []) (g.S.Sink.state c.args.sink.now) (g.S.Sink.state c.peek_child.new.sink)
-    (ap discipline_seen c.in-Tbf.is) (ap children_seen c.in-Tbf.is ∙ ap (λ x. x ∷ []) (sym c.deref_mut-in-Tbf.ensures.value)) (c.peek_child.ensures.told own c.in-Tbf.limit)
-
 pub node::Discipline::ask-peek_classes-requires : goal.node::Discipline::ask-peek_classes-requires
 node::Discipline::ask-peek_classes-requires g t c κs within =
     let kids = c.deref_mut-in-Drr.ensures.value ∙ sym (ap children_seen c.in-Drr.is) in
-    (omega (arith, ap (λ xs. forest_size (side_by_side xs)) kids, c.decreases), (within, (c.requires.none, (serve-of c.args.now c.args.self.now c.in-Drr.active c.deref_mut-in-Drr.result.now c.requires.ready (ap discipline_seen c.in-Drr.is) kids, (omega (arith, c.requires.sink, room-of c.args.self.now c.deref_mut-in-Drr.result.now kids), c.requires.clean)))))
+    (omega (arith, ap (λ xs. forest_size (side_by_side xs)) kids, c.decreases), (within, (c.requires.none, record { ready = serve-of c.args.now c.args.self.now c.in-Drr.active c.deref_mut-in-Drr.result.now c.requires.asks.ready (ap discipline_seen c.in-Drr.is) kids; sink = omega (arith, c.requires.asks.sink, room-of c.args.self.now c.deref_mut-in-Drr.result.now kids); clean = c.requires.asks.clean })))
 
 pub node::Discipline::ask-returns-in-Drr-clause-after : goal.node::Discipline::ask-returns-in-Drr-clause-after
 node::Discipline::ask-returns-in-Drr-clause-after g t c = λ handle filters.
     let own = own_of handle filters (spec.Drr c.in-Drr.active) in
     let kids = sym (c.deref_mut-in-Drr.ensures.value ∙ sym (ap children_seen c.in-Drr.is)) in
     asked-in c.args.now handle filters c.args.self.now (code.Drr c.peek_classes.new.active (with_items c.in-Drr.classes c.peek_classes.new.classes)) (spec.Drr c.in-Drr.active) (spec.Drr c.peek_classes.new.active) c.deref_mut-in-Drr.result.now c.peek_classes.new.classes c.peek_classes.result
-    (ap discipline_seen c.in-Drr.is) kids refl (items-are c.in-Drr.classes.items c.peek_classes.new.classes c.in-Drr.classes.len (sym c.in-Drr.classes.ok.0) ((c.peek_classes.ensures.after own).long ∙ ap (λ xs. length xs) c.deref_mut-in-Drr.ensures.value))
-    (sym (ap places_seen c.in-Drr.is)) (c.peek_classes.ensures.active own) (c.peek_classes.ensures.after own)
+    (ap discipline_seen c.in-Drr.is) kids refl (items-are c.in-Drr.classes.items c.peek_classes.new.classes c.in-Drr.classes.len (sym c.in-Drr.classes.ok.0) ((c.peek_classes.ensures.served own).asked.long ∙ ap (λ xs. length xs) c.deref_mut-in-Drr.ensures.value))
+    (sym (ap places_seen c.in-Drr.is)) (c.peek_classes.ensures.served own).schedule (c.peek_classes.ensures.served own).asked
 
 pub node::Discipline::ask-returns-in-Drr-clause-held : goal.node::Discipline::ask-returns-in-Drr-clause-held
 node::Discipline::ask-returns-in-Drr-clause-held g t c = λ handle filters.
@@ -318,15 +280,10 @@ node::Discipline::ask-returns-in-Drr-clause-held g t c = λ handle filters.
     held-of c.args.now handle filters c.args.self.now (spec.Drr c.in-Drr.active) c.deref_mut-in-Drr.result.now c.peek_classes.new.held c.peek_classes.result.packet
     (ap discipline_seen c.in-Drr.is) kids (c.peek_classes.ensures.held own)
 
-pub node::Discipline::ask-returns-in-Drr-clause-told : goal.node::Discipline::ask-returns-in-Drr-clause-told
-node::Discipline::ask-returns-in-Drr-clause-told g t c = λ handle filters.
-    told-in c.args.now handle filters c.args.self.now (spec.Drr c.in-Drr.active) c.deref_mut-in-Drr.result.now (g.S.Sink.state c.args.sink.now) (g.S.Sink.state c.peek_classes.new.sink)
-    (ap discipline_seen c.in-Drr.is) (sym (c.deref_mut-in-Drr.ensures.value ∙ sym (ap children_seen c.in-Drr.is))) (c.peek_classes.ensures.told (own_of handle filters (spec.Drr c.in-Drr.active)))
-
 pub node::Discipline::ask-peek_flow-requires : goal.node::Discipline::ask-peek_flow-requires
 node::Discipline::ask-peek_flow-requires g t c =
     let is = ap discipline_seen c.in-FqCodel.is ∙ ap (λ (q : FqView). spec.FqCodel q.state) (sym c.deref_mut-in-FqCodel.ensures.value) in
-    record { none = c.requires.none; sink = omega (arith, c.requires.sink, own-room c.args.self.now, flow-packets c.args.self.now c.deref_mut-in-FqCodel.result.now.state is); clean = c.requires.clean }
+    record { none = c.requires.none; sink = omega (arith, c.requires.asks.sink, own-room c.args.self.now, flow-packets c.args.self.now c.deref_mut-in-FqCodel.result.now.state is); clean = c.requires.asks.clean }
 
 pub node::Discipline::ask-returns-in-FqCodel-clause-after : goal.node::Discipline::ask-returns-in-FqCodel-clause-after
 node::Discipline::ask-returns-in-FqCodel-clause-after g t c = λ handle filters.
@@ -337,7 +294,7 @@ node::Discipline::ask-returns-in-FqCodel-clause-after g t c = λ handle filters.
     let places = e.places ∙ ap (λ (q : FqView). q.places) c.deref_mut-in-FqCodel.ensures.value ∙ sym (ap places_seen c.in-FqCodel.is) in
     asked-in c.args.now handle filters c.args.self.now (code.FqCodel (with_value c.in-FqCodel.queue c.peek_flow.new.queue)) (spec.FqCodel state) (spec.FqCodel c.peek_flow.new.queue.state) [] [] c.peek_flow.result
     is (ap children_seen c.in-FqCodel.is) refl refl places (ap spec.FqCodel e.after)
-    (record { long = refl; nodes = refl; within = λ t h. h; shown = e.shown own [] })
+    (record { long = refl; nodes = refl; within = λ t h. h; shown = e.shown own []; told = flow-told c.args.now state own [] (g.S.Sink.state c.args.sink.now) (g.S.Sink.state c.peek_flow.new.sink) e.told })
 
 pub node::Discipline::ask-returns-in-FqCodel-clause-held : goal.node::Discipline::ask-returns-in-FqCodel-clause-held
 node::Discipline::ask-returns-in-FqCodel-clause-held g t c = λ handle filters.
@@ -349,16 +306,6 @@ node::Discipline::ask-returns-in-FqCodel-clause-held g t c = λ handle filters.
     held-of c.args.now handle filters c.args.self.now (spec.FqCodel state) [] c.peek_flow.new.held c.peek_flow.result.packet is (ap children_seen c.in-FqCodel.is)
     (e.held ∙ held-with c.peek_flow.result.packet at (ask_fq_codel c.args.now own [] state).peeked.own.since (ap (λ (o : Option Descriptor). since_of o at) (e.shown own []).packet))
 
-pub node::Discipline::ask-returns-in-FqCodel-clause-told : goal.node::Discipline::ask-returns-in-FqCodel-clause-told
-node::Discipline::ask-returns-in-FqCodel-clause-told g t c = λ handle filters.
-    let e = c.peek_flow.ensures in
-    let state = c.deref_mut-in-FqCodel.result.now.state in
-    let own = own_of handle filters (spec.FqCodel state) in
-    let is = ap discipline_seen c.in-FqCodel.is ∙ ap (λ (q : FqView). spec.FqCodel q.state) (sym c.deref_mut-in-FqCodel.ensures.value) in
-    told-in c.args.now handle filters c.args.self.now (spec.FqCodel state) [] (g.S.Sink.state c.args.sink.now) (g.S.Sink.state c.peek_flow.new.sink)
-    is (ap children_seen c.in-FqCodel.is)
-    (flow-told c.args.now state own [] (g.S.Sink.state c.args.sink.now) (g.S.Sink.state c.peek_flow.new.sink) e.told)
-
 pub node::Node::peek-returns-then-is_some-clause-peeked : goal.node::Node::peek-returns-then-is_some-clause-peeked
 node::Node::peek-returns-then-is_some-clause-peeked g t c = record {
   after = (let held = some-kept c.self.inside.held (c.if-is_some.ensures) in
@@ -366,6 +313,7 @@ node::Node::peek-returns-then-is_some-clause-peeked g t c = record {
   arrived = search rules;
   shown = search rules;
   signals = search rules;
+  told = search rules;
 }
 
 pub node::Node::peek-returns-in-Fifo-clause-peeked : goal.node::Node::peek-returns-in-Fifo-clause-peeked
@@ -383,33 +331,30 @@ node::Node::peek-returns-in-Fifo-clause-peeked g t c =
       arrived = search rules;
       shown = shown-here c.args.now c.self.inside c.args.self.now c.self.invariant c.self.view_is c.requires.ready none c.at_hand-in-Fifo.result asked.children.shown;
       signals = c.requires.clean ∙ sym (ap signals_of c.at_hand-in-Fifo.ensures);
+      told = told-here c.args.now c.self.inside c.args.self.now c.self.invariant c.self.view_is c.requires.ready none (g.S.Sink.state c.args.sink.now) (g.S.Sink.state c.args.sink.now)
+          asked.children.told;
     }
-
-pub node::Node::peek-returns-in-Fifo-clause-told : goal.node::Node::peek-returns-in-Fifo-clause-told
-node::Node::peek-returns-in-Fifo-clause-told g t c =
-    told-here c.args.now c.self.inside c.args.self.now c.self.invariant c.self.view_is c.requires.ready (none-kept c.self.inside.held c.if-is_some.ensures) (g.S.Sink.state c.args.sink.now) (g.S.Sink.state c.args.sink.now)
-    (told-in c.args.now c.self.inside.handle c.self.inside.filters c.self.inside.discipline (spec.Fifo c.in-Fifo.fifo.limit c.in-Fifo.fifo.packets) [] (g.S.Sink.state c.args.sink.now) (g.S.Sink.state c.args.sink.now) (ap discipline_seen c.in-Fifo.is) (ap children_seen c.in-Fifo.is) (told_nothing (g.S.Sink.state c.args.sink.now)))
 
 pub node::Node::peek_further-ask-shown-requires : goal.node::Node::peek_further-ask-shown-requires
 node::Node::peek_further-ask-shown-requires g t c κs within =
     let none = empty-held c.self.inside.held (ap (λ (n : Node Kept). n.own.held) c.self.view_is ∙ c.requires.none) in
-    let can = can-in c.args.now c.self.inside c.args.self.now c.self.invariant c.self.view_is c.requires.ready (omega (arith, c.self.ranges, c.fit.ensures.packets, c.fit.ensures.bytes)) (omega (arith, c.self.ranges, c.fit.ensures.packets, c.fit.ensures.bytes)) in
-    let room = enough c.args.now c.self.inside c.args.self.now c.self.invariant c.self.view_is c.requires.ready (g.S.Sink.state c.args.sink.now).room c.requires.sink in
-    (omega (arith, children-size c.self.inside c.args.self.now (children_seen c.self.inside.discipline) c.self.view_is refl, c.decreases), (within, (none, (can, (room, c.requires.clean)))))
+    let can = can-in c.args.now c.self.inside c.args.self.now c.self.invariant c.self.view_is c.requires.asks.ready (omega (arith, c.self.ranges, c.fit.ensures.packets, c.fit.ensures.bytes)) (omega (arith, c.self.ranges, c.fit.ensures.packets, c.fit.ensures.bytes)) in
+    let room = enough c.args.now c.self.inside c.args.self.now c.self.invariant c.self.view_is c.requires.asks.ready (g.S.Sink.state c.args.sink.now).room c.requires.asks.sink in
+    (omega (arith, children-size c.self.inside c.args.self.now (children_seen c.self.inside.discipline) c.self.view_is refl, c.decreases), (within, (none, record { ready = can; sink = room; clean = c.requires.asks.clean })))
 
 pub node::Node::peek_further-book_shown-requires-clause-room : goal.node::Node::peek_further-book_shown-requires-clause-room
 node::Node::peek_further-book_shown-requires-clause-room g t c =
     let none = ap (λ (n : Node Kept). n.own.held) c.self.view_is ∙ c.requires.none in
-    can-book c.args.now c.self.inside c.args.self.now c.self.invariant c.self.view_is c.requires.ready none c.ask-shown.result (c.ask-shown.ensures.after c.self.inside.handle c.self.inside.filters).children.shown
+    can-book c.args.now c.self.inside c.args.self.now c.self.invariant c.self.view_is c.requires.asks.ready none c.ask-shown.result (c.ask-shown.ensures.after c.self.inside.handle c.self.inside.filters).children.shown
     (omega (arith, c.self.ranges, c.fit.ensures.packets, c.fit.ensures.bytes)) (omega (arith, c.self.ranges, c.fit.ensures.packets, c.fit.ensures.bytes))
 
 pub node::Node::peek_further-invariant_of-self : goal.node::Node::peek_further-invariant_of-self
 node::Node::peek_further-invariant_of-self g t c =
     let none = ap (λ (n : Node Kept). n.own.held) c.self.view_is ∙ c.requires.none in
     let asked = c.ask-shown.ensures.after c.self.inside.handle c.self.inside.filters in
-    let can = can-book c.args.now c.self.inside c.args.self.now c.self.invariant c.self.view_is c.requires.ready none c.ask-shown.result asked.children.shown
+    let can = can-book c.args.now c.self.inside c.args.self.now c.self.invariant c.self.view_is c.requires.asks.ready none c.ask-shown.result asked.children.shown
     (omega (arith, c.self.ranges, c.fit.ensures.packets, c.fit.ensures.bytes)) (omega (arith, c.self.ranges, c.fit.ensures.packets, c.fit.ensures.bytes)) in
-    let done = peeked-done c.args.now c.self.inside c.args.self.now c.self.invariant c.self.view_is c.requires.ready none c.ask-shown.new.self c.ask-shown.result asked c.book_shown.new.row c.ask-shown.new.held can c.book_shown.ensures
+    let done = peeked-done c.args.now c.self.inside c.args.self.now c.self.invariant c.self.view_is c.requires.asks.ready none c.ask-shown.new.self c.ask-shown.result asked c.book_shown.new.row c.ask-shown.new.held can c.book_shown.ensures
     (c.ask-shown.ensures.held c.self.inside.handle c.self.inside.filters) in
     done.stays
 
@@ -417,15 +362,17 @@ pub node::Node::peek_further-returns-clause-peeked : goal.node::Node::peek_furth
 node::Node::peek_further-returns-clause-peeked g t c =
     let none = ap (λ (n : Node Kept). n.own.held) c.self.view_is ∙ c.requires.none in
     let asked = c.ask-shown.ensures.after c.self.inside.handle c.self.inside.filters in
-    let can = can-book c.args.now c.self.inside c.args.self.now c.self.invariant c.self.view_is c.requires.ready none c.ask-shown.result asked.children.shown
+    let can = can-book c.args.now c.self.inside c.args.self.now c.self.invariant c.self.view_is c.requires.asks.ready none c.ask-shown.result asked.children.shown
     (omega (arith, c.self.ranges, c.fit.ensures.packets, c.fit.ensures.bytes)) (omega (arith, c.self.ranges, c.fit.ensures.packets, c.fit.ensures.bytes)) in
-    let done = peeked-done c.args.now c.self.inside c.args.self.now c.self.invariant c.self.view_is c.requires.ready none c.ask-shown.new.self c.ask-shown.result asked c.book_shown.new.row c.ask-shown.new.held can c.book_shown.ensures
+    let done = peeked-done c.args.now c.self.inside c.args.self.now c.self.invariant c.self.view_is c.requires.asks.ready none c.ask-shown.new.self c.ask-shown.result asked c.book_shown.new.row c.ask-shown.new.held can c.book_shown.ensures
     (c.ask-shown.ensures.held c.self.inside.handle c.self.inside.filters) in
-    record { after = done.after; arrived = search rules; shown = shown-here c.args.now c.self.inside c.args.self.now c.self.invariant c.self.view_is c.requires.ready none c.ask-shown.result asked.children.shown; signals = search rules }
-
-pub node::Node::peek_further-returns-clause-told : goal.node::Node::peek_further-returns-clause-told
-node::Node::peek_further-returns-clause-told g t c =
-    told-here c.args.now c.self.inside c.args.self.now c.self.invariant c.self.view_is c.requires.ready (ap (λ (n : Node Kept). n.own.held) c.self.view_is ∙ c.requires.none) (g.S.Sink.state c.args.sink.now) (g.S.Sink.state c.ask-shown.new.sink) (c.ask-shown.ensures.told c.self.inside.handle c.self.inside.filters)
+    record {
+      after = done.after;
+      arrived = search rules;
+      shown = shown-here c.args.now c.self.inside c.args.self.now c.self.invariant c.self.view_is c.requires.asks.ready none c.ask-shown.result asked.children.shown;
+      signals = search rules;
+      told = told-here c.args.now c.self.inside c.args.self.now c.self.invariant c.self.view_is c.requires.asks.ready none (g.S.Sink.state c.args.sink.now) (g.S.Sink.state c.ask-shown.new.sink) asked.children.told;
+    }
 
 pub disciplines::prio::peek_bands-loop-place-init : goal.disciplines::prio::peek_bands-loop-place-init
 disciplines::prio::peek_bands-loop-place-init g t c = (
@@ -448,14 +395,7 @@ pub disciplines::prio::peek_bands-returns-then-has_packet-clause-after : goal.di
 disciplines::prio::peek_bands-returns-then-has_packet-clause-after g t c = λ own.
     let band = slice_index_or c.loop-place.bands c.loop-place.place c.index-bands-place.result in
     let at = band-at c.args.now c.args.bands.now c.loop-place.bands c.loop-place.place c.loop-place.shown c.loop-place.invariant.0 c.index-bands-place.result c.loop-place-test.true in
-    band-shown c.args.now c.args.bands.now c.loop-place.bands c.loop-place.place c.loop-place.shown c.requires.ready c.loop-place.invariant.0 band at c.peek_after-shown.new.self c.peek_after-shown.result c.peek_after-shown.ensures.asked (sym c.if-has_packet.ensures) own
-
-pub disciplines::prio::peek_bands-returns-then-has_packet-clause-told : goal.disciplines::prio::peek_bands-returns-then-has_packet-clause-told
-disciplines::prio::peek_bands-returns-then-has_packet-clause-told g t c = λ own.
-    let band = slice_index_or c.loop-place.bands c.loop-place.place c.index-bands-place.result in
-    let at = band-at c.args.now c.args.bands.now c.loop-place.bands c.loop-place.place c.loop-place.shown c.loop-place.invariant.0 c.index-bands-place.result c.loop-place-test.true in
-    bands-told c.args.now c.args.bands.now c.loop-place.bands c.loop-place.place c.loop-place.shown c.requires.ready c.loop-place.invariant.0 band at c.peek_after-shown.new.self c.peek_after-shown.result c.peek_after-shown.ensures.asked
-    (g.S.Sink.state c.args.sink.now) (g.S.Sink.state c.loop-place.sink) (g.S.Sink.state c.peek_after-shown.new.sink) c.loop-place.invariant.1 c.peek_after-shown.ensures.told (sym c.if-has_packet.ensures) own
+    band-shown c.args.now c.args.bands.now c.loop-place.bands c.loop-place.place c.loop-place.shown c.requires.ready c.loop-place.invariant.0 band at c.peek_after-shown.new.self c.peek_after-shown.result c.peek_after-shown.ensures.asked (g.S.Sink.state c.args.sink.now) c.loop-place.invariant.1 (sym c.if-has_packet.ensures) own
 
 pub disciplines::prio::peek_bands-returns-then-has_packet-clause-kept : goal.disciplines::prio::peek_bands-returns-then-has_packet-clause-kept
 disciplines::prio::peek_bands-returns-then-has_packet-clause-kept g t c =
@@ -466,15 +406,11 @@ disciplines::prio::peek_bands-loop-place-preserved g t c =
     let band = slice_index_or c.loop-place.bands c.loop-place.place c.index-bands-place.result in
     let at = band-at c.args.now c.args.bands.now c.loop-place.bands c.loop-place.place c.loop-place.shown c.loop-place.invariant.0 c.index-bands-place.result c.loop-place-test.true in
     let goes = bands-go-on c.args.now c.args.bands.now c.loop-place.bands c.loop-place.place c.loop-place.shown c.requires.ready c.loop-place.invariant.0 band at c.peek_after-shown.new.self c.peek_after-shown.result c.peek_after-shown.ensures.asked
-    (g.S.Sink.state c.args.sink.now) (g.S.Sink.state c.loop-place.sink) (g.S.Sink.state c.peek_after-shown.new.sink) c.loop-place.invariant.1 c.peek_after-shown.ensures.told (sym c.if-has_packet.ensures) in
+    (g.S.Sink.state c.args.sink.now) c.loop-place.invariant.1 (sym c.if-has_packet.ensures) in
     (goes.0, goes.1, g.met.S.Sink.keeps_on c.args.sink.now c.loop-place.sink c.peek_after-shown.new.sink c.loop-place.invariant.2 c.peek_after-shown.ensures.kept, c.peek_after-shown.ensures.signals)
 
 pub disciplines::prio::peek_bands-returns-clause-after : goal.disciplines::prio::peek_bands-returns-clause-after
-disciplines::prio::peek_bands-returns-clause-after g t c = λ own. bands-end c.args.now c.args.bands.now c.loop-place.bands c.loop-place.place c.loop-place.shown c.loop-place.invariant.0 c.loop-place-test.false c.loop-place.auto.place-end own
-
-pub disciplines::prio::peek_bands-returns-clause-told : goal.disciplines::prio::peek_bands-returns-clause-told
-disciplines::prio::peek_bands-returns-clause-told g t c = λ own.
-    subst (λ notes. IsToldOf notes (g.S.Sink.state c.args.sink.now) (g.S.Sink.state c.loop-place.sink)) (bands-rises c.args.now c.args.bands.now c.loop-place.bands c.loop-place.place c.loop-place.shown c.loop-place.invariant.0 c.loop-place-test.false c.loop-place.auto.place-end own) c.loop-place.invariant.1
+disciplines::prio::peek_bands-returns-clause-after g t c = λ own. bands-end c.args.now c.args.bands.now c.loop-place.bands c.loop-place.place c.loop-place.shown c.loop-place.invariant.0 c.loop-place-test.false c.loop-place.auto.place-end c.loop-place.invariant.1 own
 
 pub disciplines::prio::peek_bands-returns-clause-kept : goal.disciplines::prio::peek_bands-returns-clause-kept
 disciplines::prio::peek_bands-returns-clause-kept g t c = c.loop-place.invariant.2

@@ -3,19 +3,19 @@ ghost use Rattle.std.specs.Prelude.{◌≡◌, ◌<◌, ◌≤◌, None, OnErr, 
 ghost use Rattle.q_drr.specs.Schedule.{place_of};
 ghost use Rattle.q_packet.specs.Descriptor.{Descriptor};
 ghost use Rattle.q_codel.specs.Losses.{IsTold};
-ghost use Rattle.q_model.specs.Ask.{ask, ask_drr};
+ghost use Rattle.q_model.specs.Ask.{ask_drr};
 ghost use Rattle.q_model.specs.Beneath.{totals_in};
 ghost use Rattle.q_model.specs.Filters.{named_class};
 ghost use Rattle.q_model.specs.Node as spec;
-ghost use Rattle.q_model.specs.Node.{Own, shape};
+ghost use Rattle.q_model.specs.Node.{Own};
 ghost use Rattle.q_model.specs.Pop.{pop};
 ghost use Rattle.q_model.specs.Work.{settled_class};
-ghost use Rattle.q_tree.specs.AskSteps.{AreAsked, CanAskOnce, CanServe, IsAskedOnce, IsGivenBy, IsToldOf, answers, no_signals, signals_of};
+ghost use Rattle.q_tree.specs.AskSteps.{CanAskOnce, CanBegin, CanServe, IsAskedOnce, IsGivenBy, answers, signals_of};
 ghost use Rattle.q_tree.specs.Changing.{drr_same};
 ghost use Rattle.q_tree.specs.Choosing.{drr_choice};
 ghost use Rattle.q_tree.specs.Holding.{held_with};
 ghost use Rattle.q_tree.specs.Kept.{Kept};
-ghost use Rattle.q_tree.specs.Meeting.{AreUnserved, IsMet};
+ghost use Rattle.q_tree.specs.Meeting.{AreUnserved, HasServed, IsMet};
 ghost use Rattle.q_tree.specs.Purging.{purged};
 ghost use Rattle.q_tree.specs.PutSteps.{packets_beneath};
 ghost use Rattle.q_tree.specs.ReadyAt.{of_class, outlook, paid};
@@ -104,13 +104,9 @@ pub(crate) fn dequeue_class<S: Sink>(
     signals: &mut Signals,
     sink: &mut S,
 ) -> Shown
-    requires ready { CanServe now active.old classes.old }
-    requires sink { length (packets_beneath classes.old) ≤ (S.state sink.old).room }
-    requires clean { signals.old ≡ no_signals }
-    ensures active { (own : Own) → spec.Drr active.new ≡ (ask_drr own (answers now classes.old) active.old).peeked.own.discipline }
-    ensures after { (own : Own) → AreAsked (ask_drr own (answers now classes.old) active.old) classes.old classes.new result }
+    requires { CanBegin (CanServe now active.old classes.old) (length (packets_beneath classes.old)) (S.state sink.old).room signals.old }
+    ensures served { (own : Own) → HasServed own now active.old active.new classes.old classes.new result (S.state sink.old) (S.state sink.new) }
     ensures packet { out.new ≡ unwrap_or result.packet out.old }
-    ensures told { (own : Own) → IsToldOf (ask_drr own (answers now classes.old) active.old).rises (S.state sink.old) (S.state sink.new) }
     ensures signals { signals.new ≡ signals_of result }
     ensures kept { S.keeps sink.old sink.new }
 {
@@ -135,12 +131,9 @@ fn meet_class<S: Sink>(
     signals: &mut Signals,
     sink: &mut S,
 ) -> Shown
-    requires ready { CanServe now active.old classes.old }
-    requires sink { length (packets_beneath classes.old) ≤ (S.state sink.old).room }
-    requires clean { signals.old ≡ no_signals }
-    ensures met { (p : Descriptor) → result.packet ≡ Some p → IsMet now met.new active.old active.new classes.old classes.new result }
-    ensures nothing { result.packet ≡ None → AreUnserved now active.old active.new classes.old classes.new result }
-    ensures told { (own : Own) → IsToldOf (ask_drr own (answers now classes.old) active.old).rises (S.state sink.old) (S.state sink.new) }
+    requires { CanBegin (CanServe now active.old classes.old) (length (packets_beneath classes.old)) (S.state sink.old).room signals.old }
+    ensures met { (p : Descriptor) → result.packet ≡ Some p → IsMet now met.new active.old active.new classes.old classes.new result (S.state sink.old) (S.state sink.new) }
+    ensures nothing { result.packet ≡ None → AreUnserved now active.old active.new classes.old classes.new result (S.state sink.old) (S.state sink.new) }
     ensures signals { signals.new ≡ signals_of result }
     ensures kept { S.keeps sink.old sink.new }
 {
@@ -193,13 +186,9 @@ pub(crate) fn peek_classes<S: Sink>(
     sink: &mut S,
 ) -> Shown
     requires none { held.old ≡ None }
-    requires ready { CanServe now active.old classes.old }
-    requires sink { length (packets_beneath classes.old) ≤ (S.state sink.old).room }
-    requires clean { signals.old ≡ no_signals }
-    ensures active { (own : Own) → spec.Drr active.new ≡ (ask_drr own (answers now classes.old) active.old).peeked.own.discipline }
-    ensures after { (own : Own) → AreAsked (ask_drr own (answers now classes.old) active.old) classes.old classes.new result }
+    requires asks { CanBegin (CanServe now active.old classes.old) (length (packets_beneath classes.old)) (S.state sink.old).room signals.old }
+    ensures served { (own : Own) → HasServed own now active.old active.new classes.old classes.new result (S.state sink.old) (S.state sink.new) }
     ensures held { (own : Own) → held.new ≡ held_with result.packet (ask_drr own (answers now classes.old) active.old).peeked.own.since }
-    ensures told { (own : Own) → IsToldOf (ask_drr own (answers now classes.old) active.old).rises (S.state sink.old) (S.state sink.new) }
     ensures signals { signals.new ≡ signals_of result }
     ensures kept { S.keeps sink.old sink.new }
 {
@@ -225,8 +214,7 @@ fn peek_class<S: Sink>(
 ) -> Shown
     requires ready { is_unasked ≡ true → CanAskOnce now class.old so_far (S.state sink.old).room }
     requires counted { signals.old ≡ signals_of so_far }
-    ensures asked { is_unasked ≡ true → IsAskedOnce now class.old class.new so_far result }
-    ensures told { is_unasked ≡ true → IsToldOf (ask now (shape class.old)).rises (S.state sink.old) (S.state sink.new) }
+    ensures asked { is_unasked ≡ true → IsAskedOnce now class.old class.new so_far result (S.state sink.old) (S.state sink.new) }
     ensures at_hand { is_unasked ≡ false → (class.new ≡ class.old) × (result ≡ record so_far { packet = (pop class.old).shown }) }
     ensures not_lost { is_unasked ≡ false → S.state sink.new ≡ S.state sink.old }
     ensures signals { signals.new ≡ signals_of result }

@@ -9,7 +9,7 @@ ghost use Rattle.q_model.specs.Tally.{no_totals};
 ghost use Rattle.q_model.specs.declared.filter.Filter.{Filter};
 ghost use Rattle.q_packet.specs.declared.cause.Cause.TheVariants.{OverLimit};
 ghost use Rattle.q_packet.specs.declared.stamped.Stamped.{Stamped};
-ghost use Rattle.q_tree.specs.ArriveSteps.{HasComeIn, IsPlacedIn, nothing_lost};
+ghost use Rattle.q_tree.specs.ArriveSteps.{HasArrived, HasComeIn, IsPlacedIn, nothing_lost};
 ghost use Rattle.q_tree.specs.Changing.{bfifo_answer, pfifo_answer};
 ghost use Rattle.q_tree.specs.Making.{IsNewNode};
 ghost use Rattle.q_tree.specs.Planning.{device_of};
@@ -103,11 +103,9 @@ pub(crate) fn enqueue_in_fifo<S: Sink>(
 ) -> Result<Arrived, AllocError>
     requires sink { 1 ≤ (S.state sink.old).room }
     requires clean { lost.old ≡ nothing_lost }
-    ensures after { (filters : List Filter) → IfOk result (λ outcome. HasComeIn now packet.now filters (code.Fifo fifo.old) (code.Fifo fifo.new) outcome (S.state sink.old) (S.state sink.new)) }
-    ensures same { OnErr result (IsPlacedIn (code.Fifo fifo.old) (code.Fifo fifo.new)) }
-    ensures not_lost { OnErr result (S.state sink.new ≡ S.state sink.old) }
-    ensures succeeds { (takes fifo.old.limit fifo.old.packets packet.now.len ≡ true → length fifo.old.packets < fifo.old.places) → IsOk result }
-    ensures lost_is { IfOk result (λ outcome. lost.new ≡ outcome) }
+    ensures arrives { (filters : List Filter) → HasArrived result (λ outcome. HasComeIn now packet.now filters (code.Fifo fifo.old) (code.Fifo fifo.new) outcome (S.state sink.old) (S.state sink.new))
+        (IsPlacedIn (code.Fifo fifo.old) (code.Fifo fifo.new)) (takes fifo.old.limit fifo.old.packets packet.now.len ≡ true → length fifo.old.packets < fifo.old.places)
+        lost.new (S.state sink.old) (S.state sink.new) }
     ensures kept { S.keeps sink.old sink.new }
 {
     match choose(fifo, packet) {

@@ -15,7 +15,7 @@ ghost use Rattle.q_model.specs.Pop.{first_shown, pop};
 ghost use Rattle.q_model.specs.Refusals.{most_nodes};
 ghost use Rattle.q_model.specs.declared.filter.Filter.{Filter};
 ghost use Rattle.q_model.specs.declared.kind.Kind.TheVariants as kind;
-ghost use Rattle.q_tree.specs.AskSteps.{AreAsked, CanAskEach, IsToldOf, answers, no_signals, signals_of};
+ghost use Rattle.q_tree.specs.AskSteps.{AreAsked, CanAskEach, CanBegin, answers, signals_of};
 ghost use Rattle.q_tree.specs.Changing.{IsChange, MakesChildren, leaves_answer, nodes_from};
 ghost use Rattle.q_tree.specs.Choosing.{child_of};
 ghost use Rattle.q_tree.specs.Making.{AreNew};
@@ -94,12 +94,9 @@ pub(crate) fn dequeue_bands<S: Sink>(
     signals: &mut Signals,
     sink: &mut S,
 ) -> Shown
-    requires ready { CanAskEach now bands.old }
-    requires sink { length (packets_beneath bands.old) ≤ (S.state sink.old).room }
-    requires clean { signals.old ≡ no_signals }
-    ensures after { (own : Own) → AreSent (ask_prio own (answers now bands.old)) bands.old bands.new result }
+    requires { CanBegin (CanAskEach now bands.old) (length (packets_beneath bands.old)) (S.state sink.old).room signals.old }
+    ensures after { (own : Own) → AreSent (ask_prio own (answers now bands.old)) bands.old bands.new result (S.state sink.old) (S.state sink.new) }
     ensures packet { out.new ≡ unwrap_or result.packet out.old }
-    ensures told { (own : Own) → IsToldOf (ask_prio own (answers now bands.old)).rises (S.state sink.old) (S.state sink.new) }
     ensures signals { signals.new ≡ signals_of result }
     ensures kept { S.keeps sink.old sink.new }
 {
@@ -127,11 +124,8 @@ pub(crate) fn peek_bands<S: Sink>(
     signals: &mut Signals,
     sink: &mut S,
 ) -> Shown
-    requires ready { CanAskEach now bands.old }
-    requires sink { length (packets_beneath bands.old) ≤ (S.state sink.old).room }
-    requires clean { signals.old ≡ no_signals }
-    ensures after { (own : Own) → AreAsked (ask_prio own (answers now bands.old)) bands.old bands.new result }
-    ensures told { (own : Own) → IsToldOf (ask_prio own (answers now bands.old)).rises (S.state sink.old) (S.state sink.new) }
+    requires { CanBegin (CanAskEach now bands.old) (length (packets_beneath bands.old)) (S.state sink.old).room signals.old }
+    ensures after { (own : Own) → AreAsked (ask_prio own (answers now bands.old)) bands.old bands.new result (S.state sink.old) (S.state sink.new) }
     ensures signals { signals.new ≡ signals_of result }
     ensures kept { S.keeps sink.old sink.new }
 {

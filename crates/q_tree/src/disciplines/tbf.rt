@@ -5,7 +5,7 @@ ghost use Rattle.q_model.specs.Ask.{ask_tbf};
 ghost use Rattle.q_model.specs.Beneath.{beneath};
 ghost use Rattle.q_model.specs.Make.{limit_bytes};
 ghost use Rattle.q_model.specs.Node.{Own, Tbf, shape};
-ghost use Rattle.q_tree.specs.AskSteps.{AreAsked, CanAsk, IsToldOf, answers, no_signals, signals_of};
+ghost use Rattle.q_tree.specs.AskSteps.{AreAsked, CanAsk, CanBegin, IsToldOf, answers, signals_of};
 ghost use Rattle.q_tree.specs.Changing.{tbf_answer};
 ghost use Rattle.q_tree.specs.Holding.{held_with};
 ghost use Rattle.q_packet.specs.Descriptor.{Descriptor};
@@ -86,13 +86,10 @@ pub(crate) fn dequeue_child<S: Sink>(
     signals: &mut Signals,
     sink: &mut S,
 ) -> Shown
-    requires ready { CanAsk now child.old }
+    requires asks { CanBegin (CanAsk now child.old) (length (beneath child.old)) (S.state sink.old).room signals.old }
     requires order { bucket.old.last ≤ now }
-    requires sink { length (beneath child.old) ≤ (S.state sink.old).room }
-    requires clean { signals.old ≡ no_signals }
     ensures bucket { (own : Own) (limit : ℕ) → own.discipline ≡ Tbf bucket.old limit → Tbf bucket.new limit ≡ (ask_tbf now own (answers now (child.old ∷ [])) bucket.old limit).peeked.own.discipline }
-    ensures after { (own : Own) (limit : ℕ) → AreAsked (ask_tbf now own (answers now (child.old ∷ [])) bucket.old limit) (child.old ∷ []) (child.new ∷ []) result }
-    ensures told { (own : Own) (limit : ℕ) → IsToldOf (ask_tbf now own (answers now (child.old ∷ [])) bucket.old limit).rises (S.state sink.old) (S.state sink.new) }
+    ensures after { (own : Own) (limit : ℕ) → AreAsked (ask_tbf now own (answers now (child.old ∷ [])) bucket.old limit) (child.old ∷ []) (child.new ∷ []) result (S.state sink.old) (S.state sink.new) }
     ensures packet { out.new ≡ unwrap_or result.packet out.old }
     ensures signals { signals.new ≡ signals_of result }
     ensures kept { S.keeps sink.old sink.new }
@@ -115,13 +112,11 @@ fn allow_child<S: Sink>(
     signals: &mut Signals,
     sink: &mut S,
 ) -> Shown
-    requires ready { CanAsk now child.old }
+    requires asks { CanBegin (CanAsk now child.old) (length (beneath child.old)) (S.state sink.old).room signals.old }
     requires order { bucket.old.last ≤ now }
-    requires sink { length (beneath child.old) ≤ (S.state sink.old).room }
-    requires clean { signals.old ≡ no_signals }
     ensures bucket { (own : Own) (limit : ℕ) → own.discipline ≡ Tbf bucket.old limit → Tbf bucket.new limit ≡ (ask_tbf now own (answers now (child.old ∷ [])) bucket.old limit).peeked.own.discipline }
-    ensures allowed { (p : Descriptor) → result.packet ≡ Some p → IsAllowed now p bucket.old child.old child.new result }
-    ensures waits { result.packet ≡ None → (own : Own) (limit : ℕ) → IsWaiting now own limit bucket.old child.old child.new result }
+    ensures allowed { (p : Descriptor) → result.packet ≡ Some p → IsAllowed now p bucket.old child.old child.new result (S.state sink.old) (S.state sink.new) }
+    ensures waits { result.packet ≡ None → (own : Own) (limit : ℕ) → IsWaiting now own limit bucket.old child.old child.new result (S.state sink.old) (S.state sink.new) }
     ensures told { (own : Own) (limit : ℕ) → IsToldOf (ask_tbf now own (answers now (child.old ∷ [])) bucket.old limit).rises (S.state sink.old) (S.state sink.new) }
     ensures signals { signals.new ≡ signals_of result }
     ensures kept { S.keeps sink.old sink.new }
@@ -147,14 +142,11 @@ pub(crate) fn peek_child<S: Sink>(
     signals: &mut Signals,
     sink: &mut S,
 ) -> Shown
-    requires ready { CanAsk now child.old }
+    requires asks { CanBegin (CanAsk now child.old) (length (beneath child.old)) (S.state sink.old).room signals.old }
     requires order { bucket.old.last ≤ now }
     requires none { held.old ≡ None }
-    requires sink { length (beneath child.old) ≤ (S.state sink.old).room }
-    requires clean { signals.old ≡ no_signals }
     ensures bucket { (own : Own) (limit : ℕ) → own.discipline ≡ Tbf bucket.old limit → Tbf bucket.new limit ≡ (ask_tbf now own (answers now (child.old ∷ [])) bucket.old limit).peeked.own.discipline }
-    ensures after { (own : Own) (limit : ℕ) → AreAsked (ask_tbf now own (answers now (child.old ∷ [])) bucket.old limit) (child.old ∷ []) (child.new ∷ []) result }
-    ensures told { (own : Own) (limit : ℕ) → IsToldOf (ask_tbf now own (answers now (child.old ∷ [])) bucket.old limit).rises (S.state sink.old) (S.state sink.new) }
+    ensures after { (own : Own) (limit : ℕ) → AreAsked (ask_tbf now own (answers now (child.old ∷ [])) bucket.old limit) (child.old ∷ []) (child.new ∷ []) result (S.state sink.old) (S.state sink.new) }
     ensures held { (own : Own) (limit : ℕ) → held.new ≡ held_with result.packet (ask_tbf now own (answers now (child.old ∷ [])) bucket.old limit).peeked.own.since }
     ensures signals { signals.new ≡ signals_of result }
     ensures kept { S.keeps sink.old sink.new }

@@ -1,4 +1,4 @@
-use Rattle.std.proofs.Common.{◌≡◌, ℕ, ◌<◌, ◌-◌, ◌∙◌, ◌∷◌, List, [], length, refl, sym, ap, subst, arith, Option, Some, option_and_then}
+use Rattle.std.proofs.Common.{◌≡◌, ℕ, ◌<◌, ◌-◌, ◌∙◌, ◌∷◌, List, [], length, refl, sym, ap, subst, arith, rules, Option, Some, option_and_then}
 use Rattle.std.specs.Prelude.{if◌then◌else◌, IfOk, OnErr, nat_lt, slice_get, slice_index, true}
 use Rattle.std.proofs.lemmas.Option.{slice_get_past, slice_get_read}
 use Rattle.std.proofs.lemmas.List.{get_or-set_same}
@@ -27,7 +27,7 @@ use Rattle.q_tree.specs.Seen.{children_seen, places_seen, discipline_seen}
 use Rattle.q_tree.specs.declared.node.Discipline.{Discipline}
 use Rattle.q_tree.specs.declared.node.Discipline.TheVariants as code
 use Rattle.q_tree.specs.declared.outcome.Outcome.{Outcome}
-use Rattle.q_tree.proofs.Arriving.{drr-way, fifo-place, flows-after, flows-place, gone-after, gone-in, gone-same, nobody, on-err, place-below, placed-at, prio-way, refused-in, tbf-way, through-past}
+use Rattle.q_tree.proofs.Arriving.{arrived-as, drr-way, fifo-place, flows-after, flows-place, gone-arrived, gone-in, nobody, on-err, place-below, placed-at, prio-way, refused-in, tbf-way, through-past}
 use Rattle.q_tree.proofs.ChoosingLemmas.{child-missing, child-there, drr-child, drr-refused, tbf-child, tbf-refused}
 use Rattle.q_tree.proofs.ArrivedNodes.{can-come-in, come-after, come-kept, come-lost, come-told, place-within, placed-after, placed-kept, within-room}
 use Rattle.q_tree.proofs.HereLemmas.{flow-packets}
@@ -39,20 +39,19 @@ use Rattle.q_tree.proofs.node.+enqueue.Goals as goal
 pub Discipline::enqueue-enqueue_in_fifo-requires-clause-sink : goal.Discipline::enqueue-enqueue_in_fifo-requires-clause-sink
 Discipline::enqueue-enqueue_in_fifo-requires-clause-sink g t c = omega (arith, c.requires.sink)
 
-pub Discipline::enqueue-returns-in-Fifo-clause-after : goal.Discipline::enqueue-returns-in-Fifo-clause-after
-Discipline::enqueue-returns-in-Fifo-clause-after g t c =
-    subst (λ (d : Discipline). IfOk c.enqueue_in_fifo.result
-    (λ (o : Outcome). HasComeIn c.args.now c.args.packet.now c.args.filters.now d (code.Fifo c.enqueue_in_fifo.new.fifo) o
-    (g.S.Sink.state c.args.sink.now) (g.S.Sink.state c.enqueue_in_fifo.new.sink))) (sym c.in-Fifo.is)
-    (c.enqueue_in_fifo.ensures.after c.args.filters.now)
-
-pub Discipline::enqueue-returns-in-Fifo-clause-same : goal.Discipline::enqueue-returns-in-Fifo-clause-same
-Discipline::enqueue-returns-in-Fifo-clause-same g t c =
-    subst (λ (d : Discipline). OnErr c.enqueue_in_fifo.result (IsPlacedIn d (code.Fifo c.enqueue_in_fifo.new.fifo))) (sym c.in-Fifo.is)
-    c.enqueue_in_fifo.ensures.same
-
-pub Discipline::enqueue-returns-in-Fifo-clause-succeeds : goal.Discipline::enqueue-returns-in-Fifo-clause-succeeds
-Discipline::enqueue-returns-in-Fifo-clause-succeeds g t c = λ h. c.enqueue_in_fifo.ensures.succeeds (fifo-place c.args.packet.now c.args.filters.now c.args.self.now c.in-Fifo.fifo c.in-Fifo.is h)
+pub Discipline::enqueue-returns-in-Fifo-clause-arrives : goal.Discipline::enqueue-returns-in-Fifo-clause-arrives
+Discipline::enqueue-returns-in-Fifo-clause-arrives g t c =
+    let e = c.enqueue_in_fifo.ensures.arrives c.args.filters.now in
+    record {
+      after =
+          subst (λ (d : Discipline). IfOk c.enqueue_in_fifo.result
+          (λ (o : Outcome). HasComeIn c.args.now c.args.packet.now c.args.filters.now d (code.Fifo c.enqueue_in_fifo.new.fifo) o
+          (g.S.Sink.state c.args.sink.now) (g.S.Sink.state c.enqueue_in_fifo.new.sink))) (sym c.in-Fifo.is) e.after;
+      same = subst (λ (d : Discipline). OnErr c.enqueue_in_fifo.result (IsPlacedIn d (code.Fifo c.enqueue_in_fifo.new.fifo))) (sym c.in-Fifo.is) e.same;
+      not_lost = e.not_lost;
+      succeeds = λ h. e.succeeds (fifo-place c.args.packet.now c.args.filters.now c.args.self.now c.in-Fifo.fifo c.in-Fifo.is h);
+      lost_is = e.lost_is;
+    }
 
 pub Discipline::enqueue-enqueue_in_flows-requires-clause-flow : goal.Discipline::enqueue-enqueue_in_flows-requires-clause-flow
 Discipline::enqueue-enqueue_in_flows-requires-clause-flow g t c =
@@ -69,26 +68,26 @@ Discipline::enqueue-enqueue_in_flows-requires-clause-sink g t c =
       own-room c.args.self.now,
     )
 
-pub Discipline::enqueue-returns-in-FqCodel-clause-after : goal.Discipline::enqueue-returns-in-FqCodel-clause-after
-Discipline::enqueue-returns-in-FqCodel-clause-after g t c =
+pub Discipline::enqueue-returns-in-FqCodel-clause-arrives : goal.Discipline::enqueue-returns-in-FqCodel-clause-arrives
+Discipline::enqueue-returns-in-FqCodel-clause-arrives g t c =
     let e = c.enqueue_in_flows.ensures in
     let is : discipline_seen c.args.self.now ≡ spec.FqCodel c.deref_mut.result.now.state =
     ap discipline_seen c.in-FqCodel.is ∙ ap (λ (q : FqView). spec.FqCodel q.state) (sym c.deref_mut.ensures.value) in
     let places : places_seen c.args.self.now ≡ c.deref_mut.result.now.places = (ap places_seen c.in-FqCodel.is ∙ ap (λ (q : FqView). q.places) (sym c.deref_mut.ensures.value)) in
-    flows-after c.args.now c.args.packet.now c.args.filters.now c.args.self.now
-    (code.FqCodel (with_value c.in-FqCodel.queue
-    (record { state = c.deref_mut.result.now.state; places = c.enqueue_in_flows.new.queue.places })))
-    (code.FqCodel (with_value c.in-FqCodel.queue c.enqueue_in_flows.new.queue))
-    c.deref_mut.result.now.state c.enqueue_in_flows.new.queue.state c.enqueue_in_flows.new.queue.places c.enqueue_in_flows.result
-    (g.S.Sink.state c.args.sink.now) (g.S.Sink.state c.enqueue_in_flows.new.sink)
-    is (ap children_seen c.in-FqCodel.is) (omega (arith, places, e.grows)) refl refl refl refl refl refl e.place (λ there. e.stays (omega (arith, there, places)) ∙ sym places) e.put
-
-pub Discipline::enqueue-returns-in-FqCodel-clause-succeeds : goal.Discipline::enqueue-returns-in-FqCodel-clause-succeeds
-Discipline::enqueue-returns-in-FqCodel-clause-succeeds g t c =
-    λ h. c.enqueue_in_flows.ensures.succeeds
-    (flows-place c.args.packet.now c.args.filters.now c.args.self.now c.deref_mut.result.now.state c.deref_mut.result.now.places
-    (ap discipline_seen c.in-FqCodel.is ∙ ap (λ (q : FqView). spec.FqCodel q.state) (sym c.deref_mut.ensures.value))
-    (ap places_seen c.in-FqCodel.is ∙ ap (λ (q : FqView). q.places) (sym c.deref_mut.ensures.value)) h)
+    record {
+      after =
+          flows-after c.args.now c.args.packet.now c.args.filters.now c.args.self.now
+          (code.FqCodel (with_value c.in-FqCodel.queue
+          (record { state = c.deref_mut.result.now.state; places = c.enqueue_in_flows.new.queue.places })))
+          (code.FqCodel (with_value c.in-FqCodel.queue c.enqueue_in_flows.new.queue))
+          c.deref_mut.result.now.state c.enqueue_in_flows.new.queue.state c.enqueue_in_flows.new.queue.places c.enqueue_in_flows.result
+          (g.S.Sink.state c.args.sink.now) (g.S.Sink.state c.enqueue_in_flows.new.sink)
+          is (ap children_seen c.in-FqCodel.is) (omega (arith, places, e.grows)) refl refl refl refl refl refl e.place (λ there. e.stays (omega (arith, there, places)) ∙ sym places) e.put;
+      same = search rules;
+      not_lost = e.not_lost;
+      succeeds = λ h. e.succeeds (flows-place c.args.packet.now c.args.filters.now c.args.self.now c.deref_mut.result.now.state c.deref_mut.result.now.places is places h);
+      lost_is = e.lost_is;
+    }
 
 pub Discipline::enqueue-enqueue-requires : goal.Discipline::enqueue-enqueue-requires
 Discipline::enqueue-enqueue-requires g t c κs within =
@@ -133,8 +132,8 @@ Discipline::enqueue-enqueue-requires g t c κs within =
       ),
     )
 
-pub Discipline::enqueue-returns-in-Child-clause-after : goal.Discipline::enqueue-returns-in-Child-clause-after
-Discipline::enqueue-returns-in-Child-clause-after g t c =
+pub Discipline::enqueue-returns-in-Child-clause-arrives : goal.Discipline::enqueue-returns-in-Child-clause-arrives
+Discipline::enqueue-returns-in-Child-clause-arrives g t c =
     let same : c.args.self.now ≡ code.Prio c.in-Prio-self-2.priomap c.in-Prio-self-2.bands = c.in-Prio.is ∙ c.in-Prio-self-2.is in
     let all : c.len.result ≡ length c.in-Prio-self-2.bands.items =
     omega (
@@ -151,46 +150,14 @@ Discipline::enqueue-returns-in-Child-clause-after g t c =
     c.in-Child.place =
     prio-way c.args.packet.now c.args.filters.now c.args.self.now c.in-Prio-self.priomap c.in-Prio-self-2.bands.items c.in-Child.place (ap
     discipline_seen (c.in-Prio.is ∙ c.in-Prio-self.is)) (ap children_seen same) chosen.0 in
-    gone-after c.args.now c.args.packet.now c.args.filters.now c.args.self.now (code.Prio c.in-Prio-self-2.priomap (with_item c.in-Prio-self-2.bands
-    c.in-Child.place c.enqueue.new.self)) c.in-Prio-self-2.bands.items c.in-Child.place c.index_mut.result.now c.enqueue.new.self (ap children_seen
-    same) inside c.index_mut.ensures.value to
+    gone-arrived c.args.now c.args.packet.now c.args.filters.now c.args.self.now c.in-Prio-self-2.bands.items c.in-Child.place c.index_mut.result.now
+    c.enqueue.new.self (ap children_seen same) inside c.index_mut.ensures.value to
     (λ m. code.Prio c.in-Prio-self-2.priomap (with_item c.in-Prio-self-2.bands c.in-Child.place m)) (λ m. refl) (λ m. sym (ap discipline_seen same))
-    (λ m. sym (ap places_seen same)) refl (sym (ap places_seen same))
-    (λ b. sym (ap (λ (d : Discipline). settled_in c.in-Child.place b (discipline_seen d)) same)) c.enqueue.result (g.S.Sink.state c.args.sink.now)
-    (g.S.Sink.state c.enqueue.new.sink) c.enqueue.ensures.after
-    c.enqueue.ensures.told
+    (λ m. sym (ap places_seen same)) (λ b. sym (ap (λ (d : Discipline). settled_in c.in-Child.place b (discipline_seen d)) same)) c.enqueue.result
+    c.enqueue.new.lost (g.S.Sink.state c.args.sink.now) (g.S.Sink.state c.enqueue.new.sink) c.enqueue.ensures.arrives c.enqueue.ensures.told
 
-pub Discipline::enqueue-returns-in-Child-clause-same : goal.Discipline::enqueue-returns-in-Child-clause-same
-Discipline::enqueue-returns-in-Child-clause-same g t c =
-    let same : c.args.self.now ≡ code.Prio c.in-Prio-self-2.priomap c.in-Prio-self-2.bands = c.in-Prio.is ∙ c.in-Prio-self-2.is in
-    gone-same c.args.self.now (code.Prio c.in-Prio-self-2.priomap (with_item c.in-Prio-self-2.bands c.in-Child.place c.enqueue.new.self))
-    c.in-Prio-self-2.bands.items c.in-Child.place c.index_mut.result.now c.enqueue.new.self c.enqueue.result (ap children_seen same)
-    c.index_mut.ensures.value refl (sym (ap discipline_seen same)) (sym (ap places_seen same)) c.enqueue.ensures.same
-
-pub Discipline::enqueue-returns-in-Child-clause-succeeds : goal.Discipline::enqueue-returns-in-Child-clause-succeeds
-Discipline::enqueue-returns-in-Child-clause-succeeds g t c =
-    let same : c.args.self.now ≡ code.Prio c.in-Prio-self-2.priomap c.in-Prio-self-2.bands = c.in-Prio.is ∙ c.in-Prio-self-2.is in
-    let all : c.len.result ≡ length c.in-Prio-self-2.bands.items =
-    omega (
-      arith,
-      c.len.ensures,
-      c.in-Prio-self.bands.ok,
-      ap (λ (d : Discipline). length (children_seen d)) (sym c.in-Prio-self.is ∙
-          c.in-Prio-self-2.is),
-    ) in
-    let chosen = child-there c.len.result (option_map_or (λ minor. minor - 1) (named_class c.args.filters.now c.args.packet.now) (slice_index
-    c.in-Prio-self.priomap c.args.packet.now.prio)) c.in-Child.place (sym c.in-Child.is ∙ c.choose-choice.ensures) in
-    let inside : c.in-Child.place < length c.in-Prio-self-2.bands.items = omega (arith, chosen.1, all) in
-    let to : way_in c.args.packet.now c.args.filters.now c.args.self.now ≡ through (ways c.args.packet.now c.in-Prio-self-2.bands.items)
-    c.in-Child.place =
-    prio-way c.args.packet.now c.args.filters.now c.args.self.now c.in-Prio-self.priomap c.in-Prio-self-2.bands.items c.in-Child.place (ap
-    discipline_seen (c.in-Prio.is ∙ c.in-Prio-self.is)) (ap children_seen same) chosen.0 in
-    λ h. c.enqueue.ensures.succeeds (place-below c.args.now c.args.packet.now c.args.filters.now c.args.self.now c.args.self.now (code.Prio
-    c.in-Prio-self-2.priomap (with_item c.in-Prio-self-2.bands c.in-Child.place c.enqueue.new.self)) c.in-Prio-self-2.bands.items c.in-Child.place
-    c.index_mut.result.now c.enqueue.new.self nobody (ap children_seen same) inside c.index_mut.ensures.value to h)
-
-pub Discipline::enqueue-returns-in-Refused-clause-after : goal.Discipline::enqueue-returns-in-Refused-clause-after
-Discipline::enqueue-returns-in-Refused-clause-after g t c =
+pub Discipline::enqueue-returns-in-Refused-clause-arrives : goal.Discipline::enqueue-returns-in-Refused-clause-arrives
+Discipline::enqueue-returns-in-Refused-clause-arrives g t c =
     let same : c.args.self.now ≡ code.Prio c.in-Prio-self-2.priomap c.in-Prio-self-2.bands = c.in-Prio.is ∙ c.in-Prio-self-2.is in
     let all : c.len.result ≡ length c.in-Prio-self-2.bands.items =
     omega (
@@ -210,10 +177,11 @@ Discipline::enqueue-returns-in-Refused-clause-after g t c =
     c.args.packet.now) (slice_index c.in-Prio-self.priomap c.args.packet.now.prio)) (slice_get_past c.in-Prio-self-2.bands.items (option_map_or
     (λ minor. minor - 1) (named_class c.args.filters.now c.args.packet.now) (slice_index c.in-Prio-self.priomap c.args.packet.now.prio)) (omega
     (arith, why.1, all))) ∙ ap refused (sym why.0) in
-    subst (λ (d : Discipline). HasComeIn c.args.now c.args.packet.now c.args.filters.now c.args.self.now d c.refuse.result (g.S.Sink.state c.args.sink.now) (g.S.Sink.state c.refuse.new.sink)) same
+    arrived-as c.refuse.result
+    (subst (λ (d : Discipline). HasComeIn c.args.now c.args.packet.now c.args.filters.now c.args.self.now d c.refuse.result (g.S.Sink.state c.args.sink.now) (g.S.Sink.state c.refuse.new.sink)) same
     (refused-in c.args.now c.args.packet.now c.in-Refused.cause c.args.filters.now c.args.self.now c.refuse.result (g.S.Sink.state c.args.sink.now)
     (g.S.Sink.state c.refuse.new.sink) (subst (λ (x : Cause). is_refusal x ≡
-    true) (sym why.0) refl) to _ refl c.refuse.ensures.outcome c.refuse.ensures.told)
+    true) (sym why.0) refl) to _ refl c.refuse.ensures.outcome c.refuse.ensures.told)) c.refuse.ensures.lost_is
 
 pub Discipline::enqueue-enqueue-requires-in-Child-choose : goal.Discipline::enqueue-enqueue-requires-in-Child-choose
 Discipline::enqueue-enqueue-requires-in-Child-choose g t c κs within =
@@ -248,8 +216,8 @@ Discipline::enqueue-enqueue-requires-in-Child-choose g t c κs within =
       ),
     )
 
-pub Discipline::enqueue-returns-in-Child-choose-clause-after : goal.Discipline::enqueue-returns-in-Child-choose-clause-after
-Discipline::enqueue-returns-in-Child-choose-clause-after g t c =
+pub Discipline::enqueue-returns-in-Child-choose-clause-arrives : goal.Discipline::enqueue-returns-in-Child-choose-clause-arrives
+Discipline::enqueue-returns-in-Child-choose-clause-arrives g t c =
     let kids : children_seen c.args.self.now ≡ c.deref_mut-in-Child-choose.result.now ∷ [] = ap children_seen c.in-Tbf.is ∙ ap (λ (x : Node Kept). x
     ∷ []) (sym c.deref_mut-in-Child-choose.ensures.value) in
     let to : way_in c.args.packet.now c.args.filters.now c.args.self.now ≡ through (ways c.args.packet.now (c.deref_mut-in-Child-choose.result.now ∷
@@ -258,31 +226,15 @@ Discipline::enqueue-returns-in-Child-choose-clause-after g t c =
     (ap discipline_seen c.in-Tbf.is) kids
     ∙ ap (λ b. if b then refused TooLong else through (ways c.args.packet.now (c.deref_mut-in-Child-choose.result.now ∷ [])) 0) (tbf-child
     (nat_lt c.in-Tbf.bucket.burst c.args.packet.now.len) c.in-Child-choose.field-0 (sym c.in-Child-choose.is ∙ c.choose.ensures)) in
-    gone-after c.args.now c.args.packet.now c.args.filters.now c.args.self.now (code.Tbf c.in-Tbf.bucket c.in-Tbf.limit (with_value c.in-Tbf.child
-    c.enqueue-in-Child-choose.new.self)) (c.deref_mut-in-Child-choose.result.now ∷ []) 0 c.deref_mut-in-Child-choose.result.now
-    c.enqueue-in-Child-choose.new.self kids (omega arith) refl to
-    (λ m. code.Tbf c.in-Tbf.bucket c.in-Tbf.limit (with_value c.in-Tbf.child m)) (λ m. refl) (λ m. sym (ap discipline_seen c.in-Tbf.is)) (λ m. sym
-    (ap places_seen c.in-Tbf.is)) refl (sym (ap places_seen c.in-Tbf.is))
-    (λ b. sym (ap (λ (d : Discipline). settled_in 0 b (discipline_seen d)) c.in-Tbf.is)) c.enqueue-in-Child-choose.result
-    (g.S.Sink.state c.args.sink.now) (g.S.Sink.state c.enqueue-in-Child-choose.new.sink) c.enqueue-in-Child-choose.ensures.after
-    c.enqueue-in-Child-choose.ensures.told
+    gone-arrived c.args.now c.args.packet.now c.args.filters.now c.args.self.now (c.deref_mut-in-Child-choose.result.now ∷ []) 0
+    c.deref_mut-in-Child-choose.result.now c.enqueue-in-Child-choose.new.self kids (omega arith) refl to
+    (λ m. code.Tbf c.in-Tbf.bucket c.in-Tbf.limit (with_value c.in-Tbf.child m)) (λ m. refl) (λ m. sym (ap discipline_seen c.in-Tbf.is))
+    (λ m. sym (ap places_seen c.in-Tbf.is)) (λ b. sym (ap (λ (d : Discipline). settled_in 0 b (discipline_seen d)) c.in-Tbf.is))
+    c.enqueue-in-Child-choose.result c.enqueue-in-Child-choose.new.lost (g.S.Sink.state c.args.sink.now)
+    (g.S.Sink.state c.enqueue-in-Child-choose.new.sink) c.enqueue-in-Child-choose.ensures.arrives c.enqueue-in-Child-choose.ensures.told
 
-pub Discipline::enqueue-returns-in-Child-choose-clause-succeeds : goal.Discipline::enqueue-returns-in-Child-choose-clause-succeeds
-Discipline::enqueue-returns-in-Child-choose-clause-succeeds g t c =
-    let kids : children_seen c.args.self.now ≡ c.deref_mut-in-Child-choose.result.now ∷ [] = ap children_seen c.in-Tbf.is ∙ ap (λ (x : Node Kept). x
-    ∷ []) (sym c.deref_mut-in-Child-choose.ensures.value) in
-    let to : way_in c.args.packet.now c.args.filters.now c.args.self.now ≡ through (ways c.args.packet.now (c.deref_mut-in-Child-choose.result.now ∷
-    [])) 0 =
-    tbf-way c.args.packet.now c.args.filters.now c.args.self.now c.in-Tbf.bucket c.in-Tbf.limit (c.deref_mut-in-Child-choose.result.now ∷ [])
-    (ap discipline_seen c.in-Tbf.is) kids
-    ∙ ap (λ b. if b then refused TooLong else through (ways c.args.packet.now (c.deref_mut-in-Child-choose.result.now ∷ [])) 0) (tbf-child
-    (nat_lt c.in-Tbf.bucket.burst c.args.packet.now.len) c.in-Child-choose.field-0 (sym c.in-Child-choose.is ∙ c.choose.ensures)) in
-    λ h. c.enqueue-in-Child-choose.ensures.succeeds (place-below c.args.now c.args.packet.now c.args.filters.now c.args.self.now c.args.self.now
-    (code.Tbf c.in-Tbf.bucket c.in-Tbf.limit (with_value c.in-Tbf.child c.enqueue-in-Child-choose.new.self)) (c.deref_mut-in-Child-choose.result.now
-    ∷ []) 0 c.deref_mut-in-Child-choose.result.now c.enqueue-in-Child-choose.new.self nobody kids (omega arith) refl to h)
-
-pub Discipline::enqueue-returns-in-Refused-choose-clause-after : goal.Discipline::enqueue-returns-in-Refused-choose-clause-after
-Discipline::enqueue-returns-in-Refused-choose-clause-after g t c =
+pub Discipline::enqueue-returns-in-Refused-choose-clause-arrives : goal.Discipline::enqueue-returns-in-Refused-choose-clause-arrives
+Discipline::enqueue-returns-in-Refused-choose-clause-arrives g t c =
     let why = tbf-refused (nat_lt c.in-Tbf.bucket.burst c.args.packet.now.len) c.in-Refused-choose.cause (sym c.in-Refused-choose.is ∙
     c.choose.ensures) in
     let to : way_in c.args.packet.now c.args.filters.now c.args.self.now ≡ refused c.in-Refused-choose.cause =
@@ -290,11 +242,12 @@ Discipline::enqueue-returns-in-Refused-choose-clause-after g t c =
     discipline_seen c.in-Tbf.is) refl
     ∙ ap (λ b. if b then refused TooLong else through (ways c.args.packet.now (children_seen c.args.self.now)) 0) why.0 ∙ ap refused (sym why.1)
     in
-    subst (λ (d : Discipline). HasComeIn c.args.now c.args.packet.now c.args.filters.now c.args.self.now d c.refuse-in-Refused-choose.result
+    arrived-as c.refuse-in-Refused-choose.result
+    (subst (λ (d : Discipline). HasComeIn c.args.now c.args.packet.now c.args.filters.now c.args.self.now d c.refuse-in-Refused-choose.result
     (g.S.Sink.state c.args.sink.now) (g.S.Sink.state c.refuse-in-Refused-choose.new.sink)) c.in-Tbf.is
     (refused-in c.args.now c.args.packet.now c.in-Refused-choose.cause c.args.filters.now c.args.self.now c.refuse-in-Refused-choose.result
     (g.S.Sink.state c.args.sink.now) (g.S.Sink.state c.refuse-in-Refused-choose.new.sink) (subst (λ (x : Cause). is_refusal x ≡ true) (sym why.1) refl) to _ refl
-    c.refuse-in-Refused-choose.ensures.outcome c.refuse-in-Refused-choose.ensures.told)
+    c.refuse-in-Refused-choose.ensures.outcome c.refuse-in-Refused-choose.ensures.told)) c.refuse-in-Refused-choose.ensures.lost_is
 
 pub Discipline::enqueue-enqueue-requires-in-Child-choose-2 : goal.Discipline::enqueue-enqueue-requires-in-Child-choose-2
 Discipline::enqueue-enqueue-requires-in-Child-choose-2 g t c κs within =
@@ -332,17 +285,8 @@ Discipline::enqueue-enqueue-requires-in-Child-choose-2 g t c κs within =
       ),
     )
 
-pub Discipline::enqueue-returns-in_err-outcome-in-Child-choose-2-clause-same :
-    goal.Discipline::enqueue-returns-in_err-outcome-in-Child-choose-2-clause-same
-Discipline::enqueue-returns-in_err-outcome-in-Child-choose-2-clause-same g t c =
-    on-err c.from_residual.result (placed-at c.args.self.now (code.Drr c.in-Drr.active (with_item c.in-Drr.classes c.in-Child-choose-2.place
-    c.enqueue-in-Child-choose-2.new.self)) c.in-Drr.classes.items c.in-Child-choose-2.place c.index_mut-in-Child-choose-2.result.now
-    c.enqueue-in-Child-choose-2.new.self (ap children_seen c.in-Drr.is) c.index_mut-in-Child-choose-2.ensures.value
-    c.in_err-outcome-in-Child-choose-2.ensures.same refl (sym (ap discipline_seen c.in-Drr.is)) (sym (ap places_seen c.in-Drr.is)))
-
-pub Discipline::enqueue-returns-in_err-outcome-in-Child-choose-2-clause-succeeds :
-    goal.Discipline::enqueue-returns-in_err-outcome-in-Child-choose-2-clause-succeeds
-Discipline::enqueue-returns-in_err-outcome-in-Child-choose-2-clause-succeeds g t c =
+pub Discipline::enqueue-returns-in_err-outcome-in-Child-choose-2-clause-arrives : goal.Discipline::enqueue-returns-in_err-outcome-in-Child-choose-2-clause-arrives
+Discipline::enqueue-returns-in_err-outcome-in-Child-choose-2-clause-arrives g t c =
     let all : c.len-in-Drr.result ≡ length c.in-Drr.classes.items = omega (arith, c.len-in-Drr.ensures, c.in-Drr.classes.ok) in
     let chosen = drr-child c.len-in-Drr.result c.in-Child-choose-2.place (option_and_then (λ minor. drr.place_of minor c.in-Drr.active.classes)
     (named_class c.args.filters.now c.args.packet.now)) (sym c.in-Child-choose-2.is ∙ c.choose-in-Drr.ensures) in
@@ -353,13 +297,24 @@ Discipline::enqueue-returns-in_err-outcome-in-Child-choose-2-clause-succeeds g t
     minor c.in-Drr.active.classes) (named_class c.args.filters.now c.args.packet.now)) (ap discipline_seen c.in-Drr.is) (ap children_seen
     c.in-Drr.is) refl
     ∙ ap (λ (o : Option ℕ). option_map_or (through (ways c.args.packet.now c.in-Drr.classes.items)) o (refused NoClass)) chosen.0 in
-    λ h. absurd (false≢true (c.in_err-outcome-in-Child-choose-2.ensures.succeeds (place-below c.args.now c.args.packet.now c.args.filters.now
-    c.args.self.now c.args.self.now (code.Drr c.in-Drr.active (with_item c.in-Drr.classes c.in-Child-choose-2.place
-    c.enqueue-in-Child-choose-2.new.self)) c.in-Drr.classes.items c.in-Child-choose-2.place c.index_mut-in-Child-choose-2.result.now
-    c.enqueue-in-Child-choose-2.new.self nobody (ap children_seen c.in-Drr.is) inside c.index_mut-in-Child-choose-2.ensures.value to h)))
+    record {
+      after = search rules;
+      same =
+          on-err c.from_residual.result (placed-at c.args.self.now (code.Drr c.in-Drr.active (with_item c.in-Drr.classes c.in-Child-choose-2.place
+          c.enqueue-in-Child-choose-2.new.self)) c.in-Drr.classes.items c.in-Child-choose-2.place c.index_mut-in-Child-choose-2.result.now
+          c.enqueue-in-Child-choose-2.new.self (ap children_seen c.in-Drr.is) c.index_mut-in-Child-choose-2.ensures.value
+          c.in_err-outcome-in-Child-choose-2.ensures.arrives.same refl (sym (ap discipline_seen c.in-Drr.is)) (sym (ap places_seen c.in-Drr.is)));
+      not_lost = search rules;
+      succeeds =
+          λ h. absurd (false≢true (c.in_err-outcome-in-Child-choose-2.ensures.arrives.succeeds (place-below c.args.now c.args.packet.now c.args.filters.now
+          c.args.self.now c.args.self.now (code.Drr c.in-Drr.active (with_item c.in-Drr.classes c.in-Child-choose-2.place
+          c.enqueue-in-Child-choose-2.new.self)) c.in-Drr.classes.items c.in-Child-choose-2.place c.index_mut-in-Child-choose-2.result.now
+          c.enqueue-in-Child-choose-2.new.self nobody (ap children_seen c.in-Drr.is) inside c.index_mut-in-Child-choose-2.ensures.value to h)));
+      lost_is = search rules;
+    }
 
-pub Discipline::enqueue-returns-in-Child-choose-2-clause-after : goal.Discipline::enqueue-returns-in-Child-choose-2-clause-after
-Discipline::enqueue-returns-in-Child-choose-2-clause-after g t c =
+pub Discipline::enqueue-returns-in-Child-choose-2-clause-arrives : goal.Discipline::enqueue-returns-in-Child-choose-2-clause-arrives
+Discipline::enqueue-returns-in-Child-choose-2-clause-arrives g t c =
     let all : c.len-in-Drr.result ≡ length c.in-Drr.classes.items = omega (arith, c.len-in-Drr.ensures, c.in-Drr.classes.ok) in
     let chosen = drr-child c.len-in-Drr.result c.in-Child-choose-2.place (option_and_then (λ minor. drr.place_of minor c.in-Drr.active.classes)
     (named_class c.args.filters.now c.args.packet.now)) (sym c.in-Child-choose-2.is ∙ c.choose-in-Drr.ensures) in
@@ -370,13 +325,14 @@ Discipline::enqueue-returns-in-Child-choose-2-clause-after g t c =
     minor c.in-Drr.active.classes) (named_class c.args.filters.now c.args.packet.now)) (ap discipline_seen c.in-Drr.is) (ap children_seen
     c.in-Drr.is) refl
     ∙ ap (λ (o : Option ℕ). option_map_or (through (ways c.args.packet.now c.in-Drr.classes.items)) o (refused NoClass)) chosen.0 in
-    let h = c.in_ok-outcome-in-Child-choose-2.ensures.after in
+    let h = c.in_ok-outcome-in-Child-choose-2.ensures.arrives.after in
     let stored : c.index.result.now ≡ c.enqueue-in-Child-choose-2.new.self = c.index.ensures ∙ get_or-set_same c.in-Drr.classes.items
     c.in-Child-choose-2.place c.enqueue-in-Child-choose-2.new.self c.index.result.now inside in
     let emptied = c.is_empty.ensures ∙ ap (λ (n : Node Kept). is_empty n) (stored ∙ h.becomes) ∙ is-empty-put c.args.now c.args.packet.now (route
     c.args.packet.now c.index_mut-in-Child-choose-2.result.now).path (route c.args.packet.now c.index_mut-in-Child-choose-2.result.now).refusal
     h.placed h.can in
-    gone-in c.args.now c.args.packet.now c.args.filters.now c.args.self.now (code.Drr c.in-Drr.active (with_item c.in-Drr.classes
+    arrived-as c.in_ok-outcome-in-Child-choose-2.outcome
+    (gone-in c.args.now c.args.packet.now c.args.filters.now c.args.self.now (code.Drr c.in-Drr.active (with_item c.in-Drr.classes
     c.in-Child-choose-2.place h.placed)) (code.Drr c.settle.new.active (with_item c.in-Drr.classes c.in-Child-choose-2.place
     c.enqueue-in-Child-choose-2.new.self)) c.in-Drr.classes.items c.in-Child-choose-2.place c.index_mut-in-Child-choose-2.result.now
     c.enqueue-in-Child-choose-2.new.self c.in_ok-outcome-in-Child-choose-2.outcome
@@ -386,10 +342,11 @@ Discipline::enqueue-returns-in-Child-choose-2-clause-after g t c =
     settled_in c.in-Child-choose-2.place (is_empty (put_along c.args.now c.args.packet.now (route c.args.packet.now
     c.index_mut-in-Child-choose-2.result.now).refusal (route c.args.packet.now c.index_mut-in-Child-choose-2.result.now).path (shape
     h.placed)).node) (discipline_seen d)) c.in-Drr.is))
-    (g.S.Sink.state c.args.sink.now) (g.S.Sink.state c.enqueue-in-Child-choose-2.new.sink) c.in_ok-outcome-in-Child-choose-2.ensures.told
+    (g.S.Sink.state c.args.sink.now) (g.S.Sink.state c.enqueue-in-Child-choose-2.new.sink) c.in_ok-outcome-in-Child-choose-2.ensures.told)
+    c.in_ok-outcome-in-Child-choose-2.ensures.arrives.lost_is
 
-pub Discipline::enqueue-returns-in-Refused-choose-2-clause-after : goal.Discipline::enqueue-returns-in-Refused-choose-2-clause-after
-Discipline::enqueue-returns-in-Refused-choose-2-clause-after g t c =
+pub Discipline::enqueue-returns-in-Refused-choose-2-clause-arrives : goal.Discipline::enqueue-returns-in-Refused-choose-2-clause-arrives
+Discipline::enqueue-returns-in-Refused-choose-2-clause-arrives g t c =
     let all : c.len-in-Drr.result ≡ length c.in-Drr.classes.items = omega (arith, c.len-in-Drr.ensures, c.in-Drr.classes.ok) in
     let why = drr-refused c.args.packet.now c.in-Drr.classes.items c.len-in-Drr.result c.in-Refused-choose-2.cause (option_and_then (λ minor.
     drr.place_of minor c.in-Drr.active.classes) (named_class c.args.filters.now c.args.packet.now)) all (sym c.in-Refused-choose-2.is ∙
@@ -399,11 +356,12 @@ Discipline::enqueue-returns-in-Refused-choose-2-clause-after g t c =
     minor c.in-Drr.active.classes) (named_class c.args.filters.now c.args.packet.now)) (ap discipline_seen c.in-Drr.is) (ap children_seen
     c.in-Drr.is) refl
     ∙ why.1 ∙ ap refused (sym why.0) in
-    subst (λ (d : Discipline). HasComeIn c.args.now c.args.packet.now c.args.filters.now c.args.self.now d c.refuse-in-Refused-choose-2.result
+    arrived-as c.refuse-in-Refused-choose-2.result
+    (subst (λ (d : Discipline). HasComeIn c.args.now c.args.packet.now c.args.filters.now c.args.self.now d c.refuse-in-Refused-choose-2.result
     (g.S.Sink.state c.args.sink.now) (g.S.Sink.state c.refuse-in-Refused-choose-2.new.sink)) c.in-Drr.is
     (refused-in c.args.now c.args.packet.now c.in-Refused-choose-2.cause c.args.filters.now c.args.self.now c.refuse-in-Refused-choose-2.result
     (g.S.Sink.state c.args.sink.now) (g.S.Sink.state c.refuse-in-Refused-choose-2.new.sink) (subst (λ (x : Cause). is_refusal x ≡ true) (sym why.0) refl) to _ refl
-    c.refuse-in-Refused-choose-2.ensures.outcome c.refuse-in-Refused-choose-2.ensures.told)
+    c.refuse-in-Refused-choose-2.ensures.outcome c.refuse-in-Refused-choose-2.ensures.told)) c.refuse-in-Refused-choose-2.ensures.lost_is
 
 pub Node::enqueue_further-enqueue-requires : goal.Node::enqueue_further-enqueue-requires
 Node::enqueue_further-enqueue-requires g t c κs within = (
@@ -418,18 +376,21 @@ Node::enqueue_further-enqueue-requires g t c κs within = (
 )
 
 pub Node::enqueue_further-invariant_of-self : goal.Node::enqueue_further-invariant_of-self
-Node::enqueue_further-invariant_of-self g t c = placed-kept c.self.inside c.args.self.now c.self.invariant c.self.view_is c.enqueue.new.self c.in_err-outcome.ensures.same
+Node::enqueue_further-invariant_of-self g t c = placed-kept c.self.inside c.args.self.now c.self.invariant c.self.view_is c.enqueue.new.self c.in_err-outcome.ensures.arrives.same
 
-pub Node::enqueue_further-returns-in_err-outcome-clause-same : goal.Node::enqueue_further-returns-in_err-outcome-clause-same
-Node::enqueue_further-returns-in_err-outcome-clause-same g t c =
-    on-err c.from_residual.result (placed-after c.self.inside c.args.self.now c.self.invariant c.self.view_is c.enqueue.new.self
-    c.in_err-outcome.ensures.same)
-
-pub Node::enqueue_further-returns-in_err-outcome-clause-succeeds : goal.Node::enqueue_further-returns-in_err-outcome-clause-succeeds
-Node::enqueue_further-returns-in_err-outcome-clause-succeeds g t c =
-    λ h. absurd (false≢true (c.in_err-outcome.ensures.succeeds
-    (place-within c.args.now c.args.packet.now c.self.inside c.args.self.now c.self.invariant c.self.view_is c.requires.ready c.self.inside.filters
-    refl h)))
+pub Node::enqueue_further-returns-in_err-outcome-clause-arrives : goal.Node::enqueue_further-returns-in_err-outcome-clause-arrives
+Node::enqueue_further-returns-in_err-outcome-clause-arrives g t c =
+    let e = c.in_err-outcome.ensures.arrives in
+    record {
+      after = search rules;
+      same = on-err c.from_residual.result (placed-after c.self.inside c.args.self.now c.self.invariant c.self.view_is c.enqueue.new.self e.same);
+      not_lost = search rules;
+      succeeds =
+          λ h. absurd (false≢true (e.succeeds
+          (place-within c.args.now c.args.packet.now c.self.inside c.args.self.now c.self.invariant c.self.view_is c.requires.ready c.self.inside.filters
+          refl h)));
+      lost_is = search rules;
+    }
 
 pub Node::enqueue_further-book_arrival-requires-clause-room : goal.Node::enqueue_further-book_arrival-requires-clause-room
 Node::enqueue_further-book_arrival-requires-clause-room g t c = subst (λ (m : Node Kept). CanCount m.memory.counts.arrived c.args.packet.now) (sym c.self.view_is) c.requires.ready.counts
@@ -437,21 +398,23 @@ Node::enqueue_further-book_arrival-requires-clause-room g t c = subst (λ (m : N
 pub Node::enqueue_further-book_arrival-requires-clause-lost : goal.Node::enqueue_further-book_arrival-requires-clause-lost
 Node::enqueue_further-book_arrival-requires-clause-lost g t c =
     come-lost c.args.now c.args.packet.now c.self.inside c.args.self.now c.self.invariant c.self.view_is c.requires.ready c.self.inside.filters refl
-    c.enqueue.new.self c.in_ok-outcome.outcome (g.S.Sink.state c.args.sink.now) (g.S.Sink.state c.enqueue.new.sink) c.in_ok-outcome.ensures.after
+    c.enqueue.new.self c.in_ok-outcome.outcome (g.S.Sink.state c.args.sink.now) (g.S.Sink.state c.enqueue.new.sink) c.in_ok-outcome.ensures.arrives.after
 
 pub Node::enqueue_further-invariant_of-self-2 : goal.Node::enqueue_further-invariant_of-self-2
 Node::enqueue_further-invariant_of-self-2 g t c =
     come-kept c.args.now c.args.packet.now c.self.inside c.args.self.now c.self.invariant c.self.view_is c.requires.ready c.self.inside.filters refl
-    c.enqueue.new.self c.in_ok-outcome.outcome (g.S.Sink.state c.args.sink.now) (g.S.Sink.state c.enqueue.new.sink) c.in_ok-outcome.ensures.after
+    c.enqueue.new.self c.in_ok-outcome.outcome (g.S.Sink.state c.args.sink.now) (g.S.Sink.state c.enqueue.new.sink) c.in_ok-outcome.ensures.arrives.after
     c.book_arrival.new.row c.book_arrival.ensures
 
-pub Node::enqueue_further-returns-clause-after : goal.Node::enqueue_further-returns-clause-after
-Node::enqueue_further-returns-clause-after g t c =
-    come-after c.args.now c.args.packet.now c.self.inside c.args.self.now c.self.invariant c.self.view_is c.requires.ready c.self.inside.filters refl
-    c.enqueue.new.self c.in_ok-outcome.outcome (g.S.Sink.state c.args.sink.now) (g.S.Sink.state c.enqueue.new.sink) c.in_ok-outcome.ensures.after
-    c.book_arrival.new.row c.book_arrival.ensures
+pub Node::enqueue_further-returns-clause-arrives : goal.Node::enqueue_further-returns-clause-arrives
+Node::enqueue_further-returns-clause-arrives g t c =
+    arrived-as c.in_ok-outcome.outcome
+    (come-after c.args.now c.args.packet.now c.self.inside c.args.self.now c.self.invariant c.self.view_is c.requires.ready c.self.inside.filters refl
+    c.enqueue.new.self c.in_ok-outcome.outcome (g.S.Sink.state c.args.sink.now) (g.S.Sink.state c.enqueue.new.sink) c.in_ok-outcome.ensures.arrives.after
+    c.book_arrival.new.row c.book_arrival.ensures)
+    (search rules)
 
 pub Node::enqueue_further-returns-clause-told : goal.Node::enqueue_further-returns-clause-told
 Node::enqueue_further-returns-clause-told g t c =
     come-told c.args.now c.args.packet.now c.self.inside c.args.self.now c.self.invariant c.self.view_is c.requires.ready c.self.inside.filters refl
-    c.enqueue.new.self c.in_ok-outcome.outcome (g.S.Sink.state c.args.sink.now) (g.S.Sink.state c.enqueue.new.sink) c.in_ok-outcome.ensures.after
+    c.enqueue.new.self c.in_ok-outcome.outcome (g.S.Sink.state c.args.sink.now) (g.S.Sink.state c.enqueue.new.sink) c.in_ok-outcome.ensures.arrives.after

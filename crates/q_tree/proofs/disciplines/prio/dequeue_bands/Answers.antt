@@ -1,10 +1,10 @@
-use Rattle.std.proofs.Common.{◌∙◌, set, refl, sym, ap, ap₂, subst}
+use Rattle.std.proofs.Common.{◌∙◌, set, refl, sym, ap, ap₂}
 use Rattle.std.specs.Prelude.{slice_index_or, unwrap_or}
 use Rattle.std.proofs.lemmas.Option.{slice_get-get_or}
 use Rattle.q_model.specs.Ask.{ask_prio}
-use Rattle.q_tree.specs.AskSteps.{IsToldOf, answers, signals_of}
+use Rattle.q_tree.specs.AskSteps.{answers, signals_of}
 use Rattle.q_tree.specs.Shown.{Shown}
-use Rattle.q_tree.proofs.AskBands.{band-at, band-once, bands-end, bands-go-on, bands-rises, bands-start, bands-told}
+use Rattle.q_tree.proofs.AskBands.{band-at, band-once, bands-end, bands-go-on, bands-start}
 use Rattle.q_codel.proofs.SinkLemmas.{told_nothing}
 use Rattle.q_tree.proofs.HeldLemmas.{some-there}
 use Rattle.q_tree.proofs.IdleBands.{band-idle}
@@ -62,7 +62,7 @@ returns-then-has_packet-clause-after g c = λ own.
     let given = slice_index_or two c.loop-place.place c.index-bands-place-then-has_packet.result in
     band-gives c.args.now c.args.bands.now c.loop-place.bands c.loop-place.place c.loop-place.shown c.requires.ready c.loop-place.invariant.0 band at
     c.peek_after-shown.new.self c.peek_after-shown.result c.peek_after-shown.ensures.asked some.0 some.1 given c.dequeue_at_hand.new.self there
-    c.dequeue_at_hand.ensures.after c.dequeue_at_hand.ensures.arrived own
+    c.dequeue_at_hand.ensures.after c.dequeue_at_hand.ensures.arrived (g.S.Sink.state c.args.sink.now) c.loop-place.invariant.1 own
 
 pub returns-then-has_packet-clause-packet : goal.returns-then-has_packet-clause-packet
 returns-then-has_packet-clause-packet g c =
@@ -80,15 +80,6 @@ returns-then-has_packet-clause-packet g c =
     band at c.peek_after-shown.new.self c.peek_after-shown.result c.peek_after-shown.ensures.asked some.0 some.1 given there)
     c.loop-place.invariant.4
 
-pub returns-then-has_packet-clause-told : goal.returns-then-has_packet-clause-told
-returns-then-has_packet-clause-told g c = λ own.
-    let band = slice_index_or c.loop-place.bands c.loop-place.place c.index-bands-place-in-loop-place.result in
-    let at = band-at c.args.now c.args.bands.now c.loop-place.bands c.loop-place.place c.loop-place.shown c.loop-place.invariant.0 c.index-bands-place-in-loop-place.result c.loop-place-test.true in
-    bands-told c.args.now c.args.bands.now c.loop-place.bands c.loop-place.place c.loop-place.shown c.requires.ready c.loop-place.invariant.0 band at
-    c.peek_after-shown.new.self c.peek_after-shown.result c.peek_after-shown.ensures.asked
-    (g.S.Sink.state c.args.sink.now) (g.S.Sink.state c.loop-place.sink) (g.S.Sink.state c.peek_after-shown.new.sink) c.loop-place.invariant.1
-    c.peek_after-shown.ensures.told (sym c.if-has_packet.ensures) own
-
 pub returns-then-has_packet-clause-kept : goal.returns-then-has_packet-clause-kept
 returns-then-has_packet-clause-kept g c =
     g.met.S.Sink.keeps_on c.args.sink.now c.loop-place.sink c.peek_after-shown.new.sink c.loop-place.invariant.2 c.peek_after-shown.ensures.kept
@@ -100,8 +91,7 @@ loop-place-preserved g c =
     let goes =
     bands-go-on c.args.now c.args.bands.now c.loop-place.bands c.loop-place.place c.loop-place.shown c.requires.ready c.loop-place.invariant.0
     band at c.peek_after-shown.new.self c.peek_after-shown.result c.peek_after-shown.ensures.asked
-    (g.S.Sink.state c.args.sink.now) (g.S.Sink.state c.loop-place.sink) (g.S.Sink.state c.peek_after-shown.new.sink) c.loop-place.invariant.1
-    c.peek_after-shown.ensures.told (sym c.if-has_packet.ensures) in (
+    (g.S.Sink.state c.args.sink.now) c.loop-place.invariant.1 (sym c.if-has_packet.ensures) in (
       goes.0,
       goes.1,
       g.met.S.Sink.keeps_on c.args.sink.now c.loop-place.sink c.peek_after-shown.new.sink c.loop-place.invariant.2 c.peek_after-shown.ensures.kept,
@@ -111,17 +101,11 @@ loop-place-preserved g c =
 
 pub returns-clause-after : goal.returns-clause-after
 returns-clause-after g c = λ own.
-    let asked = bands-end c.args.now c.args.bands.now c.loop-place.bands c.loop-place.place c.loop-place.shown c.loop-place.invariant.0 c.loop-place-test.false c.loop-place.auto.place-end own in
+    let asked = bands-end c.args.now c.args.bands.now c.loop-place.bands c.loop-place.place c.loop-place.shown c.loop-place.invariant.0 c.loop-place-test.false c.loop-place.auto.place-end c.loop-place.invariant.1 own in
     asked-sent (ask_prio own (answers c.args.now c.args.bands.now)) c.args.bands.now c.loop-place.bands c.loop-place.shown (sym asked.shown.packet ∙ c.loop-place.invariant.0.nothing) asked
 
 pub returns-clause-packet : goal.returns-clause-packet
 returns-clause-packet g c = c.loop-place.invariant.4 ∙ ap (λ o. unwrap_or o c.args.out.now) (sym c.loop-place.invariant.0.nothing)
-
-pub returns-clause-told : goal.returns-clause-told
-returns-clause-told g c = λ own.
-    subst (λ notes. IsToldOf notes (g.S.Sink.state c.args.sink.now) (g.S.Sink.state c.loop-place.sink))
-    (bands-rises c.args.now c.args.bands.now c.loop-place.bands c.loop-place.place c.loop-place.shown c.loop-place.invariant.0
-    c.loop-place-test.false c.loop-place.auto.place-end own) c.loop-place.invariant.1
 
 pub returns-clause-kept : goal.returns-clause-kept
 returns-clause-kept g c = c.loop-place.invariant.2

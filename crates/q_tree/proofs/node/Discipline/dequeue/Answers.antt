@@ -11,7 +11,7 @@ use Rattle.q_tree.specs.AskSteps.{answers, own_of}
 use Rattle.q_tree.specs.Seen.{children_seen, discipline_seen, places_seen}
 use Rattle.q_tree.specs.declared.node.Discipline.TheVariants as code
 use Rattle.q_tree.proofs.HereLemmas.{flow-packets}
-use Rattle.q_tree.proofs.Peeks.{asked-in, told-in, each-of, room-of, own-room, items-are, serve-of}
+use Rattle.q_tree.proofs.Peeks.{asked-in, each-of, room-of, own-room, items-are, serve-of}
 use Rattle.q_tree.proofs.Quiet.{signals-nothing}
 use Rattle.q_tree.proofs.SendForms.{asked-sent-in, sent-in, prio-left, fifo-sent}
 use Rattle.q_tree.proofs.TakeCounts.{flow-told}
@@ -52,13 +52,6 @@ returns-in-Prio-clause-after g c =
     (bands.long ∙ ap (λ xs. length xs) c.deref_mut.ensures.value))
     (sym (ap places_seen c.in-Prio.is)) (prio-left c.args.now handle filters (answers c.args.now c.deref_mut.result.now) c.in-Prio.priomap) bands
 
-pub returns-in-Prio-clause-told : goal.returns-in-Prio-clause-told
-returns-in-Prio-clause-told g c =
-    λ handle filters.
-    let kids = sym (c.deref_mut.ensures.value ∙ sym (ap children_seen c.in-Prio.is)) in
-    told-in c.args.now handle filters c.args.self.now (spec.Prio c.in-Prio.priomap) c.deref_mut.result.now (g.S.Sink.state c.args.sink.now) (g.S.Sink.state c.dequeue_bands.new.sink)
-    (ap discipline_seen c.in-Prio.is) kids (c.dequeue_bands.ensures.told (own_of handle filters (spec.Prio c.in-Prio.priomap)))
-
 pub returns-in-Tbf-clause-after :
     goal.returns-in-Tbf-clause-after
 returns-in-Tbf-clause-after g c = λ handle filters.
@@ -72,15 +65,6 @@ returns-in-Tbf-clause-after g c = λ handle filters.
     (spec.Tbf c.in-Tbf.bucket c.in-Tbf.limit) (spec.Tbf c.dequeue_child.new.bucket c.in-Tbf.limit) (c.deref_mut-in-Tbf.result.now ∷ [])
     (c.dequeue_child.new.child ∷ []) c.dequeue_child.result
     (ap discipline_seen c.in-Tbf.is) kids refl refl (sym (ap places_seen c.in-Tbf.is)) (c.dequeue_child.ensures.bucket own c.in-Tbf.limit refl) (c.dequeue_child.ensures.after own c.in-Tbf.limit))
-
-pub returns-in-Tbf-clause-told :
-    goal.returns-in-Tbf-clause-told
-returns-in-Tbf-clause-told g c = λ handle filters.
-    let own = own_of handle filters (spec.Tbf c.in-Tbf.bucket c.in-Tbf.limit) in
-    let kids = ap children_seen c.in-Tbf.is ∙ ap (λ x. x ∷ []) (sym c.deref_mut-in-Tbf.ensures.value) in
-    told-in c.args.now handle filters c.args.self.now (spec.Tbf c.in-Tbf.bucket c.in-Tbf.limit) (c.deref_mut-in-Tbf.result.now ∷ [])
-    (g.S.Sink.state c.args.sink.now) (g.S.Sink.state c.dequeue_child.new.sink)
-    (ap discipline_seen c.in-Tbf.is) kids (c.dequeue_child.ensures.told own c.in-Tbf.limit)
 
 pub dequeue_class-requires : goal.dequeue_class-requires
 dequeue_class-requires g c =
@@ -105,15 +89,8 @@ returns-in-Drr-clause-after g c = λ handle filters.
     (spec.Drr c.dequeue_class.new.active) c.deref_mut-in-Drr.result.now c.dequeue_class.new.classes c.dequeue_class.result
     (ap discipline_seen c.in-Drr.is) kids refl
     (items-are c.in-Drr.classes.items c.dequeue_class.new.classes c.in-Drr.classes.len (sym c.in-Drr.classes.ok.0)
-    ((c.dequeue_class.ensures.after own).long ∙ ap (λ xs. length xs) c.deref_mut-in-Drr.ensures.value))
-    (sym (ap places_seen c.in-Drr.is)) (c.dequeue_class.ensures.active own) (c.dequeue_class.ensures.after own))
-
-pub returns-in-Drr-clause-told :
-    goal.returns-in-Drr-clause-told
-returns-in-Drr-clause-told g c = λ handle filters.
-    let kids = sym (c.deref_mut-in-Drr.ensures.value ∙ sym (ap children_seen c.in-Drr.is)) in
-    told-in c.args.now handle filters c.args.self.now (spec.Drr c.in-Drr.active) c.deref_mut-in-Drr.result.now (g.S.Sink.state c.args.sink.now) (g.S.Sink.state c.dequeue_class.new.sink)
-    (ap discipline_seen c.in-Drr.is) kids (c.dequeue_class.ensures.told (own_of handle filters (spec.Drr c.in-Drr.active)))
+    ((c.dequeue_class.ensures.served own).asked.long ∙ ap (λ xs. length xs) c.deref_mut-in-Drr.ensures.value))
+    (sym (ap places_seen c.in-Drr.is)) (c.dequeue_class.ensures.served own).schedule (c.dequeue_class.ensures.served own).asked)
 
 pub dequeue_flow-requires :
     goal.dequeue_flow-requires
@@ -134,15 +111,10 @@ returns-in-FqCodel-clause-after g c = λ handle filters.
     (asked-in c.args.now handle filters c.args.self.now (code.FqCodel (with_value c.in-FqCodel.queue c.dequeue_flow.new.queue)) (spec.FqCodel state)
     (spec.FqCodel c.dequeue_flow.new.queue.state) [] [] c.dequeue_flow.result
     is (ap children_seen c.in-FqCodel.is) refl refl places (ap spec.FqCodel e.after)
-    (record { long = refl; nodes = refl; within = λ t h. h; shown = e.shown own [] }))
-
-pub returns-in-FqCodel-clause-told :
-    goal.returns-in-FqCodel-clause-told
-returns-in-FqCodel-clause-told g c = λ handle filters.
-    let e = c.dequeue_flow.ensures in
-    let state = c.deref_mut-in-FqCodel.result.now.state in
-    let own = own_of handle filters (spec.FqCodel state) in
-    let is = ap discipline_seen c.in-FqCodel.is ∙ ap (λ (q : FqView). spec.FqCodel q.state) (sym c.deref_mut-in-FqCodel.ensures.value) in
-    told-in c.args.now handle filters c.args.self.now (spec.FqCodel state) [] (g.S.Sink.state c.args.sink.now) (g.S.Sink.state c.dequeue_flow.new.sink)
-    is (ap children_seen c.in-FqCodel.is)
-    (flow-told c.args.now state own [] (g.S.Sink.state c.args.sink.now) (g.S.Sink.state c.dequeue_flow.new.sink) e.told)
+    (record {
+      long = refl;
+      nodes = refl;
+      within = λ t h. h;
+      shown = e.shown own [];
+      told = flow-told c.args.now state own [] (g.S.Sink.state c.args.sink.now) (g.S.Sink.state c.dequeue_flow.new.sink) e.told;
+    }))

@@ -30,6 +30,7 @@ returns-then-is_some-clause-dequeued g c =
       shown = held-shows c.args.now c.self.inside c.args.self.now c.release.new.out c.self.view_is held c.sending.result c.sending.ensures;
       packet = ap (λ (s : Shown). unwrap_or s.packet c.args.out.now) (sym c.sending.ensures);
       signals = search rules;
+      told = search rules;
     }
 
 pub dequeue-shown-requires : goal.dequeue-shown-requires
@@ -74,13 +75,9 @@ returns-then-not-has_packet-clause-dequeued g c =
       shown = shown-here c.args.now c.self.inside c.args.self.now c.self.invariant c.self.view_is c.requires.ready none c.dequeue-shown.result sent.children.shown;
       packet = search rules;
       signals = search rules;
+      told =
+          told-here c.args.now c.self.inside c.args.self.now c.self.invariant c.self.view_is c.requires.ready none (g.S.Sink.state c.args.sink.now) (g.S.Sink.state c.dequeue-shown.new.sink) sent.children.told;
     }
-
-pub returns-then-not-has_packet-clause-told : goal.returns-then-not-has_packet-clause-told
-returns-then-not-has_packet-clause-told g c =
-    let none : packet_held c.self.inside.held ≡ None = none-kept c.self.inside.held c.if-is_some.ensures in
-    told-here c.args.now c.self.inside c.args.self.now c.self.invariant c.self.view_is c.requires.ready none (g.S.Sink.state c.args.sink.now) (g.S.Sink.state c.dequeue-shown.new.sink)
-    (c.dequeue-shown.ensures.told c.self.inside.handle c.self.inside.filters)
 
 pub returns-clause-dequeued : goal.returns-clause-dequeued
 returns-clause-dequeued g c =
@@ -98,13 +95,9 @@ returns-clause-dequeued g c =
       shown = shown-here c.args.now c.self.inside c.args.self.now c.self.invariant c.self.view_is c.requires.ready none c.dequeue-shown.result sent.children.shown;
       packet = search rules;
       signals = search rules;
+      told =
+          told-here c.args.now c.self.inside c.args.self.now c.self.invariant c.self.view_is c.requires.ready none (g.S.Sink.state c.args.sink.now) (g.S.Sink.state c.dequeue-shown.new.sink) sent.children.told;
     }
-
-pub returns-clause-told : goal.returns-clause-told
-returns-clause-told g c =
-    let none : packet_held c.self.inside.held ≡ None = none-kept c.self.inside.held c.if-is_some.ensures in
-    told-here c.args.now c.self.inside c.args.self.now c.self.invariant c.self.view_is c.requires.ready none (g.S.Sink.state c.args.sink.now) (g.S.Sink.state c.dequeue-shown.new.sink)
-    (c.dequeue-shown.ensures.told c.self.inside.handle c.self.inside.filters)
 
 pub book_sent-requires-2-clause-balanced : goal.book_sent-requires-2-clause-balanced
 book_sent-requires-2-clause-balanced g c =

@@ -47,10 +47,10 @@ book_arrival-requires-clause-lost g c =
     let low : c.args.now ≤ 2 ^ 62 = omega (arith, c.ns.ensures.in_range, c.ns.ensures.value) in
     let byte : 1 ≤ c.args.packet.now.len = omega (arith, c.packet.invariant.len, ap (λ (p : Descriptor). p.len) c.packet.view_is) in
     let room : CanCount c.self.inside.top.arrived c.args.packet.now = subst (λ (d : DeviceState Kept). CanCount d.tree.top.counts.arrived c.args.packet.now) (sym c.self.view_is) c.requires.counted in
-    tree-lost c.self.inside c.self.invariant c.args.now c.args.packet.now later low byte room c.in_ok-outcome.outcome c.enqueue_below.new.root c.in_ok-outcome.ensures.after
+    tree-lost c.self.inside c.self.invariant c.args.now c.args.packet.now later low byte room c.in_ok-outcome.outcome c.enqueue_below.new.root c.in_ok-outcome.ensures.arrives.after
 
 pub invariant_of-self : goal.invariant_of-self
-invariant_of-self g c = placed-indexed c.self.inside c.self.invariant c.enqueue_below.new.root c.in_err-outcome.ensures.same
+invariant_of-self g c = placed-indexed c.self.inside c.self.invariant c.enqueue_below.new.root c.in_err-outcome.ensures.arrives.same
 
 pub invariant_of-self-2 : goal.invariant_of-self-2
 invariant_of-self-2 g c =
@@ -59,7 +59,7 @@ invariant_of-self-2 g c =
     let byte : 1 ≤ c.args.packet.now.len = omega (arith, c.packet.invariant.len, ap (λ (p : Descriptor). p.len) c.packet.view_is) in
     let room : CanCount c.self.inside.top.arrived c.args.packet.now = subst (λ (d : DeviceState Kept). CanCount d.tree.top.counts.arrived c.args.packet.now) (sym c.self.view_is) c.requires.counted in
     tree-indexed c.self.inside c.self.invariant c.args.now c.args.packet.now later low byte room c.in_ok-outcome.outcome c.enqueue_below.new.root
-    c.in_ok-outcome.ensures.after c.book_arrival.new.row c.book_arrival.ensures
+    c.in_ok-outcome.ensures.arrives.after c.book_arrival.new.row c.book_arrival.ensures
 
 pub returns-clause-fate : goal.returns-clause-fate
 returns-clause-fate g c =
@@ -68,7 +68,7 @@ returns-clause-fate g c =
     let byte : 1 ≤ c.args.packet.now.len = omega (arith, c.packet.invariant.len, ap (λ (p : Descriptor). p.len) c.packet.view_is) in
     let room : CanCount c.self.inside.top.arrived c.args.packet.now = subst (λ (d : DeviceState Kept). CanCount d.tree.top.counts.arrived c.args.packet.now) (sym c.self.view_is) c.requires.counted in
     c.fate.ensures ∙ ap fate_of (tree-loss c.self.inside c.self.invariant c.args.now c.args.packet.now later low byte room c.in_ok-outcome.outcome
-    c.enqueue_below.new.root c.in_ok-outcome.ensures.after) ∙ ap
+    c.enqueue_below.new.root c.in_ok-outcome.ensures.arrives.after) ∙ ap
     (λ (d : DeviceState Kept). fate_of (own_loss c.args.now c.args.packet.now d.tree.device (shape d.tree.root))) c.self.view_is
 
 pub returns-clause-after : goal.returns-clause-after
@@ -78,7 +78,7 @@ returns-clause-after g c =
     let byte : 1 ≤ c.args.packet.now.len = omega (arith, c.packet.invariant.len, ap (λ (p : Descriptor). p.len) c.packet.view_is) in
     let room : CanCount c.self.inside.top.arrived c.args.packet.now = subst (λ (d : DeviceState Kept). CanCount d.tree.top.counts.arrived c.args.packet.now) (sym c.self.view_is) c.requires.counted in
     tree-after c.self.inside c.self.invariant c.args.now c.args.packet.now later low byte room c.in_ok-outcome.outcome c.enqueue_below.new.root
-    c.in_ok-outcome.ensures.after c.book_arrival.new.row c.book_arrival.ensures
+    c.in_ok-outcome.ensures.arrives.after c.book_arrival.new.row c.book_arrival.ensures
     ∙ ap (λ (d : DeviceState Kept). record { clock = c.args.now; tree = put totals c.args.now c.args.packet.now (tree_numbers d.tree) })
     c.self.view_is
 
@@ -89,7 +89,7 @@ returns-clause-exact g c = λ can.
     let byte : 1 ≤ c.args.packet.now.len = omega (arith, c.packet.invariant.len, ap (λ (p : Descriptor). p.len) c.packet.view_is) in
     let room : CanCount c.self.inside.top.arrived c.args.packet.now = subst (λ (d : DeviceState Kept). CanCount d.tree.top.counts.arrived c.args.packet.now) (sym c.self.view_is) c.requires.counted in
     tree-exact c.self.inside c.self.invariant c.args.now c.args.packet.now later low byte room c.in_ok-outcome.outcome c.enqueue_below.new.root
-    c.in_ok-outcome.ensures.after c.book_arrival.new.row c.book_arrival.ensures
+    c.in_ok-outcome.ensures.arrives.after c.book_arrival.new.row c.book_arrival.ensures
     (subst (λ (d : DeviceState Kept). CanArrive (route_seen c.args.packet.now d.tree.device.mtu d.tree.root) d) (sym c.self.view_is) can)
     ∙ ap (λ (d : DeviceState Kept). record { clock = c.args.now; tree = put kept c.args.now c.args.packet.now d.tree }) c.self.view_is
 
@@ -110,30 +110,30 @@ returns-clause-places g c =
     let room : CanCount c.self.inside.top.arrived c.args.packet.now = subst (λ (d : DeviceState Kept). CanCount d.tree.top.counts.arrived c.args.packet.now) (sym c.self.view_is) c.requires.counted in
     λ path. subst (λ (d : DeviceState Kept). places_at path d.tree.root ≤ places_at path c.enqueue_below.new.root) c.self.view_is
     (tree-places c.self.inside c.self.invariant c.args.now c.args.packet.now later low byte room c.in_ok-outcome.outcome c.enqueue_below.new.root
-    c.in_ok-outcome.ensures.after path)
+    c.in_ok-outcome.ensures.arrives.after path)
 
 pub returns-in_err-outcome-clause-same : goal.returns-in_err-outcome-clause-same
 returns-in_err-outcome-clause-same g c =
-    on-err c.from_residual.result (placed-numbers c.self.inside c.self.invariant c.enqueue_below.new.root c.in_err-outcome.ensures.same ∙ ap numbers
+    on-err c.from_residual.result (placed-numbers c.self.inside c.self.invariant c.enqueue_below.new.root c.in_err-outcome.ensures.arrives.same ∙ ap numbers
     c.self.view_is)
 
 pub returns-in_err-outcome-clause-routes : goal.returns-in_err-outcome-clause-routes
 returns-in_err-outcome-clause-routes g c =
     on-err c.from_residual.result (λ p. same-routes p c.enqueue_below.new.root c.self.inside.root c.self.inside.mtu
-    c.in_err-outcome.ensures.same.same ∙ ap (λ (d : DeviceState Kept). device_route p d.tree.device.mtu d.tree.root) c.self.view_is)
+    c.in_err-outcome.ensures.arrives.same.same ∙ ap (λ (d : DeviceState Kept). device_route p d.tree.device.mtu d.tree.root) c.self.view_is)
 
 pub returns-in_err-outcome-clause-keeps : goal.returns-in_err-outcome-clause-keeps
 returns-in_err-outcome-clause-keeps g c =
-    on-err c.from_residual.result (λ other can. placed-keeps c.self.inside c.self.invariant c.enqueue_below.new.root c.in_err-outcome.ensures.same
+    on-err c.from_residual.result (λ other can. placed-keeps c.self.inside c.self.invariant c.enqueue_below.new.root c.in_err-outcome.ensures.arrives.same
     other (subst (CanArrive other) (sym c.self.view_is) can))
 
 pub returns-in_err-outcome-clause-places : goal.returns-in_err-outcome-clause-places
 returns-in_err-outcome-clause-places g c =
     λ path. subst (λ (d : DeviceState Kept). places_at path d.tree.root ≤ places_at path c.enqueue_below.new.root) c.self.view_is
-    (c.in_err-outcome.ensures.same.grows path)
+    (c.in_err-outcome.ensures.arrives.same.grows path)
 
 pub returns-in_err-outcome-clause-succeeds : goal.returns-in_err-outcome-clause-succeeds
 returns-in_err-outcome-clause-succeeds g c =
-    λ can. absurd (false≢true (c.in_err-outcome.ensures.succeeds
+    λ can. absurd (false≢true (c.in_err-outcome.ensures.arrives.succeeds
     (place-there c.args.packet.now (tree_seen c.self.inside)
     (subst (λ (d : DeviceState Kept). CanArrive (route_seen c.args.packet.now d.tree.device.mtu d.tree.root) d) (sym c.self.view_is) can))))

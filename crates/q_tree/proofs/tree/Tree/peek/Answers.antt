@@ -1,4 +1,4 @@
-use Rattle.std.proofs.Common.{◌∙◌, ◌≤◌, ◌^◌, refl, ap, arith}
+use Rattle.std.proofs.Common.{◌∙◌, ◌≤◌, ◌^◌, refl, ap, arith, rules}
 use Rattle.q_model.specs.Step.{DeviceState}
 use Rattle.q_model.specs.TreeState.{given, peek_packet}
 use Rattle.q_tree.specs.Kept.{Kept, kept}
@@ -6,11 +6,11 @@ use Rattle.q_tree.proofs.TreeIndex.{peeked-form, still-indexed}
 use Rattle.q_tree.proofs.TreeLemmas.{top-row, can-ask-root, can-book-top, gives-shown, peeked-tree, peeked-device}
 use Rattle.q_tree.proofs.tree.Tree.peek.Goals as goal
 
-pub peek-shown-requires-clause-ready : goal.peek-shown-requires-clause-ready
-peek-shown-requires-clause-ready g c =
+pub peek-shown-requires : goal.peek-shown-requires
+peek-shown-requires g c =
     let later : c.self.inside.clock ≤ c.args.now = omega (arith, ap (λ (d : DeviceState Kept). d.clock) c.self.view_is, c.requires.order) in
     let low : c.args.now ≤ 2 ^ 62 = omega (arith, c.ns.ensures.in_range, c.ns.ensures.value) in
-    can-ask-root c.self.inside c.self.invariant.device c.args.now later low
+    record { ready = can-ask-root c.self.inside c.self.invariant.device c.args.now later low; sink = search rules; clean = search rules }
 
 pub book_shown-requires-clause-balanced : goal.book_shown-requires-clause-balanced
 book_shown-requires-clause-balanced g c = (top-row c.self.inside c.self.invariant.device).balanced
