@@ -9,7 +9,7 @@ ghost use Rattle.q_script.specs.Lengths.{HasRoom, most_step};
 ghost use Rattle.q_script.specs.Script.{fault_line};
 ghost use Rattle.q_session.specs.Session.{opened, seen, IsShort};
 ghost use Rattle.q_show.specs.Writes.{MayWrite, WriteFailed};
-ghost use Rattle.q_show.specs.Written.{AppendsFront, IsBuffered};
+ghost use Rattle.q_show.specs.Written.{AppendsFront, HasPut, IsBuffered};
 
 use crate::notes::{LineNote, Notes};
 use crate::showing::put_show;
@@ -167,16 +167,10 @@ impl DeviceSession {
         target: &mut Target<'_, W>,
     ) -> Result<(), WriteFault>
         requires { MayWrite target.old.writes }
-        ensures same_writer { target.new.writer.ghost_name ≡ target.old.writer.ghost_name }
         ensures packets { self.new.state.packets ≡ self.old.state.packets }
         ensures not_done { self.new.state.not_done ≡ self.old.state.not_done }
         ensures after { OnOk result (self.new ≡ (seen self.old (polls totals count self.old.state)).session) }
-        ensures text { OnOk result (IsBuffered (W.contents target.old.writer.now) (W.contents target.new.writer.now) output.new
-            (output.old ++ (polls totals count self.old.state).text)) }
-        ensures err { OnErr result (AppendsFront (W.contents target.old.writer.now) (W.contents target.new.writer.now)
-            (output.old ++ (polls totals count self.old.state).text)) }
-        ensures going { OnOk result (MayWrite target.new.writes) }
-        ensures failed { IfErr result (λ fault. WriteFailed target.new.writes fault.kind) }
+        ensures put { HasPut W.contents target.old target.new output.new (output.old ++ (polls totals count self.old.state).text) result }
     {
         for _ in 0..count {
             output.make_room(target)?;
@@ -223,16 +217,10 @@ impl DeviceSession {
         target: &mut Target<'_, W>,
     ) -> Result<(), WriteFault>
         requires { MayWrite target.old.writes }
-        ensures same_writer { target.new.writer.ghost_name ≡ target.old.writer.ghost_name }
         ensures packets { self.new.state.packets ≡ self.old.state.packets }
         ensures not_done { self.new.state.not_done ≡ self.old.state.not_done }
         ensures after { OnOk result (self.new ≡ record self.old { state = record self.old.state { waiting = [] } }) }
-        ensures text { OnOk result (IsBuffered (W.contents target.old.writer.now) (W.contents target.new.writer.now) output.new
-            (output.old ++ flat_map lost_line self.old.state.waiting)) }
-        ensures err { OnErr result (AppendsFront (W.contents target.old.writer.now) (W.contents target.new.writer.now)
-            (output.old ++ flat_map lost_line self.old.state.waiting)) }
-        ensures going { OnOk result (MayWrite target.new.writes) }
-        ensures failed { IfErr result (λ fault. WriteFailed target.new.writes fault.kind) }
+        ensures put { HasPut W.contents target.old target.new output.new (output.old ++ flat_map lost_line self.old.state.waiting) result }
     {
         while let Some(lost) = self.device.reap() {
             output.make_room(target)?;

@@ -1,6 +1,5 @@
 //! What `tc qdisc show`, `tc class show` and `tc filter show` print of a tree, into any writer.
-ghost use Rattle.std.specs.Prelude.{◌≡◌, [], OnOk, OnErr};
-ghost use Rattle.std.specs.Io.KnownBytes.{Appends};
+ghost use Rattle.std.specs.Prelude.{◌≡◌, []};
 ghost use Rattle.std.specs.List.{flat_map};
 ghost use Rattle.q_model.specs.Tally.{totals};
 ghost use Rattle.q_model.specs.Views.{class_views, filter_views, views};
@@ -9,7 +8,7 @@ ghost use Rattle.q_script_semantics.specs.Text.{class_line, filter_line, qdisc_t
 ghost use Rattle.q_session.specs.ShowFault.{IsShown};
 ghost use Rattle.q_session.specs.Shown.{listed_text};
 ghost use Rattle.q_show.specs.Writes.{MayWrite};
-ghost use Rattle.q_show.specs.Written.{AppendsFront};
+ghost use Rattle.q_show.specs.Written.{HasWrittenWhole};
 ghost use Rattle.q_tree.specs.TreeSeen.{numbers, tree_numbers};
 
 use crate::showing::put_show;
@@ -96,10 +95,7 @@ fn write_show<W: Write>(
 ) -> Result<(), WriteFault>
     requires empty { output.old ≡ [] }
     requires going { MayWrite target.old.writes }
-    ensures same_writer { target.new.writer.ghost_name ≡ target.old.writer.ghost_name }
-    ensures ok { OnOk result (Appends (W.contents target.old.writer.now) (W.contents target.new.writer.now) (show_text totals show (numbers tree.now))) }
-    ensures err { OnErr result (AppendsFront (W.contents target.old.writer.now) (W.contents target.new.writer.now)
-        (show_text totals show (numbers tree.now))) }
+    ensures { HasWrittenWhole W.contents target.old target.new (show_text totals show (numbers tree.now)) result }
 {
     put_show(tree, show, output, target)?;
     output.flush(target)

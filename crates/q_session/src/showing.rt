@@ -7,7 +7,7 @@ ghost use Rattle.q_script_semantics.specs.Report.{show_text};
 ghost use Rattle.q_script_semantics.specs.Text.{qdisc_text};
 ghost use Rattle.q_session.specs.Shown.{IsLawfulSeen, IsOfLawful, counted, listed_text};
 ghost use Rattle.q_show.specs.Writes.{MayWrite, WriteFailed};
-ghost use Rattle.q_show.specs.Written.{AppendsFront, IsBuffered};
+ghost use Rattle.q_show.specs.Written.{AppendsFront, HasPut, IsBuffered};
 ghost use Rattle.q_tree.specs.TreeSeen.{numbers, tree_numbers};
 
 use crate::listed::Listed;
@@ -52,13 +52,8 @@ fn put_qdiscs<W: Write>(
 ) -> Result<(), WriteFault>
     requires lawful { IsLawfulSeen tree.now.tree }
     requires going { MayWrite target.old.writes }
-    ensures same_writer { target.new.writer.ghost_name ≡ target.old.writer.ghost_name }
-    ensures ok { OnOk result (IsBuffered (W.contents target.old.writer.now) (W.contents target.new.writer.now) output.new
-        (output.old ++ flat_map (qdisc_text counters) (views totals (tree_numbers tree.now.tree)))) }
-    ensures err { OnErr result (AppendsFront (W.contents target.old.writer.now) (W.contents target.new.writer.now)
-        (output.old ++ flat_map (qdisc_text counters) (views totals (tree_numbers tree.now.tree)))) }
-    ensures going { OnOk result (MayWrite target.new.writes) }
-    ensures failed { IfErr result (λ fault. WriteFailed target.new.writes fault.kind) }
+    ensures { HasPut W.contents target.old target.new output.new
+        (output.old ++ flat_map (qdisc_text counters) (views totals (tree_numbers tree.now.tree))) result }
 {
     let mut nodes = tree.nodes();
     while let Some(node) = nodes.next() {
@@ -76,13 +71,7 @@ fn put_listed<L: Listed, W: Write>(
 ) -> Result<(), WriteFault>
     requires lawful { IsLawfulSeen tree.now.tree }
     requires going { MayWrite target.old.writes }
-    ensures same_writer { target.new.writer.ghost_name ≡ target.old.writer.ghost_name }
-    ensures ok { OnOk result (IsBuffered (W.contents target.old.writer.now) (W.contents target.new.writer.now) output.new
-        (output.old ++ listed_text L.line L.of_node (tree_numbers tree.now.tree))) }
-    ensures err { OnErr result (AppendsFront (W.contents target.old.writer.now) (W.contents target.new.writer.now)
-        (output.old ++ listed_text L.line L.of_node (tree_numbers tree.now.tree))) }
-    ensures going { OnOk result (MayWrite target.new.writes) }
-    ensures failed { IfErr result (λ fault. WriteFailed target.new.writes fault.kind) }
+    ensures { HasPut W.contents target.old target.new output.new (output.old ++ listed_text L.line L.of_node (tree_numbers tree.now.tree)) result }
 {
     let mut nodes = tree.nodes();
     while let Some(node) = nodes.next() {
@@ -99,13 +88,7 @@ fn put_listed_at<L: Listed, W: Write>(
 ) -> Result<(), WriteFault>
     requires lawful { IsOfLawful node.now.1 }
     requires going { MayWrite target.old.writes }
-    ensures same_writer { target.new.writer.ghost_name ≡ target.old.writer.ghost_name }
-    ensures ok { OnOk result (IsBuffered (W.contents target.old.writer.now) (W.contents target.new.writer.now) output.new
-        (output.old ++ flat_map L.line (L.of_node (counted node.now.1)))) }
-    ensures err { OnErr result (AppendsFront (W.contents target.old.writer.now) (W.contents target.new.writer.now)
-        (output.old ++ flat_map L.line (L.of_node (counted node.now.1)))) }
-    ensures going { OnOk result (MayWrite target.new.writes) }
-    ensures failed { IfErr result (λ fault. WriteFailed target.new.writes fault.kind) }
+    ensures { HasPut W.contents target.old target.new output.new (output.old ++ flat_map L.line (L.of_node (counted node.now.1))) result }
 {
     let mut j = 0;
     while let Some(listed) = L::find(node, j) {

@@ -40,7 +40,7 @@ returns-in-Ok-Poll-clause-err g c =
           (g.W.Write.contents c.poll.new.target.writer.now) (c.args.output.now ++ (report.effect totals s.seed false c.args.number l s.state).text))
           (sym is) w,
     ))
-    c.poll.ensures.err
+    c.poll.ensures.put.err
 
 pub returns-in-Ok-Reap-clause-err : goal.returns-in-Ok-Reap-clause-err
 returns-in-Ok-Reap-clause-err g c =
@@ -53,7 +53,7 @@ returns-in-Ok-Reap-clause-err g c =
           (g.W.Write.contents c.reap.new.target.writer.now) (c.args.output.now ++ (report.effect totals s.seed false c.args.number l s.state).text))
           (sym is) w,
     ))
-    c.reap.ensures.err
+    c.reap.ensures.put.err
 
 pub returns-in-Ok-Show-clause-err : goal.returns-in-Ok-Show-clause-err
 returns-in-Ok-Show-clause-err g c =
