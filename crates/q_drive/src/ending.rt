@@ -7,7 +7,7 @@ ghost use Rattle.q_script.specs.Lengths.{HasRoom, most_step};
 ghost use Rattle.q_session.specs.Lengths.{most_device};
 ghost use Rattle.q_show.specs.Lengths.{GrowsBy};
 ghost use Rattle.q_show.specs.Writes.{MayWrite, WriteFailed};
-ghost use Rattle.q_show.specs.Written.{AppendsFront, IsBuffered};
+ghost use Rattle.q_show.specs.Written.{AppendsFront, HasPut, HasWrittenWhole};
 ghost use Rattle.q_drive.specs.Lengths.{most_amount, most_amount_line, most_drained, most_driven, most_given_up};
 ghost use Rattle.q_drive.specs.Texts.{amount_text, arrived_line, drained_text, driven_lines, driven_text, ending_text, given_up_line, memory_line, qdiscs, settled_line, shown_text, totals_line};
 
@@ -54,11 +54,7 @@ fn write_driven<W: Write>(
 ) -> Result<(), WriteFault>
     requires empty { output.old ≡ [] }
     requires going { MayWrite target.old.writes }
-    ensures same_writer { target.new.writer.ghost_name ≡ target.old.writer.ghost_name }
-    ensures ok { OnOk result (Appends (W.contents target.old.writer.now) (W.contents target.new.writer.now) (driven_text show driven.now)) }
-    ensures err { OnErr result (AppendsFront (W.contents target.old.writer.now) (W.contents target.new.writer.now) (driven_text show driven.now)) }
-    ensures going { OnOk result (MayWrite target.new.writes) }
-    ensures failed { IfErr result (λ fault. WriteFailed target.new.writes fault.kind) }
+    ensures { HasWrittenWhole W.contents target.old target.new (driven_text show driven.now) result }
 {
     put_driven(driven, show, output);
     put_shown(driven, show, output, target)?;
@@ -177,13 +173,7 @@ fn put_shown<W: Write>(
     target: &mut Target<'_, W>,
 ) -> Result<(), WriteFault>
     requires going { MayWrite target.old.writes }
-    ensures same_writer { target.new.writer.ghost_name ≡ target.old.writer.ghost_name }
-    ensures ok { OnOk result (IsBuffered (W.contents target.old.writer.now) (W.contents target.new.writer.now) output.new
-        (output.old ++ shown_text show driven.now)) }
-    ensures err { OnErr result (AppendsFront (W.contents target.old.writer.now) (W.contents target.new.writer.now)
-        (output.old ++ shown_text show driven.now)) }
-    ensures going { OnOk result (MayWrite target.new.writes) }
-    ensures failed { IfErr result (λ fault. WriteFailed target.new.writes fault.kind) }
+    ensures { HasPut W.contents target.old target.new output.new (output.old ++ shown_text show driven.now) result }
 {
     if show {
         put_qdiscs(&driven.device, output, target)
@@ -199,13 +189,7 @@ fn put_qdiscs<W: Write>(
     target: &mut Target<'_, W>,
 ) -> Result<(), WriteFault>
     requires going { MayWrite target.old.writes }
-    ensures same_writer { target.new.writer.ghost_name ≡ target.old.writer.ghost_name }
-    ensures ok { OnOk result (IsBuffered (W.contents target.old.writer.now) (W.contents target.new.writer.now) output.new
-        (output.old ++ show_text totals qdiscs device.now.device)) }
-    ensures err { OnErr result (AppendsFront (W.contents target.old.writer.now) (W.contents target.new.writer.now)
-        (output.old ++ show_text totals qdiscs device.now.device)) }
-    ensures going { OnOk result (MayWrite target.new.writes) }
-    ensures failed { IfErr result (λ fault. WriteFailed target.new.writes fault.kind) }
+    ensures { HasPut W.contents target.old target.new output.new (output.old ++ show_text totals qdiscs device.now.device) result }
 {
     put_show(device.tree(), QDISCS, output, target)
 }

@@ -1,12 +1,12 @@
 ghost use Rattle.std.specs.Prelude.{◌≡◌, ◌≤◌, ◌<◌, [], length, IfErr, IfOk, IfSome, OnErr, OnOk, Err};
-ghost use Rattle.std.specs.Io.KnownBytes.{Appends, Keeps};
+ghost use Rattle.std.specs.Io.KnownBytes.{Keeps};
 ghost use Rattle.q_drive.specs.Reported.{IsDriven, IsDrivenOf, IsEnded, IsPartlyDriven, IsPartlyEnded, outcome_with};
 ghost use Rattle.q_drive.specs.Texts.{ending_text};
 ghost use Rattle.q_model.specs.Tally.{no_totals};
 ghost use Rattle.q_script.specs.Ended.{Ended};
 ghost use Rattle.q_script.specs.Reads.{no_reads};
 ghost use Rattle.q_show.specs.Writes.{no_writes, MayWrite, WriteFailed};
-ghost use Rattle.q_show.specs.Written.{AppendsFront};
+ghost use Rattle.q_show.specs.Written.{HasWrittenWhole};
 
 use crate::driving::{Driven, drive_device};
 use crate::ending::write_ending;
@@ -125,12 +125,8 @@ fn write_end<W: Write>(
 ) -> Result<Outcome, WriteFault>
     requires empty { output.old ≡ [] }
     requires going { MayWrite target.old.writes }
-    ensures same_writer { target.new.writer.ghost_name ≡ target.old.writer.ghost_name }
     ensures outcome { IfOk result (λ told. told ≡ outcome_with driven.now outcome) }
-    ensures ok { OnOk result (Appends (W.contents target.old.writer.now) (W.contents target.new.writer.now) (ending_text show driven.now)) }
-    ensures err { OnErr result (AppendsFront (W.contents target.old.writer.now) (W.contents target.new.writer.now) (ending_text show driven.now)) }
-    ensures going { OnOk result (MayWrite target.new.writes) }
-    ensures failed { IfErr result (λ fault. WriteFailed target.new.writes fault.kind) }
+    ensures written { HasWrittenWhole W.contents target.old target.new (ending_text show driven.now) result }
 {
     if let Err(fault) = write_ending(driven, show, output, target) {
         return Err(fault);

@@ -23,9 +23,9 @@ module _ {E : Type 0} (s : Drive) (driven : Option Driven) (show : Bool) (old ne
 pub returns-clause-ok : goal.returns-clause-ok
 returns-clause-ok g c =
     ended c.args.settings.now c.drive_device-driven.result c.show.result (g.W.Write.contents c.args.target.now.writer.now) (g.W.Write.contents c.write_end.new.target.writer.now)
-    c.drive_device-driven.ensures c.show.ensures c.args.outcome c.write_end.result c.write_end.ensures.ok c.write_end.ensures.outcome
+    c.drive_device-driven.ensures c.show.ensures c.args.outcome c.write_end.result c.write_end.ensures.written.ok c.write_end.ensures.outcome
 
 pub returns-clause-err : goal.returns-clause-err
 returns-clause-err g c =
     partly c.args.settings.now c.drive_device-driven.result c.show.result (g.W.Write.contents c.args.target.now.writer.now) (g.W.Write.contents c.write_end.new.target.writer.now)
-    c.drive_device-driven.ensures c.show.ensures c.write_end.result c.write_end.ensures.err
+    c.drive_device-driven.ensures c.show.ensures c.write_end.result c.write_end.ensures.written.err
