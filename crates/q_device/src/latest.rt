@@ -21,7 +21,7 @@ use q_tree::Link;
 /// ```
 ///
 /// bytes, and the deficits of the other classes: all of each that is before this class in the active list, and of each behind it what is above
-/// its quantum. That is so as long as no command changes the classes of the drr or their quanta.
+/// its own quantum, not above q. That is so as long as no command changes the classes of the drr or their quanta.
 #[derive(Clone, Copy, PartialEq, Eq, Debug)]
 pub struct Latest {
     /// The most bytes that the device sends until the packet has left, including its own.

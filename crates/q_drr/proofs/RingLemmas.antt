@@ -87,6 +87,19 @@ walk-next nx (suc zero) n k p e less = absurd (omega (arith, less))
 walk-next nx (suc (suc count)) n zero p e less = ap (λ m. Some (nx m)) (same_Some n p e)
 walk-next nx (suc (suc count)) n (suc k) p e less = walk-next nx (suc count) (nx n) k p e (omega (arith, less))
 
+-- the link of the last member leads to the first one
+path-last : (nx bf : ℕ → ℕ) (a : ℕ) (ns : List ℕ) (b : ℕ) → IsPath nx bf a ns b → (k p : ℕ) → slice_get (a ∷ ns) k ≡ Some p
+    → suc k ≡ length (a ∷ ns) → nx p ≡ b
+path-last nx bf a [] b path zero p e last = ap nx (sym (same_Some a p e)) ∙ path.0
+path-last nx bf a [] b path (suc k) p e last = absurd (omega (arith, last))
+path-last nx bf a (n ∷ ns) b path zero p e last = absurd (omega (arith, last))
+path-last nx bf a (n ∷ ns) b path (suc k) p e last = path-last nx bf n ns b path.2 k p e (omega (arith, last))
+
+pub circle-last : (links : List Link) (ns : List ℕ) → IsCircle links ns → (k p : ℕ) → slice_get ns k ≡ Some p → suc k ≡ length ns
+    → slice_get ns 0 ≡ Some (next_of links p)
+circle-last links [] c k p e last = absurd (omega (arith, last))
+circle-last links (n ∷ ns) c k p e last = ap Some (sym (path-last (next_of links) (before_of links) n ns n c.closed k p e last))
+
 -- links that make a circle of a list are a walk along it
 pub circle_walks : (links : List Link) (ns : List ℕ) (count front : ℕ) → IsCircle links ns → length ns ≡ count
     → ((m : ℕ) (ms : List ℕ) → ns ≡ m ∷ ms → front ≡ m) → walk (next_of links) count front ≡ ns

@@ -291,8 +291,8 @@ impl Active {
     }
 
     /// The bytes that the other classes may send of their deficits before a packet of this class, which is active or comes to be so now: all of
-    /// those before it in the active list, and of those behind it what is above a quantum. It takes time in proportion to the number of active
-    /// classes.
+    /// those before it in the active list, and of each behind it what is above its own quantum. It takes time in proportion to the number of
+    /// active classes.
     pub fn deficits_ahead(&self, class: u16) -> u128
         requires { IsTrue (has_class class self.now.classes) }
         ensures value { result ≡ deficits_ahead class (woken class self.now).active self.now.classes }

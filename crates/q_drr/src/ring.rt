@@ -94,6 +94,7 @@ impl Ring {
     pub(crate) fn after(&self, place: usize) -> usize
         requires { IsTrue (is_among place self.now.order) }
         ensures next { (k : ℕ) → slice_get self.now.order k ≡ Some place → suc k < length self.now.order → slice_get self.now.order (suc k) ≡ Some result }
+        ensures around { (k : ℕ) → slice_get self.now.order k ≡ Some place → suc k ≡ length self.now.order → slice_get self.now.order 0 ≡ Some result }
     {
         self.links[place].next as usize
     }
