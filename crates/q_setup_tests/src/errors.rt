@@ -53,19 +53,34 @@ fn expect_undone(report: &Report, undone: &[(u64, Why)]) -> Result<(), Fail> {
     Ok(())
 }
 
+// The first file sets up a pfifo.
+fn expect_first(alloc: Global, device: &mut Device) -> Result<(), Fail> {
+    expect_done(
+        alloc,
+        device,
+        "tc qdisc add dev eth0 root handle 7: pfifo limit 3",
+    )
+}
+
+fn expect_root(device: &Device, number: u16) -> Result<(), Fail> {
+    if root_of(device) == number {
+        return Ok(());
+    }
+    Err(Fail::from("another root"))
+}
+
 #[test]
 fn lines_that_are_not_done_are_told(rt: HostRuntime) -> Result<(), Fail> {
     let Some(mut device) = device(rt.alloc()) else {
         return Err(Fail::from("no device"));
     };
-    expect_done(
-        rt.alloc(),
-        &mut device,
-        "tc qdisc add dev eth0 root handle 7: pfifo limit 3",
-    )?;
-    expect_refused(rt.alloc(), &mut device)?;
-    assert!(rt; root_of(&device) == 7);
-    Ok(())
+    refuse_second(rt.alloc(), &mut device)
+}
+
+fn refuse_second(alloc: Global, device: &mut Device) -> Result<(), Fail> {
+    expect_first(alloc, device)?;
+    expect_refused(alloc, device)?;
+    expect_root(device, 7)
 }
 
 #[test]
@@ -73,14 +88,13 @@ fn an_empty_file_leaves_an_implicit_root(rt: HostRuntime) -> Result<(), Fail> {
     let Some(mut device) = device(rt.alloc()) else {
         return Err(Fail::from("no device"));
     };
-    expect_done(
-        rt.alloc(),
-        &mut device,
-        "tc qdisc add dev eth0 root handle 7: pfifo limit 3",
-    )?;
-    expect_done(rt.alloc(), &mut device, "")?;
-    assert!(rt; root_of(&device) == 0);
-    Ok(())
+    empty_second(rt.alloc(), &mut device)
+}
+
+fn empty_second(alloc: Global, device: &mut Device) -> Result<(), Fail> {
+    expect_first(alloc, device)?;
+    expect_done(alloc, device, "")?;
+    expect_root(device, 0)
 }
 
 fn expect_done(alloc: Global, device: &mut Device, text: &str) -> Result<(), Fail> {

@@ -12,12 +12,18 @@ pub fn device(alloc: Global) -> Option<Device> {
 
 /// A file of the lines, of so many that are drawn, that a new device does.
 pub fn file(alloc: Global, chance: &mut Chance, drawn: u64) -> Result<String, Fail> {
-    let Some(mut device) = device(alloc) else {
-        return Err(Fail::from("no device"));
-    };
     let mut text = String::new(alloc);
-    draw(alloc, chance, drawn, &mut device, &mut text)?;
-    Ok(text)
+    match fill(alloc, chance, drawn, &mut text) {
+        Ok(()) => Ok(text),
+        Err(failed) => Err(failed),
+    }
+}
+
+fn fill(alloc: Global, chance: &mut Chance, drawn: u64, text: &mut String) -> Result<(), Fail> {
+    match device(alloc) {
+        Some(mut device) => draw(alloc, chance, drawn, &mut device, text),
+        None => Err(Fail::from("no device")),
+    }
 }
 
 fn draw(

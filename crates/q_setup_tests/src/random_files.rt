@@ -50,11 +50,21 @@ fn check_next(
 
 // A file on the device, and on a new one.
 fn check_file(alloc: Global, old: &mut Device, text: &str, now: Moment) -> Result<(), Fail> {
-    let Some(mut new) = device(alloc) else {
-        return Err(Fail::from("no device"));
-    };
-    play(alloc, &mut new, text, Moment::zero())?;
-    check_against(alloc, &new, old, text, now)
+    match device(alloc) {
+        Some(mut new) => check_both(alloc, &mut new, old, text, now),
+        None => Err(Fail::from("no device")),
+    }
+}
+
+fn check_both(
+    alloc: Global,
+    new: &mut Device,
+    old: &mut Device,
+    text: &str,
+    now: Moment,
+) -> Result<(), Fail> {
+    play(alloc, new, text, Moment::zero())?;
+    check_against(alloc, new, old, text, now)
 }
 
 fn check_against(
