@@ -1,11 +1,61 @@
-//! The options of `qtree drive`, and what the program answers.
-use crate::answers::{asked, assert_answers};
+//! What command lines ask for.
 use q_drive::DriveSettings;
-use q_options::{DriveOptions, Options};
+use q_options::{DriveOptions, Options, PlayOptions, options};
 use q_script::RunSettings;
 use std::alloc::Global;
 use std::process::Abort;
 use std::test::Fail;
+
+/// The words of a command line.
+fn words(alloc: Global, line: &str) -> Result<Vec<String>, Fail> {
+    let mut words = Vec::new(alloc);
+    for word in line.split(' ') {
+        words.push(String::from_str(alloc, word)?)?;
+    }
+    Ok(words)
+}
+
+/// What a command line asks for; `None` where it is turned down. It promises nothing: what options promise is long, and no test needs
+/// it.
+fn asked(alloc: Global, line: &str) -> Result<Option<Options>, Fail> {
+    Ok(options(alloc, &words(alloc, line)?).ok())
+}
+
+/// Checks that a line asks for a play with these settings.
+fn assert_play(
+    rt: &impl Abort,
+    alloc: Global,
+    line: &str,
+    settings: RunSettings,
+) -> Result<(), Fail> {
+    let play = PlayOptions {
+        settings,
+        file: None,
+        explain: false,
+    };
+    assert_eq!(rt; asked(alloc, line)?, Some(Options::Play(play)), "{line}");
+    Ok(())
+}
+
+#[test]
+fn options_of_play(rt: HostRuntime) -> Result<(), Fail> {
+    let alloc = rt.alloc();
+    let settings = RunSettings::new(1, 0, u32::MAX, 1_000_000).ok_or("settings in range")?;
+    assert_play(&rt, alloc, "qtree play", RunSettings::defaults())?;
+    assert_play(
+        &rt,
+        alloc,
+        "qtree play --mtu 1 --txqueuelen 0 --seed 4294967295 --record 1000000",
+        settings,
+    )?;
+    assert_play(
+        &rt,
+        alloc,
+        "qtree play --record=1000000 --seed=4294967295 --txqueuelen=0 --mtu=1",
+        settings,
+    )?;
+    Ok(())
+}
 
 /// Checks that a line asks for a drive with these settings, which are in range; and that with `--explain` it asks for the same, explained.
 fn assert_drive(
@@ -62,69 +112,4 @@ fn options_at_their_bounds(rt: HostRuntime) -> Result<(), Fail> {
         "qtree drive --senders 2 --show --count 3 --len 4 --ring 5 --until-idle",
         DriveSettings::new(defaults, 2, 3, 4, 5, true, true),
     )
-}
-
-/// Command lines that are turned down.
-const PAST_THEIR_BOUNDS: &[&str] = &[
-    "qtree drive",
-    "qtree drive --count 1 --len 1 --ring 1",
-    "qtree drive --senders 1 --len 1 --ring 1",
-    "qtree drive --senders 1 --count 1 --ring 1",
-    "qtree drive --senders 1 --count 1 --len 1",
-    "qtree drive --senders 0 --count 1 --len 1 --ring 1",
-    "qtree drive --senders 65 --count 1 --len 1 --ring 1",
-    "qtree drive --senders 257 --count 1 --len 1 --ring 1",
-    "qtree drive --senders 1 --count -1 --len 1 --ring 1",
-    "qtree drive --senders 1 --count 1000001 --len 1 --ring 1",
-    "qtree drive --senders 1 --count 1 --len 0 --ring 1",
-    "qtree drive --senders 1 --count 1 --len 65536 --ring 1",
-    "qtree drive --senders 1 --count 1 --len 1 --ring 0",
-    "qtree drive --senders 1 --count 1 --len 1 --ring 65537",
-    "qtree drive --senders 1 --senders 1 --count 1 --len 1 --ring 1",
-    "qtree drive --show --show --senders 1 --count 1 --len 1 --ring 1",
-    "qtree drive --explain --explain --senders 1 --count 1 --len 1 --ring 1",
-    "qtree drive --show=1 --senders 1 --count 1 --len 1 --ring 1",
-    "qtree drive --until-idle --until-idle --senders 1 --count 1 --len 1 --ring 1",
-    "qtree drive --until-idle=1 --senders 1 --count 1 --len 1 --ring 1",
-    "qtree drive --senders 1 --count 1 --len 1 --ring 1 --mtu 0",
-    "qtree drive --senders 1 --count 1 --len 1 --ring 1 --record 1000001",
-    "qtree play --senders 1",
-    "qtree play --show",
-    "qtree play --until-idle",
-];
-
-#[test]
-fn options_past_their_bounds(rt: HostRuntime) -> Result<(), Fail> {
-    let alloc = rt.alloc();
-    let whole = "qtree drive --senders 1 --count 1 --len 1 --ring 1";
-    assert!(rt; asked(alloc, whole)?.is_some());
-    for line in PAST_THEIR_BOUNDS {
-        assert!(rt; asked(alloc, line)?.is_none(), "{line}");
-    }
-    Ok(())
-}
-
-/// Lines of standard input for four senders of 16 packets: each with the status, the output, and what is reported.
-const DRIVES: &[(&[u8], u8, &str, &str)] = &[
-    (
-        b"",
-        0,
-        "settled 64p 6400b\narrived 64p 6400b\ngiven up 0\n",
-        "",
-    ),
-    (
-        b"tc qdisc del dev eth0 root",
-        1,
-        "line 1: refused 12 NoQdisc\nsettled 64p 6400b\narrived 64p 6400b\ngiven up 0\n",
-        "qtree: lines that were not done: 1; --explain says why\n",
-    ),
-];
-
-#[test]
-fn statuses_of_drives(rt: HostRuntime) -> Result<(), Fail> {
-    let line = "qtree drive --senders 4 --count 16 --len 100 --ring 16";
-    for (input, status, report, told) in DRIVES {
-        assert_answers(&rt, line, input, *status, report, told)?;
-    }
-    Ok(())
 }

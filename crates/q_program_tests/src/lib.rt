@@ -1,36 +1,24 @@
-//! Tests of the whole program: scripts with their reports, and line by line on a device, drives with what they come to, command lines
-//! with their answers, show texts of a tree, readers and writers that are slow or fail, and what the error output says. Drives start
-//! threads.
+//! Tests of what the program is made of: what command lines ask for, lines on a device one after the other, random events as lines,
+//! show texts of a tree, and readers and writers that are slow or fail. A drive starts threads.
 //!
-//! They are here so that `q_session`, `q_drive` and `q_options` are proved once. The crate exports nothing.
+//! They are here so that `q_session`, `q_drive` and `q_options` are proved once. What the built program answers to a command line is
+//! tested by `crates/qtree/tests/run`, which needs no proof. The crate exports nothing.
 #![tactic(auto)]
 
-#[cfg(test)]
-mod answers;
 #[cfg(test)]
 mod chance;
 #[cfg(test)]
 mod command_lines;
 #[cfg(test)]
-mod drained;
-#[cfg(test)]
 mod drives;
-#[cfg(test)]
-mod explanations;
 #[cfg(test)]
 mod imports;
 #[cfg(test)]
 mod line_runner;
 #[cfg(test)]
-mod lines;
-#[cfg(test)]
-mod messages;
-#[cfg(test)]
 mod random_commands;
 #[cfg(test)]
 mod random_events;
-#[cfg(test)]
-mod runs;
 #[cfg(test)]
 mod scripts_on_a_device;
 #[cfg(test)]

@@ -3,8 +3,8 @@
 //! `rt try --test --fail-alloc N` refuses the Nth allocation of a test, and these pass for every N: a line for which an allocation
 //! failed has changed nothing that is seen, and the same line with memory is then done.
 use crate::line_runner::LineRunner;
-use crate::runs::TWO_OF_THREE;
 use crate::seen::adds_up;
+use crate::streams::TWO_OF_THREE;
 use q_device::{Device, Event, Place, Refusal};
 use std::alloc::Global;
 use std::process::Abort;

@@ -1,8 +1,7 @@
 //! Runs whose reader or writer is slow or fails.
-use crate::runs::{TWO_OF_THREE, TWO_OF_THREE_REPORT, run_through};
 use crate::shows::{QDISCS, device};
 use q_device::Device;
-use q_options::play;
+use q_options::{play, run};
 use q_script::{MAX_LENGTH, Outcome, RunFault, RunSettings, Source};
 use q_session::{ShowFault, show_qdiscs};
 use q_show::Target;
@@ -10,6 +9,19 @@ use std::alloc::Global;
 use std::io::{Error, ErrorKind, Read, Result as IoResult, Write};
 use std::process::Abort;
 use std::test::Fail;
+
+pub const TWO_OF_THREE: &[u8] = b"tc qdisc add dev eth0 root handle 1: pfifo limit 2\n\
+      pkt 100\n\
+      pkt 200\n\
+      pkt 300\n\
+      poll 3\n\
+      tc -s qdisc show dev eth0\n";
+
+const TWO_OF_THREE_REPORT: &str = "sent 1 100\n\
+     sent 2 200\n\
+     idle\n\
+     qdisc pfifo 1: root limit 2p\n \
+     arrived 3p 600b sent 2p 300b refused 1p 300b dropped 0p 0b queued 0p 0b\n";
 
 /// A reader that gives a text and then so many blanks, at most `step` bytes a time.
 #[derive(Drop)]
@@ -114,6 +126,16 @@ impl Write for Narrow {
     fn flush(&mut self) -> IoResult<()> {
         Ok(())
     }
+}
+
+/// A run of what a reader has. It promises nothing: what a run promises of its reader and its writer is long, and no test needs it.
+fn run_through<R: Read, W: Write>(
+    alloc: Global,
+    reader: &mut R,
+    writer: &mut W,
+    settings: RunSettings,
+) -> Result<Outcome, RunFault> {
+    run(alloc, reader, writer, settings)
 }
 
 /// The status of a play with the default settings. It promises nothing: what a play promises is long, and no test needs it.
