@@ -23,12 +23,29 @@ const STEP: u32 = 100;
 /// The most losses of two packets and one poll.
 const MOST_LOST: u32 = 1000;
 
-/// A device with a tree, in which so many packets are queued, and where its clock and the checksum are then.
-#[derive(Drop)]
-struct Ready {
-    device: Device,
+/// Where the clock of a device and the checksum are once its first packets are queued.
+#[derive(Clone, Copy)]
+struct Begun {
     now: Moment,
     sum: u64,
+}
+
+/// A tree that is set up on a device, and how many of the packets, which come round and round, are queued in it at first.
+#[derive(Clone, Copy)]
+struct Load<'a> {
+    shape: u32,
+    tree: Tree,
+    queued: u32,
+    made: &'a [KeptPacket],
+}
+
+/// What happens once the first packets are queued.
+#[derive(Clone, Copy)]
+enum Passes<'a> {
+    /// A packet and a poll by turns: the nanoseconds between packets, and how often all of them come.
+    Pairs(u32, u32),
+    /// Two packets, a poll and what was lost by turns: the nanoseconds before each poll.
+    Losses(&'a [u32]),
 }
 
 /// Sets a tree up on a device, and lets `queued` packets arrive there. Then each packet of the plan arrives, so many
@@ -62,29 +79,21 @@ pub extern "C" fn q_bench_pairs(
         drop_batch,
         ecn,
     };
-    pairs(alloc, shape, tree, queued, made.as_slice(), step, passes).unwrap_or(0)
+    let made = made.as_slice();
+    let load = Load {
+        shape,
+        tree,
+        queued,
+        made,
+    };
+    passed(alloc, load, Passes::Pairs(step, passes)).unwrap_or(0)
 }
 
-fn pairs(
-    alloc: Global,
-    shape: u32,
-    tree: Tree,
-    queued: u32,
-    made: &[KeptPacket],
-    step: u32,
-    passes: u32,
-) -> Option<u64> {
-    let mut ready = queued_up(alloc, shape, tree, queued, made)?;
-    pass_pairs(&mut ready, made, step, passes)
-}
-
-fn pass_pairs(ready: &mut Ready, made: &[KeptPacket], step: u32, passes: u32) -> Option<u64> {
-    let mut now = ready.now;
-    let mut sum = ready.sum;
-    let device = &mut ready.device;
-    let mut out = *made.first()?;
+fn pass_pairs(device: &mut Device, load: Load, step: u32, passes: u32) -> Option<u64> {
+    let Begun { mut now, mut sum } = queue_up(device, load)?;
+    let mut out = *load.made.first()?;
     for _ in 0..passes {
-        for packet in made {
+        for packet in load.made {
             now = Moment::new(now.ns() + u64::from(step))?;
             sum = checksum::with(sum, arrive(device, packet, now)?);
             sum = checksum::with(sum, poll(device, now, &mut out));
@@ -123,34 +132,32 @@ pub extern "C" fn q_bench_losses(
         drop_batch,
         ecn,
     };
-    losses(alloc, shape, tree, queued, made.as_slice(), waits).unwrap_or(0)
+    let made = made.as_slice();
+    let load = Load {
+        shape,
+        tree,
+        queued,
+        made,
+    };
+    passed(alloc, load, Passes::Losses(waits)).unwrap_or(0)
 }
 
-fn losses(
-    alloc: Global,
-    shape: u32,
-    tree: Tree,
-    queued: u32,
-    made: &[KeptPacket],
-    waits: &[u32],
-) -> Option<u64> {
-    let mut ready = queued_up(alloc, shape, tree, queued, made)?;
-    pass_losses(&mut ready, made, waits)
-}
-
-fn pass_losses(ready: &mut Ready, made: &[KeptPacket], waits: &[u32]) -> Option<u64> {
-    let mut now = ready.now;
-    let mut sum = ready.sum;
-    let device = &mut ready.device;
-    let mut out = *made.first()?;
+fn pass_losses(device: &mut Device, load: Load, waits: &[u32]) -> Option<u64> {
+    let Begun { mut now, mut sum } = queue_up(device, load)?;
+    let mut out = *load.made.first()?;
     let mut next = 0;
     for wait in waits {
         now = Moment::new(now.ns() + u64::from(*wait))?;
-        sum = checksum::with(sum, arrive(device, made.get(next)?, now)?);
-        sum = checksum::with(sum, arrive(device, made.get(next + 1)?, now)?);
+        let (first, second) = (load.made.get(next)?, load.made.get(next + 1)?);
+        sum = checksum::with(sum, arrive(device, first, now)?);
+        sum = checksum::with(sum, arrive(device, second, now)?);
         sum = checksum::with(sum, poll(device, now, &mut out));
         sum = reap(device, sum);
-        next = if next + 3 < made.len() { next + 2 } else { 0 };
+        next = if next + 3 < load.made.len() {
+            next + 2
+        } else {
+            0
+        };
     }
     with_counts(device, sum)
 }
@@ -199,43 +206,45 @@ fn limit_for(queued: u32) -> u32 {
     }
 }
 
-/// A device with this tree, at which the first packets have arrived, round and round.
-fn queued_up(
-    alloc: Global,
-    shape: u32,
-    tree: Tree,
-    queued: u32,
-    made: &[KeptPacket],
-) -> Option<Ready> {
+/// The checksum of all that happens on a new device.
+fn passed(alloc: Global, load: Load, passes: Passes) -> Option<u64> {
     let mut device = opened(alloc)?;
-    match queue_up(&mut device, shape, tree, queued, made) {
-        Some((now, sum)) => Some(Ready { device, now, sum }),
-        None => None,
+    let sum = pass(&mut device, load, passes);
+    close(device);
+    sum
+}
+
+/// Drops a device. Each way on which a function does so is a part of its proof, so that one function does it for all.
+fn close(_device: Device) {}
+
+fn pass(device: &mut Device, load: Load, passes: Passes) -> Option<u64> {
+    match passes {
+        Passes::Pairs(step, passes) => pass_pairs(device, load, step, passes),
+        Passes::Losses(waits) => pass_losses(device, load, waits),
     }
 }
 
+/// A device without a tree.
 fn opened(alloc: Global) -> Option<Device> {
     Device::open(alloc, Settings::new(MTU, TXQUEUELEN, 0)?).ok()
 }
 
-/// Sets up the tree, and lets the first packets arrive; the clock and the checksum then.
-fn queue_up(
-    device: &mut Device,
-    shape: u32,
-    tree: Tree,
-    queued: u32,
-    made: &[KeptPacket],
-) -> Option<(Moment, u64)> {
-    set_up(device, Shape::of(shape)?, tree)?;
+/// Sets up the tree, and lets the first packets arrive, round and round.
+fn queue_up(device: &mut Device, load: Load) -> Option<Begun> {
+    set_up(device, Shape::of(load.shape)?, load.tree)?;
     let mut now = Moment::zero();
     let mut sum = 1;
     let mut next = 0;
-    for _ in 0..queued {
+    for _ in 0..load.queued {
         now = Moment::new(now.ns() + u64::from(STEP))?;
-        sum = checksum::with(sum, arrive(device, made.get(next)?, now)?);
-        next = if next + 1 < made.len() { next + 1 } else { 0 };
+        sum = checksum::with(sum, arrive(device, load.made.get(next)?, now)?);
+        next = if next + 1 < load.made.len() {
+            next + 1
+        } else {
+            0
+        };
     }
-    Some((now, sum))
+    Some(Begun { now, sum })
 }
 
 /// The number of the cause where the packet is lost, else 0.
