@@ -45,6 +45,10 @@ fn level_at(bucket: &Bucket, ns: u64) -> Option<u128> {
     Some(bucket.level_at(now))
 }
 
+fn ready_at(bucket: &Bucket, len: u16) -> Option<u64> {
+    Some(bucket.ready_at(len)?.ns())
+}
+
 // Whether a change is there to be seen.
 fn changes(bucket: &mut Bucket, ns: u64, rate: u64, burst: u32) -> Option<bool> {
     let now = in_order(bucket, ns)?;
@@ -59,7 +63,7 @@ fn changes(bucket: &mut Bucket, ns: u64, rate: u64, burst: u32) -> Option<bool> 
 fn answers(bucket: &mut Bucket, call: Call) -> bool {
     match call {
         Call::Spend(ns, len, goes) => spends(bucket, ns, len) == Some(goes),
-        Call::Ready(len, ns) => bucket.ready_at(len).map(|at| at.ns()) == ns,
+        Call::Ready(len, ns) => ready_at(bucket, len) == ns,
         Call::Level(ns, level) => level_at(bucket, ns) == Some(level),
         Call::Change(ns, rate, burst) => changes(bucket, ns, rate, burst) == Some(true),
     }

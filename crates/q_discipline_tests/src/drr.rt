@@ -1,10 +1,12 @@
 //! The active list of deficit round robin.
-ghost use Rattle.std.specs.Prelude.{◌<◌, ◌≤◌, All, length, IfSome};
+ghost use Rattle.std.specs.Prelude.{◌≡◌, ◌<◌, ◌≤◌, All, length, IfSome, OnOk};
+ghost use Rattle.q_drr.specs.Schedule.{added, no_classes};
 
 use q_drr::laws::{Met, take_by_turns};
 use q_drr::{Active, Turn};
 use std::alloc::Global;
 use std::marker::Model;
+use std::process::Abort;
 use std::test::Fail;
 
 // The length of the longest packet.
@@ -226,10 +228,16 @@ type Taken = (Option<Met>, u64);
 
 // A take of a list on which the only class has a quantum of one byte.
 fn take_of_one_byte(alloc: Global) -> Result<Taken, Fail> {
-    let mut active = Active::new(alloc, 1514);
+    meet_one_byte(&mut Active::new(alloc, 1514))
+}
+
+// The same on a list that is lent, as in the takes below: a list that ends where an `add` fails is dear to prove.
+fn meet_one_byte(active: &mut Active) -> Result<Taken, Fail>
+    requires { active.old ≡ no_classes 1514 }
+{
     active.add(0, 1)?;
     active.wake(0);
-    let met = take(&mut active, &[Some(1514)]);
+    let met = take(active, &[Some(1514)]);
     Ok((met, active.turns()))
 }
 
@@ -268,12 +276,25 @@ fn classes_come_and_go(rt: HostRuntime) -> Result<(), Fail> {
     )
 }
 
-// A take of a list on which both classes are inactive.
-fn take_of_sleepers(alloc: Global) -> Result<Taken, Fail> {
-    let mut active = Active::new(alloc, 100);
+fn add_two(active: &mut Active) -> Result<(), Fail>
+    requires { active.old ≡ no_classes 100 }
+    ensures { OnOk result (active.new ≡ added 2 10 (added 1 10 (no_classes 100))) }
+{
     active.add(1, 10)?;
     active.add(2, 10)?;
-    let met = take(&mut active, &[]);
+    Ok(())
+}
+
+// A take of a list on which both classes are inactive.
+fn take_of_sleepers(alloc: Global) -> Result<Taken, Fail> {
+    meet_none(&mut Active::new(alloc, 100))
+}
+
+fn meet_none(active: &mut Active) -> Result<Taken, Fail>
+    requires { active.old ≡ no_classes 100 }
+{
+    add_two(active)?;
+    let met = take(active, &[]);
     Ok((met, active.turns()))
 }
 
@@ -281,12 +302,17 @@ fn take_of_sleepers(alloc: Global) -> Result<Taken, Fail> {
 fn take_of_two(alloc: Global, heads: &[Option<u16>; 3]) -> Result<Taken, Fail>
     requires { All (λ head. IfSome head (λ len. len ≤ 100)) heads.now }
 {
-    let mut active = Active::new(alloc, 100);
-    active.add(1, 10)?;
-    active.add(2, 10)?;
+    meet_one_of_two(&mut Active::new(alloc, 100), heads)
+}
+
+fn meet_one_of_two(active: &mut Active, heads: &[Option<u16>; 3]) -> Result<Taken, Fail>
+    requires empty { active.old ≡ no_classes 100 }
+    requires in_range { All (λ head. IfSome head (λ len. len ≤ 100)) heads.now }
+{
+    add_two(active)?;
     active.wake(1);
     active.wake(2);
-    let met = take(&mut active, heads);
+    let met = take(active, heads);
     Ok((met, active.turns()))
 }
 
@@ -390,11 +416,12 @@ fn front_place(active: &Active) -> Option<usize> {
     active.front_place()
 }
 
-fn two_asleep(alloc: Global) -> Result<Active, Fail> {
-    let mut active = Active::new(alloc, LONGEST);
+fn add_two_asleep(active: &mut Active) -> Result<(), Fail>
+    requires { active.old ≡ no_classes 1514 }
+{
     active.add(7, 100)?;
     active.add(5, 200)?;
-    Ok(active)
+    Ok(())
 }
 
 // The class in front, and its place.
@@ -424,12 +451,13 @@ fn expect_in_front(active: &mut Active, rows: &[(usize, bool, InFront)]) -> Resu
     Ok(())
 }
 
-#[test]
-fn a_class_is_woken_and_put_to_sleep_by_its_place(rt: HostRuntime) -> Result<(), Fail> {
-    let mut active = two_asleep(rt.alloc())?;
-    assert!(rt; has_in_front(&active, (None, None)));
+fn wake_and_put_to_sleep(rt: &impl Abort, active: &mut Active) -> Result<(), Fail>
+    requires { active.old ≡ no_classes 1514 }
+{
+    add_two_asleep(active)?;
+    assert!(rt; has_in_front(active, (None, None)));
     expect_in_front(
-        &mut active,
+        active,
         &[
             (1, true, (Some(5), Some(1))),
             (0, true, (Some(5), Some(1))),
@@ -437,4 +465,9 @@ fn a_class_is_woken_and_put_to_sleep_by_its_place(rt: HostRuntime) -> Result<(),
             (0, false, (None, None)),
         ],
     )
+}
+
+#[test]
+fn a_class_is_woken_and_put_to_sleep_by_its_place(rt: HostRuntime) -> Result<(), Fail> {
+    wake_and_put_to_sleep(&rt, &mut Active::new(rt.alloc(), LONGEST))
 }

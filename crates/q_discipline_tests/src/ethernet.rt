@@ -53,7 +53,7 @@ const FRAMES: &[Framed] = &[
 #[test]
 fn finds_ip_in_frames(rt: HostRuntime) -> Result<(), Fail> {
     for (name, frame, at) in FRAMES {
-        assert_eq!(rt; ip_at(frame), *at, "{name}");
+        assert!(rt; ip_at(frame) == *at, "{name}");
     }
     Ok(())
 }

@@ -215,32 +215,35 @@ fn is_in_range(counts: (u32, u32, u32), times: (u64, u64), drop_batch: u32, mtu:
     .is_some()
 }
 
+// The longest target and interval.
+const MOST: u64 = 1_000_000_000_000;
+// The settings, in the order of `is_in_range`, and whether they are.
+const RANGES: &[((u32, u32, u32), (u64, u64), u32, u16, bool)] = &[
+    ((1, 1, 1), (0, 1000), 1, 1, true),
+    (
+        (u32::MAX, 65536, u32::MAX),
+        (MOST, MOST),
+        65536,
+        u16::MAX,
+        true,
+    ),
+    ((0, 1, 1), (0, 1000), 1, 1, false),
+    ((1, 0, 1), (0, 1000), 1, 1, false),
+    ((1, 65537, 1), (0, 1000), 1, 1, false),
+    ((1, 1, 0), (0, 1000), 1, 1, false),
+    ((1, 1, 1), (MOST + 1, 1000), 1, 1, false),
+    ((1, 1, 1), (0, 999), 1, 1, false),
+    ((1, 1, 1), (0, MOST + 1), 1, 1, false),
+    ((1, 1, 1), (0, 1000), 0, 1, false),
+    ((1, 1, 1), (0, 1000), 65537, 1, false),
+    ((1, 1, 1), (0, 1000), 1, 0, false),
+];
+
 #[test]
 fn settings_are_in_range(rt: HostRuntime) {
     assert!(rt; settings_with(USUAL) == Some(Settings::defaults(1500)));
-    let most: u64 = 1_000_000_000_000;
-    let rows = [
-        ((1, 1, 1), (0, 1000), 1, 1, true),
-        (
-            (u32::MAX, 65536, u32::MAX),
-            (most, most),
-            65536,
-            u16::MAX,
-            true,
-        ),
-        ((0, 1, 1), (0, 1000), 1, 1, false),
-        ((1, 0, 1), (0, 1000), 1, 1, false),
-        ((1, 65537, 1), (0, 1000), 1, 1, false),
-        ((1, 1, 0), (0, 1000), 1, 1, false),
-        ((1, 1, 1), (most + 1, 1000), 1, 1, false),
-        ((1, 1, 1), (0, 999), 1, 1, false),
-        ((1, 1, 1), (0, most + 1), 1, 1, false),
-        ((1, 1, 1), (0, 1000), 0, 1, false),
-        ((1, 1, 1), (0, 1000), 65537, 1, false),
-        ((1, 1, 1), (0, 1000), 1, 0, false),
-    ];
-    for (counts, times, drop_batch, mtu, is_fit) in rows {
-        assert!(rt; is_in_range(counts, times, drop_batch, mtu) == is_fit);
+    for (counts, times, drop_batch, mtu, is_fit) in RANGES {
+        assert!(rt; is_in_range(*counts, *times, *drop_batch, *mtu) == *is_fit);
     }
 }
 

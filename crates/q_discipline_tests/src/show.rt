@@ -99,11 +99,14 @@ const COUNTERS: &str =
 const FQ_CODEL: &str =
     "qdisc fq_codel 10: root limit 10240p flows 1024 quantum 1514 target 5000000ns interval 100000000ns ecn drop_batch 1\n";
 
-/// Checks that a text is written whole, and is this one.
-fn assert_text(rt: &impl Abort, alloc: Global, text: &Text, line: &str) {
+/// Whether a text is written whole, and is this one.
+fn is_written(alloc: Global, text: &Text, line: &str) -> bool {
     let mut written = Vec::new(alloc);
-    assert_eq!(rt; write_text(&mut written, text), Ok(()));
-    assert_eq!(rt; written.as_slice(), line.as_bytes(), "{line}");
+    write_text(&mut written, text) == Ok(()) && written.as_slice() == line.as_bytes()
+}
+
+fn assert_text(rt: &impl Abort, alloc: Global, text: &Text, line: &str) {
+    assert!(rt; is_written(alloc, text, line), "{line}");
 }
 
 /// Checks what is shown of a qdisc without its counters, or with them.
