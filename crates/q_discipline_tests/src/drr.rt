@@ -276,6 +276,7 @@ fn classes_come_and_go(rt: HostRuntime) -> Result<(), Fail> {
     )
 }
 
+// Adds the classes 1 and 2.
 fn add_two(active: &mut Active) -> Result<(), Fail>
     requires { active.old ≡ no_classes 100 }
     ensures { OnOk result (active.new ≡ added 2 10 (added 1 10 (no_classes 100))) }

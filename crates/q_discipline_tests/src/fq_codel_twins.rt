@@ -26,9 +26,15 @@ struct Twins {
 
 impl Twins {
     fn new(alloc: Global, settings: Settings) -> Result<Twins, Fail> {
-        Ok(Twins {
-            fast: FqCodel::new(alloc, settings)?,
-            plain: PlainFqCodel::new(alloc, settings)?,
+        let plain = PlainFqCodel::new(alloc, settings)?;
+        let fast = FqCodel::new(alloc, settings)?;
+        Ok(Twins::of(alloc, fast, plain))
+    }
+
+    fn of(alloc: Global, fast: FqCodel, plain: PlainFqCodel) -> Twins {
+        Twins {
+            fast,
+            plain,
             lost: Losses::new(alloc),
             plain_lost: Losses::new(alloc),
             sent: 0,
@@ -36,7 +42,7 @@ impl Twins {
             dropped: 0,
             shed: 0,
             purged: 0,
-        })
+        }
     }
 
     fn put(&mut self, rt: &impl Abort, packet: Packet, now: Moment) -> Result<(), Fail> {
