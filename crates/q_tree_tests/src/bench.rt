@@ -135,6 +135,14 @@ impl Bench {
         }
     }
 
+    /// Drops it: this alone drops a tree, since each way on which one is dropped takes long to prove.
+    pub fn close(self) {}
+
+    /// The tree.
+    pub fn tree(&self) -> &Tree {
+        &self.tree
+    }
+
     fn graft(
         &mut self,
         alloc: Global,
@@ -323,7 +331,10 @@ impl Bench {
     }
 
     fn has_oldest(&self, spot: Spot, ns: Option<u64>) -> Result<bool, Fail> {
-        Ok(self.tree.oldest(spot.place()?).map(|at| at.ns()) == ns)
+        match self.tree.oldest(spot.place()?) {
+            Some(at) => Ok(ns == Some(at.ns())),
+            None => Ok(ns.is_none()),
+        }
     }
 
     fn has_totals(&self) -> bool {
@@ -349,7 +360,11 @@ impl Bench {
     }
 
     fn has_flows(&self, i: usize, flows: Option<(u32, u32)>) -> bool {
-        self.tree.flows(i).map(|f| (f.new_flows, f.old_flows)) == flows
+        match (self.tree.flows(i), flows) {
+            (Some(row), Some((new, old))) => row.new_flows == new && row.old_flows == old,
+            (None, None) => true,
+            _ => false,
+        }
     }
 
     // Whether a command is done, or refused as it has to be.
@@ -414,7 +429,10 @@ impl Bench {
 
 /// Plays these calls on a new tree, whose pfifo has so many packets.
 pub fn play_small(alloc: Global, limit: u32, calls: &[Call]) -> Result<(), Fail> {
-    Bench::new(alloc, limit).play(alloc, calls)
+    let mut bench = Bench::new(alloc, limit);
+    let answer = bench.play(alloc, calls);
+    bench.close();
+    answer
 }
 
 /// Plays these calls on a new tree, whose pfifo has 100 packets.

@@ -20,9 +20,14 @@ const REFUSALS: [(Refusal, u8, &str); 13] = [
     (Refusal::Memory, 90, "refused 90 Memory"),
 ];
 
+// Whether a refusal that was shown so has this number and text.
+fn is(refusal: Refusal, shown: &str, number: u8, text: &str) -> bool {
+    refusal.number() == number && shown == text && text.ends_with(refusal.name())
+}
+
 fn is_shown(alloc: Global, refusal: Refusal, number: u8, text: &str) -> Result<bool, Fail> {
     let shown = format!(in alloc; "{refusal}")?;
-    Ok(refusal.number() == number && shown.as_str() == text && text.ends_with(refusal.name()))
+    Ok(is(refusal, shown.as_str(), number, text))
 }
 
 fn expect_texts(alloc: Global, rows: &[(Refusal, u8, &str)]) -> Result<(), Fail> {

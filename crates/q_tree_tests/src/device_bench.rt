@@ -217,6 +217,24 @@ pub fn reply(device: &mut Device, event: Event) -> Option<Reply> {
     }
 }
 
+fn opened_again(alloc: Global, settings: Settings) -> Result<Device, Fail> {
+    match Device::open(alloc, settings) {
+        Ok(device) => Ok(device),
+        Err(failed) => Err(failed.into()),
+    }
+}
+
+/// A new device. If an allocation fails, it is tried again.
+pub fn opened(alloc: Global, settings: Settings) -> Result<Device, Fail> {
+    match Device::open(alloc, settings) {
+        Ok(device) => Ok(device),
+        Err(_) => opened_again(alloc, settings),
+    }
+}
+
+/// Drops a device: this alone does, since each way on which one is dropped takes long to prove.
+pub fn close(_device: Device) {}
+
 // A device under test.
 #[derive(Drop)]
 struct Bench {
@@ -246,12 +264,14 @@ pub fn set_up(device: &mut Device, lines: &[Ask]) -> Result<(), Fail> {
 impl Bench {
     // A pfifo of so many packets.
     fn new(alloc: Global, limit: u32) -> Result<Bench, Fail> {
-        let settings = settings(limit)?;
-        let device = match Device::open(alloc, settings) {
-            Ok(device) => device,
-            Err(_) => Device::open(alloc, settings)?,
-        };
-        Ok(Bench { device })
+        match opened(alloc, settings(limit)?) {
+            Ok(device) => Ok(Bench { device }),
+            Err(failed) => Err(failed),
+        }
+    }
+
+    fn close(self) {
+        close(self.device)
     }
 
     // What an event is answered. Where it was refused nothing has changed, and where memory was it happens with memory.
@@ -370,7 +390,10 @@ impl Bench {
 
 /// Does these calls on a new device, whose pfifo has so many packets.
 pub fn called_small(alloc: Global, limit: u32, calls: &[Call]) -> Result<(), Fail> {
-    Bench::new(alloc, limit)?.play(calls)
+    let mut bench = Bench::new(alloc, limit)?;
+    let answer = bench.play(calls);
+    bench.close();
+    answer
 }
 
 /// Does these calls on a new device, whose pfifo has 100 packets.
@@ -452,7 +475,10 @@ fn expect_replies(bench: &mut Bench, events: &[Event], replies: &[Reply]) -> Res
 }
 
 fn replied(alloc: Global, events: &[Event], replies: &[Reply]) -> Result<(), Fail> {
-    expect_replies(&mut Bench::new(alloc, 100)?, events, replies)
+    let mut bench = Bench::new(alloc, 100)?;
+    let answer = expect_replies(&mut bench, events, replies);
+    bench.close();
+    answer
 }
 
 /// Plays the events among these calls. A new device answers each of them in turn with the same reply.

@@ -1,6 +1,6 @@
 //! How long a packet of a class of a drr waits at most: what a device answers, and a packet that waits just so long.
 use crate::device_bench::{Ask, Call, called};
-use crate::device_worst::{Told, answers, opened, tells_all};
+use crate::device_worst::{Told, answers, answers_1500};
 use crate::lines::{New, Spot};
 use q_device::Fate;
 use std::test::Fail;
@@ -115,8 +115,8 @@ fn a_class_in_the_worst_state_is_told_its_delay(rt: HostRuntime) -> Result<(), F
         Spot::Class(2, 2),
         Some((4_001, Some((32_008_000, 1_119_999)))),
     )];
-    tells_all(
-        &mut opened(rt.alloc(), 1500, 100)?,
+    answers_1500(
+        rt.alloc(),
         &[link, drr, first, second, fifo, LATER[0], LATER[1]],
         &rows,
     )

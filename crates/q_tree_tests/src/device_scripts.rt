@@ -2,7 +2,7 @@
 //! one goes a nanosecond before the time that the device reports, and the next one at it. Of 53,480 polls at it 645 give none: what the
 //! time was reported for is not known then of an fq_codel, of a drr's front class, or below a tbf over a prio. After each fourth
 //! step the device is asked when its oldest packet arrived, which a plain list of the packets that wait has to say too.
-use crate::device_bench::{Ask, set_up};
+use crate::device_bench::{Ask, close, opened, set_up};
 use crate::lines::{New, Spot, at, packet};
 use q_device::{Device, Place, Polled, Settings};
 use q_packet::Moment;
@@ -155,12 +155,15 @@ fn graft(device: &mut Device, kind: u64, outer: New, inner: New) -> Result<(), F
 impl Script {
     fn new(alloc: Global) -> Result<Script, Fail> {
         let settings = Settings::new(1_500, 100, 0).ok_or("settings")?;
-        Ok(Script {
-            device: Device::open(alloc, settings)?,
-            now: 0,
-            waiting: [None; 40],
-            told: NOTHING_TOLD,
-        })
+        match opened(alloc, settings) {
+            Ok(device) => Ok(Script {
+                device,
+                now: 0,
+                waiting: [None; 40],
+                told: NOTHING_TOLD,
+            }),
+            Err(failed) => Err(failed),
+        }
     }
 
     fn graft(&mut self, dice: &mut Dice) -> Result<(), Fail> {
@@ -218,7 +221,10 @@ impl Script {
                 note(&mut self.waiting, lost.packet.number, None);
             }
         }
-        let oldest = self.device.oldest(Place::Top).map(|at| at.ns());
+        let oldest = match self.device.oldest(Place::Top) {
+            Some(at) => Some(at.ns()),
+            None => None,
+        };
         if oldest != first_of(&self.waiting) {
             self.told.not_oldest = self.told.not_oldest.saturating_add(1);
         }
@@ -260,7 +266,10 @@ fn run(script: &mut Script, dice: &mut Dice) -> Result<Told, Fail> {
 
 // What came of one script.
 fn played_once(alloc: Global, dice: &mut Dice) -> Result<Told, Fail> {
-    run(&mut Script::new(alloc)?, dice)
+    let mut script = Script::new(alloc)?;
+    let told = run(&mut script, dice);
+    close(script.device);
+    told
 }
 
 // What came of so many scripts, added up.

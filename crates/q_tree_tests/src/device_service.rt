@@ -1,5 +1,5 @@
 //! What a class is promised. The numbers are those of docs/SERVICE.md, for an mtu of 1514 and 20 Mbit/s.
-use crate::device_bench::{Ask, set_up};
+use crate::device_bench::{Ask, close, opened, set_up};
 use crate::lines::{New, Spot};
 use q_device::{Device, Settings};
 use std::alloc::Global;
@@ -12,9 +12,8 @@ const LINK: New = New::Shaper(20_000_000, 1_515);
 
 const MBIT: Option<u64> = Some(20_000_000);
 
-fn opened(alloc: Global) -> Result<Device, Fail> {
-    let settings = Settings::new(1514, 1000, 0).ok_or("settings")?;
-    Ok(Device::open(alloc, settings)?)
+fn settings() -> Result<Settings, Fail> {
+    Ok(Settings::new(1514, 1000, 0).ok_or("settings")?)
 }
 
 // What a device reports of the class in this place.
@@ -47,7 +46,10 @@ fn tells_all(
 
 // Checks what a device reports after these lines.
 fn promises(alloc: Global, lines: &[Ask], rows: &[(Spot, Option<Told>)]) -> Result<(), Fail> {
-    tells_all(&mut opened(alloc)?, lines, rows)
+    let mut device = opened(alloc, settings()?)?;
+    let answer = tells_all(&mut device, lines, rows);
+    close(device);
+    answer
 }
 
 // Two customers, the first of whom shares its part among two of its own.
@@ -105,14 +107,21 @@ fn part(device: &Device, spot: Spot, bytes: u64) -> Result<(u64, usize), Fail> {
     }
 }
 
-fn shared_part(device: &mut Device) -> Result<(u64, usize), Fail> {
+fn part_when_set_up(device: &mut Device) -> Result<(u64, usize), Fail> {
     set_up(device, &SHARED)?;
     part(device, Spot::Class(2, 1), 150_000_000)
 }
 
+fn shared_part(alloc: Global) -> Result<(u64, usize), Fail> {
+    let mut device = opened(alloc, settings()?)?;
+    let part = part_when_set_up(&mut device);
+    close(device);
+    part
+}
+
 #[test]
 fn a_class_of_a_drr_at_the_root_is_promised_its_part(rt: HostRuntime) -> Result<(), Fail> {
-    let part = shared_part(&mut opened(rt.alloc())?)?;
+    let part = shared_part(rt.alloc())?;
     assert_eq!(rt; part, (100_000_000, 1));
     Ok(())
 }
@@ -142,16 +151,14 @@ fn a_burst_without_room_for_a_longest_packet_promises_nothing(rt: HostRuntime) -
     )
 }
 
-// The promise that the customers' device gives the first one, once a tbf is in the class of the second.
-fn told_beside_a_tbf(device: &mut Device) -> Result<Option<Told>, Fail> {
-    set_up(device, &customers(LINK))?;
-    set_up(device, &[Ask::Graft(Spot::Class(4, 2), 5, LINK)])?;
-    told(device, Spot::Class(2, 1))
-}
-
+// A tbf is in the class of the second customer.
 #[test]
 fn a_second_tbf_takes_the_promise_away(rt: HostRuntime) -> Result<(), Fail> {
-    let told = told_beside_a_tbf(&mut opened(rt.alloc())?)?;
-    assert_eq!(rt; told, None);
-    Ok(())
+    let [link, drr, first, second, inner, one, other, prio] = customers(LINK);
+    let tbf = Ask::Graft(Spot::Class(4, 2), 5, LINK);
+    promises(
+        rt.alloc(),
+        &[link, drr, first, second, inner, one, other, prio, tbf],
+        &[(Spot::Class(2, 1), None)],
+    )
 }

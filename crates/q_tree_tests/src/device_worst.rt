@@ -1,5 +1,5 @@
 //! How long a packet of a fifo waits at most: what a device answers, and packets that wait just so long.
-use crate::device_bench::{Ask, Call, called, set_up};
+use crate::device_bench::{Ask, Call, called, close, opened, set_up};
 use crate::lines::{New, Spot};
 use q_device::{Device, Fate, Settings, Worst};
 use q_packet::Cause;
@@ -27,8 +27,7 @@ fn tells(device: &Device, spot: Spot, expected: Option<Told>) -> Result<(), Fail
     }
 }
 
-/// Checks what a device reports after these lines.
-pub fn tells_all(
+fn tells_all(
     device: &mut Device,
     lines: &[Ask],
     rows: &[(Spot, Option<Told>)],
@@ -40,15 +39,33 @@ pub fn tells_all(
     Ok(())
 }
 
-/// A device with this mtu, whose pfifo has so many packets.
-pub fn opened(alloc: Global, mtu: u16, limit: u32) -> Result<Device, Fail> {
-    let settings = Settings::new(mtu, limit, 0).ok_or("settings")?;
-    Ok(Device::open(alloc, settings)?)
+// Checks what a new device reports after these lines.
+fn opened_tells(
+    alloc: Global,
+    settings: Settings,
+    lines: &[Ask],
+    rows: &[(Spot, Option<Told>)],
+) -> Result<(), Fail> {
+    let mut device = opened(alloc, settings)?;
+    let answer = tells_all(&mut device, lines, rows);
+    close(device);
+    answer
 }
 
-/// Checks what a device with an mtu of 1514 reports after these lines.
+/// Checks what a device with an mtu of 1514, whose pfifo has 1000 packets, reports after these lines.
 pub fn answers(alloc: Global, lines: &[Ask], rows: &[(Spot, Option<Told>)]) -> Result<(), Fail> {
-    tells_all(&mut opened(alloc, 1514, 1000)?, lines, rows)
+    let settings = Settings::new(1514, 1000, 0).ok_or("settings")?;
+    opened_tells(alloc, settings, lines, rows)
+}
+
+/// The same with an mtu of 1500 and 100 packets.
+pub fn answers_1500(
+    alloc: Global,
+    lines: &[Ask],
+    rows: &[(Spot, Option<Told>)],
+) -> Result<(), Fail> {
+    let settings = Settings::new(1500, 100, 0).ok_or("settings")?;
+    opened_tells(alloc, settings, lines, rows)
 }
 
 #[test]
@@ -178,8 +195,7 @@ const SPENT: [Call; 5] = [
 
 // Checks the numbers of the class of such a tbf after these lines.
 fn answers_short(alloc: Global, lines: &[Ask], expected: Told) -> Result<(), Fail> {
-    let rows = [(Spot::Class(1, 1), Some(expected))];
-    tells_all(&mut opened(alloc, 1500, 100)?, lines, &rows)
+    answers_1500(alloc, lines, &[(Spot::Class(1, 1), Some(expected))])
 }
 
 #[test]

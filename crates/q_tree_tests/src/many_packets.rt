@@ -7,14 +7,15 @@ use std::alloc::Global;
 use std::test::Fail;
 
 // One more than 16 bits count, and a packet that finds no room.
-const QUEUED: u64 = 65_537;
+const LIMIT: u32 = 65_537;
+
+const QUEUED: u64 = LIMIT as u64;
 
 const EVENTS: usize = 131_076;
 
 // A pfifo that is filled, overflows by one packet, and is emptied.
 fn add_events(events: &mut Vec<Event>) -> Result<(), Fail> {
-    let limit = u32::try_from(QUEUED).map_err(|_| "limit")?;
-    let pfifo = Ask::Graft(Spot::Root, 1, New::Packets(limit));
+    let pfifo = Ask::Graft(Spot::Root, 1, New::Packets(LIMIT));
     add_event(events, command_at(pfifo, 0))?;
     for number in 0..QUEUED + 1 {
         add_event(events, arrival_at(number, 1, 0, 0))?;

@@ -1,5 +1,7 @@
 //! A device to which events happen one after the other, each of which is to be done; and a play of all of them.
-use crate::device_bench::{Ask, arrival_at, command_at, poll_at, replies, reply, room};
+use crate::device_bench::{
+    Ask, arrival_at, close, command_at, opened, poll_at, replies, reply, room,
+};
 use crate::lines::Spot;
 use q_device::{Device, Event, Fate, Polled, Reply, Settings};
 use std::alloc::Global;
@@ -71,11 +73,20 @@ fn settings(mtu: u16) -> Result<Settings, Fail> {
 impl Played {
     /// A new device with this mtu.
     pub fn new(alloc: Global, mtu: u16) -> Result<Played, Fail> {
-        Ok(Played {
-            replies: room(alloc, EVENTS)?,
-            device: Device::open(alloc, settings(mtu)?)?,
-            mtu,
-        })
+        let replies = room(alloc, EVENTS)?;
+        match opened(alloc, settings(mtu)?) {
+            Ok(device) => Ok(Played {
+                device,
+                replies,
+                mtu,
+            }),
+            Err(failed) => Err(failed),
+        }
+    }
+
+    /// Drops it.
+    pub fn close(self) {
+        close(self.device)
     }
 
     // What an event comes to. Replies are noted and read in functions of their own, since rattle refuses to prove some that do both.

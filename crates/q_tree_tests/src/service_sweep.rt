@@ -78,14 +78,36 @@ fn opened(alloc: Global, seed: u64, has_flows: bool) -> Result<Play, Fail> {
     };
     let count = chance.place(MOST - 1).saturating_add(2);
     let quanta = quanta(&mut chance, has_flows, count, mtu);
-    Ok(Play {
-        played: Played::new(alloc, mtu)?,
-        chance,
-        rounds: Rounds::new(has_flows, &quanta),
-        has_flows,
-        count,
-        mtu,
-    })
+    match Played::new(alloc, mtu) {
+        Ok(played) => Ok(Play {
+            played,
+            chance,
+            rounds: Rounds::new(has_flows, &quanta),
+            has_flows,
+            count,
+            mtu,
+        }),
+        Err(failed) => Err(failed),
+    }
+}
+
+// Whose packet a poll gave, and its length.
+fn giver(answer: Answer) -> Result<Option<(usize, i64)>, Fail> {
+    match answer {
+        Answer::Gives(prio, len) => {
+            Ok(Some((usize::from(prio).saturating_sub(1), i64::from(len))))
+        }
+        Answer::Idle => Ok(None),
+        _ => Err(Fail::from("later")),
+    }
+}
+
+fn unkept(j: usize, backlogged: usize) -> Fail {
+    Fail::new(format_args!("{j} against {backlogged}"))
+}
+
+fn no_turn(given: Option<(usize, i64)>) -> Fail {
+    Fail::new(format_args!("not the turn of {given:?}"))
 }
 
 impl Play {
@@ -148,17 +170,11 @@ impl Play {
 
     // The packet that is given is that of the class or flow whose turn it is.
     fn poll(&mut self) -> Result<(), Fail> {
-        let given = match self.played.poll(0)? {
-            Answer::Gives(prio, len) => {
-                Some((usize::from(prio).saturating_sub(1), i64::from(len)))
-            }
-            Answer::Idle => None,
-            _ => return Err(Fail::from("later")),
-        };
+        let given = giver(self.played.poll(0)?)?;
         if self.rounds.polled(given) {
             Ok(())
         } else {
-            Err(Fail::new(format_args!("not the turn of {given:?}")))
+            Err(no_turn(given))
         }
     }
 
@@ -258,16 +274,20 @@ impl Play {
     fn ask(&self, watch: &Watch) -> Result<(), Fail> {
         for j in 0..self.count {
             if j != watch.backlogged && !self.holds(watch, j) {
-                return Err(Fail::new(format_args!("{j} against {}", watch.backlogged)));
+                return Err(unkept(j, watch.backlogged));
             }
         }
-        let classes = i64::try_from(self.count).unwrap_or(0);
-        let (first, mtu) = (&watch.first, i64::from(self.mtu));
-        if self.has_flows || least_share(first, &self.rounds, watch.backlogged, classes, mtu) {
+        if self.has_flows || self.has_least_share(watch) {
             Ok(())
         } else {
             Err(Fail::from("the least share"))
         }
+    }
+
+    fn has_least_share(&self, watch: &Watch) -> bool {
+        let classes = i64::try_from(self.count).unwrap_or(0);
+        let mtu = i64::from(self.mtu);
+        least_share(&watch.first, &self.rounds, watch.backlogged, classes, mtu)
     }
 
     fn holds(&self, watch: &Watch, j: usize) -> bool {
@@ -337,7 +357,9 @@ fn run_all(play: &mut Play, alloc: Global) -> Result<u64, Fail> {
 
 fn sweep(alloc: Global, seed: u64, has_flows: bool) -> Result<u64, Fail> {
     let mut play = opened(alloc, seed, has_flows)?;
-    run_all(&mut play, alloc)
+    let intervals = run_all(&mut play, alloc);
+    play.played.close();
+    intervals
 }
 
 fn sweep_all(alloc: Global, has_flows: bool) -> Result<u64, Fail> {

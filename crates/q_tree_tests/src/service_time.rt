@@ -34,15 +34,19 @@ fn prio(i: usize) -> u8 {
 
 // A device on which nothing was done.
 fn opened(alloc: Global, link: Link) -> Result<Drained, Fail> {
-    Ok(Drained {
-        waits: room(alloc, WAITS)?,
-        played: Played::new(alloc, link.mtu)?,
-        link,
-        queued: [0; MOST],
-        ns: 0,
-        all: 0,
-        last: None,
-    })
+    let waits = room(alloc, WAITS)?;
+    match Played::new(alloc, link.mtu) {
+        Ok(played) => Ok(Drained {
+            played,
+            link,
+            queued: [0; MOST],
+            ns: 0,
+            all: 0,
+            last: None,
+            waits,
+        }),
+        Err(failed) => Err(failed),
+    }
 }
 
 impl Drained {
@@ -249,7 +253,9 @@ fn sweep(alloc: Global, seed: u64, has_drr_beneath: bool) -> Result<u64, Fail> {
     let mut chance = Chance::new(seed);
     let (link, burst) = random_link(&mut chance, has_drr_beneath);
     let mut drained = opened(alloc, link)?;
-    run(&mut drained, alloc, burst, &mut chance)
+    let intervals = run(&mut drained, alloc, burst, &mut chance);
+    drained.played.close();
+    intervals
 }
 
 fn sweep_all(alloc: Global, has_drr_beneath: bool) -> Result<u64, Fail> {
@@ -313,7 +319,9 @@ fn served(customers: &mut Drained, alloc: Global) -> Result<[Wait; 2], Fail> {
 
 fn second(alloc: Global) -> Result<[Wait; 2], Fail> {
     let mut customers = opened(alloc, CUSTOMERS)?;
-    served(&mut customers, alloc)
+    let waits = served(&mut customers, alloc);
+    customers.played.close();
+    waits
 }
 
 // A packet takes 600 us, and the second one comes 594 us after the first, as the burst has 15 bytes more than that has. So 1666 packets

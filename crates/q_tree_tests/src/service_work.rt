@@ -91,21 +91,29 @@ fn arrive(
     Ok(())
 }
 
+fn differs(answer: Answer, ns: u64) -> Fail {
+    Fail::new(format_args!("{answer:?} at {ns}"))
+}
+
 // What is lost is lost beside the packet that is given.
-fn poll(played: &mut Played, queued: &mut Queued, ns: u64) -> Result<(), Fail> {
-    let answer = played.poll(ns)?;
-    if !queued.allows(answer) {
-        return Err(Fail::new(format_args!("{answer:?} at {ns}")));
-    }
-    if let Answer::Gives(prio, _) = answer {
-        queued.remove(prio);
-    }
+fn reap(played: &mut Played, queued: &mut Queued) {
     for _loss in 0..STEPS {
         match played.reap() {
             Some(prio) => queued.remove(prio),
             None => break,
         }
     }
+}
+
+fn poll(played: &mut Played, queued: &mut Queued, ns: u64) -> Result<(), Fail> {
+    let answer = played.poll(ns)?;
+    if !queued.allows(answer) {
+        return Err(differs(answer, ns));
+    }
+    if let Answer::Gives(prio, _) = answer {
+        queued.remove(prio);
+    }
+    reap(played, queued);
     Ok(())
 }
 
@@ -141,7 +149,9 @@ fn run_all(played: &mut Played, alloc: Global, seed: u64) -> Result<Queued, Fail
 
 fn sweep(alloc: Global, seed: u64) -> Result<Queued, Fail> {
     let mut played = Played::new(alloc, 1514)?;
-    run_all(&mut played, alloc, seed)
+    let queued = run_all(&mut played, alloc, seed);
+    played.close();
+    queued
 }
 
 #[test]

@@ -232,9 +232,7 @@ fn a_bfifo_takes_what_fits_its_bytes(rt: HostRuntime) -> Result<(), Fail> {
 }
 
 // A packet of each priority, which goes into the band of its number.
-#[test]
-fn each_priority_has_a_band_of_sixteen(rt: HostRuntime) -> Result<(), Fail> {
-    let mut calls = Vec::new(rt.alloc());
+fn add_priorities(calls: &mut Vec<Call>) -> Result<(), Fail> {
     calls.push(Call::Graft(Spot::Root, 1, New::Prio(16), None))?;
     for prio in 0..16u8 {
         let band = Spot::Class(1, u16::from(prio) + 1);
@@ -242,35 +240,50 @@ fn each_priority_has_a_band_of_sixteen(rt: HostRuntime) -> Result<(), Fail> {
         calls.push(Call::Put(u64::from(prio), 100, prio, KEPT))?;
         calls.push(Call::Counts(band, [1, 0, 0, 0, 1]))?;
     }
+    Ok(())
+}
+
+#[test]
+fn each_priority_has_a_band_of_sixteen(rt: HostRuntime) -> Result<(), Fail> {
+    let mut calls = Vec::new(rt.alloc());
+    add_priorities(&mut calls)?;
     play(rt.alloc(), calls.as_slice())
 }
 
+// What a tree does that has so many.
+const AT_256_NODES: &[Call] = &[
+    Call::Nodes(241),
+    Call::Graft(
+        Spot::Class(1, 15),
+        16,
+        New::Prio(16),
+        Some(Refusal::TooMany),
+    ),
+    Call::Graft(Spot::Class(1, 15), 16, New::Prio(15), None),
+    Call::Nodes(256),
+    Call::Graft(
+        Spot::Class(1, 16),
+        17,
+        New::Tbf(1500),
+        Some(Refusal::TooMany),
+    ),
+    Call::Graft(Spot::Class(1, 16), 17, New::Pfifo, None),
+];
+
 // A prio of sixteen is in each of the first fourteen bands.
-#[test]
-fn a_tree_has_at_most_256_nodes(rt: HostRuntime) -> Result<(), Fail> {
-    let mut calls = Vec::new(rt.alloc());
+fn fill(calls: &mut Vec<Call>) -> Result<(), Fail> {
     calls.push(Call::Graft(Spot::Root, 1, New::Prio(16), None))?;
     for band in 1..15 {
         let place = Spot::Class(1, band);
         calls.push(Call::Graft(place, band + 1, New::Prio(16), None))?;
     }
-    calls.extend_from_slice(&[
-        Call::Nodes(241),
-        Call::Graft(
-            Spot::Class(1, 15),
-            16,
-            New::Prio(16),
-            Some(Refusal::TooMany),
-        ),
-        Call::Graft(Spot::Class(1, 15), 16, New::Prio(15), None),
-        Call::Nodes(256),
-        Call::Graft(
-            Spot::Class(1, 16),
-            17,
-            New::Tbf(1500),
-            Some(Refusal::TooMany),
-        ),
-        Call::Graft(Spot::Class(1, 16), 17, New::Pfifo, None),
-    ])?;
+    calls.extend_from_slice(AT_256_NODES)?;
+    Ok(())
+}
+
+#[test]
+fn a_tree_has_at_most_256_nodes(rt: HostRuntime) -> Result<(), Fail> {
+    let mut calls = Vec::new(rt.alloc());
+    fill(&mut calls)?;
     play(rt.alloc(), calls.as_slice())
 }

@@ -84,7 +84,10 @@ fn put(bench: &mut Bench, alloc: Global, filter: Filter, packet: Packet) -> Resu
 }
 
 fn band(alloc: Global, filter: Filter, packet: Packet) -> Result<u16, Fail> {
-    put(&mut Bench::new(alloc, 100), alloc, filter, packet)
+    let mut bench = Bench::new(alloc, 100);
+    let answer = put(&mut bench, alloc, filter, packet);
+    bench.close();
+    answer
 }
 
 fn band_of_flow(alloc: Global, filter: Filter, flow: Flow) -> Result<u16, Fail> {
@@ -250,7 +253,10 @@ fn put_among_many(bench: &mut Bench, alloc: Global, flow: Flow) -> Result<u16, F
 }
 
 fn band_among_many(alloc: Global, flow: Flow) -> Result<u16, Fail> {
-    put_among_many(&mut Bench::new(alloc, 100), alloc, flow)
+    let mut bench = Bench::new(alloc, 100);
+    let answer = put_among_many(&mut bench, alloc, flow);
+    bench.close();
+    answer
 }
 
 fn go_among_many(alloc: Global, rows: &[(Flow, u16)]) -> Result<(), Fail> {
@@ -296,7 +302,10 @@ fn put_among_rest(bench: &mut Bench, alloc: Global, flow: Flow) -> Result<u16, F
 }
 
 fn band_among_rest(alloc: Global, flow: Flow) -> Result<u16, Fail> {
-    put_among_rest(&mut Bench::new(alloc, 100), alloc, flow)
+    let mut bench = Bench::new(alloc, 100);
+    let answer = put_among_rest(&mut bench, alloc, flow);
+    bench.close();
+    answer
 }
 
 #[test]

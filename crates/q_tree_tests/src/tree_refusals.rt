@@ -80,7 +80,10 @@ fn play_and_expect(
 
 // The refusals of a tree that these calls make.
 fn refused(alloc: Global, calls: &[Call], rows: &[(Ask, Refusal)]) -> Result<(), Fail> {
-    play_and_expect(&mut Bench::new(alloc, 100), alloc, calls, rows)
+    let mut bench = Bench::new(alloc, 100);
+    let answer = play_and_expect(&mut bench, alloc, calls, rows);
+    bench.close();
+    answer
 }
 
 // A prio, 1:, over a pfifo, a drr with the class 3:5, a tbf with its implicit leaf, and an fq_codel. Filters lead to the fourth

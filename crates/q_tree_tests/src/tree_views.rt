@@ -1,5 +1,5 @@
 //! What is shown of a tree of one pfifo, and a command that it refuses.
-use crate::bench::{Call, play, play_small};
+use crate::bench::{Bench, Call, play, play_small};
 use crate::lines::{New, Spot};
 use q_model::{Fate, Place, QdiscView, Refusal};
 use q_tree::Tree;
@@ -20,7 +20,10 @@ fn is_shown_alone(tree: &Tree) -> bool {
 }
 
 fn shows_one(alloc: Global) -> bool {
-    is_shown_alone(&Tree::new(alloc, 1500, 2))
+    let bench = Bench::new(alloc, 2);
+    let is_alone = is_shown_alone(bench.tree());
+    bench.close();
+    is_alone
 }
 
 #[test]
