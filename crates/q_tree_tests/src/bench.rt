@@ -427,6 +427,14 @@ impl Bench {
     }
 }
 
+/// One call more.
+pub fn add_call(calls: &mut Vec<Call>, call: Call) -> Result<(), Fail> {
+    match calls.push(call) {
+        Ok(()) => Ok(()),
+        Err(failed) => Err(failed.into()),
+    }
+}
+
 /// Plays these calls on a new tree, whose pfifo has so many packets.
 pub fn play_small(alloc: Global, limit: u32, calls: &[Call]) -> Result<(), Fail> {
     let mut bench = Bench::new(alloc, limit);

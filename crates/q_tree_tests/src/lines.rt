@@ -68,8 +68,9 @@ impl New {
 }
 
 fn tbf(rate: u64, burst: u32, limit: u32) -> Result<Kind, Fail> {
-    let rate = Rate::new(rate).ok_or("rate")?;
-    let burst = Burst::new(burst).ok_or("burst")?;
+    let (Some(rate), Some(burst)) = (Rate::new(rate), Burst::new(burst)) else {
+        return Err(Fail::from("rate or burst"));
+    };
     let limit = TbfLimit::Bytes(limit);
     Ok(Kind::Tbf { rate, burst, limit })
 }
@@ -94,8 +95,13 @@ fn fair(quantum: u32) -> Result<Kind, Fail> {
 
 /// The packet with this number, length and priority, which is the number of its IP protocol and its hash too.
 pub fn packet(number: u64, len: u16, prio: u8) -> Result<Packet, Fail> {
-    let key = FlowKey::new(4, prio, 0, 0, 0, 0).ok_or("key")?;
-    Ok(Packet::new(0, number, 0, len, key, u32::from(prio), prio, Ecn::NotEct).ok_or("packet")?)
+    let Some(key) = FlowKey::new(4, prio, 0, 0, 0, 0) else {
+        return Err(Fail::from("key"));
+    };
+    match Packet::new(0, number, 0, len, key, u32::from(prio), prio, Ecn::NotEct) {
+        Some(packet) => Ok(packet),
+        None => Err(Fail::from("packet")),
+    }
 }
 
 /// The time of this nanosecond.

@@ -104,9 +104,10 @@ fn lookup(script: &mut Script) -> Result<(), Fail> {
 // Whether the last replies gave packets of these lengths.
 fn end_with(replies: &[Reply], lens: &[u64]) -> bool {
     let before = replies.len().saturating_sub(lens.len());
-    for (reply, len) in replies.iter().skip(before).zip(lens.iter()) {
-        if given(reply) != *len {
-            return false;
+    for (nth, len) in lens.iter().enumerate() {
+        match replies.get(before.saturating_add(nth)) {
+            Some(reply) if given(reply) == *len => {}
+            _ => return false,
         }
     }
     true

@@ -100,19 +100,20 @@ fn add_timed_polls(script: &mut Script) -> Result<(), Fail> {
     Ok(())
 }
 
-// The bytes of each packet that polls gave, from this reply on.
-fn lengths(alloc: Global, replies: &[Reply], from: usize) -> Result<Vec<u64>, Fail> {
-    let mut bytes = room(alloc, MOST)?;
-    for reply in replies.iter().skip(from) {
-        add(&mut bytes, given(reply))?;
+// Adds the bytes of each packet that polls gave, from this reply on.
+fn add_lengths(bytes: &mut Vec<u64>, replies: &[Reply], from: usize) -> Result<(), Fail> {
+    for reply in replies.get(from..).unwrap_or(&[]) {
+        add(bytes, given(reply))?;
     }
-    Ok(bytes)
+    Ok(())
 }
 
 // What each poll gives behind the lines and packets, which are so many events.
 fn given_by_polls(alloc: Global, script: &Script, before: usize) -> Result<Vec<u64>, Fail> {
     let replies = script.replies(alloc)?;
-    lengths(alloc, replies.as_slice(), before)
+    let mut bytes = room(alloc, MOST)?;
+    add_lengths(&mut bytes, replies.as_slice(), before)?;
+    Ok(bytes)
 }
 
 // A tbf in which packets of these lengths wait from the start, each four times; how many events that is.

@@ -1,5 +1,5 @@
 //! Qdiscs that get other settings: what stays, what goes, and what is refused.
-use crate::bench::{Call, play};
+use crate::bench::{Call, add_call, play};
 use crate::lines::{New, Spot};
 use q_model::{Fate, Refusal};
 use q_packet::Cause;
@@ -120,9 +120,12 @@ fn the_first_refusal_of_a_change_is_told(rt: HostRuntime) -> Result<(), Fail> {
 
 // A prio of 16 bands with a prio in each.
 fn add_bands(calls: &mut Vec<Call>) -> Result<(), Fail> {
-    calls.push(Call::Graft(Spot::Root, 1, New::Prio(16), None))?;
+    add_call(calls, Call::Graft(Spot::Root, 1, New::Prio(16), None))?;
     for minor in 1..16 {
-        calls.push(Call::Graft(Spot::Class(1, minor), 0, New::Prio(15), None))?;
+        add_call(
+            calls,
+            Call::Graft(Spot::Class(1, minor), 0, New::Prio(15), None),
+        )?;
     }
     calls.extend_from_slice(&[
         Call::Graft(Spot::Class(1, 16), 2, New::Prio(14), None),

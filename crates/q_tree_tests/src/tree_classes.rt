@@ -1,5 +1,5 @@
 //! Trees with a drr: its classes added, changed and removed, and what they send.
-use crate::bench::{Call, play};
+use crate::bench::{Call, add_call, play};
 use crate::lines::{New, Spot};
 use q_model::{Fate, Refusal};
 use q_packet::Cause;
@@ -209,9 +209,9 @@ fn a_class_stands_on_the_eighth_level_at_most(rt: HostRuntime) -> Result<(), Fai
 }
 
 fn add_classes(calls: &mut Vec<Call>) -> Result<(), Fail> {
-    calls.push(Call::Graft(Spot::Root, 1, New::Drr, None))?;
+    add_call(calls, Call::Graft(Spot::Root, 1, New::Drr, None))?;
     for minor in 1..256 {
-        calls.push(Call::AddClass(1, minor, 0, None))?;
+        add_call(calls, Call::AddClass(1, minor, 0, None))?;
     }
     calls.extend_from_slice(&[
         Call::Nodes(256),
@@ -230,9 +230,9 @@ fn a_drr_has_at_most_255_classes_at_the_root(rt: HostRuntime) -> Result<(), Fail
 }
 
 fn add_filters(calls: &mut Vec<Call>) -> Result<(), Fail> {
-    calls.push(Call::Graft(Spot::Root, 1, New::Prio(2), None))?;
+    add_call(calls, Call::Graft(Spot::Root, 1, New::Prio(2), None))?;
     for _ in 0..256 {
-        calls.push(Call::Match(1, 1, 1, None))?;
+        add_call(calls, Call::Match(1, 1, 1, None))?;
     }
     calls.extend_from_slice(&[
         // The class is not there either.

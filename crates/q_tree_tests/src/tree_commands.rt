@@ -1,5 +1,5 @@
 //! Trees that commands make: qdiscs put into classes and removed, and packets that go through them.
-use crate::bench::{Call, play};
+use crate::bench::{Call, add_call, play};
 use crate::lines::{New, Spot};
 use q_model::{Fate, Refusal};
 use q_packet::Cause;
@@ -233,12 +233,12 @@ fn a_bfifo_takes_what_fits_its_bytes(rt: HostRuntime) -> Result<(), Fail> {
 
 // A packet of each priority, which goes into the band of its number.
 fn add_priorities(calls: &mut Vec<Call>) -> Result<(), Fail> {
-    calls.push(Call::Graft(Spot::Root, 1, New::Prio(16), None))?;
+    add_call(calls, Call::Graft(Spot::Root, 1, New::Prio(16), None))?;
     for prio in 0..16u8 {
         let band = Spot::Class(1, u16::from(prio) + 1);
-        calls.push(Call::Counts(band, [0; 5]))?;
-        calls.push(Call::Put(u64::from(prio), 100, prio, KEPT))?;
-        calls.push(Call::Counts(band, [1, 0, 0, 0, 1]))?;
+        add_call(calls, Call::Counts(band, [0; 5]))?;
+        add_call(calls, Call::Put(u64::from(prio), 100, prio, KEPT))?;
+        add_call(calls, Call::Counts(band, [1, 0, 0, 0, 1]))?;
     }
     Ok(())
 }
@@ -272,10 +272,10 @@ const AT_256_NODES: &[Call] = &[
 
 // A prio of sixteen is in each of the first fourteen bands.
 fn fill(calls: &mut Vec<Call>) -> Result<(), Fail> {
-    calls.push(Call::Graft(Spot::Root, 1, New::Prio(16), None))?;
+    add_call(calls, Call::Graft(Spot::Root, 1, New::Prio(16), None))?;
     for band in 1..15 {
         let place = Spot::Class(1, band);
-        calls.push(Call::Graft(place, band + 1, New::Prio(16), None))?;
+        add_call(calls, Call::Graft(place, band + 1, New::Prio(16), None))?;
     }
     calls.extend_from_slice(AT_256_NODES)?;
     Ok(())

@@ -288,7 +288,9 @@ fn the_first_of_many_filters_decides(rt: HostRuntime) -> Result<(), Fail> {
 
 // The filters of the first priority go.
 fn remove_first(bench: &mut Bench) -> Result<(), Fail> {
-    let one = Handle::new(1).ok_or("handle")?;
+    let Some(one) = Handle::new(1) else {
+        return Err(Fail::from("handle"));
+    };
     match bench.del_filters(one, filter_prio(1)?) {
         None => Ok(()),
         Some(_) => Err(Fail::from("filter_del")),

@@ -1,5 +1,5 @@
 //! Handles of a tree that is edited: each is found where it is, until it goes, and may then be given again.
-use crate::bench::{Call, play};
+use crate::bench::{Call, add_call, play};
 use crate::lines::{New, Spot};
 use q_model::Refusal;
 use std::test::Fail;
@@ -17,11 +17,14 @@ fn pfifo(m: u8, b: u8) -> u16 {
 // A class of the drr, with a prio of 16 pfifos, which all have a handle.
 fn add_class(calls: &mut Vec<Call>, m: u8) -> Result<(), Fail> {
     let class = u16::from(m);
-    calls.push(Call::AddClass(1, class, 1500, None))?;
-    calls.push(Call::Graft(Spot::Class(1, class), prio(m), New::Prio(16), None))?;
+    add_call(calls, Call::AddClass(1, class, 1500, None))?;
+    add_call(
+        calls,
+        Call::Graft(Spot::Class(1, class), prio(m), New::Prio(16), None),
+    )?;
     for b in 1..17 {
         let band = Spot::Class(prio(m), u16::from(b));
-        calls.push(Call::Graft(band, pfifo(m, b), New::Packets(5), None))?;
+        add_call(calls, Call::Graft(band, pfifo(m, b), New::Packets(5), None))?;
     }
     Ok(())
 }
@@ -30,15 +33,14 @@ fn add_class(calls: &mut Vec<Call>, m: u8) -> Result<(), Fail> {
 fn find_pfifo(calls: &mut Vec<Call>, m: u8, b: u8) -> Result<(), Fail> {
     let band = Spot::Class(prio(m), u16::from(b));
     let shown = usize::from(m.saturating_sub(1)) * 17 + 1 + usize::from(b);
-    calls.push(Call::Change(pfifo(m, b), New::Packets(7), None))?;
-    calls.push(Call::Counts(band, [0; 5]))?;
-    calls.push(Call::Shown(shown, band, pfifo(m, b)))?;
-    Ok(())
+    add_call(calls, Call::Change(pfifo(m, b), New::Packets(7), None))?;
+    add_call(calls, Call::Counts(band, [0; 5]))?;
+    add_call(calls, Call::Shown(shown, band, pfifo(m, b)))
 }
 
 fn find_class(calls: &mut Vec<Call>, m: u8) -> Result<(), Fail> {
-    calls.push(Call::Change(prio(m), New::Prio(16), None))?;
-    calls.push(Call::Counts(Spot::Class(1, u16::from(m)), [0; 5]))?;
+    add_call(calls, Call::Change(prio(m), New::Prio(16), None))?;
+    add_call(calls, Call::Counts(Spot::Class(1, u16::from(m)), [0; 5]))?;
     for b in 1..17 {
         find_pfifo(calls, m, b)?;
     }
@@ -47,12 +49,11 @@ fn find_class(calls: &mut Vec<Call>, m: u8) -> Result<(), Fail> {
 
 // A drr of 15 prios, each of 16 pfifos.
 fn add_classes(calls: &mut Vec<Call>) -> Result<(), Fail> {
-    calls.push(Call::Graft(Spot::Root, 1, New::Drr, None))?;
+    add_call(calls, Call::Graft(Spot::Root, 1, New::Drr, None))?;
     for m in 1..16 {
         add_class(calls, m)?;
     }
-    calls.push(Call::Nodes(256))?;
-    Ok(())
+    add_call(calls, Call::Nodes(256))
 }
 
 fn find_classes(calls: &mut Vec<Call>) -> Result<(), Fail> {

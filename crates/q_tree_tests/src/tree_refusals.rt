@@ -1,7 +1,7 @@
 //! Each refusal of each command, and commands that two neighbours in the order of refusals would refuse: the earlier is reported.
 //!
 //! Memory, the last of each, is refused by an allocator and not by a tree, so that no row has it.
-use crate::bench::{Bench, Call};
+use crate::bench::{Bench, Call, add_call};
 use crate::lines::{self, New, Spot};
 use q_model::{Command, Refusal};
 use std::alloc::Global;
@@ -293,16 +293,15 @@ fn a_filter_is_refused(rt: HostRuntime) -> Result<(), Fail> {
 
 // A tree of 256 nodes. Seven prios, 1: to 7:, each in the first band of the one above, lead to a drr, 8:, on the eighth level.
 // The next bands of 1: have nine prios, a drr with a class, 29:, and a pfifo.
-fn full_tree(alloc: Global) -> Result<Vec<Call>, Fail> {
-    let mut calls = Vec::new(alloc);
-    calls.push(Call::Graft(Spot::Root, 1, New::Prio(16), None))?;
+fn add_full_tree(calls: &mut Vec<Call>) -> Result<(), Fail> {
+    add_call(calls, Call::Graft(Spot::Root, 1, New::Prio(16), None))?;
     for above in 1..7 {
         let place = Spot::Class(above, 1);
-        calls.push(Call::Graft(place, above + 1, New::Prio(16), None))?;
+        add_call(calls, Call::Graft(place, above + 1, New::Prio(16), None))?;
     }
     for band in 2..10 {
         let place = Spot::Class(1, band);
-        calls.push(Call::Graft(place, band + 18, New::Prio(16), None))?;
+        add_call(calls, Call::Graft(place, band + 18, New::Prio(16), None))?;
     }
     calls.extend_from_slice(&[
         Call::Graft(Spot::Class(7, 1), 8, New::Drr, None),
@@ -312,12 +311,13 @@ fn full_tree(alloc: Global) -> Result<Vec<Call>, Fail> {
         Call::Graft(Spot::Class(1, 12), 30, New::Pfifo, None),
         Call::Nodes(256),
     ])?;
-    Ok(calls)
+    Ok(())
 }
 
 #[test]
 fn a_tree_too_deep_or_with_too_many_nodes_is_refused(rt: HostRuntime) -> Result<(), Fail> {
-    let calls = full_tree(rt.alloc())?;
+    let mut calls = Vec::new(rt.alloc());
+    add_full_tree(&mut calls)?;
     refused(
         rt.alloc(),
         calls.as_slice(),

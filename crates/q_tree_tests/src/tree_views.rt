@@ -1,19 +1,23 @@
 //! What is shown of a tree of one pfifo, and a command that it refuses.
 use crate::bench::{Bench, Call, play, play_small};
 use crate::lines::{New, Spot};
-use q_model::{Fate, Place, QdiscView, Refusal};
+use q_model::{Fate, NodeView, Place, QdiscView, Refusal};
 use q_tree::Tree;
 use std::alloc::Global;
 use std::test::Fail;
+
+fn is_implicit(root: &NodeView) -> bool {
+    root.handle.is_none()
+        && root.place == Place::Root
+        && root.qdisc == QdiscView::Pfifo { limit: 2 }
+}
 
 // Whether an implicit pfifo of two packets at the root is all that is shown.
 fn is_shown_alone(tree: &Tree) -> bool {
     let Some(root) = tree.node(0) else {
         return false;
     };
-    root.handle.is_none()
-        && root.place == Place::Root
-        && root.qdisc == QdiscView::Pfifo { limit: 2 }
+    is_implicit(&root)
         && tree.node(1).is_none()
         && tree.class(0, 0).is_none()
         && tree.filter(0, 0).is_none()
