@@ -278,19 +278,10 @@ impl Bench {
     fn reply(&mut self, event: Event) -> Result<Reply, Fail> {
         let before = Seen::of(&self.device);
         let answer = reply(&mut self.device, event);
-        match answer {
-            None | Some(Reply::Done(Err(_))) => self.refused(&before, event, answer),
-            Some(done) => Ok(done),
+        if let Some(Reply::Fate(_) | Reply::Polled(_) | Reply::Done(Ok(()))) = answer {
+            return Ok(answer.ok_or("reply")?);
         }
-    }
-
-    fn refused(
-        &mut self,
-        before: &Seen,
-        event: Event,
-        answer: Option<Reply>,
-    ) -> Result<Reply, Fail> {
-        if Seen::of(&self.device) != *before {
+        if Seen::of(&self.device) != before {
             return Err(Fail::from("changed by a refused event"));
         }
         match answer {
