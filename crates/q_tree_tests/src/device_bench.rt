@@ -461,10 +461,14 @@ pub fn replies(alloc: Global, settings: Settings, events: &[Event]) -> Result<Ve
     }
 }
 
+fn another(event: &Event, reply: &Reply) -> Fail {
+    Fail::new(format_args!("{event:?}: {reply:?}"))
+}
+
 fn expect_replies(bench: &mut Bench, events: &[Event], replies: &[Reply]) -> Result<(), Fail> {
     for (event, reply) in events.iter().zip(replies.iter()) {
         if bench.reply(*event)? != *reply {
-            return Err(Fail::new(format_args!("{event:?}: {reply:?}")));
+            return Err(another(event, reply));
         }
     }
     if replies.len() == events.len() {

@@ -118,6 +118,14 @@ impl Played {
         expect(self.happens(command_at(ask, 0))?, "a line was refused")
     }
 
+    /// These lines are done.
+    pub fn tc_all(&mut self, lines: &[Ask]) -> Result<(), Fail> {
+        for line in lines {
+            self.tc(*line)?;
+        }
+        Ok(())
+    }
+
     /// A packet of this length and priority is queued.
     pub fn arrive(&mut self, len: u16, prio: u8, ns: u64) -> Result<(), Fail> {
         let number = self.replies.len() as u64;

@@ -7,8 +7,7 @@ use q_packet::Cause;
 use std::alloc::Global;
 use std::test::Fail;
 
-// What a play of them answers.
-fn replies(alloc: Global, script: &mut Script) -> Result<Vec<Reply>, Fail> {
+fn played(alloc: Global, script: &mut Script) -> Result<Vec<Reply>, Fail> {
     script.tc(&[Ask::Graft(Spot::Root, 1, New::Packets(2))])?;
     for number in 1u16..4 {
         let arrival = arrival_at(u64::from(number), number.saturating_mul(100), 0, 0);
@@ -16,6 +15,11 @@ fn replies(alloc: Global, script: &mut Script) -> Result<Vec<Reply>, Fail> {
     }
     script.add_polls(3)?;
     script.replies(alloc)
+}
+
+// What a play of them answers.
+fn replies(alloc: Global) -> Result<Vec<Reply>, Fail> {
+    played(alloc, &mut Script::new(alloc)?)
 }
 
 // What the line and the packets are answered.
@@ -34,6 +38,10 @@ fn has_given(reply: Option<&Reply>, number: u64, bytes: u64) -> bool {
     }
 }
 
+fn have_arrived(replies: &[Reply]) -> bool {
+    replies.len() == 7 && replies.get(..4) == Some(&ARRIVED[..])
+}
+
 fn are_polled(replies: &[Reply]) -> bool {
     has_given(replies.get(4), 1, 100)
         && has_given(replies.get(5), 2, 200)
@@ -42,8 +50,7 @@ fn are_polled(replies: &[Reply]) -> bool {
 
 #[test]
 fn the_script_of_the_readme_is_played(rt: HostRuntime) -> Result<(), Fail> {
-    let replies = replies(rt.alloc(), &mut Script::new(rt.alloc())?)?;
-    assert!(rt; replies.len() == 7 && replies.get(..4) == Some(&ARRIVED[..]));
-    assert!(rt; are_polled(replies.as_slice()));
+    let replies = replies(rt.alloc())?;
+    assert!(rt; have_arrived(replies.as_slice()) && are_polled(replies.as_slice()));
     Ok(())
 }

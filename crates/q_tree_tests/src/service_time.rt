@@ -52,17 +52,23 @@ fn opened(alloc: Global, link: Link) -> Result<Drained, Fail> {
 impl Drained {
     fn set_up(&mut self, burst: u32) -> Result<(), Fail> {
         let link = self.link;
-        self.played
-            .tc(Ask::Graft(Spot::Root, 1, New::Shaper(link.rate, burst)))?;
-        self.played.tc(Ask::Graft(Spot::Class(1, 1), 2, New::Drr))?;
+        self.played.tc_all(&[
+            Ask::Graft(Spot::Root, 1, New::Shaper(link.rate, burst)),
+            Ask::Graft(Spot::Class(1, 1), 2, New::Drr),
+        ])?;
         for i in 0..link.classes.count {
-            self.add_class(2, &link.classes, i)?;
-            self.played.tc(Ask::Match(2, u16::from(prio(i)), prio(i)))?;
+            self.add_class_of_prio(&link.classes, i)?;
         }
         if link.beneath.count == 0 {
             return Ok(());
         }
         self.set_up_beneath(&link.beneath)
+    }
+
+    // A class with the packets of its own priority.
+    fn add_class_of_prio(&mut self, classes: &Classes, i: usize) -> Result<(), Fail> {
+        self.add_class(2, classes, i)?;
+        self.played.tc(Ask::Match(2, u16::from(prio(i)), prio(i)))
     }
 
     fn add_class(&mut self, major: u16, classes: &Classes, i: usize) -> Result<(), Fail> {
@@ -77,12 +83,18 @@ impl Drained {
         self.add_class(3, beneath, 0)?;
         self.played.tc(Ask::Match(3, 1, 1))?;
         for i in 1..beneath.count {
-            let priority = prio(self.link.classes.count.saturating_add(i).saturating_sub(1));
-            self.add_class(3, beneath, i)?;
-            self.played.tc(Ask::Match(3, u16::from(prio(i)), priority))?;
-            self.played.tc(Ask::Match(2, 1, priority))?;
+            self.add_class_beneath(beneath, i)?;
         }
         Ok(())
+    }
+
+    fn add_class_beneath(&mut self, beneath: &Classes, i: usize) -> Result<(), Fail> {
+        let priority = prio(self.link.classes.count.saturating_add(i).saturating_sub(1));
+        self.add_class(3, beneath, i)?;
+        self.played.tc_all(&[
+            Ask::Match(3, u16::from(prio(i)), priority),
+            Ask::Match(2, 1, priority),
+        ])
     }
 
     // How many classes may get packets: those of the drr, and all but the first of the one below, which have the priorities behind.
@@ -170,16 +182,21 @@ impl Drained {
         let ready = self.played.ready().ok_or("ready")?;
         let most = ready.saturating_sub(self.ns).clamp(1, 1 << 32);
         self.ns = self.ns.saturating_add(chance.below(most));
-        for _packet in 0..chance.below(4) {
-            let i = chance.place(self.places());
-            let len = chance.len(self.link.mtu);
-            self.arrive(i, len)?;
-        }
+        self.arrive_some(chance)?;
         match chance.below(4) {
             0 => self.poll_early(self.ns),
             1 => self.poll_early(ready.saturating_sub(1).max(self.ns)),
             _ => Ok(()),
         }
+    }
+
+    fn arrive_some(&mut self, chance: &mut Chance) -> Result<(), Fail> {
+        for _packet in 0..chance.below(4) {
+            let i = chance.place(self.places());
+            let len = chance.len(self.link.mtu);
+            self.arrive(i, len)?;
+        }
+        Ok(())
     }
 
     fn poll_early(&mut self, ns: u64) -> Result<(), Fail> {

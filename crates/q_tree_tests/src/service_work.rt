@@ -68,16 +68,16 @@ impl Queued {
     }
 }
 
-fn set_up(played: &mut Played) -> Result<(), Fail> {
-    played.tc(Ask::Graft(Spot::Root, 1, New::Prio(4)))?;
-    played.tc(Ask::Graft(Spot::Class(1, 1), 2, New::Packets(1000)))?;
-    played.tc(Ask::Graft(Spot::Class(1, 2), 3, New::Drr))?;
-    played.tc(Ask::AddClass(3, 1, 100))?;
-    played.tc(Ask::Match(3, 1, 1))?;
-    played.tc(Ask::Graft(Spot::Class(3, 1), 4, New::Fair(300)))?;
-    played.tc(Ask::Graft(Spot::Class(1, 3), 5, New::Fair(1514)))?;
-    played.tc(Ask::Graft(Spot::Class(1, 4), 6, New::Bfifo(1_000_000)))
-}
+const LINES: &[Ask] = &[
+    Ask::Graft(Spot::Root, 1, New::Prio(4)),
+    Ask::Graft(Spot::Class(1, 1), 2, New::Packets(1000)),
+    Ask::Graft(Spot::Class(1, 2), 3, New::Drr),
+    Ask::AddClass(3, 1, 100),
+    Ask::Match(3, 1, 1),
+    Ask::Graft(Spot::Class(3, 1), 4, New::Fair(300)),
+    Ask::Graft(Spot::Class(1, 3), 5, New::Fair(1514)),
+    Ask::Graft(Spot::Class(1, 4), 6, New::Bfifo(1_000_000)),
+];
 
 fn arrive(
     played: &mut Played,
@@ -138,7 +138,7 @@ fn run(played: &mut Played, chance: &mut Chance) -> Result<Queued, Fail> {
 }
 
 fn run_all(played: &mut Played, alloc: Global, seed: u64) -> Result<Queued, Fail> {
-    set_up(played)?;
+    played.tc_all(LINES)?;
     let queued = run(played, &mut Chance::new(seed))?;
     if played.is_played(alloc)? {
         Ok(queued)

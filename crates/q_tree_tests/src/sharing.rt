@@ -200,17 +200,17 @@ fn a_tbf_spends_its_burst_and_what_the_rate_brings(rt: HostRuntime) -> Result<()
 // the second one goes at no poll before, also not at one of an earlier time than the last.
 #[test]
 fn a_tbf_spends_to_the_nanosecond(rt: HostRuntime) -> Result<(), Fail> {
-    let bytes = spent_at(
-        rt.alloc(),
-        &mut Script::new(rt.alloc())?,
-        &[0, 999, 5, 1000],
-    )?;
+    let bytes = spent_at(rt.alloc(), &[0, 999, 5, 1000])?;
     assert!(rt; bytes.as_slice() == &[1000u64, 0, 0, 1000][..]);
     Ok(())
 }
 
 // What polls at these times give of two packets in such a bucket.
-fn spent_at(alloc: Global, script: &mut Script, times: &[u64]) -> Result<Vec<u64>, Fail> {
+fn spent_at(alloc: Global, times: &[u64]) -> Result<Vec<u64>, Fail> {
+    spent(alloc, &mut Script::new(alloc)?, times)
+}
+
+fn spent(alloc: Global, script: &mut Script, times: &[u64]) -> Result<Vec<u64>, Fail> {
     script.tc(&[Ask::Graft(Spot::Root, 1, New::Shaper(8_000_000_000, 1_000))])?;
     script.packets(2, 1000, 1)?;
     let before = script.events.len();
