@@ -95,29 +95,38 @@ fn a_class_on_a_burst_without_room_is_answered_nothing(rt: HostRuntime) -> Resul
 // ---- a packet that waits just so long, where the mtu is 1500
 
 // A tbf of 1 mbit with a burst of 1640 bytes, and two classes below it; the second has a bfifo.
-const SHORT: [Ask; 7] = [
-    Ask::Graft(Spot::Root, 1, New::Tbf(1_640)),
-    Ask::Graft(Spot::Class(1, 1), 2, New::Drr),
-    Ask::AddClass(2, 1, 10_000),
-    Ask::AddClass(2, 2, 1),
-    Ask::Graft(Spot::Class(2, 2), 3, New::Bfifo(1_000)),
-    Ask::Match(2, 1, 1),
-    Ask::Match(2, 2, 2),
-];
+const TBF: Ask = Ask::Graft(Spot::Root, 1, New::Tbf(1_640));
+
+const DRR: Ask = Ask::Graft(Spot::Class(1, 1), 2, New::Drr);
+
+const ADD_FIRST: Ask = Ask::AddClass(2, 1, 10_000);
+
+const ADD_SECOND: Ask = Ask::AddClass(2, 2, 1);
+
+const BFIFO: Ask = Ask::Graft(Spot::Class(2, 2), 3, New::Bfifo(1_000));
 
 // The quanta as they are then.
-const LATER: [Ask; 2] = [Ask::ChangeClass(2, 1, 1), Ask::ChangeClass(2, 2, 1_000)];
+const LOWER_FIRST: Ask = Ask::ChangeClass(2, 1, 1);
+
+const RAISE_SECOND: Ask = Ask::ChangeClass(2, 2, 1_000);
 
 #[test]
 fn a_class_in_the_worst_state_is_told_its_delay(rt: HostRuntime) -> Result<(), Fail> {
-    let [link, drr, first, second, fifo, _, _] = SHORT;
     let rows = [(
         Spot::Class(2, 2),
         Some((4_001, Some((32_008_000, 1_119_999)))),
     )];
     answers_1500(
         rt.alloc(),
-        &[link, drr, first, second, fifo, LATER[0], LATER[1]],
+        &[
+            TBF,
+            DRR,
+            ADD_FIRST,
+            ADD_SECOND,
+            BFIFO,
+            LOWER_FIRST,
+            RAISE_SECOND,
+        ],
         &rows,
     )
 }
@@ -126,14 +135,14 @@ fn a_class_in_the_worst_state_is_told_its_delay(rt: HostRuntime) -> Result<(), F
 // second class, which comes behind it, has one of a byte. So packet 11 waits for one that is held, for one of the deficit, and for a grant.
 #[test]
 fn a_class_lets_its_last_packet_wait_so_long(rt: HostRuntime) -> Result<(), Fail> {
-    let calls = [
-        Call::Do(SHORT[0], 0, None),
-        Call::Do(SHORT[1], 0, None),
-        Call::Do(SHORT[2], 0, None),
-        Call::Do(SHORT[3], 0, None),
-        Call::Do(SHORT[4], 0, None),
-        Call::Do(SHORT[5], 0, None),
-        Call::Do(SHORT[6], 0, None),
+    const CALLS: &[Call] = &[
+        Call::Do(TBF, 0, None),
+        Call::Do(DRR, 0, None),
+        Call::Do(ADD_FIRST, 0, None),
+        Call::Do(ADD_SECOND, 0, None),
+        Call::Do(BFIFO, 0, None),
+        Call::Do(Ask::Match(2, 1, 1), 0, None),
+        Call::Do(Ask::Match(2, 2, 2), 0, None),
         Call::Arrive(1, 1_500, 1, 0, Fate::Kept),
         Call::Arrive(2, 140, 1, 0, Fate::Kept),
         Call::Arrive(3, 1_500, 1, 0, Fate::Kept),
@@ -144,8 +153,8 @@ fn a_class_lets_its_last_packet_wait_so_long(rt: HostRuntime) -> Result<(), Fail
         Call::Poll(0, 1),
         Call::Poll(0, 2),
         Call::Later(0),
-        Call::Do(LATER[0], 0, None),
-        Call::Do(LATER[1], 0, None),
+        Call::Do(LOWER_FIRST, 0, None),
+        Call::Do(RAISE_SECOND, 0, None),
         Call::Arrive(11, 999, 2, 0, Fate::Kept),
         Call::Poll(12_000_000, 3),
         Call::Poll(24_000_000, 4),
@@ -156,5 +165,5 @@ fn a_class_lets_its_last_packet_wait_so_long(rt: HostRuntime) -> Result<(), Fail
         Call::Later(32_007_999),
         Call::Poll(32_008_000, 11),
     ];
-    called(rt.alloc(), &calls)
+    called(rt.alloc(), CALLS)
 }

@@ -181,17 +181,8 @@ fn a_time_past_the_end_is_answered_nothing(rt: HostRuntime) -> Result<(), Fail> 
 
 // ---- packets that wait just so long, where the mtu is 1500
 
-// A tbf of 1 mbit with a burst of 1640 bytes.
+// A tbf of 1 mbit with a burst of 1640 bytes. What it has at first is spent on the packets 1 and 2.
 const SHORT: Ask = Ask::Graft(Spot::Root, 1, New::Tbf(1_640));
-
-// What it has at first is spent on two packets.
-const SPENT: [Call; 5] = [
-    Call::Do(SHORT, 0, None),
-    Call::Arrive(1, 1_500, 0, 0, Fate::Kept),
-    Call::Arrive(2, 140, 0, 0, Fate::Kept),
-    Call::Poll(0, 1),
-    Call::Poll(0, 2),
-];
 
 // Checks the numbers of the class of such a tbf after these lines.
 fn answers_short(alloc: Global, lines: &[Ask], expected: Told) -> Result<(), Fail> {
@@ -205,12 +196,12 @@ fn a_tbf_lets_its_last_packet_wait_so_long(rt: HostRuntime) -> Result<(), Fail> 
         &[SHORT],
         (10_000, Some((80_000_000, 1_119_999))),
     )?;
-    let calls = [
-        SPENT[0],
-        SPENT[1],
-        SPENT[2],
-        SPENT[3],
-        SPENT[4],
+    const CALLS: &[Call] = &[
+        Call::Do(SHORT, 0, None),
+        Call::Arrive(1, 1_500, 0, 0, Fate::Kept),
+        Call::Arrive(2, 140, 0, 0, Fate::Kept),
+        Call::Poll(0, 1),
+        Call::Poll(0, 2),
         Call::Arrive(3, 1_000, 0, 0, Fate::Kept),
         Call::Arrive(4, 1_500, 0, 0, Fate::Kept),
         Call::Arrive(5, 1_500, 0, 0, Fate::Kept),
@@ -229,7 +220,7 @@ fn a_tbf_lets_its_last_packet_wait_so_long(rt: HostRuntime) -> Result<(), Fail> 
         Call::Later(79_999_999),
         Call::Poll(80_000_000, 9),
     ];
-    called(rt.alloc(), &calls)
+    called(rt.alloc(), CALLS)
 }
 
 // A pfifo of two packets in its class.
@@ -242,13 +233,13 @@ fn a_pfifo_lets_its_last_packet_wait_so_long(rt: HostRuntime) -> Result<(), Fail
         &[SHORT, PAIR],
         (3_000, Some((24_000_000, 1_119_999))),
     )?;
-    let calls = [
-        SPENT[0],
+    const CALLS: &[Call] = &[
+        Call::Do(SHORT, 0, None),
         Call::Do(PAIR, 0, None),
-        SPENT[1],
-        SPENT[2],
-        SPENT[3],
-        SPENT[4],
+        Call::Arrive(1, 1_500, 0, 0, Fate::Kept),
+        Call::Arrive(2, 140, 0, 0, Fate::Kept),
+        Call::Poll(0, 1),
+        Call::Poll(0, 2),
         Call::Arrive(3, 1_500, 0, 0, Fate::Kept),
         Call::Arrive(4, 1_500, 0, 0, Fate::Kept),
         Call::Arrive(5, 1, 0, 0, Fate::Lost(Cause::OverLimit)),
@@ -256,5 +247,5 @@ fn a_pfifo_lets_its_last_packet_wait_so_long(rt: HostRuntime) -> Result<(), Fail
         Call::Later(23_999_999),
         Call::Poll(24_000_000, 4),
     ];
-    called(rt.alloc(), &calls)
+    called(rt.alloc(), CALLS)
 }

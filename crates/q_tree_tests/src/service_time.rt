@@ -323,15 +323,20 @@ fn serve(customers: &mut Drained) -> Result<(), Fail> {
     Ok(())
 }
 
+fn ends(waits: &[Wait]) -> Result<[Wait; 2], Fail> {
+    match (waits.get(0), waits.get(1666)) {
+        (Some(first), Some(last)) => Ok([*first, *last]),
+        _ => Err(Fail::from("a wait")),
+    }
+}
+
 // The first time at which no packet came, and the one after 1666 packets more.
 fn served(customers: &mut Drained, alloc: Global) -> Result<[Wait; 2], Fail> {
     serve(customers)?;
     if !customers.played.is_played(alloc)? {
         return Err(Fail::from("another reply"));
     }
-    let first = *customers.waits.get(0).ok_or("a wait")?;
-    let last = *customers.waits.get(1666).ok_or("a wait")?;
-    Ok([first, last])
+    ends(customers.waits.as_slice())
 }
 
 fn second(alloc: Global) -> Result<[Wait; 2], Fail> {
