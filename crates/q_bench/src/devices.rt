@@ -70,23 +70,20 @@ pub extern "C" fn q_bench_pairs(
         ports,
         ecn,
     };
-    let Some(made) = plan.made(alloc) else {
-        return 0;
-    };
     let tree = Tree {
         limit: limit_for(queued),
         flows,
         drop_batch,
         ecn,
     };
-    let made = made.as_slice();
-    let load = Load {
+    passed(
+        alloc,
         shape,
         tree,
         queued,
-        made,
-    };
-    passed(alloc, load, Passes::Pairs(step, passes)).unwrap_or(0)
+        plan,
+        Passes::Pairs(step, passes),
+    )
 }
 
 fn pass_pairs(device: &mut Device, load: Load, step: u32, passes: u32) -> Option<u64> {
@@ -123,23 +120,13 @@ pub extern "C" fn q_bench_losses(
         ports,
         ecn,
     };
-    let Some(made) = plan.made(alloc) else {
-        return 0;
-    };
     let tree = Tree {
         limit: limit_for(queued),
         flows,
         drop_batch,
         ecn,
     };
-    let made = made.as_slice();
-    let load = Load {
-        shape,
-        tree,
-        queued,
-        made,
-    };
-    passed(alloc, load, Passes::Losses(waits)).unwrap_or(0)
+    passed(alloc, shape, tree, queued, plan, Passes::Losses(waits))
 }
 
 fn pass_losses(device: &mut Device, load: Load, waits: &[u32]) -> Option<u64> {
@@ -206,8 +193,21 @@ fn limit_for(queued: u32) -> u32 {
     }
 }
 
-/// The checksum of all that happens on a new device.
-fn passed(alloc: Global, load: Load, passes: Passes) -> Option<u64> {
+/// The checksum of all that happens on a new device; 0 where something failed.
+fn passed(alloc: Global, shape: u32, tree: Tree, queued: u32, plan: Plan, passes: Passes) -> u64 {
+    let Some(made) = plan.made(alloc) else {
+        return 0;
+    };
+    let load = Load {
+        shape,
+        tree,
+        queued,
+        made: made.as_slice(),
+    };
+    pass_on_new(alloc, load, passes).unwrap_or(0)
+}
+
+fn pass_on_new(alloc: Global, load: Load, passes: Passes) -> Option<u64> {
     let mut device = opened(alloc)?;
     let sum = pass(&mut device, load, passes);
     close(device);
