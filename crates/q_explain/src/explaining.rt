@@ -1,8 +1,9 @@
+use crate::draft::Draft;
 use crate::fault_sentence::push_fault;
-use crate::line_words::LineWords;
+use crate::line_words::{LineWords, behind, first_word};
 use crate::marked::push_marked;
 use crate::refusal_sentence::refusal_sentence;
-use crate::refused_word::{marked_word, refused_word};
+use crate::refused_word::{candidates, marked_word};
 use crate::remark::Remark;
 use crate::spot::Spot;
 use crate::word::Word;
@@ -24,21 +25,14 @@ pub fn explain_fault(
     fault: LineFault,
 ) -> Result<String, AllocError> {
     let line = trimmed(line);
-    let left = fault.word().saturating_sub(1);
     let mut words = LineWords::new(line);
-    for _ in 0..left {
-        if words.next().is_none() {
-            break;
-        }
-    }
+    let spot = Spot::behind(alloc, &mut words, fault.word().saturating_sub(1))?;
     let word = words.next().unwrap_or(behind(line));
-    let spot = Spot::behind(alloc, LineWords::new(line), left)?;
-    let mut text = String::new(alloc);
-    push_marked(&mut text, number, line, word.start, word.bytes.len())?;
-    text.push_str("  ")?;
-    push_fault(&mut text, fault, &spot, word.bytes, words)?;
-    text.push_str("\n")?;
-    Ok(text)
+    let mut text = Draft::new(alloc);
+    push_marked(&mut text, number, line, word);
+    push_fault(&mut text, fault, &spot, word.bytes, words);
+    text.push("\n");
+    text.finish()
 }
 
 /// The same for a line without a fault whose command was refused, or for whose packet an allocation failed: a mark under the word to
@@ -54,14 +48,9 @@ pub fn explain_refusal(
     refusal: Refusal,
 ) -> Result<String, AllocError> {
     let line = trimmed(line);
-    let word = refused_word(alloc, LineWords::new(line), refusal)?.unwrap_or(behind(line));
-    let head = Spot::behind(alloc, LineWords::new(line), usize::MAX)?.head;
-    let mut text = String::new(alloc);
-    push_marked(&mut text, number, line, word.start, word.bytes.len())?;
-    text.push_str("  ")?;
-    text.push_str(refusal_sentence(refusal, head))?;
-    text.push_str("\n")?;
-    Ok(text)
+    let word = marked_word(alloc, line, candidates(refusal))?;
+    let head = Spot::behind(alloc, &mut LineWords::new(line), usize::MAX)?.head;
+    explained(alloc, number, line, word, refusal_sentence(refusal, head))
 }
 
 /// The same of a line that was done, of which there is a remark.
@@ -76,13 +65,11 @@ pub fn explain_remark(
     remark: Remark,
 ) -> Result<String, AllocError> {
     let line = trimmed(line);
-    let word = marked_word(alloc, LineWords::new(line), remark.words())?.unwrap_or(behind(line));
-    let mut text = String::new(alloc);
-    push_marked(&mut text, number, line, word.start, word.bytes.len())?;
-    text.push_str("  ")?;
-    push_remark(&mut text, remark)?;
-    text.push_str("\n")?;
-    Ok(text)
+    let word = marked_word(alloc, line, remark.words())?;
+    let mut text = Draft::new(alloc);
+    push_marked(&mut text, number, line, word);
+    push_remark(&mut text, remark);
+    text.finish()
 }
 
 /// The same of a line that is no command, with this sentence, and with the mark under its first word.
@@ -97,34 +84,36 @@ pub fn explain_other(
     sentence: &str,
 ) -> Result<String, AllocError> {
     let line = trimmed(line);
-    let word = LineWords::new(line).next().unwrap_or(behind(line));
-    let mut text = String::new(alloc);
-    push_marked(&mut text, number, line, word.start, word.bytes.len())?;
-    text.push_str("  ")?;
-    text.push_str(sentence)?;
-    text.push_str("\n")?;
-    Ok(text)
+    explained(alloc, number, line, first_word(line), sentence)
 }
 
-/// Adds the sentences on a remark.
-fn push_remark(text: &mut String, remark: Remark) -> Result<(), AllocError> {
+/// A line with the mark under a word, and a sentence.
+fn explained(
+    alloc: Global,
+    number: u64,
+    line: &[u8],
+    word: Word<'_>,
+    sentence: &str,
+) -> Result<String, AllocError> {
+    let mut text = Draft::new(alloc);
+    push_marked(&mut text, number, line, word);
+    text.push_parts(&[sentence, "\n"]);
+    text.finish()
+}
+
+/// Adds the sentences on a remark, and the end of their line.
+fn push_remark(text: &mut Draft, remark: Remark) {
     match remark {
-        Remark::SmallBurst { mtu } => write!(
-            text,
-            "the burst is below the mtu of {mtu} bytes: each packet longer than the burst is lost. Give a burst of the mtu or more."
+        Remark::SmallBurst { mtu } => {
+            text.push("the burst is below the mtu of ");
+            text.push_number(u64::from(mtu));
+            text.push(
+                " bytes: each packet longer than the burst is lost. Give a burst of the mtu or more.\n",
+            );
+        }
+        Remark::OtherDevice => text.push(
+            "a line before this one has another name. A script has one device, and each line is for it, whatever name it has.\n",
         ),
-        Remark::OtherDevice => text.push_str(
-            "a line before this one has another name. A script has one device, and each line is for it, whatever name it has.",
-        ),
-    }
-}
-
-/// No word, behind the last byte of a line.
-fn behind(line: &[u8]) -> Word<'_> {
-    let (line, bytes) = line.split_at(line.len());
-    Word {
-        start: line.len(),
-        bytes,
     }
 }
 

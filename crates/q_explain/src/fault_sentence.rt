@@ -1,180 +1,168 @@
 //! What a fault of a line means.
+use crate::draft::Draft;
 use crate::line_words::LineWords;
 use crate::missing::{push_entries, push_missing};
 use crate::near::{meant, shortened};
 use crate::quoting::push_word;
 use crate::spot::{Spot, find};
-use crate::tables::{ALTERNATIVES, entries};
-use crate::tc_only::{filter_of_handle, instead, words_of_tc};
-use crate::value::Value;
+use crate::tables::{alternatives, entries};
+use crate::tc_only::{filter_of_handle, instead, word_of_tc};
 use crate::word_place::WordPlace;
 use q_words::LineFault;
-use std::alloc::AllocError;
 
 /// Adds the sentence on a fault, at a word with this spot; then comes the rest of the line.
 pub fn push_fault(
-    text: &mut String,
+    text: &mut Draft,
     fault: LineFault,
     spot: &Spot,
     word: &[u8],
     rest: LineWords<'_>,
-) -> Result<(), AllocError> {
+) {
     match fault {
         LineFault::UnknownWord(_) | LineFault::BadNumber(_) if word.starts_with(b"#") => {
-            text.push_str("a comment needs a line of its own, which begins with #.")
+            text.push("a comment needs a line of its own, which begins with #.");
         }
         LineFault::UnknownWord(_) => push_unknown(text, spot, word, rest),
         LineFault::Missing(_) => push_missing(text, spot),
         LineFault::BadNumber(_) => push_form(text, spot, word),
         LineFault::OutOfRange(_) => push_range(text, spot, word),
         LineFault::Twice(_) => push_twice(text, spot, word),
-        LineFault::BadUtf8(_) => text.push_str("the word is not UTF-8."),
+        LineFault::BadUtf8(_) => text.push("the word is not UTF-8."),
     }
 }
 
 /// Of a value that has another form.
-fn push_form(text: &mut String, spot: &Spot, word: &[u8]) -> Result<(), AllocError> {
-    push_word(text, word)?;
-    let Some((name, value)) = spot.value() else {
-        return text.push_str(" has not the form of a value.");
-    };
-    text.push_str(" is no value of ")?;
-    text.push_str(name)?;
-    text.push_str(", which takes ")?;
-    text.push_str(value.form())?;
-    push_units(text, value)?;
-    text.push_str(".")
-}
-
-/// Adds the units of a value that may have one.
-fn push_units(text: &mut String, value: Value) -> Result<(), AllocError> {
-    let Some(units) = value.units() else {
-        return Ok(());
-    };
-    text.push_str("; its units are ")?;
-    text.push_str(units)
+fn push_form(text: &mut Draft, spot: &Spot, word: &[u8]) {
+    push_word(text, word);
+    match spot.value() {
+        Some((name, value)) => text.push_parts(&[
+            " is no value of ",
+            name,
+            ", which takes ",
+            value.form(),
+            value.units(),
+            ".",
+        ]),
+        None => text.push(" has not the form of a value."),
+    }
 }
 
 /// Of a value outside its range.
-fn push_range(text: &mut String, spot: &Spot, word: &[u8]) -> Result<(), AllocError> {
-    push_word(text, word)?;
+fn push_range(text: &mut Draft, spot: &Spot, word: &[u8]) {
+    push_word(text, word);
     let Some((name, value)) = spot.value() else {
-        return text.push_str(" is out of range.");
+        text.push(" is out of range.");
+        return;
     };
-    text.push_str(" is out of range: ")?;
-    text.push_str(name)?;
-    text.push_str(" takes ")?;
-    text.push_str(value.range())?;
-    if word.last().is_some_and(|byte| byte.is_ascii_digit()) {
-        push_units(text, value)?;
+    text.push_parts(&[" is out of range: ", name, " takes ", value.range()]);
+    if let [.., b'0'..=b'9'] = word {
+        text.push(value.units());
     }
-    text.push_str(".")
+    text.push(".");
 }
 
 /// Of a word that was there before, or one that means the same or excludes it.
-fn push_twice(text: &mut String, spot: &Spot, word: &[u8]) -> Result<(), AllocError> {
-    push_word(text, word)?;
+fn push_twice(text: &mut Draft, spot: &Spot, word: &[u8]) {
+    push_word(text, word);
     match beside(spot, word) {
         Some(other) => {
-            text.push_str(" stands beside ")?;
-            text.push_str(other)?;
-            text.push_str(", and a line has one of them.")
+            text.push_parts(&[" stands beside ", other, ", and a line has one of them."]);
         }
-        None => text.push_str(" was given before."),
+        None => text.push(" was given before."),
     }
 }
 
 /// The other word that was there, of which a line has one.
 fn beside(spot: &Spot, word: &[u8]) -> Option<&'static str> {
-    let entry = find(spot.place, word)?;
-    if spot.has(entry.name()) {
+    let name = find(spot.place, word)?.name();
+    if spot.has(name) {
         return None;
     }
-    for names in ALTERNATIVES {
-        if names.contains(&entry.name()) {
-            if let Some(other) = names.iter().find(|name| spot.has(name)) {
-                return Some(other);
-            }
-        }
-    }
-    None
+    spot.first_of(alternatives(name))
 }
 
 /// The sentence on a word that may not be there.
-fn push_unknown(
-    text: &mut String,
-    spot: &Spot,
-    word: &[u8],
-    rest: LineWords<'_>,
-) -> Result<(), AllocError> {
+fn push_unknown(text: &mut Draft, spot: &Spot, word: &[u8], rest: LineWords<'_>) {
     if spot.value().is_some() {
-        return push_form(text, spot, word);
+        push_form(text, spot, word);
+        return;
     }
-    if let Some(filter) = filter_of_handle(spot.place, word, rest) {
-        text.push_str("tc has the filter ")?;
-        text.push_str(filter)?;
-        return text.push_str(", qtree does not; the handle is one of its words. Use flower.");
+    match word_of_tc(spot.place, word) {
+        Some(name) => push_of_tc(text, spot.place, name, rest),
+        None => push_misplaced(text, spot, word),
     }
-    if words_of_tc(spot.place)
-        .iter()
-        .any(|name| name.as_bytes() == word)
-    {
-        text.push_str("tc has ")?;
-        push_word(text, word)?;
-        text.push_str(", qtree does not")?;
-        text.push_str(instead(spot.place, word))?;
-        return text.push_str(".");
+}
+
+/// Of a word that tc reads.
+fn push_of_tc(text: &mut Draft, place: WordPlace, name: &'static str, rest: LineWords<'_>) {
+    match filter_of_handle(place, name, rest) {
+        Some(filter) => text.push_parts(&[
+            "tc has the filter ",
+            filter,
+            ", qtree does not; the handle is one of its words. Use flower.",
+        ]),
+        None => {
+            text.push_parts(&[
+                "tc has ",
+                name,
+                ", qtree does not",
+                instead(place, name),
+                ".",
+            ]);
+        }
     }
-    push_word(text, word)?;
-    if spot.place == WordPlace::First && find(spot.place, word).is_some() {
-        return text.push_str(
+}
+
+/// Of a word that may be elsewhere, or nowhere.
+fn push_misplaced(text: &mut Draft, spot: &Spot, word: &[u8]) {
+    push_word(text, word);
+    match spot.place {
+        WordPlace::End => text.push(" is one word too many: the line is whole before it."),
+        WordPlace::First if find(spot.place, word).is_some() => text.push(
             " sets up no device; qtree drive reads lines of tc, blank ones and comments alone.",
-        );
+        ),
+        _ if is_of_head(spot, word) => {
+            text.push_parts(&[" has to stand before ", last_word(spot), "."]);
+        }
+        place => push_no_word(text, place, word),
     }
-    if spot.place == WordPlace::End {
-        return text.push_str(" is one word too many: the line is whole before it.");
+}
+
+/// The word before one that has to stand before it.
+fn last_word(spot: &Spot) -> &'static str {
+    match spot.seen.last() {
+        Some(entry) => entry.name(),
+        None => "the kind",
     }
-    if is_of_head(spot, word) {
-        text.push_str(" has to stand before ")?;
-        text.push_str(spot.seen.last().map_or("the kind", |entry| entry.name()))?;
-        return text.push_str(".");
-    }
-    push_no_word(text, spot.place, word)
 }
 
 /// Adds that a word is none of those at a place, and the one that was meant, or all of these.
-fn push_no_word(text: &mut String, place: WordPlace, word: &[u8]) -> Result<(), AllocError> {
-    if place == WordPlace::First {
-        text.push_str(" begins no line")?;
-    } else {
-        text.push_str(what(place))?;
-        text.push_str(place.name())?;
+fn push_no_word(text: &mut Draft, place: WordPlace, word: &[u8]) {
+    match place {
+        WordPlace::First => text.push(" begins no line; "),
+        _ => text.push_parts(&[what(place), place.name(), "; "]),
     }
-    text.push_str("; ")?;
     if let Some(name) = shortened(place, word) {
-        text.push_str("words are not shortened: write ")?;
-        text.push_str(name)?;
-        return text.push_str(".");
+        text.push_parts(&["words are not shortened: write ", name, "."]);
+    } else if let Some(name) = meant(place, word) {
+        text.push_parts(&["did you mean ", name, "?"]);
+    } else {
+        push_all_words(text, place);
     }
-    if let Some(name) = meant(place, word) {
-        text.push_str("did you mean ")?;
-        text.push_str(name)?;
-        return text.push_str("?");
-    }
-    push_all_words(text, place)
 }
 
 /// Adds the words that may be at a place.
-fn push_all_words(text: &mut String, place: WordPlace) -> Result<(), AllocError> {
-    if place == WordPlace::First {
-        text.push_str("a line begins with ")?;
-    } else if entries(place).is_empty() {
-        return text.push_str("it has none.");
-    } else {
-        text.push_str("it has: ")?;
+fn push_all_words(text: &mut Draft, place: WordPlace) {
+    if entries(place).is_empty() {
+        text.push("it has none.");
+        return;
     }
-    push_entries(text, place)?;
-    text.push_str(".")
+    text.push(match place {
+        WordPlace::First => "a line begins with ",
+        _ => "it has: ",
+    });
+    push_entries(text, place);
+    text.push(".");
 }
 
 /// Whether the word belongs to the head, which has ended.

@@ -15,6 +15,7 @@
 #![tactic(auto)]
 
 mod cut;
+mod draft;
 mod explaining;
 mod fault_sentence;
 mod line_words;

@@ -35,3 +35,17 @@ impl<'a> LineWords<'a> {
         Some(Word { start, bytes })
     }
 }
+
+/// The first word of a line; none behind its last byte where it has no word.
+pub fn first_word(line: &[u8]) -> Word<'_> {
+    LineWords::new(line).next().unwrap_or(behind(line))
+}
+
+/// No word, behind the last byte of a line.
+pub fn behind(line: &[u8]) -> Word<'_> {
+    let (line, bytes) = line.split_at(line.len());
+    Word {
+        start: line.len(),
+        bytes,
+    }
+}

@@ -1,40 +1,28 @@
 use crate::cut::Cut;
+use crate::draft::Draft;
 use crate::quoting::push_shown;
-use std::alloc::AllocError;
+use crate::word::Word;
 
-/// Adds a line by its number, of which a word begins there and has so many bytes, and a line with a mark under the word. Without
-/// any byte the word is one that is missing behind the line.
-pub fn push_marked(
-    text: &mut String,
-    number: u64,
-    line: &[u8],
-    start: usize,
-    len: usize,
-) -> Result<(), AllocError> {
-    let cut = Cut::around(line, start, len);
+/// Adds a line by its number, and a line with a mark under one of its words; then what comes before a sentence on it. Without any
+/// byte the word is one that is missing behind the line.
+pub fn push_marked(text: &mut Draft, number: u64, line: &[u8], word: Word<'_>) {
+    let cut = Cut::around(line, word.start, word.bytes.len());
     let from = text.len();
-    write!(text, "line {number}: ")?;
-    if cut.begins_later {
-        text.push_str("...")?;
-    }
+    text.push("line ");
+    text.push_number(number);
+    text.push_parts(&[": ", dots(cut.begins_later)]);
     let head = text.len().saturating_sub(from);
-    let before = push_shown(text, cut.before)?;
-    let word = push_shown(text, cut.word)?;
-    push_shown(text, cut.behind)?;
-    if cut.ends_sooner {
-        text.push_str("...")?;
-    }
-    text.push_str("\n")?;
-    let gap = usize::from(len == 0);
-    push_times(text, " ", head.saturating_add(before).saturating_add(gap))?;
-    push_times(text, "^", word.max(1))?;
-    text.push_str("\n")
+    let before = push_shown(text, cut.before);
+    let columns = push_shown(text, cut.word);
+    push_shown(text, cut.behind);
+    text.push_parts(&[dots(cut.ends_sooner), "\n"]);
+    let gap = usize::from(word.bytes.is_empty());
+    text.push_times(" ", head.saturating_add(before).saturating_add(gap));
+    text.push_times("^", columns.max(1));
+    text.push("\n  ");
 }
 
-/// Adds a text so many times.
-fn push_times(text: &mut String, piece: &str, count: usize) -> Result<(), AllocError> {
-    for _ in 0..count {
-        text.push_str(piece)?;
-    }
-    Ok(())
+/// What is shown in the place of bytes that are left out.
+fn dots(left_out: bool) -> &'static str {
+    if left_out { "..." } else { "" }
 }

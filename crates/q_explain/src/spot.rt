@@ -29,10 +29,10 @@ impl Spot {
         }
     }
 
-    /// Behind so many words of a line.
+    /// Behind so many words of a line, which are taken off its words.
     pub fn behind(
         alloc: Global,
-        mut words: LineWords<'_>,
+        words: &mut LineWords<'_>,
         count: usize,
     ) -> Result<Spot, AllocError> {
         let mut spot = Spot::new(alloc);
@@ -55,13 +55,28 @@ impl Spot {
     }
 
     /// Whether one of these words was there.
-    pub fn has_one_of(&self, names: &[&str]) -> bool {
-        names.iter().any(|name| self.has(name))
+    pub fn has_one_of(&self, names: &[&'static str]) -> bool {
+        self.first_of(names).is_some()
+    }
+
+    /// The first of these words that was there.
+    pub fn first_of(&self, names: &[&'static str]) -> Option<&'static str> {
+        for name in names {
+            if self.has(name) {
+                return Some(name);
+            }
+        }
+        None
     }
 
     /// Whether this word was there, in the head or behind it.
     pub fn has(&self, name: &str) -> bool {
-        self.seen.iter().any(|entry| entry.name() == name)
+        for entry in &self.seen {
+            if entry.name() == name {
+                return true;
+            }
+        }
+        false
     }
 
     /// Passes a word.

@@ -5,58 +5,15 @@ use crate::word_place::WordPlace;
 
 const MOST: &str = "0 to 4294967295";
 
-const NAME: Value = Value::Other("a name", "1 to 15 bytes");
-
-const HANDLE: Value = Value::Other(
-    "a handle, hexadecimal digits and a colon as in 1:",
-    "1: to fffe:",
-);
-
-const CLASS: Value = Value::Other(
-    "a class id, two hexadecimal numbers as in 1:1",
-    "1:1 to fffe:ffff",
-);
-
 const PRIO: Value = Value::Number("1 to 65535");
-
-const PROTOCOL: Value = Value::Other("ip, ipv6 or all", "ip, ipv6 or all");
-
-const RATE: Value = Value::Rate("1 bit to 1 tbit a second");
-
-const BAND: Value = Value::Other(
-    "16 bands in decimal digits",
-    "bands below the number of bands",
-);
 
 const PORT: Value = Value::Number("0 to 65535");
 
-const IP_PROTO: Value = Value::Other(
-    "tcp, udp, icmp, icmpv6, sctp or hexadecimal digits",
-    "0 to ff",
-);
-
-const PREFIX: Value = Value::Other(
-    "an address, as 10.0.0.1, 10.0.0.0/8 or 2001:db8::/32",
-    "numbers up to 255 (ffff in IPv6), 32 bits at most (128), and addresses of the line's protocol alone",
-);
-
-const ADDRESS: Value = Value::Other(
-    "an address, as 10.0.0.1 or 2001:db8::1",
-    "numbers up to 255 (ffff in IPv6), and addresses of one family",
-);
-
-const HEX: Value = Value::Other(
-    "an even number of hexadecimal digits, two or more",
-    "hexadecimal digits",
-);
-
 const LEN: Value = Value::Number("1 to 65535");
 
-const LEN_AND_HEX: &[Value] = &[LEN, HEX];
+const LEN_AND_HEX: &[Value] = &[LEN, Value::Hex];
 
-const BANDS: &[Value] = &[
-    BAND, BAND, BAND, BAND, BAND, BAND, BAND, BAND, BAND, BAND, BAND, BAND, BAND, BAND, BAND, BAND,
-];
+const BANDS: &[Value] = &[Value::Band; 16];
 
 const FIRST: &[TableEntry] = &[
     TableEntry(
@@ -115,10 +72,10 @@ const FILTER: &[TableEntry] = &[
 ];
 
 const QDISC_ADD: &[TableEntry] = &[
-    TableEntry("dev", &[NAME], WordPlace::QdiscAdd),
+    TableEntry("dev", &[Value::Name], WordPlace::QdiscAdd),
     TableEntry("root", &[], WordPlace::QdiscAdd),
-    TableEntry("parent", &[CLASS], WordPlace::QdiscAdd),
-    TableEntry("handle", &[HANDLE], WordPlace::QdiscAdd),
+    TableEntry("parent", &[Value::Class], WordPlace::QdiscAdd),
+    TableEntry("handle", &[Value::Handle], WordPlace::QdiscAdd),
     TableEntry("pfifo", &[], WordPlace::Pfifo),
     TableEntry("bfifo", &[], WordPlace::Bfifo),
     TableEntry("prio", &[], WordPlace::Prio),
@@ -128,10 +85,10 @@ const QDISC_ADD: &[TableEntry] = &[
 ];
 
 const QDISC_CHANGE: &[TableEntry] = &[
-    TableEntry("dev", &[NAME], WordPlace::QdiscChange),
+    TableEntry("dev", &[Value::Name], WordPlace::QdiscChange),
     TableEntry("root", &[], WordPlace::QdiscChange),
-    TableEntry("parent", &[CLASS], WordPlace::QdiscChange),
-    TableEntry("handle", &[HANDLE], WordPlace::QdiscChange),
+    TableEntry("parent", &[Value::Class], WordPlace::QdiscChange),
+    TableEntry("handle", &[Value::Handle], WordPlace::QdiscChange),
     TableEntry("pfifo", &[], WordPlace::Pfifo),
     TableEntry("bfifo", &[], WordPlace::Bfifo),
     TableEntry("prio", &[], WordPlace::Prio),
@@ -141,10 +98,10 @@ const QDISC_CHANGE: &[TableEntry] = &[
 ];
 
 const QDISC_DEL: &[TableEntry] = &[
-    TableEntry("dev", &[NAME], WordPlace::QdiscDel),
+    TableEntry("dev", &[Value::Name], WordPlace::QdiscDel),
     TableEntry("root", &[], WordPlace::QdiscDel),
-    TableEntry("parent", &[CLASS], WordPlace::QdiscDel),
-    TableEntry("handle", &[HANDLE], WordPlace::QdiscDel),
+    TableEntry("parent", &[Value::Class], WordPlace::QdiscDel),
+    TableEntry("handle", &[Value::Handle], WordPlace::QdiscDel),
     TableEntry("pfifo", &[], WordPlace::End),
     TableEntry("bfifo", &[], WordPlace::End),
     TableEntry("prio", &[], WordPlace::End),
@@ -154,44 +111,44 @@ const QDISC_DEL: &[TableEntry] = &[
 ];
 
 const CLASS_ADD: &[TableEntry] = &[
-    TableEntry("dev", &[NAME], WordPlace::ClassAdd),
-    TableEntry("parent", &[HANDLE], WordPlace::ClassAdd),
-    TableEntry("classid", &[CLASS], WordPlace::ClassAdd),
+    TableEntry("dev", &[Value::Name], WordPlace::ClassAdd),
+    TableEntry("parent", &[Value::Handle], WordPlace::ClassAdd),
+    TableEntry("classid", &[Value::Class], WordPlace::ClassAdd),
     TableEntry("drr", &[], WordPlace::DrrClass),
 ];
 
 const CLASS_CHANGE: &[TableEntry] = &[
-    TableEntry("dev", &[NAME], WordPlace::ClassChange),
-    TableEntry("parent", &[HANDLE], WordPlace::ClassChange),
-    TableEntry("classid", &[CLASS], WordPlace::ClassChange),
+    TableEntry("dev", &[Value::Name], WordPlace::ClassChange),
+    TableEntry("parent", &[Value::Handle], WordPlace::ClassChange),
+    TableEntry("classid", &[Value::Class], WordPlace::ClassChange),
     TableEntry("drr", &[], WordPlace::DrrClass),
 ];
 
 const CLASS_DEL: &[TableEntry] = &[
-    TableEntry("dev", &[NAME], WordPlace::ClassDel),
-    TableEntry("parent", &[HANDLE], WordPlace::ClassDel),
-    TableEntry("classid", &[CLASS], WordPlace::ClassDel),
+    TableEntry("dev", &[Value::Name], WordPlace::ClassDel),
+    TableEntry("parent", &[Value::Handle], WordPlace::ClassDel),
+    TableEntry("classid", &[Value::Class], WordPlace::ClassDel),
 ];
 
 const FILTER_ADD: &[TableEntry] = &[
-    TableEntry("dev", &[NAME], WordPlace::FilterAdd),
-    TableEntry("parent", &[HANDLE], WordPlace::FilterAdd),
+    TableEntry("dev", &[Value::Name], WordPlace::FilterAdd),
+    TableEntry("parent", &[Value::Handle], WordPlace::FilterAdd),
     TableEntry("prio", &[PRIO], WordPlace::FilterAdd),
     TableEntry("pref", &[PRIO], WordPlace::FilterAdd),
-    TableEntry("protocol", &[PROTOCOL], WordPlace::FilterAdd),
+    TableEntry("protocol", &[Value::Protocol], WordPlace::FilterAdd),
     TableEntry("flower", &[], WordPlace::Flower),
 ];
 
 const FILTER_DEL: &[TableEntry] = &[
-    TableEntry("dev", &[NAME], WordPlace::FilterDel),
-    TableEntry("parent", &[HANDLE], WordPlace::FilterDel),
+    TableEntry("dev", &[Value::Name], WordPlace::FilterDel),
+    TableEntry("parent", &[Value::Handle], WordPlace::FilterDel),
     TableEntry("prio", &[PRIO], WordPlace::FilterDel),
     TableEntry("pref", &[PRIO], WordPlace::FilterDel),
-    TableEntry("protocol", &[PROTOCOL], WordPlace::FilterDel),
+    TableEntry("protocol", &[Value::Protocol], WordPlace::FilterDel),
     TableEntry("flower", &[], WordPlace::End),
 ];
 
-const SHOW: &[TableEntry] = &[TableEntry("dev", &[NAME], WordPlace::Show)];
+const SHOW: &[TableEntry] = &[TableEntry("dev", &[Value::Name], WordPlace::Show)];
 
 const PFIFO: &[TableEntry] = &[TableEntry("limit", &[Value::Number(MOST)], WordPlace::Pfifo)];
 
@@ -203,7 +160,7 @@ const PRIO_OPTIONS: &[TableEntry] = &[
 ];
 
 const TBF: &[TableEntry] = &[
-    TableEntry("rate", &[RATE], WordPlace::Tbf),
+    TableEntry("rate", &[Value::Rate], WordPlace::Tbf),
     TableEntry("burst", &[Value::Size("1 to 4294967295")], WordPlace::Tbf),
     TableEntry("buffer", &[Value::Size("1 to 4294967295")], WordPlace::Tbf),
     TableEntry(
@@ -249,21 +206,21 @@ const DRR_CLASS: &[TableEntry] = &[TableEntry(
 )];
 
 const FLOWER: &[TableEntry] = &[
-    TableEntry("ip_proto", &[IP_PROTO], WordPlace::Flower),
-    TableEntry("src_ip", &[PREFIX], WordPlace::Flower),
-    TableEntry("dst_ip", &[PREFIX], WordPlace::Flower),
+    TableEntry("ip_proto", &[Value::IpProto], WordPlace::Flower),
+    TableEntry("src_ip", &[Value::Prefix], WordPlace::Flower),
+    TableEntry("dst_ip", &[Value::Prefix], WordPlace::Flower),
     TableEntry("src_port", &[PORT], WordPlace::Flower),
     TableEntry("dst_port", &[PORT], WordPlace::Flower),
-    TableEntry("classid", &[CLASS], WordPlace::Flower),
-    TableEntry("flowid", &[CLASS], WordPlace::Flower),
+    TableEntry("classid", &[Value::Class], WordPlace::Flower),
+    TableEntry("flowid", &[Value::Class], WordPlace::Flower),
 ];
 
 const PACKET: &[TableEntry] = &[
     TableEntry("hash", &[Value::Number(MOST)], WordPlace::Packet),
     TableEntry("prio", &[Value::Number("0 to 15")], WordPlace::Packet),
-    TableEntry("ip_proto", &[IP_PROTO], WordPlace::Packet),
-    TableEntry("src_ip", &[ADDRESS], WordPlace::Packet),
-    TableEntry("dst_ip", &[ADDRESS], WordPlace::Packet),
+    TableEntry("ip_proto", &[Value::IpProto], WordPlace::Packet),
+    TableEntry("src_ip", &[Value::Address], WordPlace::Packet),
+    TableEntry("dst_ip", &[Value::Address], WordPlace::Packet),
     TableEntry("src_port", &[PORT], WordPlace::Packet),
     TableEntry("dst_port", &[PORT], WordPlace::Packet),
     TableEntry("ecn", &[Value::Number("0 to 3")], WordPlace::Packet),
@@ -321,7 +278,7 @@ pub fn needs(place: WordPlace) -> &'static [&'static [&'static str]] {
 }
 
 /// The words of which a line has one: each again means what the first of its row means, or excludes it.
-pub const ALTERNATIVES: &[&[&str]] = &[
+const ALTERNATIVES: &[&[&str]] = &[
     &["root", "parent"],
     &["prio", "pref"],
     &["classid", "flowid"],
@@ -329,3 +286,13 @@ pub const ALTERNATIVES: &[&[&str]] = &[
     &["burst", "buffer", "maxburst"],
     &["ecn", "noecn"],
 ];
+
+/// The words of which a line has one, with this one among them; none where it goes with all others.
+pub fn alternatives(name: &str) -> &'static [&'static str] {
+    for names in ALTERNATIVES {
+        if names.contains(&name) {
+            return names;
+        }
+    }
+    &[]
+}

@@ -7,43 +7,59 @@ const FILTERS: &[&str] = &[
     "u32", "fw", "basic", "bpf", "cgroup", "flow", "matchall", "route",
 ];
 
+/// The words behind `tc` that do what `-s` does.
+const COUNTERS: &[&str] = &["-stats", "-statistics"];
+
+/// The words behind `tc filter` that do what `del` and `add` do.
+const REPLACING: &[&str] = &["replace", "change"];
+
 /// What to use in the place of a word that tc alone has; empty where nothing does the same.
-pub fn instead(place: WordPlace, word: &[u8]) -> &'static str {
-    match (place, word) {
-        (WordPlace::Filter, b"replace" | b"change") => ": use del and add",
-        (WordPlace::Qdisc | WordPlace::Class, b"replace") => ": use change, or del and add",
-        (WordPlace::Tc | WordPlace::TcCounters, b"-stats" | b"-statistics") => ": use -s",
+pub fn instead(place: WordPlace, word: &str) -> &'static str {
+    match place {
+        WordPlace::Filter if REPLACING.contains(&word) => ": use del and add",
+        WordPlace::Qdisc | WordPlace::Class if word == "replace" => ": use change, or del and add",
+        WordPlace::Tc | WordPlace::TcCounters if COUNTERS.contains(&word) => ": use -s",
         _ => "",
     }
 }
 
-/// The kind of filter that has a `handle` of its own, if that is in the head of a line on filters: the first of its kinds in
-/// the rest of the line.
+/// The kind of filter that has a `handle` of its own, if that is this word of tc, in the head of a line on filters: the first of
+/// its kinds in the rest of the line.
 pub fn filter_of_handle(
     place: WordPlace,
-    word: &[u8],
-    rest: LineWords<'_>,
+    word: &str,
+    mut rest: LineWords<'_>,
 ) -> Option<&'static str> {
     let of_filter = matches!(place, WordPlace::FilterAdd | WordPlace::FilterDel);
-    if !of_filter || word != "handle".as_bytes() {
+    if !of_filter || word != "handle" {
         return None;
     }
-    let mut rest = rest;
     for _ in 0..usize::MAX {
-        let Some(word) = rest.next() else {
-            break;
-        };
-        for name in FILTERS {
-            if name.as_bytes() == word.bytes {
-                return Some(name);
-            }
+        let filter = name_of(FILTERS, rest.next()?.bytes);
+        if filter.is_some() {
+            return filter;
+        }
+    }
+    None
+}
+
+/// The word that tc reads at a place and qtree does not, if this one is such a word.
+pub fn word_of_tc(place: WordPlace, word: &[u8]) -> Option<&'static str> {
+    name_of(words_of_tc(place), word)
+}
+
+/// The one of these names that a word is.
+fn name_of(names: &[&'static str], word: &[u8]) -> Option<&'static str> {
+    for name in names {
+        if name.as_bytes() == word {
+            return Some(name);
         }
     }
     None
 }
 
 /// The words that tc reads at a place, and qtree does not.
-pub fn words_of_tc(place: WordPlace) -> &'static [&'static str] {
+fn words_of_tc(place: WordPlace) -> &'static [&'static str] {
     match place {
         WordPlace::Tc | WordPlace::TcCounters => &[
             "-d",
