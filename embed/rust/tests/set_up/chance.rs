@@ -1,5 +1,4 @@
 /// Numbers that look random, and are the same for the same seed.
-#[derive(Clone, Copy)]
 pub struct Chance {
     state: u64,
 }
@@ -14,12 +13,12 @@ impl Chance {
     pub fn below(&mut self, bound: u64) -> u64 {
         let product = self.state.wrapping_mul(6_364_136_223_846_793_005);
         self.state = product.wrapping_add(1_442_695_040_888_963_407);
-        (self.state >> 32) % bound.max(1)
+        (self.state >> 32) % bound
     }
 
     /// The next number from 1 to this one.
     pub fn upto(&mut self, most: u64) -> u64 {
-        self.below(most).saturating_add(1)
+        self.below(most) + 1
     }
 
     /// Whether one of so many comes up.

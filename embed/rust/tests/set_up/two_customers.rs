@@ -1,4 +1,4 @@
-//! A device that is set up by a whole file, and again when the file has changed.
+//! A link of two customers that is set up by a whole file, and again when the file has changed.
 use qtree::{Device, Error, Fault, Packet, Refusal, SetUpError, Settings};
 
 const SHARES: &str = "# two customers

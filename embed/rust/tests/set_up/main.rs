@@ -1,0 +1,8 @@
+//! Devices that files of tc lines set up, also while packets wait in them.
+mod chance;
+mod comparing;
+mod errors;
+mod files;
+mod home_uplink;
+mod random_files;
+mod two_customers;
