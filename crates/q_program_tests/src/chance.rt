@@ -42,14 +42,6 @@ impl Chance {
         self.below(of) == 0
     }
 
-    /// A number below this one, or none: each as often as the other.
-    pub fn some_word(&mut self, bound: u64) -> Option<u32> {
-        if self.hits(2) {
-            return None;
-        }
-        Some(self.word(bound))
-    }
-
     fn step(&mut self) -> u64 {
         let product = self.state.wrapping_mul(6_364_136_223_846_793_005);
         self.state = product.wrapping_add(1_442_695_040_888_963_407);

@@ -1,4 +1,4 @@
-//! Tests of what the program is made of: what command lines ask for, lines on a device one after the other, random events as lines,
+//! Tests of what the program is made of: what command lines ask for, lines on a device one after the other, random packets as lines,
 //! show texts of a tree, and readers and writers that are slow or fail. A drive starts threads.
 //!
 //! They are here so that `q_session`, `q_drive` and `q_options` are proved once. What the built program answers to a command line is
@@ -15,10 +15,6 @@ mod drives;
 mod imports;
 #[cfg(test)]
 mod line_runner;
-#[cfg(test)]
-mod random_commands;
-#[cfg(test)]
-mod random_events;
 #[cfg(test)]
 mod scripts_on_a_device;
 #[cfg(test)]

@@ -1,7 +1,8 @@
-//! What a device recorded, and its script, by which another one does the same.
-use qtree::{Device, Drain, Error, Event, EventKind, Packet, Polled, Settings, Show};
+//! Sessions of a program, which a device records, and keeps the last events of.
+use crate::chance::Chance;
+use crate::script::{answer_of, loss_of, play};
+use qtree::{Device, Drain, Error, Event, EventKind, Packet, Settings, Show};
 use std::fmt::Write;
-use std::net::IpAddr;
 
 const RECORDING: Settings = Settings {
     recorder: 100_000,
@@ -14,30 +15,8 @@ const DEFAULTS: Settings = Settings {
     mtu: 1514,
 };
 
-/// Numbers that look random.
-struct Numbers(u32);
-
-impl Numbers {
-    fn below(&mut self, most: u32) -> u32 {
-        self.0 = self.0.wrapping_mul(1_664_525).wrapping_add(1_013_904_223);
-        ((u64::from(self.0) * u64::from(most)) >> 32) as u32
-    }
-}
-
-/// What a poll gave, as `qtree play` writes it. The number of a packet is that of its arrival.
-fn answer_of(polled: Polled) -> String {
-    match polled {
-        Polled::Packet(packet) => {
-            let mark = if packet.ecn() == 3 { " ce" } else { "" };
-            format!("sent {} {}{mark}", packet.number(), packet.len())
-        }
-        Polled::Idle => "idle".to_owned(),
-        Polled::Later => "later".to_owned(),
-    }
-}
-
-/// A session of a program: what each poll gave.
-fn session(device: &mut Device, numbers: &mut Numbers) -> Result<Vec<String>, Error> {
+/// A session of a program: what each poll gave, and which packets were lost on arrival.
+fn session(device: &mut Device, chance: &mut Chance) -> Result<Vec<String>, Error> {
     let mut answers = Vec::new();
     let (mut now, mut arrived) = (0, 0);
     device.command(
@@ -49,23 +28,21 @@ fn session(device: &mut Device, numbers: &mut Numbers) -> Result<Vec<String>, Er
         0,
     )?;
     for _ in 0..500 {
-        match numbers.below(6) {
-            0 => now += u64::from(numbers.below(4_000_000)),
+        match chance.below(6) {
+            0 => now += chance.below(4_000_000),
             1 | 2 => {
                 arrived += 1;
-                let packet = Packet::builder(1 + numbers.below(1600) as u16)
+                let packet = Packet::builder(1 + chance.short(1600))
                     .number(0, arrived)
-                    .hash(numbers.below(5))
-                    .prio(numbers.below(16) as u8)
-                    .ecn(numbers.below(4) as u8)
+                    .hash(chance.word(5))
+                    .prio(chance.byte(16))
+                    .ecn(chance.byte(4))
                     .proto(17)
-                    .addresses(
-                        [10, 0, 0, 1].into(),
-                        [192, 0, 2, numbers.below(256) as u8].into(),
-                    )
-                    .ports(numbers.below(65536) as u16, 53)
+                    .addresses([10, 0, 0, 1].into(), [192, 0, 2, chance.byte(256)].into())
+                    .ports(chance.short(65536), 53)
                     .build()?;
-                device.arrive(&packet, now)?;
+                let fate = device.arrive(&packet, now)?;
+                answers.extend(loss_of(&packet, fate));
             }
             _ => answers.push(answer_of(device.poll(now)?)),
         }
@@ -78,53 +55,14 @@ fn session(device: &mut Device, numbers: &mut Numbers) -> Result<Vec<String>, Er
     Ok(answers)
 }
 
-/// Plays a script of the lines that a recorder writes: what each poll gave.
-fn play(device: &mut Device, script: &str) -> Result<Vec<String>, Error> {
-    let mut answers = Vec::new();
-    let (mut now, mut arrived) = (0, 0);
-    for line in script.lines() {
-        let words: Vec<&str> = line.split(' ').collect();
-        match words[0] {
-            "at" => now = words[1].parse().expect("a time"),
-            "tc" => device.command(line, now)?,
-            "poll" => answers.push(answer_of(device.poll(now)?)),
-            _ => {
-                arrived += 1;
-                device.arrive(&packet(&words, arrived), now)?;
-            }
-        }
-    }
-    Ok(answers)
-}
-
-/// The packet of a `pkt` line.
-fn packet(words: &[&str], number: u64) -> Packet {
-    let of = |name: &str| {
-        let at = words.iter().position(|it| *it == name).expect(name);
-        words[at + 1]
-    };
-    let number_of = |name: &str| of(name).parse::<u32>().expect(name);
-    let address_of = |name: &str| of(name).parse::<IpAddr>().expect(name);
-    Packet::builder(number_of("pkt") as u16)
-        .number(0, number)
-        .hash(number_of("hash"))
-        .prio(number_of("prio") as u8)
-        .ecn(number_of("ecn") as u8)
-        .proto(u8::from_str_radix(of("ip_proto"), 16).expect("a protocol"))
-        .addresses(address_of("src_ip"), address_of("dst_ip"))
-        .ports(number_of("src_port") as u16, number_of("dst_port") as u16)
-        .build()
-        .expect("a packet of a script")
-}
-
 #[test]
 fn a_session_is_played_again() -> Result<(), Error> {
     for seed in 0..20 {
         let mut device = Device::open(RECORDING)?;
-        let answers = session(&mut device, &mut Numbers(seed))?;
+        let answers = session(&mut device, &mut Chance::new(seed))?;
         let script = device.recorded_script()?;
         let mut again = Device::open(RECORDING)?;
-        assert_eq!(play(&mut again, &script)?, answers, "{seed}");
+        assert_eq!(play(&mut again, &script)?.report, answers, "{seed}");
         assert_eq!(again.show(Show::Counters)?, device.show(Show::Counters)?);
         assert_eq!(again.recorded_script()?, script);
     }
@@ -176,7 +114,7 @@ fn the_last_events_are_those_of_a_long_recorder() -> Result<(), Error> {
     for seed in 0..20 {
         let mut device = Device::open(RECORDING)?;
         device.keep_last(30)?;
-        session(&mut device, &mut Numbers(seed))?;
+        session(&mut device, &mut Chance::new(seed))?;
         let (events, recorded) = device.events();
         assert_eq!(device.last_noted(), (events, 30));
         let last = device.last_events()?;

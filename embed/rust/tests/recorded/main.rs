@@ -1,0 +1,10 @@
+//! What a device recorded, and its script, by which another one does the same.
+mod chance;
+mod commands;
+mod events;
+mod grounds;
+mod kinds;
+mod lines;
+mod script;
+mod sessions;
+mod spelled;
