@@ -11,24 +11,10 @@ mod codel;
 #[cfg(test)]
 mod drr;
 #[cfg(test)]
-mod ethernet;
-#[cfg(test)]
-mod fifo;
-#[cfg(test)]
 mod fnv;
 #[cfg(test)]
 mod fq_codel;
 #[cfg(test)]
-mod fq_codel_twins;
-#[cfg(test)]
-mod head;
-#[cfg(test)]
-mod marking;
-#[cfg(test)]
 mod packet;
 #[cfg(test)]
-mod plain_fq_codel;
-#[cfg(test)]
 mod show;
-#[cfg(test)]
-mod words;

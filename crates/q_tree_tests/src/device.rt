@@ -1,5 +1,5 @@
-//! The refusals of the tree and the settings of a device.
-use q_device::{Refusal, Settings};
+//! The refusals of the tree.
+use q_device::Refusal;
 use std::alloc::Global;
 use std::test::Fail;
 
@@ -42,12 +42,4 @@ fn expect_texts(alloc: Global, rows: &[(Refusal, u8, &str)]) -> Result<(), Fail>
 #[test]
 fn refusals_are_shown_with_number_and_name(rt: HostRuntime) -> Result<(), Fail> {
     expect_texts(rt.alloc(), &REFUSALS)
-}
-
-#[test]
-fn settings_are_within_their_ranges(rt: HostRuntime) {
-    assert!(rt; Settings::new(1, 0, 0).is_some());
-    assert!(rt; Settings::new(65535, u32::MAX, 1_000_000).is_some());
-    assert_eq!(rt; Settings::new(0, 1000, 4096), None);
-    assert_eq!(rt; Settings::new(1514, 1000, 1_000_001), None);
 }

@@ -8,7 +8,7 @@ use q_device::{
     Command, Device, Event, Fate, Place, Polled, Refusal, Reply, Row, Settings, Tree, play,
 };
 use q_model::{ClassView, FilterView, NodeView};
-use q_packet::{Cause, Moment};
+use q_packet::Moment;
 use std::alloc::{AllocError, Global};
 use std::test::Fail;
 
@@ -44,9 +44,9 @@ impl Ask {
                 lines::add_class(major, (major, minor), quantum)
             }
             Ask::ChangeClass(major, minor, quantum) => {
-                lines::change_class(0, (major, minor), quantum)
+                lines::change_class((major, minor), quantum)
             }
-            Ask::DelClass(major, minor) => lines::del_class(0, (major, minor)),
+            Ask::DelClass(major, minor) => lines::del_class((major, minor)),
             Ask::Match(major, minor, proto) => {
                 lines::add_filter(major, (major, minor), Some(proto))
             }
@@ -81,24 +81,12 @@ pub enum Call {
     Poll(u64, u64),
     // The time of a poll that gives no packet, though one is queued.
     Later(u64),
-    // The time before which no poll gives a packet.
-    Ready(u64),
-    // No poll gives one, however late.
-    NeverReady,
-    // The number of the packet that was lost, and why.
-    Reap(u64, Cause),
     // No loss waits.
     ReapNone,
     // A place in the recorder, and the line and the time there.
     Recorded(usize, Ask, u64),
-    // A place in the recorder, and the number, the length, the priority and the time of the arrival there.
-    RecordedArrival(usize, u64, u16, u8, u64),
     // How many events are recorded, and how many there were.
     Events(usize, u64),
-    // The packets that arrived, were sent, refused and dropped, and that are queued.
-    Counts(Spot, [u64; 5]),
-    // How many packets the device can hold.
-    Most(u64),
 }
 
 impl Call {
@@ -224,16 +212,13 @@ fn opened_again(alloc: Global, settings: Settings) -> Result<Device, Fail> {
     }
 }
 
-/// A new device. If an allocation fails, it is tried again.
-pub fn opened(alloc: Global, settings: Settings) -> Result<Device, Fail> {
+// A new device. If an allocation fails, it is tried again.
+fn opened(alloc: Global, settings: Settings) -> Result<Device, Fail> {
     match Device::open(alloc, settings) {
         Ok(device) => Ok(device),
         Err(_) => opened_again(alloc, settings),
     }
 }
-
-/// Drops a device: this alone does, since each way on which one is dropped takes long to prove.
-pub fn close(_device: Device) {}
 
 // A device under test.
 #[derive(Drop)]
@@ -241,38 +226,21 @@ struct Bench {
     device: Device,
 }
 
-// A pfifo of so many packets, of at most 1500 bytes each, with a recorder of three events.
-fn settings(limit: u32) -> Result<Settings, Fail> {
-    Ok(Settings::new(1500, limit, 3).ok_or("settings")?)
-}
-
-fn set_up_one(device: &mut Device, ask: Ask) -> Result<(), Fail> {
-    match reply(device, Event::Command(ask.command()?, Moment::zero())) {
-        Some(Reply::Done(Ok(()))) => Ok(()),
-        _ => Err(Fail::from("a line was refused")),
-    }
-}
-
-/// Does what these lines ask for, before any packet arrives.
-pub fn set_up(device: &mut Device, lines: &[Ask]) -> Result<(), Fail> {
-    for ask in lines {
-        set_up_one(device, *ask)?;
-    }
-    Ok(())
+// A pfifo of 100 packets, of at most 1500 bytes each, with a recorder of three events.
+fn settings() -> Result<Settings, Fail> {
+    Ok(Settings::new(1500, 100, 3).ok_or("settings")?)
 }
 
 impl Bench {
-    // A pfifo of so many packets.
-    fn new(alloc: Global, limit: u32) -> Result<Bench, Fail> {
-        match opened(alloc, settings(limit)?) {
+    fn new(alloc: Global) -> Result<Bench, Fail> {
+        match opened(alloc, settings()?) {
             Ok(device) => Ok(Bench { device }),
             Err(failed) => Err(failed),
         }
     }
 
-    fn close(self) {
-        close(self.device)
-    }
+    // Drops it: this alone drops a device, since each way on which one is dropped takes long to prove.
+    fn close(self) {}
 
     // What an event is answered. Where it was refused nothing has changed, and where memory was it happens with memory.
     fn reply(&mut self, event: Event) -> Result<Reply, Fail> {
@@ -305,19 +273,6 @@ impl Bench {
         }
     }
 
-    fn counts(&self, place: Place) -> [u64; 5] {
-        match self.device.stats(place) {
-            Some(row) => [
-                row.arrived.packets,
-                row.sent.packets,
-                row.refused.packets,
-                row.dropped.packets,
-                row.queued.packets,
-            ],
-            None => [u64::MAX; 5],
-        }
-    }
-
     // Whether a call answers as it has to.
     fn answers(&mut self, call: Call) -> Result<bool, Fail> {
         match call.event() {
@@ -335,42 +290,16 @@ impl Bench {
         }
     }
 
-    fn has_counts(&self, spot: Spot, counts: [u64; 5]) -> Result<bool, Fail> {
-        Ok(self.counts(spot.place()?) == counts)
-    }
-
     fn has_events(&self, recorded: usize, events: u64) -> bool {
         self.device.recorded().len() == recorded && self.device.events() == events
-    }
-
-    // Whether no packet is given before this nanosecond.
-    fn is_ready_at(&self, ns: u64) -> Result<bool, Fail> {
-        let ready = at(ns)?;
-        Ok(self.device.ready_at() == Some(ready))
-    }
-
-    // Whether the loss that comes next is that of the packet with this number.
-    fn is_reaped(&mut self, number: u64, cause: Cause) -> bool {
-        match self.device.reap() {
-            Some(lost) => lost.packet.number == number && lost.cause == cause,
-            None => false,
-        }
     }
 
     // Whether a call that is no event answers as it has to.
     fn is_seen(&mut self, call: Call) -> Result<bool, Fail> {
         match call {
-            Call::Reap(number, cause) => Ok(self.is_reaped(number, cause)),
-            Call::Ready(ns) => self.is_ready_at(ns),
-            Call::NeverReady => Ok(self.device.ready_at().is_none()),
             Call::ReapNone => Ok(self.device.reap().is_none()),
             Call::Recorded(i, ask, ns) => self.has_recorded(i, command_at(ask, ns)),
-            Call::RecordedArrival(i, number, len, prio, ns) => {
-                self.has_recorded(i, arrival_at(number, len, prio, ns))
-            }
             Call::Events(recorded, events) => Ok(self.has_events(recorded, events)),
-            Call::Counts(spot, counts) => self.has_counts(spot, counts),
-            Call::Most(count) => Ok(self.device.most_packets() == count),
             _ => Ok(false),
         }
     }
@@ -388,17 +317,12 @@ impl Bench {
     }
 }
 
-/// Does these calls on a new device, whose pfifo has so many packets.
-pub fn called_small(alloc: Global, limit: u32, calls: &[Call]) -> Result<(), Fail> {
-    let mut bench = Bench::new(alloc, limit)?;
+/// Does these calls on a new device.
+pub fn called(alloc: Global, calls: &[Call]) -> Result<(), Fail> {
+    let mut bench = Bench::new(alloc)?;
     let answer = bench.play(calls);
     bench.close();
     answer
-}
-
-/// Does these calls on a new device, whose pfifo has 100 packets.
-pub fn called(alloc: Global, calls: &[Call]) -> Result<(), Fail> {
-    called_small(alloc, 100, calls)
 }
 
 /// Room for so many items. If the allocation fails, it is tried again.
@@ -479,7 +403,7 @@ fn expect_replies(bench: &mut Bench, events: &[Event], replies: &[Reply]) -> Res
 }
 
 fn replied(alloc: Global, events: &[Event], replies: &[Reply]) -> Result<(), Fail> {
-    let mut bench = Bench::new(alloc, 100)?;
+    let mut bench = Bench::new(alloc)?;
     let answer = expect_replies(&mut bench, events, replies);
     bench.close();
     answer
@@ -488,6 +412,6 @@ fn replied(alloc: Global, events: &[Event], replies: &[Reply]) -> Result<(), Fai
 /// Plays the events among these calls. A new device answers each of them in turn with the same reply.
 pub fn played(alloc: Global, calls: &[Call]) -> Result<(), Fail> {
     let events = events_of(alloc, calls)?;
-    let replies = replies(alloc, settings(100)?, events.as_slice())?;
+    let replies = replies(alloc, settings()?, events.as_slice())?;
     replied(alloc, events.as_slice(), replies.as_slice())
 }

@@ -1,4 +1,4 @@
-//! Commands on a device: what is refused, lost and recorded, and what takes memory.
+//! Commands on a device that take memory, and one that no line of tc says.
 use crate::device_bench::{Ask, Call, called, played};
 use crate::lines::{New, Spot};
 use q_device::{Fate, Refusal};
@@ -7,9 +7,9 @@ use std::test::Fail;
 
 const KEPT: Fate = Fate::Kept;
 
-// What is refused names the time 9, which does not count: the next event is at 3.
+// No line of tc names the device itself as a place. What is refused names the time 9, which does not count.
 #[test]
-fn the_first_refusal_is_told_and_nothing_changes(rt: HostRuntime) -> Result<(), Fail> {
+fn nothing_is_grafted_in_place_of_the_device(rt: HostRuntime) -> Result<(), Fail> {
     called(
         rt.alloc(),
         &[
@@ -20,89 +20,11 @@ fn the_first_refusal_is_told_and_nothing_changes(rt: HostRuntime) -> Result<(), 
                 9,
                 Some(Refusal::Exists),
             ),
-            Call::Do(
-                Ask::Graft(Spot::Class(9, 1), 1, New::Pfifo),
-                9,
-                Some(Refusal::NoParent),
-            ),
-            Call::Do(
-                Ask::Graft(Spot::Root, 1, New::Pfifo),
-                9,
-                Some(Refusal::Exists),
-            ),
-            Call::Do(
-                Ask::Graft(Spot::Class(1, 3), 1, New::Pfifo),
-                9,
-                Some(Refusal::NoClass),
-            ),
-            Call::Do(
-                Ask::Graft(Spot::Class(1, 1), 1, New::Prio(3)),
-                9,
-                Some(Refusal::HandleTaken),
-            ),
-            Call::Do(
-                Ask::Change(1, New::Tbf(1500)),
-                9,
-                Some(Refusal::CannotChange),
-            ),
-            Call::Do(Ask::Prune(3), 9, Some(Refusal::NoQdisc)),
-            Call::Do(Ask::AddClass(1, 1, 0), 9, Some(Refusal::CannotChange)),
-            Call::Do(Ask::ChangeClass(1, 1, 0), 9, Some(Refusal::CannotChange)),
-            Call::Do(Ask::DelClass(1, 1), 9, Some(Refusal::CannotChange)),
-            Call::Do(Ask::Match(1, 3, 7), 9, Some(Refusal::NoClass)),
-            Call::Do(Ask::Unfilter(1), 9, Some(Refusal::NoFilter)),
             Call::Events(2, 2),
             Call::ReapNone,
             Call::Do(Ask::Match(1, 2, 7), 3, None),
             Call::Recorded(2, Ask::Match(1, 2, 7), 3),
             Call::Poll(3, 1),
-            Call::Poll(3, 0),
-        ],
-    )
-}
-
-#[test]
-fn what_a_removal_loses_is_reaped_oldest_first(rt: HostRuntime) -> Result<(), Fail> {
-    called(
-        rt.alloc(),
-        &[
-            Call::Do(Ask::Graft(Spot::Root, 1, New::Prio(2)), 0, None),
-            Call::Do(Ask::Graft(Spot::Class(1, 1), 2, New::Packets(2)), 0, None),
-            Call::Arrive(1, 100, 0, 1, KEPT),
-            Call::Arrive(2, 1501, 0, 1, Fate::Lost(Cause::TooLong)),
-            Call::Arrive(3, 100, 1, 1, KEPT),
-            Call::Arrive(4, 100, 0, 1, KEPT),
-            Call::Arrive(5, 100, 0, 1, Fate::Lost(Cause::OverLimit)),
-            Call::Do(Ask::Prune(2), 2, None),
-            Call::Counts(Spot::Top, [5, 0, 2, 2, 1]),
-            Call::Counts(Spot::Class(1, 1), [0, 0, 0, 0, 0]),
-            Call::Reap(2, Cause::TooLong),
-            Call::Do(Ask::Prune(1), 3, None),
-            Call::Counts(Spot::Top, [5, 0, 2, 3, 0]),
-            Call::Reap(5, Cause::OverLimit),
-            Call::Reap(1, Cause::Purged),
-            Call::Reap(4, Cause::Purged),
-            Call::Reap(3, Cause::Purged),
-            Call::ReapNone,
-            Call::Poll(3, 0),
-            Call::Events(3, 10),
-        ],
-    )
-}
-
-#[test]
-fn a_command_is_recorded_at_the_moment_that_counted(rt: HostRuntime) -> Result<(), Fail> {
-    called(
-        rt.alloc(),
-        &[
-            Call::Poll(7, 0),
-            Call::Do(Ask::Graft(Spot::Root, 1, New::Prio(2)), 3, None),
-            Call::Recorded(1, Ask::Graft(Spot::Root, 1, New::Prio(2)), 7),
-            Call::Do(Ask::Prune(2), 50, Some(Refusal::NoQdisc)),
-            Call::Do(Ask::Prune(1), 8, None),
-            Call::Recorded(2, Ask::Prune(1), 8),
-            Call::Do(Ask::Graft(Spot::Root, 1, New::Pfifo), 9, None),
-            Call::Events(3, 4),
         ],
     )
 }

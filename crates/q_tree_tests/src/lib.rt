@@ -1,76 +1,25 @@
-//! Tests of trees and devices that need nothing private: commands and packets, and what is shown.
+//! Tests of trees and devices that need nothing private, and that no line of tc and no call of the crate for Rust can ask for. All others are in
+//! `embed/rust/tests/tree`.
+//!
+//! - `device_commands`: commands for which `rt try --fail-alloc` refuses memory; a qdisc in place of the device itself, which no line names; and
+//!   `play`, which has no call in Rust.
+//! - `many_packets`: a play of more events than 16 bits count.
+//! - `tree_calls`: the calls of a tree without a device, such as a peek or one for each kind of command; and commands that no line says.
+//! - `device`: how a refusal is shown, with its number and its name. The crate for Rust shows a sentence instead.
 //!
 //! They are kept apart from `q_discipline_tests`, since one check that holds the modules of all libraries takes too much memory. The crate
 //! exports nothing.
 #![tactic(auto)]
 
 #[cfg(test)]
-mod bench;
-#[cfg(test)]
-mod chance;
-#[cfg(test)]
 mod device;
 #[cfg(test)]
 mod device_bench;
 #[cfg(test)]
-mod device_calls;
-#[cfg(test)]
-mod device_class_worst;
-#[cfg(test)]
 mod device_commands;
-#[cfg(test)]
-mod device_latest;
-#[cfg(test)]
-mod device_ready;
-#[cfg(test)]
-mod device_scripts;
-#[cfg(test)]
-mod device_service;
-#[cfg(test)]
-mod device_worst;
 #[cfg(test)]
 mod lines;
 #[cfg(test)]
 mod many_packets;
 #[cfg(test)]
-mod most_packets;
-#[cfg(test)]
-mod played;
-#[cfg(test)]
-mod readme;
-#[cfg(test)]
-mod rounds;
-#[cfg(test)]
-mod script;
-#[cfg(test)]
-mod service;
-#[cfg(test)]
-mod service_laws;
-#[cfg(test)]
-mod service_link;
-#[cfg(test)]
-mod service_sweep;
-#[cfg(test)]
-mod service_time;
-#[cfg(test)]
-mod service_work;
-#[cfg(test)]
-mod sharing;
-#[cfg(test)]
-mod tree;
-#[cfg(test)]
-mod tree_change;
-#[cfg(test)]
-mod tree_classes;
-#[cfg(test)]
-mod tree_commands;
-#[cfg(test)]
-mod tree_filters;
-#[cfg(test)]
-mod tree_handles;
-#[cfg(test)]
-mod tree_oldest;
-#[cfg(test)]
-mod tree_refusals;
-#[cfg(test)]
-mod tree_views;
+mod tree_calls;

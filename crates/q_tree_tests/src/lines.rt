@@ -34,18 +34,10 @@ pub enum New {
     Packets(u32),
     // So many bands; a priority has the band of its number, or the last.
     Prio(u8),
-    // The limit in bytes.
-    Bfifo(u32),
     // The limit in packets; there is one flow.
     FqCodel(u32),
-    // So many flows.
-    Flows(u32),
-    // A thousand flows with this quantum.
-    Fair(u32),
     // The burst; the rate is 1 mbit a second, and the limit 10,000 bytes.
     Tbf(u32),
-    // The rate in bits a second and the burst; the limit is 1,000,000 bytes.
-    Shaper(u64, u32),
     // It has no classes yet.
     Drr,
 }
@@ -55,24 +47,20 @@ impl New {
         match self {
             New::Pfifo => Ok(Kind::Pfifo { limit: None }),
             New::Packets(limit) => Ok(Kind::Pfifo { limit: Some(limit) }),
-            New::Bfifo(bytes) => Ok(Kind::Bfifo { limit: Some(bytes) }),
-            New::FqCodel(limit) => fq_codel(Some(limit), 1),
-            New::Flows(count) => fq_codel(None, count),
-            New::Fair(quantum) => fair(quantum),
+            New::FqCodel(limit) => fq_codel(limit),
             New::Prio(bands) => prio(bands),
             New::Drr => Ok(Kind::Drr),
-            New::Tbf(burst) => tbf(1_000_000, burst, 10_000),
-            New::Shaper(rate, burst) => tbf(rate, burst, 1_000_000),
+            New::Tbf(burst) => tbf(burst),
         }
     }
 }
 
-fn tbf(rate: u64, burst: u32, limit: u32) -> Result<Kind, Fail> {
-    let (Some(rate), Some(burst)) = (Rate::new(rate), Burst::new(burst)) else {
-        return Err(Fail::from("rate or burst"));
-    };
-    let limit = TbfLimit::Bytes(limit);
-    Ok(Kind::Tbf { rate, burst, limit })
+fn tbf(burst: u32) -> Result<Kind, Fail> {
+    Ok(Kind::Tbf {
+        rate: Rate::new(1_000_000).ok_or("rate")?,
+        burst: Burst::new(burst).ok_or("burst")?,
+        limit: TbfLimit::Bytes(10_000),
+    })
 }
 
 fn prio(bands: u8) -> Result<Kind, Fail> {
@@ -83,13 +71,8 @@ fn prio(bands: u8) -> Result<Kind, Fail> {
     Ok(Kind::Prio(PrioOptions::new(bands, priomap).ok_or("prio")?))
 }
 
-fn fq_codel(limit: Option<u32>, flows: u32) -> Result<Kind, Fail> {
-    let options = FqCodelOptions::new(limit, Some(flows), None, None, None, None, None);
-    Ok(Kind::FqCodel(options.ok_or("fq_codel")?))
-}
-
-fn fair(quantum: u32) -> Result<Kind, Fail> {
-    let options = FqCodelOptions::new(None, Some(1000), Some(quantum), None, None, None, None);
+fn fq_codel(limit: u32) -> Result<Kind, Fail> {
+    let options = FqCodelOptions::new(Some(limit), Some(1), None, None, None, None, None);
     Ok(Kind::FqCodel(options.ok_or("fq_codel")?))
 }
 
@@ -124,8 +107,7 @@ fn class(major: u16, number: u16) -> Result<ClassId, Fail> {
     })
 }
 
-/// A priority of filters.
-pub fn filter_prio(number: u16) -> Result<FilterPrio, Fail> {
+fn filter_prio(number: u16) -> Result<FilterPrio, Fail> {
     Ok(FilterPrio::new(number).ok_or("prio")?)
 }
 
@@ -136,13 +118,13 @@ fn place_of(spot: Option<Spot>) -> Result<Option<Place>, Fail> {
     }
 }
 
-/// A filter for every packet, into the class of this minor number.
-pub fn every_packet(number: u16) -> Result<Filter, Fail> {
+// A filter into the class of this minor number, for every packet or for those of an IP protocol.
+fn filter(number: u16, ip_proto: Option<u8>) -> Result<Filter, Fail> {
     Ok(Filter {
         prio: filter_prio(1)?,
         protocol: Protocol::All,
         keys: FilterKeys {
-            ip_proto: None,
+            ip_proto,
             src_ip: None,
             dst_ip: None,
             src_port: None,
@@ -188,22 +170,18 @@ pub fn add_class(parent: u16, (major, minor): (u16, u16), quantum: u32) -> Resul
 }
 
 /// Another quantum of a class.
-pub fn change_class(
-    parent: u16,
-    (major, minor): (u16, u16),
-    quantum: u32,
-) -> Result<Command, Fail> {
+pub fn change_class((major, minor): (u16, u16), quantum: u32) -> Result<Command, Fail> {
     Ok(Command::ClassChange {
-        parent: Handle::new(parent),
+        parent: None,
         class: class(major, minor)?,
         quantum: Quantum::new(quantum),
     })
 }
 
 /// The removal of a class.
-pub fn del_class(parent: u16, (major, minor): (u16, u16)) -> Result<Command, Fail> {
+pub fn del_class((major, minor): (u16, u16)) -> Result<Command, Fail> {
     Ok(Command::ClassDel {
-        parent: Handle::new(parent),
+        parent: None,
         class: class(major, minor)?,
     })
 }
@@ -214,12 +192,10 @@ pub fn add_filter(
     (major, minor): (u16, u16),
     proto: Option<u8>,
 ) -> Result<Command, Fail> {
-    let mut filter = every_packet(minor)?;
-    filter.keys.ip_proto = proto;
     Ok(Command::FilterAdd {
         parent: handle(parent)?,
         major: handle(major)?,
-        filter,
+        filter: filter(minor, proto)?,
     })
 }
 

@@ -179,7 +179,8 @@ fn the_program_names_the_class() -> Result<(), Error> {
     Ok(())
 }
 
-/// A tree of 256 nodes and 255 classes, as many as there may be, is listed whole, and so is a script of more than 65,536 bytes.
+/// A tree of 256 nodes and 255 classes, as many as there may be, is listed whole, and so is a
+/// script of more than 65,536 bytes.
 #[test]
 fn long_lists_are_whole() -> Result<(), Error> {
     const ARRIVALS: usize = 5000;

@@ -1,4 +1,5 @@
-//! A device from one thread to another, a shaped download, and every refusal that a program can meet.
+//! A device from one thread to another, a shaped download, and every refusal that a program can
+//! meet.
 use qtree::{Cause, Device, Error, Fate, Packet, Place, Polled, Settings, Show};
 
 fn udp(len: u16, buf: u32) -> Packet {

@@ -1,5 +1,5 @@
-//! Senders on threads of their own, a drain and gauges. QTREE_TEST_PACKETS is how many packets each of 64 senders places, 500 where it
-//! is not set.
+//! Senders on threads of their own, a drain and gauges. QTREE_TEST_PACKETS is how many packets each
+//! of 64 senders places, 500 where it is not set.
 use qtree::{Count, Drain, Error, Gauge, OfferError, Packet, Place, Port, Row, Sent, Settings};
 use std::sync::atomic::{AtomicBool, Ordering};
 use std::thread;
@@ -47,7 +47,8 @@ fn watch(gauge: &Gauge, has_ended: &AtomicBool) -> Row {
     last
 }
 
-/// Turns until the ports are closed and nothing is left; what was sent, checked for its order at each port.
+/// Turns until the ports are closed and nothing is left; what was sent, checked for its order at
+/// each port.
 fn drain_all(drain: &mut Drain) -> Result<Count, Error> {
     let (mut sent, mut total) = (Vec::new(), Count::default());
     let mut numbers = vec![0; SENDERS as usize];

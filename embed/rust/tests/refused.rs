@@ -1,5 +1,5 @@
-//! What a call answers where Rust's allocator refuses the room for its text or list. The library has its memory from `malloc`, and still
-//! gets it.
+//! What a call answers where Rust's allocator refuses the room for its text or list. The library
+//! has its memory from `malloc`, and still gets it.
 use qtree::{Device, Error, EventKind, Settings, Show};
 use std::alloc::{GlobalAlloc, Layout, System};
 use std::cell::Cell;

@@ -11,7 +11,8 @@ const _: () = {
     may_be_shared::<Gauge>();
 };
 
-/// Has one implementation for a type that is not `Sync`, and two for one that is, between which no call can choose.
+/// Has one implementation for a type that is not `Sync`, and two for one that is, between which no
+/// call can choose.
 trait IsNotSync<Mark> {
     const SEEN: () = ();
 }
