@@ -1,6 +1,5 @@
 //! Random events written as lines of a script. Each line says its event; and what a device records
-//! of the script plays to the same
-//! report again.
+//! of the script plays to the same report again.
 use crate::commands::Command;
 use crate::events::{EVENTS, What, events};
 use crate::grounds::{ground, opened, refusal};

@@ -67,7 +67,7 @@ impl Queue {
     }
 }
 
-/// The variables of section 5.2, without the settings.
+/// What CoDel keeps of a queue.
 #[derive(Default)]
 pub struct Codel {
     first_above_time: u64,
