@@ -1,4 +1,5 @@
 //! What a program imports that runs scripts, and one that embeds a device: one crate each.
+use crate::shows::close;
 use q_device::{Device, Ecn, FlowKey, Moment, Packet, Polled, Settings};
 use q_options::{Options, Outcome, RunFault, RunSettings, options, run};
 use std::alloc::Global;
@@ -41,5 +42,6 @@ fn a_device_by_one_crate(rt: HostRuntime) -> Result<(), Fail> {
     let packet = Packet::new(0, 1, 0, 100, FlowKey::zero(), 0, 0, Ecn::NotEct).ok_or("packet")?;
     let mut device = Device::open(rt.alloc(), settings)?;
     assert_passes(&rt, &mut device, packet);
+    close(device);
     Ok(())
 }

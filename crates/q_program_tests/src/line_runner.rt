@@ -27,6 +27,9 @@ impl LineRunner {
         })
     }
 
+    /// Drops it: where else a device is dropped, each way on which that may happen takes long to prove.
+    pub fn close(self) {}
+
     /// Runs the lines of a script. Those of these numbers are refused so, counted from 1, and the others are done.
     pub fn run(
         &mut self,

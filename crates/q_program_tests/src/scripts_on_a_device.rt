@@ -117,7 +117,9 @@ const SCRIPTS: &[(&[u8], &[(usize, Refusal)])] = &[
 /// Runs a script on a device of its own.
 fn assert_lines(alloc: Global, script: &[u8], refusals: &[(usize, Refusal)]) -> Result<(), Fail> {
     let mut runner = LineRunner::new(alloc, 0)?;
-    runner.run(alloc, script, refusals)
+    let answer = runner.run(alloc, script, refusals);
+    runner.close();
+    answer
 }
 
 #[test]
@@ -130,10 +132,15 @@ fn a_line_is_done_or_changes_nothing(rt: HostRuntime) -> Result<(), Fail> {
 
 #[test]
 fn a_recorder_of_two_keeps_the_first_two_events(rt: HostRuntime) -> Result<(), Fail> {
-    let alloc = rt.alloc();
-    let mut runner = LineRunner::new(alloc, 2)?;
+    let mut runner = LineRunner::new(rt.alloc(), 2)?;
+    let answer = records_two(&rt, rt.alloc(), &mut runner);
+    runner.close();
+    answer
+}
+
+fn records_two(rt: &impl Abort, alloc: Global, runner: &mut LineRunner) -> Result<(), Fail> {
     runner.run(alloc, TWO_OF_THREE, &[])?;
-    assert_records_two(&rt, &runner.device)
+    assert_records_two(rt, &runner.device)
 }
 
 fn assert_records_two(rt: &impl Abort, device: &Device) -> Result<(), Fail> {

@@ -1,5 +1,5 @@
 //! Runs whose reader or writer is slow or fails.
-use crate::shows::{QDISCS, device};
+use crate::shows::{QDISCS, close, opened, set_up};
 use q_device::Device;
 use q_options::{play, run};
 use q_script::{MAX_LENGTH, Outcome, RunFault, RunSettings, Source};
@@ -316,12 +316,13 @@ fn failures_are_told(rt: HostRuntime) {
 
 #[test]
 fn show_texts_in_writers_that_are_full(rt: HostRuntime) -> Result<(), Fail> {
-    let alloc = rt.alloc();
-    let device = device(alloc)?;
+    let mut device = opened(rt.alloc())?;
+    let answer = set_up(&mut device);
     for room in 0..QDISCS.len() {
-        assert_front_shown(&rt, alloc, &device, room);
+        assert_front_shown(&rt, rt.alloc(), &device, room);
     }
-    Ok(())
+    close(device);
+    answer
 }
 
 /// Shows the qdiscs to a writer with this much room, less than they take, and checks what it has.
