@@ -1,4 +1,5 @@
 //! What a device recorded, and its script, by which another one does the same.
+#[path = "../common/chance.rs"]
 mod chance;
 mod commands;
 mod events;

@@ -1,4 +1,5 @@
 //! Devices that files of tc lines set up, also while packets wait in them.
+#[path = "../common/chance.rs"]
 mod chance;
 mod comparing;
 mod errors;

@@ -1,4 +1,5 @@
 //! A device that lines of tc make, and calls on it with what each has to answer.
+use crate::bench::packets;
 use crate::lines::{self, New};
 use qtree::{
     Cause, Device, Error, Event, EventKind, Fate, Node, Place, Polled, Refusal, Row, Settings, Show,
@@ -182,8 +183,7 @@ fn recorded(device: &Device, i: usize, expected: EventKind) -> Result<u64, Error
 }
 
 fn counts(device: &Device, place: Place) -> [u64; 5] {
-    let row = device.stats(place).expect("the place is there");
-    [row.arrived, row.sent, row.refused, row.dropped, row.queued].map(|count| count.packets)
+    packets(device.stats(place).expect("the place is there"))
 }
 
 /// Makes these calls on a new device, whose pfifo has so many packets, of at most 1500 bytes each.

@@ -1,6 +1,7 @@
 //! Tests of trees and devices: commands and packets, and what is shown, counted and promised.
 //! And tests of headers: what is read of them, and marks.
 mod bench;
+#[path = "../common/chance.rs"]
 mod chance;
 mod device;
 mod device_bench;

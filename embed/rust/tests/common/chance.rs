@@ -1,4 +1,5 @@
-//! Numbers that look random.
+//! Numbers that look random. Each target of tests has what it uses of it.
+#![allow(dead_code)]
 
 /// Numbers that look random, and are the same for the same seed.
 pub struct Chance {
@@ -36,6 +37,25 @@ impl Chance {
     /// The same, where the bound is at most 2^8.
     pub fn byte(&mut self, bound: u64) -> u8 {
         self.below(bound) as u8
+    }
+
+    /// The next number from 1 to this one.
+    pub fn upto(&mut self, most: u64) -> u64 {
+        self.below(most) + 1
+    }
+
+    /// The next place of a list of so many.
+    pub fn place(&mut self, count: usize) -> usize {
+        self.below(count as u64) as usize
+    }
+
+    /// A length of 1 to so many bytes, often the least or the most.
+    pub fn len(&mut self, most: u16) -> u16 {
+        match self.below(3) {
+            0 => 1,
+            1 => most,
+            _ => self.short(most.into()) + 1,
+        }
     }
 
     /// Whether one of so many comes up.
