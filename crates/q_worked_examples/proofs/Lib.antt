@@ -4,11 +4,9 @@ mod CoDelReports
 mod CoDelScripts
 mod CoDelValues
 mod CommandScripts
-mod DrrScripts
 mod DrrValues
 mod FifoScripts
 mod FqCodelReports
-mod FqCodelScripts
 mod FqCodelValues
 mod HeadValues
 mod LargeReports

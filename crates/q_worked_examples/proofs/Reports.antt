@@ -87,13 +87,20 @@ drr_grants_and_no_class :
     replicate 3 (codes "pkt 500 src_port 2") ++
     codes "poll 5" ∷
     codes "pkt 40" ∷
-    codes "reap" ∷ [])
+    codes "reap" ∷
+    codes "tc -s qdisc show dev eth0" ∷ [])
     (codes "sent 2 500" ∷
     codes "sent 3 500" ∷
     codes "sent 1 1500" ∷
     codes "sent 4 500" ∷
     codes "idle" ∷
-    codes "lost 5 40 NoClass" ∷ [])
+    codes "lost 5 40 NoClass" ∷
+    codes "qdisc drr 1: root" ∷
+    codes " arrived 5p 3040b sent 4p 3000b refused 1p 40b dropped 0p 0b queued 0p 0b" ∷
+    codes "qdisc pfifo 0: parent 1:1 limit 1000p" ∷
+    codes " arrived 1p 1500b sent 1p 1500b refused 0p 0b dropped 0p 0b queued 0p 0b" ∷
+    codes "qdisc pfifo 0: parent 1:2 limit 1000p" ∷
+    codes " arrived 3p 1500b sent 3p 1500b refused 0p 0b dropped 0p 0b queued 0p 0b" ∷ [])
 unfolding report_rules
 drr_grants_and_no_class = refl
 
