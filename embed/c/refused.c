@@ -237,6 +237,38 @@ static void play_whole_rings(void) {
     }
 }
 
+/* The same of a new ring and a new device: of three packets two are asked for, and then all, while one allocation after another of the
+ * first call fails. What was refused stays in the ring, and the second call takes it in. */
+static void play_new_rings(void) {
+    for (long grants = 0, is_refused_once = 1; is_refused_once; grants++) {
+        qtree_device fed = QTREE_CLOSED;
+        qtree_port sender = QTREE_CLOSED;
+        qtree_outlet taker = QTREE_CLOSED;
+        qtree_count placed, received;
+        qtree_row row;
+        size_t first = 7, second = 7;
+        CHECK(qtree_open(&fed, &(qtree_settings){ 1000, 0, 1514 }) == QTREE_DONE);
+        CHECK(qtree_ring_open(&sender, &taker, 3, 4) == QTREE_DONE);
+        for (int i = 0; i < 3; i++) {
+            CHECK(qtree_offer(&sender, &(qtree_packet){ .len = 100, .port = 7, .number = 5 }) == QTREE_DONE);
+        }
+        unsigned long had = refusals;
+        granted = grants;
+        qtree_code code = qtree_take_in(&fed, &taker, 0, 2, &first);
+        granted = -1;
+        is_refused_once = refusals > had;
+        CHECK(is_refused_once ? code == QTREE_MEMORY && first < 2 : code == QTREE_DONE && first == 2);
+        CHECK(grants > 0 || is_refused_once);
+        CHECK(qtree_take_in(&fed, &taker, 0, 4, &second) == QTREE_DONE && first + second == 3);
+        CHECK(qtree_port_share(&sender, &placed) == QTREE_DONE && placed.packets == 3 && placed.bytes == 300);
+        CHECK(qtree_outlet_share(&taker, &received) == QTREE_DONE && received.packets == 3 && received.bytes == 300);
+        CHECK(qtree_totals(&fed, &row) == QTREE_DONE && row.arrived.packets == 3 && row.arrived.bytes == 300);
+        qtree_port_close(&sender);
+        qtree_outlet_close(&taker);
+        qtree_close(&fed);
+    }
+}
+
 /* A poll, a reap and the calls that only read allocate nothing. */
 static void play_without_memory(void) {
     qtree_packet given;
@@ -283,6 +315,7 @@ int main(void) {
     play_packets();
     CHECK(after.kept == few && after.noted > 4 * few && insist(keeps_last, &more) == QTREE_DONE);
     play_whole_rings();
+    play_new_rings();
     for (uint32_t what = QTREE_SHOW_QDISCS; what <= QTREE_SHOW_FILTERS; what++) {
         CHECK(insist(shows, &what) == QTREE_DONE);
     }

@@ -31,8 +31,6 @@ mod refused;
 #[cfg(test)]
 mod ring_lengths;
 #[cfg(test)]
-mod rings;
-#[cfg(test)]
 mod rows;
 #[cfg(test)]
 mod senders;
