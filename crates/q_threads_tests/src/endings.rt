@@ -1,9 +1,9 @@
 //! A drain that ends while senders offer and gauges read.
 ghost use Rattle.std.specs.Prelude.{◌≡◌};
 
-use crate::common::{assert_count, device, packet, row, take_turn};
+use crate::common::{assert_count, packet, row, take_turn};
 use crate::traffic::Traffic;
-use crate::unbooked::Unbooked;
+use crate::unbooked::{Unbooked, fresh};
 use q_packet::Packet;
 use q_ports::{Booked, Drain, Gauge, Port};
 use std::alloc::Global;
@@ -26,8 +26,8 @@ fn senders_and_gauges_outlive_the_drain(rt: HostRuntime) -> Result<(), Fail> {
     let alloc = rt.alloc();
     let given = packet(5).expect(&rt, "a packet");
     let traffic = Arc::new(alloc, Traffic::new())?;
-    let device = device(alloc, 0).expect(&rt, "memory");
-    outlived::<Brand, Brand, _>(&rt, alloc, Unbooked::new(device), &traffic, given);
+    let unbooked = fresh(&rt, alloc, 1000, 0);
+    outlived::<Brand, Brand, _>(&rt, alloc, unbooked, &traffic, given);
     Ok(())
 }
 

@@ -5,11 +5,11 @@ ghost use Rattle.q_ports.specs.Rings.{ring_id};
 ghost use Rattle.q_ports.specs.Rows.{new_gauge, shown_on, GaugeSeen};
 
 use crate::common::{
-    assert_count, assert_full, assert_settles, assert_totals, device, fill, hundreds, limited,
-    offer_at, packet, row, turn,
+    assert_count, assert_full, assert_settles, assert_totals, fill, hundreds, offer_at, packet,
+    row, turn,
 };
 use crate::rows::NO_ROW;
-use crate::unbooked::Unbooked;
+use crate::unbooked::{Unbooked, end, fresh};
 use q_device::{Polled, Row};
 use q_packet::{Moment, Packet};
 use q_ports::{Booked, Drain, Gauge, Port, Turn};
@@ -24,11 +24,11 @@ use std::test::Fail;
 fn ports_on_one_thread(rt: HostRuntime) -> Result<(), Fail> {
     let alloc = rt.alloc();
     let given = packet(77).expect(&rt, "a packet");
-    let first = device(alloc, 0).expect(&rt, "memory");
-    ring_of_one::<Brand, Brand, _>(&rt, alloc, Unbooked::new(first), given);
+    let first = fresh(&rt, alloc, 1000, 0);
+    ring_of_one::<Brand, Brand, _>(&rt, alloc, first, given);
     for count in &[2usize, 4] {
-        let device = device(alloc, 0).expect(&rt, "memory");
-        going_round::<Brand, Brand, _>(&rt, alloc, Unbooked::new(device), *count, given);
+        let unbooked = fresh(&rt, alloc, 1000, 0);
+        going_round::<Brand, Brand, _>(&rt, alloc, unbooked, *count, given);
     }
     Ok(())
 }
@@ -38,8 +38,8 @@ fn ports_on_one_thread(rt: HostRuntime) -> Result<(), Fail> {
 fn a_turn_takes_1024_packets(rt: HostRuntime) -> Result<(), Fail> {
     let alloc = rt.alloc();
     let given = packet(77).expect(&rt, "a packet");
-    let device = limited(alloc, 2000, 0).expect(&rt, "memory");
-    long_turn::<Brand, Brand, _>(&rt, alloc, Unbooked::new(device), given);
+    let unbooked = fresh(&rt, alloc, 2000, 0);
+    long_turn::<Brand, Brand, _>(&rt, alloc, unbooked, given);
     Ok(())
 }
 
@@ -52,14 +52,14 @@ fn long_turn<P: Ledger, B: Ledger, R: Wait + Abort>(
 )
     requires { (unbooked.packets.name ≡ P.name) × (P.parts ≡ 65) × (unbooked.bytes.name ≡ B.name) × (B.parts ≡ 65) }
 {
-    let (booked, mut drain, mut ports, _gauges) = unbooked.opened::<P, B, R>(
+    let (booked, mut drain, mut ports, gauges) = unbooked.opened::<P, B, R>(
         rt,
         alloc,
         (1, 1024, 0),
     );
     fill(rt, &mut ports, 1024, given);
     assert_tells(rt, alloc, &booked, &mut drain, 1024, 1024);
-    drain.end(rt);
+    end(rt, booked, drain, ports, gauges);
 }
 
 // More turns of 1024 than bring 2^20 packets: neither a port nor a drain nor what gauges see ends there.
@@ -70,8 +70,8 @@ fn more_than_a_million_go_through_a_drain(rt: HostRuntime) -> Result<(), Fail> {
     let alloc = rt.alloc();
     let given = packet(77).expect(&rt, "a packet");
     let packets = vec![in alloc; given; 1024]?;
-    let device = limited(alloc, 2000, 0).expect(&rt, "memory");
-    many_turns::<Brand, Brand, _>(&rt, alloc, Unbooked::new(device), packets);
+    let unbooked = fresh(&rt, alloc, 2000, 0);
+    many_turns::<Brand, Brand, _>(&rt, alloc, unbooked, packets);
     Ok(())
 }
 
@@ -84,19 +84,19 @@ fn many_turns<P: Ledger, B: Ledger, R: Wait + Abort>(
 )
     requires { (unbooked.packets.name ≡ P.name) × (P.parts ≡ 65) × (unbooked.bytes.name ≡ B.name) × (B.parts ≡ 65) }
 {
-    let (booked, drain, ports, gauges) = unbooked.opened::<P, B, R>(rt, alloc, (1, 1024, 1));
-    let (mut drain, mut ports, mut gauges) = (drain, ports, gauges);
-    let Some(mut gauge) = gauges.pop() else {
-        panic!(rt; "a gauge");
-    };
+    let (booked, mut drain, mut ports, mut gauges) = unbooked.opened::<P, B, R>(
+        rt,
+        alloc,
+        (1, 1024, 1),
+    );
     let mut shown = 0u64;
     for _turn in 0..TURNS {
         place_all(rt, &mut ports, &packets);
         shown = shown.saturating_add(1024);
         assert_tells(rt, alloc, &booked, &mut drain, 1024, 1024);
-        assert_shows(rt, &mut gauge, shown);
+        assert_shows_first(rt, &mut gauges, shown);
     }
-    drain.end(rt);
+    end(rt, booked, drain, ports, gauges);
 }
 
 // Places packets at the first port, in whose ring there is room for all.
@@ -113,18 +113,18 @@ fn place_all<R: Abort>(rt: &R, ports: &mut Vec<Port>, packets: &Vec<Packet>) {
 #[test]
 fn all_ports_of_the_longest_rings(rt: HostRuntime) -> Result<(), Fail> {
     let alloc = rt.alloc();
-    let device = device(alloc, 0).expect(&rt, "memory");
-    all_opened::<Brand, Brand, _>(&rt, alloc, Unbooked::new(device));
+    let unbooked = fresh(&rt, alloc, 1000, 0);
+    all_opened::<Brand, Brand, _>(&rt, alloc, unbooked);
     Ok(())
 }
 
 fn all_opened<P: Ledger, B: Ledger, R: Wait + Abort>(rt: &R, alloc: Global, unbooked: Unbooked)
     requires { (unbooked.packets.name ≡ P.name) × (P.parts ≡ 65) × (unbooked.bytes.name ≡ B.name) × (B.parts ≡ 65) }
 {
-    let (_booked, drain, ports, gauges) = unbooked.opened::<P, B, R>(rt, alloc, (64, 65_536, 16));
+    let (booked, drain, ports, gauges) = unbooked.opened::<P, B, R>(rt, alloc, (64, 65_536, 16));
     assert_count(rt, ports.len() as u64, 64);
     assert_count(rt, gauges.len() as u64, 16);
-    drain.end(rt);
+    end(rt, booked, drain, ports, gauges);
 }
 
 // As many gauges as there may be, and none: each shows the turns before, learns of one more, and shows it.
@@ -133,8 +133,8 @@ fn each_number_of_gauges_reads_and_learns(rt: HostRuntime) -> Result<(), Fail> {
     let alloc = rt.alloc();
     let given = packet(77).expect(&rt, "a packet");
     for count in 0..17usize {
-        let device = device(alloc, 0).expect(&rt, "memory");
-        gauged::<Brand, Brand, _>(&rt, alloc, Unbooked::new(device), count, given);
+        let unbooked = fresh(&rt, alloc, 1000, 0);
+        gauged::<Brand, Brand, _>(&rt, alloc, unbooked, count, given);
     }
     Ok(())
 }
@@ -156,7 +156,7 @@ fn gauged<P: Ledger, B: Ledger, R: Wait + Abort>(
     );
     assert_count(rt, gauges.len() as u64, count as u64);
     read_each(rt, alloc, &booked, &mut drain, &mut ports, gauges, given);
-    drain.end(rt);
+    end(rt, booked, drain, ports, Vec::new(alloc));
 }
 
 // A packet is placed and a turn taken for each gauge.
@@ -190,7 +190,8 @@ fn read_and_learn<P: Ledger, B: Ledger, R: Wait + Abort>(
     shown: (u64, u64),
 )
     requires { gauge.book ≡ drain.old.board.book }
-    ensures { drain.new.board.book ≡ drain.old.board.book }
+    ensures rings { map ring_id drain.new.rings ≡ map ring_id drain.old.rings }
+    ensures book { drain.new.board.book ≡ drain.old.board.book }
 {
     let mut gauge = gauge;
     assert_shows(rt, &mut gauge, shown.0);
@@ -208,13 +209,19 @@ fn ring_of_one<P: Ledger, B: Ledger, R: Wait + Abort>(
 )
     requires { (unbooked.packets.name ≡ P.name) × (P.parts ≡ 65) × (unbooked.bytes.name ≡ B.name) × (B.parts ≡ 65) }
 {
-    let (booked, drain, ports, gauges) = unbooked.opened::<P, B, R>(rt, alloc, (1, 1, 1));
-    let (mut drain, mut ports, mut gauges) = (drain, ports, gauges);
-    let Some(mut gauge) = gauges.pop() else {
-        panic!(rt; "a gauge");
-    };
+    let (booked, mut drain, mut ports, mut gauges) = unbooked.opened::<P, B, R>(
+        rt,
+        alloc,
+        (1, 1, 1),
+    );
     place_two(
-        rt, alloc, &booked, &mut drain, &mut ports, &mut gauge, given,
+        rt,
+        alloc,
+        &booked,
+        &mut drain,
+        &mut ports,
+        &mut gauges,
+        given,
     );
     assert_settles(rt, &booked, drain, ports, hundreds(2));
     assert_left(rt, &booked);
@@ -227,19 +234,20 @@ fn place_two<P: Ledger, B: Ledger, R: Wait + Abort>(
     booked: &Mutex<Booked<P, B>>,
     drain: &mut Drain<P, B>,
     ports: &mut Vec<Port>,
-    gauge: &mut Gauge,
+    gauges: &mut Vec<Gauge>,
     given: Packet,
 )
-    requires book { gauge.old.book ≡ drain.old.board.book }
+    requires gauges { All (λ (g : GaugeSeen). g ≡ new_gauge (shown_on drain.old.board)) gauges.old.items }
     requires one { 0 < length ports.old.items }
     ensures drain { map ring_id drain.new.rings ≡ map ring_id drain.old.rings }
     ensures ports { map ring_of_port ports.new.items ≡ map ring_of_port ports.old.items }
 {
-    assert_shows(rt, gauge, 0);
+    let Some(gauge) = gauges.pop() else {
+        panic!(rt; "a gauge");
+    };
     offer_under_lock(rt, booked, ports, 0, given);
     assert_full(rt, ports, given);
-    turn_and_learn(rt, alloc, booked, drain, gauge, 1);
-    assert_shows(rt, gauge, 1);
+    read_and_learn(rt, alloc, booked, drain, gauge, (0, 1));
     offer_under_lock(rt, booked, ports, 0, given);
 }
 
@@ -290,6 +298,12 @@ fn assert_shows<R: Abort>(rt: &R, gauge: &mut Gauge, packets: u64)
     assert_eq!(rt; row, all_sent(packets));
 }
 
+// The first gauge reads such a row.
+fn assert_shows_first<R: Abort>(rt: &R, gauges: &mut Vec<Gauge>, packets: u64) {
+    let gauge = gauges.get_mut(0).expect(rt, "a gauge");
+    assert_shows(rt, gauge, packets);
+}
+
 // A turn takes and sends the one packet that waits, which has this number, and the gauge learns of it.
 fn turn_and_learn<P: Ledger, B: Ledger, R: Wait + Abort>(
     rt: &R,
@@ -325,7 +339,7 @@ fn assert_sends<R: Abort>(rt: &R, turn: &Turn, wanted: &[(u32, u64)]) {
     }
 }
 
-// Turns go on round the ports. Then each of 100 turns reports, and a gauge that learns nothing goes on all the same.
+// Opens so many ports, round which turns go.
 fn going_round<P: Ledger, B: Ledger, R: Wait + Abort>(
     rt: &R,
     alloc: Global,
@@ -335,25 +349,50 @@ fn going_round<P: Ledger, B: Ledger, R: Wait + Abort>(
 )
     requires { (unbooked.packets.name ≡ P.name) × (P.parts ≡ 65) × (unbooked.bytes.name ≡ B.name) × (B.parts ≡ 65) }
 {
-    let (booked, drain, ports, gauges) = unbooked.opened::<P, B, R>(rt, alloc, (count, 4, 1));
-    let (mut drain, mut ports, mut gauges) = (drain, ports, gauges);
-    let Some(mut gauge) = gauges.pop() else {
-        panic!(rt; "a gauge");
-    };
+    let (booked, mut drain, mut ports, mut gauges) = unbooked.opened::<P, B, R>(
+        rt,
+        alloc,
+        (count, 4, 1),
+    );
     assert_goes_on(rt, alloc, &booked, &mut drain, &mut ports, given);
+    assert_all_tell(
+        rt,
+        alloc,
+        &booked,
+        &mut drain,
+        &mut ports,
+        &mut gauges,
+        given,
+    );
+    end(rt, booked, drain, ports, gauges);
+}
+
+// Each of 100 turns reports, and a gauge that learns nothing goes on all the same.
+fn assert_all_tell<P: Ledger, B: Ledger, R: Wait + Abort>(
+    rt: &R,
+    alloc: Global,
+    booked: &Mutex<Booked<P, B>>,
+    drain: &mut Drain<P, B>,
+    ports: &mut Vec<Port>,
+    gauges: &mut Vec<Gauge>,
+    given: Packet,
+) {
+    let count = ports.len();
     let mut shown = 5u64;
     for _turn in 0..100 {
-        offer_at_each(rt, &mut ports, count, given);
+        offer_at_each(rt, ports, count, given);
         shown = shown.saturating_add(count as u64);
-        assert_tells(rt, alloc, &booked, &mut drain, 64, count);
-        assert_shows(rt, &mut gauge, shown);
+        assert_tells(rt, alloc, booked, drain, 64, count);
+        assert_shows_first(rt, gauges, shown);
     }
     // A turn that finds nothing reports the same row once more.
-    assert_tells(rt, alloc, &booked, &mut drain, 64, 0);
-    assert_tells(rt, alloc, &booked, &mut drain, 64, 0);
-    assert_shows(rt, &mut gauge, shown);
-    drain.end(rt);
+    assert_tells(rt, alloc, booked, drain, 64, 0);
+    assert_tells(rt, alloc, booked, drain, 64, 0);
+    assert_shows_first(rt, gauges, shown);
 }
+
+// What turns that go on round the ports take and send, one after the other: of each packet the port, and its number there.
+const SENT: [(u32, u64); 5] = [(0, 1), (1, 1), (0, 2), (1, 2), (0, 3)];
 
 // Ports 0 and 1 with two packets each: a turn of three takes one from each in turn, the last one on the way round. So the next turn
 // begins at port 1, though a packet waits at port 0 again.
@@ -367,10 +406,10 @@ fn assert_goes_on<P: Ledger, B: Ledger, R: Wait + Abort>(
 ) {
     offer_at_each(rt, ports, 2, given);
     offer_at_each(rt, ports, 2, given);
-    assert_turn(rt, alloc, booked, drain, 3, &[(0, 1), (1, 1), (0, 2)]);
+    assert_turn(rt, alloc, booked, drain, &SENT[..3]);
     offer_at_each(rt, ports, 1, given);
-    assert_turn(rt, alloc, booked, drain, 1, &[(1, 2)]);
-    assert_turn(rt, alloc, booked, drain, 1, &[(0, 3)]);
+    assert_turn(rt, alloc, booked, drain, &SENT[3..4]);
+    assert_turn(rt, alloc, booked, drain, &SENT[4..]);
 }
 
 // Places a packet at each of the first ports.
@@ -397,17 +436,16 @@ fn assert_tells<P: Ledger, B: Ledger, R: Wait + Abort>(
     assert!(rt; turn.told.is_some());
 }
 
-// A turn takes and sends these packets.
+// A turn of as many takes and sends these packets.
 fn assert_turn<P: Ledger, B: Ledger, R: Wait + Abort>(
     rt: &R,
     alloc: Global,
     booked: &Mutex<Booked<P, B>>,
     drain: &mut Drain<P, B>,
-    most: usize,
     wanted: &[(u32, u64)],
 )
-    requires { (1 ≤ most) × (most ≤ 1024) }
+    requires { (1 ≤ length wanted.now) × (length wanted.now ≤ 1024) }
 {
-    let turn = turn(rt, alloc, booked, drain, 0, most);
+    let turn = turn(rt, alloc, booked, drain, 0, wanted.len());
     assert_sends(rt, &turn, wanted);
 }

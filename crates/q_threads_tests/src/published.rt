@@ -4,11 +4,11 @@ ghost use Rattle.q_ports.specs.Placed.{ring_of_port};
 ghost use Rattle.q_ports.specs.Rings.{ring_id};
 
 use crate::common::{
-    assert_count, assert_settles, assert_totals, device, driven_all, fill, hundreds, loads, packet,
+    assert_count, assert_settles, assert_totals, driven_all, fill, hundreds, loads, packet,
     take_turn,
 };
 use crate::traffic::Traffic;
-use crate::unbooked::Unbooked;
+use crate::unbooked::{Unbooked, fresh};
 use crate::watch::Watch;
 use q_packet::Packet;
 use q_ports::{Booked, Drain, Gauge, Port};
@@ -32,8 +32,8 @@ fn each_turn_of_a_drive_is_shown(rt: HostRuntime) -> Result<(), Fail> {
     let alloc = rt.alloc();
     let given = packet(5).expect(&rt, "a packet");
     let loads = loads(alloc, 1, PACKETS, given)?;
-    let device = device(alloc, 0).expect(&rt, "memory");
-    watched::<Brand, Brand, _>(&rt, alloc, Unbooked::new(device), loads);
+    let unbooked = fresh(&rt, alloc, 1000, 0);
+    watched::<Brand, Brand, _>(&rt, alloc, unbooked, loads);
     Ok(())
 }
 
@@ -83,8 +83,8 @@ fn what_settles_is_not_shown(rt: HostRuntime) -> Result<(), Fail> {
     let given = packet(5).expect(&rt, "a packet");
     for _round in 0..ROUNDS {
         let traffic = Arc::new(alloc, Traffic::new())?;
-        let device = device(alloc, 0).expect(&rt, "memory");
-        settled::<Brand, Brand, _>(&rt, alloc, Unbooked::new(device), &traffic, given);
+        let unbooked = fresh(&rt, alloc, 1000, 0);
+        settled::<Brand, Brand, _>(&rt, alloc, unbooked, &traffic, given);
     }
     Ok(())
 }

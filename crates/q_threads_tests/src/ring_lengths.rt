@@ -1,8 +1,8 @@
 //! Rings that are filled to their length.
 ghost use Rattle.std.specs.Prelude.{◌≡◌};
 
-use crate::common::{assert_full, assert_settles, device, fill, hundreds, packet};
-use crate::unbooked::Unbooked;
+use crate::common::{assert_full, assert_settles, fill, hundreds, packet};
+use crate::unbooked::{Unbooked, fresh};
 use q_packet::Packet;
 use std::alloc::Global;
 use std::marker::Brand;
@@ -16,8 +16,8 @@ fn a_ring_has_exactly_its_length(rt: HostRuntime) -> Result<(), Fail> {
     let alloc = rt.alloc();
     let given = packet(5).expect(&rt, "a packet");
     for ring in &[1usize, 2, 16, 65_536] {
-        let device = device(alloc, 0).expect(&rt, "memory");
-        filled::<Brand, Brand, _>(&rt, alloc, Unbooked::new(device), *ring, given);
+        let unbooked = fresh(&rt, alloc, 1000, 0);
+        filled::<Brand, Brand, _>(&rt, alloc, unbooked, *ring, given);
     }
     Ok(())
 }

@@ -1,14 +1,12 @@
 //! Senders in threads of their own, while the drain takes turns and gauges read.
 ghost use Rattle.std.specs.Prelude.{◌≡◌};
 
-use crate::common::{
-    assert_count, assert_totals, device, driven_all, hundreds, loads, packet, row,
-};
+use crate::common::{assert_count, assert_totals, driven_all, hundreds, loads, packet, row};
 use crate::meeting::{Meeting, READS};
 use crate::open_gate::OpenGate;
 use crate::rows::{NO_ROW, is_balanced};
 use crate::shaped::{kinds, set_up};
-use crate::unbooked::Unbooked;
+use crate::unbooked::{Unbooked, fresh};
 use q_device::{Event, Row, Totals};
 use q_packet::Packet;
 use q_ports::{Booked, Gauge};
@@ -33,15 +31,8 @@ fn four_senders_settle_on_a_device_with_defaults(rt: HostRuntime) -> Result<(), 
     let alloc = rt.alloc();
     let given = packet(5).expect(&rt, "a packet");
     let loads = loads(alloc, 4, 1000, given)?;
-    let device = device(alloc, 4096).expect(&rt, "memory");
-    tried::<Brand, Brand, _>(
-        &rt,
-        alloc,
-        Unbooked::new(device),
-        loads,
-        (4, 16),
-        (TRIES, 4000),
-    );
+    let unbooked = fresh(&rt, alloc, 1000, 4096);
+    tried::<Brand, Brand, _>(&rt, alloc, unbooked, loads, (4, 16), (TRIES, 4000));
     Ok(())
 }
 
@@ -52,8 +43,8 @@ fn a_packet_is_tried_as_often_as_asked_for(rt: HostRuntime) -> Result<(), Fail> 
     let given = packet(5).expect(&rt, "a packet");
     for wanted in &[(0u64, 0u64), (1, 16)] {
         let loads = loads(alloc, 2, 8, given)?;
-        let device = device(alloc, 0).expect(&rt, "memory");
-        tried::<Brand, Brand, _>(&rt, alloc, Unbooked::new(device), loads, (2, 8), *wanted);
+        let unbooked = fresh(&rt, alloc, 1000, 0);
+        tried::<Brand, Brand, _>(&rt, alloc, unbooked, loads, (2, 8), *wanted);
     }
     Ok(())
 }
@@ -64,15 +55,8 @@ fn senders_that_offer_nothing_end_beside_others(rt: HostRuntime) -> Result<(), F
     let alloc = rt.alloc();
     let given = packet(5).expect(&rt, "a packet");
     let loads = every_other(alloc, given)?;
-    let device = device(alloc, 0).expect(&rt, "memory");
-    tried::<Brand, Brand, _>(
-        &rt,
-        alloc,
-        Unbooked::new(device),
-        loads,
-        (64, 1),
-        (TRIES, 32 * 8),
-    );
+    let unbooked = fresh(&rt, alloc, 1000, 0);
+    tried::<Brand, Brand, _>(&rt, alloc, unbooked, loads, (64, 1), (TRIES, 32 * 8));
     Ok(())
 }
 
@@ -130,8 +114,8 @@ fn senders_place_all<R: Threads + Wait + Sync + Abort>(
     let meeting = Meeting::new(alloc, counts.0, counts.1 as u64, fewest)?;
     let gate = Arc::new(alloc, meeting)?;
     let loads = loads_of(alloc, counts)?;
-    let device = device(alloc, 4096).expect(rt, "memory");
-    driven::<Brand, Brand, R>(rt, alloc, Unbooked::new(device), loads, &gate, counts);
+    let unbooked = fresh(rt, alloc, 1000, 4096);
+    driven::<Brand, Brand, R>(rt, alloc, unbooked, loads, &gate, counts);
     let all = all_of(counts);
     let (missed, offered, placed) = gate.counts();
     assert_count(rt, missed, 0);

@@ -6,6 +6,7 @@ ghost use Rattle.q_ports.specs.Placed.{ring_of_port};
 ghost use Rattle.q_ports.specs.Rings.{ring_id};
 ghost use Rattle.q_ports.specs.Rows.{new_gauge, shown_on, GaugeSeen};
 
+use crate::common::limited;
 use q_device::Device;
 use q_ports::{Booked, Drain, Gauge, Port, Seat, open_ports};
 use std::alloc::Global;
@@ -20,6 +21,23 @@ pub struct Unbooked {
     pub bytes: Blank,
     ghost nothing: { device.device.tree.top.arrived ≡ no_totals },
     ghost parts: { (packets.parts ≡ 65) × (bytes.parts ≡ 65) },
+}
+
+/// A device with room for so many packets, which records so many events, and the blanks of its book. Tests make it here, since each way
+/// out of a function that owns a device is dear to prove.
+pub fn fresh<R: Abort>(rt: &R, alloc: Global, limit: u32, recorded: u32) -> Unbooked {
+    Unbooked::new(limited(alloc, limit, recorded).expect(rt, "memory"))
+}
+
+/// Ends a drain, and drops all that was opened with it. It is done here, since a drop is dear to prove in a test that owns much.
+pub fn end<P: Ledger, B: Ledger, R: Wait>(
+    rt: &R,
+    _booked: Mutex<Booked<P, B>>,
+    drain: Drain<P, B>,
+    _ports: Vec<Port>,
+    _gauges: Vec<Gauge>,
+) {
+    drain.end(rt);
 }
 
 impl Unbooked {

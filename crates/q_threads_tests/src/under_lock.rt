@@ -4,10 +4,10 @@ ghost use Rattle.std.specs.Prelude.{◌≡◌, ◌<◌, length, map};
 ghost use Rattle.q_ports.specs.Placed.{ring_of_port};
 
 use crate::common::{
-    assert_count, assert_settles_at, assert_totals, hundreds, limited, moment, offer_at, packet,
-    row, take_turn,
+    assert_count, assert_settles_at, assert_totals, hundreds, moment, offer_at, packet, row,
+    take_turn,
 };
-use crate::unbooked::Unbooked;
+use crate::unbooked::{Unbooked, fresh};
 use q_device::{Event, Lost};
 use q_packet::{Cause, Packet};
 use q_ports::{Booked, Port};
@@ -51,8 +51,8 @@ const LOST: [(u32, u64); 2] = [(1, 2), (1, 4)];
 fn turns_and_settling_do_nothing_else(rt: HostRuntime) -> Result<(), Fail> {
     let alloc = rt.alloc();
     let given = packet(77).expect(&rt, "a packet");
-    let device = limited(alloc, 3, 64).expect(&rt, "memory");
-    turned_and_settled::<Brand, Brand, _>(&rt, alloc, Unbooked::new(device), given);
+    let unbooked = fresh(&rt, alloc, 3, 64);
+    turned_and_settled::<Brand, Brand, _>(&rt, alloc, unbooked, given);
     Ok(())
 }
 

@@ -5,9 +5,10 @@ ghost use Rattle.q_ports.specs.Placed.{ring_of_port};
 ghost use Rattle.q_ports.specs.Rings.{ring_id};
 
 use crate::blockade::Blockade;
-use crate::common::{assert_count, assert_totals, driven_all, hundreds, limited, packet, row};
+use crate::common::{assert_count, assert_totals, driven_all, hundreds, packet, row};
 use crate::drive_walk::DriveWalk;
-use crate::unbooked::Unbooked;
+use crate::unbooked::{Unbooked, fresh};
+use q_device::Lost;
 use q_packet::Packet;
 use q_ports::{Booked, Drain, Port};
 use std::alloc::{AllocError, Global};
@@ -35,9 +36,9 @@ fn what_finds_its_ring_full_is_given_up(rt: HostRuntime) -> Result<(), Fail> {
     let alloc = rt.alloc();
     let given = packet(5).expect(&rt, "a packet");
     let loads = loads(alloc, given)?;
-    let device = limited(alloc, LIMIT as u32, RECORDED as u32).expect(&rt, "memory");
+    let unbooked = fresh(&rt, alloc, LIMIT as u32, RECORDED as u32);
     let walk = DriveWalk::new(alloc, given, LIMIT, 1);
-    undrained::<Brand, Brand, _>(&rt, alloc, Unbooked::new(device), loads, walk);
+    undrained::<Brand, Brand, _>(&rt, alloc, unbooked, loads, walk);
     Ok(())
 }
 
@@ -78,19 +79,47 @@ fn assert_walked<P: Ledger, B: Ledger, R: Wait + Abort>(
     booked: &Mutex<Booked<P, B>>,
     walk: &mut DriveWalk,
 ) {
-    let followed = walk.follow(booked.lock(rt).recorded());
-    if booked.lock(rt).events() > RECORDED {
+    if events(rt, booked) > RECORDED {
         return;
     }
-    assert!(rt; matches!(&followed, Ok(true)));
-    for lost in walk.lost() {
-        let reaped = booked.lock(rt).reap();
-        assert_eq!(rt; reaped, Some(*lost));
-    }
-    assert!(rt; booked.lock(rt).reap().is_none());
+    assert!(rt; is_followed(rt, booked, walk));
+    assert!(rt; are_reaped(rt, booked, walk.lost()));
     let (queued, placed) = walk.left();
     assert_totals(rt, row(rt, booked).queued, hundreds(queued));
     assert_eq!(rt; placed, [101u64, 1]);
+}
+
+// How many events happened.
+fn events<P: Ledger, B: Ledger, R: Wait>(rt: &R, booked: &Mutex<Booked<P, B>>) -> u64 {
+    booked.lock(rt).events()
+}
+
+// Whether the walk follows all recorded events.
+fn is_followed<P: Ledger, B: Ledger, R: Wait>(
+    rt: &R,
+    booked: &Mutex<Booked<P, B>>,
+    walk: &mut DriveWalk,
+) -> bool {
+    matches!(walk.follow(booked.lock(rt).recorded()), Ok(true))
+}
+
+// Whether these losses are reaped, and no other.
+fn are_reaped<P: Ledger, B: Ledger, R: Wait>(
+    rt: &R,
+    booked: &Mutex<Booked<P, B>>,
+    wanted: &[Lost],
+) -> bool {
+    for lost in wanted {
+        if reap(rt, booked) != Some(*lost) {
+            return false;
+        }
+    }
+    reap(rt, booked).is_none()
+}
+
+// The next loss.
+fn reap<P: Ledger, B: Ledger, R: Wait>(rt: &R, booked: &Mutex<Booked<P, B>>) -> Option<Lost> {
+    booked.lock(rt).reap()
 }
 
 // Drives the ports past the blockade.
