@@ -10,11 +10,16 @@ const LINE: &[u8] = b"tc qdisc add dev wan root handle 1: tbf rate 8mbit burst 2
 fn main(rt: HostRuntime) -> Result<()> {
     let settings = Settings::new(1514, 1000, 0).context("a setting is out of its range")?;
     let mut device = Device::open(rt.alloc(), settings)?;
-    add_qdisc(&mut device)?;
+    run(&rt, &mut device)
+}
+
+// This borrows the device, since a function that owns it is proved anew for each `?` that would drop it.
+fn run(rt: &HostRuntime, device: &mut Device) -> Result<()> {
+    add_qdisc(device)?;
     for buf in 0..3u32 {
-        arrive(&mut device, buf)?;
+        arrive(device, buf)?;
     }
-    send(&rt, &mut device)
+    send(rt, device)
 }
 
 fn add_qdisc(device: &mut Device) -> Result<()> {
