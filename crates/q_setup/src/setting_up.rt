@@ -1,9 +1,9 @@
-ghost use Rattle.std.specs.Prelude.{◌≡◌, ◌<◌, [], false, true, not, is_none, IfOk, IfSome, None, OnErr, length};
+ghost use Rattle.std.specs.Prelude.{◌≡◌, ◌<◌, ◌≤◌, ◌+◌, ◌∷◌, [], false, true, not, is_none, IfOk, IfSome, None, OnErr, length, vec_len, vec_capacity};
 ghost use Rattle.q_model.specs.declared.refusal.Refusal.TheVariants as refusals;
 ghost use Rattle.q_model.specs.Step.{counts_at};
 ghost use Rattle.q_script.specs.Script.{lines_of};
 ghost use Rattle.q_setup.specs.Alike.{AreAlike, entries};
-ghost use Rattle.q_setup.specs.Anew.{IsTrial};
+ghost use Rattle.q_setup.specs.Anew.{IsTrial, add_root, delete_root};
 ghost use Rattle.q_setup.specs.Done.{AreAccepted, IsRefusedBy, after_commands};
 ghost use Rattle.q_setup.specs.Effects.{additions, changes, deletions};
 ghost use Rattle.q_setup.specs.SetUp.{HasAlready, IsSetUp, wanted};
@@ -119,11 +119,25 @@ fn made(alloc: Global, device: &mut Device, trial: Trial, now: Moment) -> Result
     ensures changed { IfOk result (λ r. r.changed ≡ changes r.commands.items) }
     ensures deleted { IfOk result (λ r. r.deleted ≡ deletions r.commands.items) }
 {
-    let mut commands = plan(alloc, &trial, device)?;
-    let anew = anew(alloc, &trial)?;
-    commands.reserve(anew.len())?;
+    let (mut commands, anew) = to_do(alloc, device, &trial)?;
     let refusal = carry_out(device, &trial, &anew, &mut commands, now);
     Ok(report(trial, commands, refusal))
+}
+
+// What is planned, in a list that has room for what makes the tree anew, and that.
+fn to_do(
+    alloc: Global,
+    device: &Device,
+    trial: &Trial,
+) -> Result<(Vec<Command>, Vec<Command>), AllocError>
+    ensures planned { IfOk result (λ r. AreAlike (not trial.now.names_chosen) (entries trial.now.device.device.tree) (entries device.now.device.tree) → r.0.items ≡ []) }
+    ensures anew { IfOk result (λ r. r.1.items ≡ add_root ∷ delete_root ∷ trial.now.commands.items) }
+    ensures room { IfOk result (λ r. vec_len r.0 + length r.1.items ≤ vec_capacity r.0) }
+{
+    let mut commands = plan(alloc, trial, device)?;
+    let anew = anew(alloc, trial)?;
+    commands.reserve(anew.len())?;
+    Ok((commands, anew))
 }
 
 // The report of what was done, up to a refusal.
