@@ -112,7 +112,7 @@ def tar(root, release, name, to):
         it.mtime, it.mode = release.moment, 0o755 if it.isdir() else 0o644
         return it
 
-    with lzma.open(to, "wb", preset=9 | lzma.PRESET_EXTREME) as packed, tarfile.open(fileobj=packed, mode="w") as file:
+    with lzma.open(to, "wb", preset=6) as packed, tarfile.open(fileobj=packed, mode="w") as file:
         for at, folders, files in os.walk(root):
             folders.sort()
             for it in sorted(files):
