@@ -1,6 +1,5 @@
 """Packs the text of the library for C with what builds and tests it, for systems without Rattle."""
 import glob
-import lzma
 import os
 import re
 import shutil
@@ -112,7 +111,7 @@ def tar(root, release, name, to):
         it.mtime, it.mode = release.moment, 0o755 if it.isdir() else 0o644
         return it
 
-    with lzma.open(to, "wb", preset=6) as packed, tarfile.open(fileobj=packed, mode="w") as file:
+    with tarfile.open(to, "w:xz") as file:
         for at, folders, files in os.walk(root):
             folders.sort()
             for it in sorted(files):
