@@ -1,4 +1,4 @@
-//! Scripts whose reports are known: the examples, and the cases of crates/q_corpus/data.
+//! Scripts whose reports are known: the examples, and the cases of crates/qtree/tests/corpus.
 
 use std::fs;
 use std::io;
@@ -16,7 +16,7 @@ pub struct Case {
 pub fn read_all(top: &Path) -> io::Result<Vec<Case>> {
     let mut cases = read_examples(&top.join("examples"))?;
     for file in ["corpus.txt", "definitions.txt"] {
-        cases.extend(read_cases(&top.join("crates/q_corpus/data").join(file))?);
+        cases.extend(read_cases(&top.join("crates/qtree/tests/corpus").join(file))?);
     }
     Ok(cases)
 }
@@ -49,7 +49,7 @@ fn words_of(text: &str) -> Vec<String> {
     text.split_whitespace().map(String::from).collect()
 }
 
-/// Cases as crates/q_corpus/pack writes them.
+/// Cases as crates/qtree/tests/corpus/pack writes them.
 fn read_cases(path: &Path) -> io::Result<Vec<Case>> {
     let mut cases: Vec<Case> = Vec::new();
     for line in fs::read(path)?.split(|byte| *byte == b'\n') {

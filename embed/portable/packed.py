@@ -90,7 +90,7 @@ def laid_out(kept, root):
     write(f"{root}/libqtree.ll", text)
     write(f"{root}/PROVED.md", release.proved(counts, functions, lines))
     files = {"include": ["embed/include/qtree.h"], "doc": ["embed/c/qtree.3"]}
-    files["tests"] = below("embed/c/*.[ch]", LEFT) + below("crates/q_corpus/data/*.txt")
+    files["tests"] = below("embed/c/*.[ch]", LEFT) + below("crates/qtree/tests/corpus/*.txt")
     files["examples"] = [it for it in below("examples/*.*") if not it.endswith(".md")]
     files["examples/tutorial"] = [it for it in below("examples/tutorial/*") if os.path.isfile(f"{TOP}/{it}")]
     for folder, names in files.items():

@@ -1,7 +1,7 @@
 //! Tests that need nothing private of the crates below: a module for each crate or topic.
 //!
 //! They are here so that those crates are proved once. A crate with tests of its own is proved a second time with them.
-//! The crate exports nothing. Scripts with their reports are data and not code: `q_corpus` plays them.
+//! The crate exports nothing. Scripts with their reports are data and not code: `tools/disagree` plays them.
 #![tactic(auto)]
 
 #[cfg(test)]
