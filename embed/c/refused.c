@@ -1,5 +1,6 @@
-/* Lets one allocation after another fail in a session of commands, arrivals, rings and shows. For each failure the call returns
- * QTREE_MEMORY and leaves every counter and every shown text as it was, and the same call then succeeds.
+/* Lets one allocation after another fail in a session of commands, arrivals, rings and shows, and in one of a tree in which each command
+ * is made that may take memory. For each failure the call returns QTREE_MEMORY and leaves every counter and every shown text as it was,
+ * and the same call then succeeds.
  *
  * The linker sends the library's allocations here (--wrap), and none of this program's. */
 #include "check.h"
@@ -55,7 +56,7 @@ struct view {
     qtree_node_view nodes[NODES];
     uint64_t events, noted, ready;
     size_t recorded, kept;
-    qtree_event last;
+    qtree_event last, last_recorded;
     qtree_count placed, taken;
 };
 
@@ -77,6 +78,7 @@ static void look(struct view *view) {
     *code++ = qtree_events(&device, &view->events, &view->recorded);
     *code++ = qtree_last_noted(&device, &view->noted, &view->kept);
     *code++ = qtree_last_event(&device, view->kept - 1, &view->last);
+    *code++ = qtree_recorded(&device, view->recorded - 1, &view->last_recorded);
     *code++ = qtree_ready_at(&device, &view->ready);
     *code++ = qtree_port_share(&port, &view->placed);
     *code++ = qtree_outlet_share(&outlet, &view->taken);
@@ -307,6 +309,104 @@ static void play_in_room(void) {
     qtree_close(&roomy);
 }
 
+/* A step of a session: a line of tc, the arrival of a packet of 1000 bytes, or else a poll. */
+struct step {
+    uint64_t now;
+    const char *line;
+    uint64_t arrives; /* the number of the packet */
+    uint8_t prio;     /* its priority, its IP protocol and its hash */
+    uint64_t gives;   /* the number of the packet that the poll returns */
+    qtree_code code;  /* what the call returns once it has memory */
+};
+
+static qtree_code make(const struct step *step, uint64_t now) {
+    const uint8_t prio = step->prio;
+    qtree_packet made = { .family = 4, .number = step->arrives, .len = 1000, .proto = prio, .prio = prio, .hash = prio };
+    if (step->line) {
+        return qtree_run(&device, step->line, now, NULL);
+    }
+    if (step->arrives) {
+        return qtree_arrive(&device, &made, now);
+    }
+    qtree_code code = qtree_poll(&device, now, &made);
+    CHECK(code != QTREE_DONE || made.number == step->gives);
+    return code;
+}
+
+static bool is_refusal(qtree_code code) { return code >= QTREE_REFUSED_NO_PARENT && code <= QTREE_REFUSED_NO_FILTER; }
+
+/* Makes a step. If it is refused, so it is at a later time, which does not count: the next event would show it. */
+static qtree_code makes(const void *given) {
+    const struct step *step = given;
+    qtree_code code = make(step, step->now);
+    if (code == QTREE_MEMORY || is_refusal(code)) {
+        granted = 0;
+        CHECK(make(step, step->now + 1000) == code);
+    }
+    return code;
+}
+
+/* A tree in which each command is made that may take memory, with packets and losses between them. */
+static const struct step tree[] = {
+    { .now = 0, .line = "tc qdisc add dev a root handle 1: prio bands 2 priomap 0 1 1 1 1 1 1 1 1 1 1 1 1 1 1 1" },
+    { .now = 1, .line = "tc qdisc add dev a parent 1:1 handle 2: drr" },
+    { .now = 2, .line = "tc class add dev a parent 2: classid 2:1 drr quantum 1500" },
+    { .now = 2, .line = "tc class add dev a parent 2: classid 2:1 drr quantum 1500", .code = QTREE_REFUSED_EXISTS },
+    { .now = 3, .line = "tc filter add dev a parent 2: prio 1 flower ip_proto 0 classid 2:1" },
+    { .now = 3, .line = "tc filter add dev a parent 2: prio 1 flower ip_proto 7 classid 2:1" },
+    { .now = 4, .arrives = 1, .prio = 0 },
+    { .now = 4, .arrives = 2, .prio = 1 },
+    { .now = 5, .line = "tc qdisc add dev a parent 2:1 handle 3: fq_codel limit 2 flows 1" },
+    { .now = 5, .arrives = 3, .prio = 0 },
+    { .now = 5, .arrives = 4, .prio = 0 },
+    { .now = 5, .arrives = 5, .prio = 0 },
+    { .now = 6, .line = "tc qdisc change dev a handle 1: prio bands 3 priomap 0 1 2 2 2 2 2 2 2 2 2 2 2 2 2 2" },
+    { .now = 7, .line = "tc qdisc add dev a parent 1:3 handle 4: tbf rate 1mbit burst 1500 limit 10000" },
+    { .now = 8, .arrives = 6, .prio = 2 },
+    { .now = 8, .arrives = 7, .prio = 2 },
+    { .now = 8, .gives = 4 },
+    { .now = 8, .gives = 5 },
+    { .now = 8, .gives = 2 },
+    { .now = 8, .gives = 6 },
+    { .now = 9, .code = QTREE_LATER },
+    { .now = 10, .line = "tc class change dev a classid 2:1 drr quantum 500" },
+    { .now = 10, .line = "tc filter del dev a parent 2: prio 1" },
+    { .now = 11, .arrives = 8, .prio = 0, .code = QTREE_LOST_NO_CLASS },
+    { .now = 12, .line = "tc class del dev a classid 2:1" },
+    { .now = 13, .line = "tc qdisc change dev a handle 1: prio bands 2 priomap 0 1 1 1 1 1 1 1 1 1 1 1 1 1 1 1" },
+    { .now = 14, .line = "tc qdisc del dev a handle 1:" },
+    { .now = 15, .line = "tc qdisc del dev a handle 1:", .code = QTREE_REFUSED_NO_QDISC },
+    { .now = 15, .arrives = 9, .prio = 0 },
+    { .now = 16, .gives = 9 },
+    { .now = 16, .code = QTREE_IDLE },
+};
+
+/* Each step is made or refused as it has to be, and counts at its own time. One of the texts shows each command that is carried out, and
+ * what is refused changes nothing. At the end each packet that no poll returned was lost once. */
+static void play_tree(void) {
+    const qtree_settings settings = { 100, 3, 1500 };
+    const uint32_t one = 1;
+    CHECK(insist(opens, &settings) == QTREE_DONE && insist(keeps_last, &one) == QTREE_DONE);
+    for (size_t i = 0; i < sizeof tree / sizeof tree[0]; i++) {
+        const struct step *step = &tree[i];
+        CHECK(insist(makes, step) == step->code);
+        CHECK(is_same() == is_refusal(step->code) && (is_refusal(step->code) || after.last.moment == step->now));
+        CHECK(!step->line || is_refusal(step->code) || memcmp(before.text, after.text, sizeof before.text) != 0);
+    }
+    static const qtree_code lost[][2] = {
+        { 1, QTREE_LOST_PURGED },
+        { 3, QTREE_LOST_FAT_FLOW },
+        { 8, QTREE_LOST_NO_CLASS },
+        { 7, QTREE_LOST_PURGED },
+    };
+    qtree_loss loss;
+    for (size_t i = 0; i < sizeof lost / sizeof lost[0]; i++) {
+        CHECK(qtree_reap(&device, &loss) == QTREE_DONE && loss.packet.number == lost[i][0] && loss.cause == lost[i][1]);
+    }
+    CHECK(qtree_reap(&device, &loss) == QTREE_NOTHING);
+    qtree_close(&device);
+}
+
 int main(void) {
     const qtree_settings settings = { 1000, 16, 1514 };
     const uint32_t few = 4, more = 8;
@@ -327,6 +427,7 @@ int main(void) {
     qtree_port_close(&port);
     qtree_outlet_close(&outlet);
     qtree_close(&device);
+    play_tree();
     printf("refused: %lu allocations failed, each with QTREE_MEMORY, and the calls then succeeded\n", refusals);
     return 0;
 }

@@ -20,26 +20,17 @@ const REFUSALS: [(Refusal, u8, &str); 13] = [
     (Refusal::Memory, 90, "refused 90 Memory"),
 ];
 
-// Whether a refusal that was shown so has this number and text.
-fn is(refusal: Refusal, shown: &str, number: u8, text: &str) -> bool {
-    refusal.number() == number && shown == text && text.ends_with(refusal.name())
-}
-
 fn is_shown(alloc: Global, refusal: Refusal, number: u8, text: &str) -> Result<bool, Fail> {
     let shown = format!(in alloc; "{refusal}")?;
-    Ok(is(refusal, shown.as_str(), number, text))
-}
-
-fn expect_texts(alloc: Global, rows: &[(Refusal, u8, &str)]) -> Result<(), Fail> {
-    for (refusal, number, text) in rows {
-        if !is_shown(alloc, *refusal, *number, text)? {
-            return Err(Fail::new(format_args!("{refusal:?}")));
-        }
-    }
-    Ok(())
+    Ok(shown.as_str() == text && refusal.number() == number && text.ends_with(refusal.name()))
 }
 
 #[test]
 fn refusals_are_shown_with_number_and_name(rt: HostRuntime) -> Result<(), Fail> {
-    expect_texts(rt.alloc(), &REFUSALS)
+    for (refusal, number, text) in &REFUSALS {
+        if !is_shown(rt.alloc(), *refusal, *number, text)? {
+            return Err(Fail::new(format_args!("{refusal:?}")));
+        }
+    }
+    Ok(())
 }

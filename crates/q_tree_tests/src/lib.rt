@@ -1,8 +1,8 @@
 //! Tests of trees and devices that need nothing private, and that no line of tc and no call of the crate for Rust can ask for. All others are in
-//! `embed/rust/tests/tree`.
+//! `embed/rust/tests/tree`, and commands for which memory is refused are in `embed/c/refused.c`.
 //!
-//! - `device_commands`: commands for which `rt try --fail-alloc` refuses memory; a qdisc in place of the device itself, which no line names; and
-//!   `play`, which has no call in Rust.
+//! - `device_commands`: `play`, which has no call in Rust or C, also where `rt try --fail-alloc` refuses memory; and a qdisc in place of the device
+//!   itself, which no line names.
 //! - `many_packets`: a play of more events than 16 bits count.
 //! - `tree_calls`: the calls of a tree without a device, such as a peek or one for each kind of command; and commands that no line says.
 //! - `device`: how a refusal is shown, with its number and its name. The crate for Rust shows a sentence instead.

@@ -3,13 +3,32 @@
 ghost use Rattle.std.specs.Prelude.{◌+◌, ◌-◌, ◌≤◌, length, OnOk};
 ghost use Rattle.q_model.specs.Beneath.{beneath};
 
-use crate::lines::{self, New, Spot};
+use crate::lines::{Ask, New, Spot, packet};
 use q_codel::Losses;
-use q_model::{ClassId, Command, Fate, Filter, FilterPrio, Handle, Kind, Place, Quantum, Refusal};
-use q_packet::Packet;
+use q_model::{Command, Fate, Refusal};
 use q_tree::Tree;
 use std::alloc::Global;
 use std::test::Fail;
+
+type Answer = Result<(), Refusal>;
+
+const DONE: Answer = Ok(());
+
+const PFIFO: New = New::Pfifo(None);
+
+// A call on a tree, and what it has to answer.
+enum Call {
+    // The call for this kind of command. Where it is refused, so is the call for every command.
+    Do(Ask, Answer),
+    // A packet of 100 bytes with this number is kept.
+    Put(u64),
+    // The number of the packet that a peek shows; 0 where none is.
+    Peek(u64),
+    // The number of the packet that a take gives; 0 where none is.
+    Take(u64),
+    // How many packets wait in a place.
+    Waiting(Spot, u64),
+}
 
 // Makes room for every packet that may be lost, and one more.
 fn make_room(tree: &Tree, losses: &mut Losses) -> Result<(), Fail>
@@ -21,309 +40,173 @@ fn make_room(tree: &Tree, losses: &mut Losses) -> Result<(), Fail>
     Ok(())
 }
 
-// A tree under test, with what it lost.
-#[derive(Drop)]
-struct Bench {
-    tree: Tree,
-    losses: Losses,
-}
-
-impl Bench {
-    // A pfifo of 100 packets, of at most 1500 bytes each.
-    fn new(alloc: Global) -> Bench {
-        Bench {
-            tree: Tree::new(alloc, 1500, 100),
-            losses: Losses::new(alloc),
-        }
-    }
-
-    // Drops it: this alone drops a tree, since each way on which one is dropped takes long to prove.
-    fn close(self) {}
-
-    fn graft(
-        &mut self,
-        alloc: Global,
-        place: Place,
-        handle: Option<Handle>,
-        kind: Kind,
-    ) -> Result<Option<Refusal>, Fail> {
-        let tree = &mut self.tree;
-        let now = tree.clock();
-        make_room(tree, &mut self.losses)?;
-        let answer = tree.graft(alloc, place, handle, kind, now, &mut self.losses);
-        Ok(answer.err())
-    }
-
-    fn change(
-        &mut self,
-        alloc: Global,
-        place: Option<Place>,
-        handle: Option<Handle>,
-        kind: Kind,
-    ) -> Result<Option<Refusal>, Fail> {
-        let tree = &mut self.tree;
-        let now = tree.clock();
-        make_room(tree, &mut self.losses)?;
-        let answer = tree.change(alloc, place, handle, kind, now, &mut self.losses);
-        Ok(answer.err())
-    }
-
-    fn prune(
-        &mut self,
-        alloc: Global,
-        place: Option<Place>,
-        handle: Option<Handle>,
-    ) -> Result<Option<Refusal>, Fail> {
-        let tree = &mut self.tree;
-        make_room(tree, &mut self.losses)?;
-        let answer = tree.prune(alloc, place, handle, &mut self.losses);
-        Ok(answer.err())
-    }
-
-    fn add_class(
-        &mut self,
-        alloc: Global,
-        parent: Handle,
-        class: ClassId,
-        quantum: Option<Quantum>,
-    ) -> Option<Refusal> {
-        self.tree.class_add(alloc, parent, class, quantum).err()
-    }
-
-    fn change_class(
-        &mut self,
-        parent: Option<Handle>,
-        class: ClassId,
-        quantum: Option<Quantum>,
-    ) -> Option<Refusal> {
-        self.tree.class_change(parent, class, quantum).err()
-    }
-
-    fn del_class(
-        &mut self,
-        parent: Option<Handle>,
-        class: ClassId,
-    ) -> Result<Option<Refusal>, Fail> {
-        let tree = &mut self.tree;
-        make_room(tree, &mut self.losses)?;
-        let answer = tree.class_del(parent, class, &mut self.losses);
-        Ok(answer.err())
-    }
-
-    fn add_filter(&mut self, parent: Handle, major: Handle, filter: Filter) -> Option<Refusal> {
-        self.tree.filter_add(parent, major, filter).err()
-    }
-
-    fn del_filters(&mut self, parent: Handle, prio: FilterPrio) -> Option<Refusal> {
-        self.tree.filter_del(parent, prio).err()
-    }
-
-    // What is answered by the call that is for such commands alone.
-    fn call(&mut self, alloc: Global, command: Command) -> Result<Option<Refusal>, Fail> {
-        match command {
-            Command::QdiscAdd {
-                place,
-                handle,
-                kind,
-            } => self.graft(alloc, place, handle, kind),
-            Command::QdiscChange {
-                place,
-                handle,
-                kind,
-            } => self.change(alloc, place, handle, kind),
-            Command::QdiscDel { place, handle } => self.prune(alloc, place, handle),
-            Command::ClassAdd {
-                parent,
-                class,
-                quantum,
-            } => Ok(self.add_class(alloc, parent, class, quantum)),
-            Command::ClassChange {
-                parent,
-                class,
-                quantum,
-            } => Ok(self.change_class(parent, class, quantum)),
-            Command::ClassDel { parent, class } => self.del_class(parent, class),
-            Command::FilterAdd {
-                parent,
-                major,
-                filter,
-            } => Ok(self.add_filter(parent, major, filter)),
-            Command::FilterDel { parent, prio } => Ok(self.del_filters(parent, prio)),
-        }
-    }
-
-    // What is answered by the call that is for every command.
-    fn command(&mut self, alloc: Global, command: Command) -> Result<Option<Refusal>, Fail> {
-        let tree = &mut self.tree;
-        let now = tree.clock();
-        make_room(tree, &mut self.losses)?;
-        let answer = tree.command(alloc, command, now, &mut self.losses);
-        Ok(answer.err())
-    }
-
-    // Whether a command is refused so by both calls.
-    fn refuses(&mut self, alloc: Global, command: Command, why: Refusal) -> Result<bool, Fail> {
-        if self.call(alloc, command)? != Some(why) {
-            return Ok(false);
-        }
-        Ok(self.command(alloc, command)? == Some(why))
-    }
-
-    // Fails at the first command that is not refused so by both calls, with its place among them.
-    fn expect(&mut self, alloc: Global, rows: &[(Command, Refusal)]) -> Result<(), Fail> {
-        let mut place = 0u64;
-        for (command, refusal) in rows {
-            if !self.refuses(alloc, *command, *refusal)? {
-                return Err(Fail::new(format_args!("refusal {place}: {refusal:?}")));
-            }
-            place = place.saturating_add(1);
-        }
-        Ok(())
-    }
-
-    // Fails at the first command that is not done by the call for its kind, with its place among them.
-    fn done(&mut self, alloc: Global, commands: &[Command]) -> Result<(), Fail> {
-        let mut place = 0u64;
-        for command in commands {
-            if self.call(alloc, *command)?.is_some() {
-                return Err(Fail::new(format_args!("command {place}")));
-            }
-            place = place.saturating_add(1);
-        }
-        Ok(())
-    }
-
-    // What becomes of a packet.
-    fn put(&mut self, packet: Packet) -> Result<Fate, Fail> {
-        let tree = &mut self.tree;
-        let now = tree.clock();
-        let route = tree.route(&packet);
-        tree.prepare(&route)?;
-        make_room(tree, &mut self.losses)?;
-        Ok(tree.put(&route, packet, now, &mut self.losses))
-    }
-
-    // The number of the packet that a peek shows; 0 where none is.
-    fn peek(&mut self) -> Result<u64, Fail> {
-        let tree = &mut self.tree;
-        let now = tree.clock();
-        make_room(tree, &mut self.losses)?;
-        match tree.peek(now, &mut self.losses) {
-            Some(packet) => Ok(packet.number),
-            None => Ok(0),
-        }
-    }
-
-    // The number of the packet that a take gives; 0 where none is.
-    fn take(&mut self) -> Result<u64, Fail> {
-        let tree = &mut self.tree;
-        let now = tree.clock();
-        make_room(tree, &mut self.losses)?;
-        match tree.take(now, &mut self.losses) {
-            Some(packet) => Ok(packet.number),
-            None => Ok(0),
-        }
-    }
-
-    // How many packets wait below the drr, in the class 1:1.
-    fn waiting(&self, class: Place) -> u64 {
-        match self.tree.stats(class) {
-            Some(row) => row.queued.packets,
-            None => u64::MAX,
-        }
-    }
-
-    // Whether the first of two packets is shown twice, while the drr holds it and the second waits below; and then both are taken.
-    fn shows_and_gives(&mut self, packets: [Packet; 2], class: Place) -> Result<bool, Fail> {
-        let [first, second] = packets;
-        if self.put(first)? != Fate::Kept || self.put(second)? != Fate::Kept {
-            return Ok(false);
-        }
-        if self.peek()? != 1 || self.waiting(class) != 1 || self.peek()? != 1 {
-            return Ok(false);
-        }
-        Ok(self.take()? == 1 && self.take()? == 2 && self.take()? == 0)
-    }
-
-    fn refuse_all(&mut self, alloc: Global) -> Result<(), Fail> {
-        self.expect(
-            alloc,
-            &[(lines::graft(Spot::Top, 1, New::Pfifo)?, Refusal::Exists)],
-        )?;
-        self.done(
-            alloc,
-            &[
-                lines::graft(Spot::Root, 1, New::Prio(4))?,
-                lines::graft(Spot::Class(1, 1), 2, New::Pfifo)?,
-            ],
-        )?;
-        self.expect(alloc, &unnamed()?)
-    }
-
-    fn call_all(&mut self, alloc: Global) -> Result<(), Fail> {
-        self.done(alloc, &building()?)?;
-        let packets = [lines::packet(1, 100, 0)?, lines::packet(2, 100, 0)?];
-        if !self.shows_and_gives(packets, Spot::Class(1, 1).place()?)? {
-            return Err(Fail::from("packets"));
-        }
-        self.done(alloc, &removing()?)
+// What is answered by the call that is for such commands alone.
+fn by_kind(alloc: Global, tree: &mut Tree, sink: &mut Losses, command: &Command) -> Answer
+    requires { length (beneath tree.old.tree.root) + 1 ≤ sink.old.places - length sink.old.waiting }
+{
+    let now = tree.clock();
+    match *command {
+        Command::QdiscAdd {
+            place,
+            handle,
+            kind,
+        } => tree.graft(alloc, place, handle, kind, now, sink),
+        Command::QdiscChange {
+            place,
+            handle,
+            kind,
+        } => tree.change(alloc, place, handle, kind, now, sink),
+        Command::QdiscDel { place, handle } => tree.prune(alloc, place, handle, sink),
+        Command::ClassAdd {
+            parent,
+            class,
+            quantum,
+        } => tree.class_add(alloc, parent, class, quantum),
+        Command::ClassChange {
+            parent,
+            class,
+            quantum,
+        } => tree.class_change(parent, class, quantum),
+        Command::ClassDel { parent, class } => tree.class_del(parent, class, sink),
+        Command::FilterAdd {
+            parent,
+            major,
+            filter,
+        } => tree.filter_add(parent, major, filter),
+        Command::FilterDel { parent, prio } => tree.filter_del(parent, prio),
     }
 }
 
-// Refusals of a prio, 1:, over a pfifo, 2:.
-fn unnamed() -> Result<[(Command, Refusal); 8], Fail> {
-    Ok([
-        (lines::graft(Spot::Top, 6, New::Pfifo)?, Refusal::Exists),
-        // With HandleTaken.
-        (lines::graft(Spot::Top, 1, New::Pfifo)?, Refusal::Exists),
-        (lines::change(None, 0, New::Pfifo)?, Refusal::NoQdisc),
-        (
-            lines::change(Some(Spot::Top), 0, New::Pfifo)?,
-            Refusal::NoQdisc,
-        ),
-        (
-            lines::change(Some(Spot::Top), 2, New::Pfifo)?,
-            Refusal::NoQdisc,
-        ),
-        (lines::prune(None, 0)?, Refusal::NoQdisc),
-        (lines::prune(Some(Spot::Top), 0)?, Refusal::NoQdisc),
-        (lines::prune(Some(Spot::Top), 1)?, Refusal::NoQdisc),
-    ])
+// Whether a command is done, or refused by both calls.
+fn is_answered(
+    alloc: Global,
+    tree: &mut Tree,
+    losses: &mut Losses,
+    command: &Command,
+    answer: Answer,
+) -> Result<bool, Fail> {
+    make_room(tree, losses)?;
+    if by_kind(alloc, tree, losses, command) != answer {
+        return Ok(false);
+    }
+    if answer.is_ok() {
+        return Ok(true);
+    }
+    let now = tree.clock();
+    make_room(tree, losses)?;
+    Ok(tree.command(alloc, *command, now, losses) == answer)
 }
 
-// A drr with a class, to which every packet goes.
-fn building() -> Result<[Command; 6], Fail> {
-    Ok([
-        lines::graft(Spot::Root, 1, New::Drr)?,
-        lines::add_class(1, (1, 1), 1500)?,
-        lines::add_filter(1, (1, 1), None)?,
-        lines::graft(Spot::Class(1, 1), 2, New::Packets(2))?,
-        lines::change(None, 2, New::Packets(5))?,
-        lines::change_class((1, 1), 3000)?,
-    ])
+// What becomes of a packet of 100 bytes with this number.
+fn put(tree: &mut Tree, losses: &mut Losses, number: u64) -> Result<Fate, Fail> {
+    let packet = packet(number, 100, 0).ok_or("packet")?;
+    let now = tree.clock();
+    let route = tree.route(&packet);
+    tree.prepare(&route)?;
+    make_room(tree, losses)?;
+    Ok(tree.put(&route, packet, now, losses))
 }
 
-// The class and the drr go.
-fn removing() -> Result<[Command; 3], Fail> {
-    Ok([
-        lines::del_filters(1, 1)?,
-        lines::del_class((1, 1))?,
-        lines::prune(None, 1)?,
-    ])
+// The number of the packet whose turn it is, which a take gives and a peek shows; 0 where none is.
+fn next(tree: &mut Tree, losses: &mut Losses, is_taken: bool) -> Result<u64, Fail> {
+    let now = tree.clock();
+    make_room(tree, losses)?;
+    let packet = if is_taken {
+        tree.take(now, losses)
+    } else {
+        tree.peek(now, losses)
+    };
+    match packet {
+        Some(packet) => Ok(packet.number),
+        None => Ok(0),
+    }
 }
 
+fn is_right(
+    alloc: Global,
+    tree: &mut Tree,
+    losses: &mut Losses,
+    call: &Call,
+) -> Result<bool, Fail> {
+    match call {
+        Call::Do(ask, answer) => {
+            let command = ask.command().ok_or("command")?;
+            is_answered(alloc, tree, losses, &command, *answer)
+        }
+        Call::Put(number) => Ok(put(tree, losses, *number)? == Fate::Kept),
+        Call::Peek(number) => Ok(next(tree, losses, false)? == *number),
+        Call::Take(number) => Ok(next(tree, losses, true)? == *number),
+        Call::Waiting(spot, packets) => match tree.stats(spot.place().ok_or("place")?) {
+            Some(row) => Ok(row.queued.packets == *packets),
+            None => Ok(false),
+        },
+    }
+}
+
+// Fails at the first call that is not answered as it has to be, with its place.
+fn expect(alloc: Global, tree: &mut Tree, losses: &mut Losses, calls: &[Call]) -> Result<(), Fail> {
+    for (place, call) in calls.iter().enumerate() {
+        if !is_right(alloc, tree, losses, call)? {
+            return Err(Fail::new(format_args!("call {place}")));
+        }
+    }
+    Ok(())
+}
+
+// Makes these calls on a new tree, a pfifo of 100 packets, of at most 1500 bytes each. This alone drops a tree, in one place, since each way on which
+// one is dropped takes long to prove.
+fn called(alloc: Global, calls: &[Call]) -> Result<(), Fail> {
+    let mut tree = Tree::new(alloc, 1500, 100);
+    let mut losses = Losses::new(alloc);
+    expect(alloc, &mut tree, &mut losses, calls)
+}
+
+// First at the tree as it is, and then at a prio, 1:, over a pfifo, 2:.
 #[test]
 fn what_no_line_asks_for_is_refused(rt: HostRuntime) -> Result<(), Fail> {
-    let mut bench = Bench::new(rt.alloc());
-    let answer = bench.refuse_all(rt.alloc());
-    bench.close();
-    answer
+    called(
+        rt.alloc(),
+        &[
+            Call::Do(Ask::Graft(Spot::Top, 1, PFIFO), Err(Refusal::Exists)),
+            Call::Do(Ask::Graft(Spot::Root, 1, New::Prio(4)), DONE),
+            Call::Do(Ask::Graft(Spot::Class(1, 1), 2, PFIFO), DONE),
+            Call::Do(Ask::Graft(Spot::Top, 6, PFIFO), Err(Refusal::Exists)),
+            // With HandleTaken.
+            Call::Do(Ask::Graft(Spot::Top, 1, PFIFO), Err(Refusal::Exists)),
+            Call::Do(Ask::Change(Spot::None, 0, PFIFO), Err(Refusal::NoQdisc)),
+            Call::Do(Ask::Change(Spot::Top, 0, PFIFO), Err(Refusal::NoQdisc)),
+            Call::Do(Ask::Change(Spot::Top, 2, PFIFO), Err(Refusal::NoQdisc)),
+            Call::Do(Ask::Prune(Spot::None, 0), Err(Refusal::NoQdisc)),
+            Call::Do(Ask::Prune(Spot::Top, 0), Err(Refusal::NoQdisc)),
+            Call::Do(Ask::Prune(Spot::Top, 1), Err(Refusal::NoQdisc)),
+        ],
+    )
 }
 
+// A drr has a class, to which every packet goes. The first of two packets is shown twice, while the drr holds it and the second waits below; then
+// both are taken, and the class and the drr go.
 #[test]
 fn each_call_of_a_tree_is_answered(rt: HostRuntime) -> Result<(), Fail> {
-    let mut bench = Bench::new(rt.alloc());
-    let answer = bench.call_all(rt.alloc());
-    bench.close();
-    answer
+    called(
+        rt.alloc(),
+        &[
+            Call::Do(Ask::Graft(Spot::Root, 1, New::Drr), DONE),
+            Call::Do(Ask::AddClass(1, 1, 1500), DONE),
+            Call::Do(Ask::Match(1, 1, None), DONE),
+            Call::Do(Ask::Graft(Spot::Class(1, 1), 2, New::Pfifo(Some(2))), DONE),
+            Call::Do(Ask::Change(Spot::None, 2, New::Pfifo(Some(5))), DONE),
+            Call::Do(Ask::ChangeClass(1, 1, 3000), DONE),
+            Call::Put(1),
+            Call::Put(2),
+            Call::Peek(1),
+            Call::Waiting(Spot::Class(1, 1), 1),
+            Call::Peek(1),
+            Call::Take(1),
+            Call::Take(2),
+            Call::Take(0),
+            Call::Do(Ask::Unfilter(1), DONE),
+            Call::Do(Ask::DelClass(1, 1), DONE),
+            Call::Do(Ask::Prune(Spot::None, 1), DONE),
+        ],
+    )
 }
