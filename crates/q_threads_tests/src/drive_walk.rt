@@ -1,11 +1,10 @@
 use q_device::{Event, Lost};
 use q_packet::{Cause, Packet};
-use std::alloc::{AllocError, Global};
 
 /// The most packets that arrive in a turn of a drive, and the most polls.
 const MOST: u64 = 64;
 
-/// A walk along the recorded events of a drive of two ports over one pfifo, from 0 on.
+/// A walk along the recorded events of a drive of two ports over one pfifo, which refuses one packet at most, from 0 on.
 ///
 /// Each turn comes a step after the one before: packets of each port in the order of their numbers, and then polls up to the first that
 /// finds nothing. In the end what was left in the rings arrives.
@@ -22,14 +21,17 @@ pub struct DriveWalk {
     polls: u64,
     is_polled: bool,
     is_settling: bool,
-    placed: [u64; 2],
-    queued: u64,
-    lost: Vec<Lost>,
+    /// How many packets of each port have arrived.
+    pub placed: [u64; 2],
+    /// How many packets are queued.
+    pub queued: u64,
+    /// What was refused so far.
+    pub lost: Option<Lost>,
 }
 
 impl DriveWalk {
     /// A walk that has not begun.
-    pub fn new(alloc: Global, given: Packet, limit: u64, step: u64) -> DriveWalk {
+    pub fn new(given: Packet, limit: u64, step: u64) -> DriveWalk {
         DriveWalk {
             given,
             limit,
@@ -42,58 +44,49 @@ impl DriveWalk {
             is_settling: false,
             placed: [0, 0],
             queued: 0,
-            lost: Vec::new(alloc),
+            lost: None,
         }
     }
 
-    /// What was refused so far, in order.
-    pub fn lost(&self) -> &[Lost] {
-        self.lost.as_slice()
-    }
-
-    /// How many packets are queued, and how many of each port have arrived.
-    pub fn left(&self) -> (u64, [u64; 2]) {
-        (self.queued, self.placed)
-    }
-
     /// Whether all these events may follow.
-    pub fn follow(&mut self, events: &[Event]) -> Result<bool, AllocError> {
+    pub fn follow(&mut self, events: &[Event]) -> bool {
         for event in events {
             let follows = match event {
-                Event::Arrive(packet, now) => self.arrive(packet, now.ns())?,
+                Event::Arrive(packet, now) => self.arrive(packet, now.ns()),
                 Event::Poll(now) => self.poll(now.ns()),
                 Event::Command(_, _) => false,
             };
             if !follows {
-                return Ok(false);
+                return false;
             }
         }
-        Ok(self.is_polled)
+        self.is_polled
     }
 
     // A packet arrives in the turn, begins the next one, or was left in its ring.
-    fn arrive(&mut self, packet: &Packet, now: u64) -> Result<bool, AllocError> {
+    fn arrive(&mut self, packet: &Packet, now: u64) -> bool {
         let port = packet.port as usize;
         if port > 1 || !self.takes_arrival(now) {
-            return Ok(false);
+            return false;
         }
         let number = self.placed[port].saturating_add(1);
         self.placed[port] = number;
         if self.queued < self.limit {
             self.queued += 1;
-        } else {
-            let cause = Cause::OverLimit;
-            self.lost.push(Lost {
+        } else if self.lost.is_none() {
+            self.lost = Some(Lost {
                 packet: *packet,
-                cause,
-            })?;
+                cause: Cause::OverLimit,
+            });
+        } else {
+            return false;
         }
         let wanted = Packet {
             port: packet.port,
             number,
             ..self.given
         };
-        Ok(*packet == wanted)
+        *packet == wanted
     }
 
     fn takes_arrival(&mut self, now: u64) -> bool {

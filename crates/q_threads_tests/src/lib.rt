@@ -37,6 +37,8 @@ mod senders;
 #[cfg(test)]
 mod shaped;
 #[cfg(test)]
+mod signals;
+#[cfg(test)]
 mod traffic;
 #[cfg(test)]
 mod unbooked;

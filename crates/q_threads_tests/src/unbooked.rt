@@ -6,8 +6,8 @@ ghost use Rattle.q_ports.specs.Placed.{ring_of_port};
 ghost use Rattle.q_ports.specs.Rings.{ring_id};
 ghost use Rattle.q_ports.specs.Rows.{new_gauge, shown_on, GaugeSeen};
 
-use crate::common::limited;
-use q_device::Device;
+use crate::common::{limited, row};
+use q_device::{Device, Row};
 use q_ports::{Booked, Drain, Gauge, Port, Seat, open_ports};
 use std::alloc::Global;
 use std::process::Abort;
@@ -38,6 +38,15 @@ pub fn end<P: Ledger, B: Ledger, R: Wait>(
     _gauges: Vec<Gauge>,
 ) {
     drain.end(rt);
+}
+
+/// The last row of a device whose drain has settled. The device is dropped here, for the same reason, and so are its gauges.
+pub fn last_row<P: Ledger, B: Ledger, R: Wait>(
+    rt: &R,
+    booked: Mutex<Booked<P, B>>,
+    _gauges: Vec<Gauge>,
+) -> Row {
+    row(rt, &booked)
 }
 
 impl Unbooked {

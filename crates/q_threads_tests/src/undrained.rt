@@ -5,10 +5,10 @@ ghost use Rattle.q_ports.specs.Placed.{ring_of_port};
 ghost use Rattle.q_ports.specs.Rings.{ring_id};
 
 use crate::blockade::Blockade;
-use crate::common::{assert_count, assert_totals, driven_all, hundreds, packet, row};
+use crate::common::{assert_count, assert_totals, driven_all, hundreds, packet};
 use crate::drive_walk::DriveWalk;
-use crate::unbooked::{Unbooked, fresh};
-use q_device::Lost;
+use crate::signals::Signals;
+use crate::unbooked::{Unbooked, fresh, last_row};
 use q_packet::Packet;
 use q_ports::{Booked, Drain, Port};
 use std::alloc::{AllocError, Global};
@@ -37,7 +37,7 @@ fn what_finds_its_ring_full_is_given_up(rt: HostRuntime) -> Result<(), Fail> {
     let given = packet(5).expect(&rt, "a packet");
     let loads = loads(alloc, given)?;
     let unbooked = fresh(&rt, alloc, LIMIT as u32, RECORDED as u32);
-    let walk = DriveWalk::new(alloc, given, LIMIT, 1);
+    let walk = DriveWalk::new(given, LIMIT, 1);
     undrained::<Brand, Brand, _>(&rt, alloc, unbooked, loads, walk);
     Ok(())
 }
@@ -52,7 +52,7 @@ fn loads(alloc: Global, given: Packet) -> Result<Vec<Vec<Packet>>, AllocError> {
 
 // Of port 0 a hundred packets are placed and twenty given up, and its last one and that of port 1 are placed once the drain has
 // taken turns. The first of these takes 64 packets, of which the device refuses one, and sends the others; the next one takes
-// the rest.
+// the rest. The recorded events are those of such a drive; what came behind a full recorder is not checked.
 fn undrained<P: Ledger + Send + Sync, B: Ledger + Send + Sync, R: Threads + Wait + Sync + Abort>(
     rt: &R,
     alloc: Global,
@@ -62,64 +62,36 @@ fn undrained<P: Ledger + Send + Sync, B: Ledger + Send + Sync, R: Threads + Wait
 )
     requires { (unbooked.packets.name ≡ P.name) × (P.parts ≡ 65) × (unbooked.bytes.name ≡ B.name) × (B.parts ≡ 65) }
 {
-    assert!(rt; loads.len() == 2);
-    let (booked, drain, ports, _gauges) = unbooked.opened::<P, B, R>(rt, alloc, (2, PLACES, 0));
+    let counts = (loads.len(), PLACES, 0);
+    let (booked, drain, ports, gauges) = unbooked.opened::<P, B, R>(rt, alloc, counts);
     drive_blocked(rt, alloc, &booked, drain, ports, loads);
-    let row = row(rt, &booked);
+    let mut walk = walk;
+    let (is_whole, is_walked) = is_walked(rt, &booked, &mut walk);
+    let row = last_row(rt, booked, gauges);
     assert_totals(rt, row.arrived, hundreds(102));
     assert_totals(rt, row.refused, hundreds(1));
-    let mut walk = walk;
-    assert_walked(rt, &booked, &mut walk);
+    if is_whole {
+        assert!(rt; is_walked);
+        assert_totals(rt, row.queued, hundreds(walk.queued));
+        assert_eq!(rt; walk.placed, [101u64, 1]);
+    }
 }
 
-// The recorded events are those of such a drive, and every packet that was refused comes back, and no other. What came behind a full
-// recorder is not checked.
-fn assert_walked<P: Ledger, B: Ledger, R: Wait + Abort>(
+// Whether all events were recorded, and whether the walk follows those that were, and the packet that was refused comes back and no
+// other.
+fn is_walked<P: Ledger, B: Ledger, R: Wait>(
     rt: &R,
     booked: &Mutex<Booked<P, B>>,
     walk: &mut DriveWalk,
-) {
-    if events(rt, booked) > RECORDED {
-        return;
-    }
-    assert!(rt; is_followed(rt, booked, walk));
-    assert!(rt; are_reaped(rt, booked, walk.lost()));
-    let (queued, placed) = walk.left();
-    assert_totals(rt, row(rt, booked).queued, hundreds(queued));
-    assert_eq!(rt; placed, [101u64, 1]);
-}
-
-// How many events happened.
-fn events<P: Ledger, B: Ledger, R: Wait>(rt: &R, booked: &Mutex<Booked<P, B>>) -> u64 {
-    booked.lock(rt).events()
-}
-
-// Whether the walk follows all recorded events.
-fn is_followed<P: Ledger, B: Ledger, R: Wait>(
-    rt: &R,
-    booked: &Mutex<Booked<P, B>>,
-    walk: &mut DriveWalk,
-) -> bool {
-    matches!(walk.follow(booked.lock(rt).recorded()), Ok(true))
-}
-
-// Whether these losses are reaped, and no other.
-fn are_reaped<P: Ledger, B: Ledger, R: Wait>(
-    rt: &R,
-    booked: &Mutex<Booked<P, B>>,
-    wanted: &[Lost],
-) -> bool {
-    for lost in wanted {
-        if reap(rt, booked) != Some(*lost) {
-            return false;
-        }
-    }
-    reap(rt, booked).is_none()
-}
-
-// The next loss.
-fn reap<P: Ledger, B: Ledger, R: Wait>(rt: &R, booked: &Mutex<Booked<P, B>>) -> Option<Lost> {
-    booked.lock(rt).reap()
+) -> (bool, bool) {
+    let mut locked = booked.lock(rt);
+    let is_whole = locked.events() <= RECORDED;
+    let is_followed = walk.follow(locked.recorded());
+    let (first, second) = (locked.reap(), locked.reap());
+    (
+        is_whole,
+        is_followed && first == walk.lost && second.is_none(),
+    )
 }
 
 // Drives the ports past the blockade.
@@ -139,10 +111,14 @@ fn drive_blocked<
     requires ports { map ring_of_port ports.items ≡ map ring_id drain.rings }
     requires loads { length loads.items ≡ length ports.items }
 {
-    let gate = Blockade::new(rt, booked, 121, PLACES as u64);
+    let signals = Signals::new(121, PLACES as u64);
+    let gate = Blockade {
+        rt,
+        booked,
+        signals: &signals,
+    };
     let (settled, given_up) = driven_all(rt, alloc, booked, drain, ports, loads, &gate, 1, 3);
-    assert_count(rt, gate.missed(), 0);
-    assert_eq!(rt; gate.placed(), (102u64, 5172u64));
+    assert_eq!(rt; signals.counts(), (0u64, 102u64, 5172u64));
     assert_totals(rt, settled, hundreds(102));
     assert_count(rt, given_up, GIVEN_UP);
 }
