@@ -7,35 +7,18 @@ ghost use Rattle.q_ports.specs.Rows.{shown_on};
 
 use q_device::{Device, Row, Settings, Totals};
 use q_packet::{Ecn, FlowKey, Moment, Packet};
-use q_ports::{Booked, Drain, Full, Gate, Port, Turn, drive};
+use q_ports::{Booked, Drain, Full, Gate, Port, Turn, Unsettled, drive};
 use std::alloc::{AllocError, Global};
 use std::process::Abort;
 use std::sync::ledger::Ledger;
 use std::sync::{Mutex, Wait};
 use std::thread::Threads;
 
-/// A device with the default settings at which nothing has arrived, which records so many events. `None` if an allocation fails.
-pub fn device(alloc: Global, recorded: u32) -> Option<Device>
-    ensures { IfSome result (λ d. d.device.tree.top.arrived ≡ no_totals) }
-{
-    limited(alloc, 1000, recorded)
-}
-
-/// The same with room for so many packets.
+/// A device at which nothing has arrived, with room for so many packets, which records so many events. `None` if an allocation fails.
 pub fn limited(alloc: Global, limit: u32, recorded: u32) -> Option<Device>
     ensures { IfSome result (λ d. d.device.tree.top.arrived ≡ no_totals) }
 {
     Device::open(alloc, Settings::new(1514, limit, recorded)?).ok()
-}
-
-/// The device of [`device`], at the second try if an allocation fails.
-pub fn retried(alloc: Global, recorded: u32) -> Option<Device>
-    ensures { IfSome result (λ d. d.device.tree.top.arrived ≡ no_totals) }
-{
-    match device(alloc, recorded) {
-        Some(device) => Some(device),
-        None => device(alloc, recorded),
-    }
 }
 
 /// A packet of 100 bytes with this number.
@@ -85,14 +68,14 @@ pub fn offer_at(ports: &mut Vec<Port>, at: usize, packet: Packet) -> Result<(), 
     offer(&mut ports[at], packet)
 }
 
-/// Places so many packets at the first port, in whose ring there is room for them.
-pub fn fill<R: Abort>(rt: &R, ports: &mut Vec<Port>, count: u64, packet: Packet)
-    requires { 0 < length ports.old.items }
+/// Places so many packets at one of the ports, in whose ring there is room for them.
+pub fn fill<R: Abort>(rt: &R, ports: &mut Vec<Port>, at: usize, count: u64, packet: Packet)
+    requires { at < length ports.old.items }
     ensures rings { map ring_of_port ports.new.items ≡ map ring_of_port ports.old.items }
     ensures count { length ports.new.items ≡ length ports.old.items }
 {
     for _offer in 0..count {
-        assert!(rt; offer_at(ports, 0, packet).is_ok());
+        assert!(rt; offer_at(ports, at, packet).is_ok());
     }
 }
 
@@ -145,38 +128,28 @@ pub fn row<P: Ledger, B: Ledger, R: Wait>(rt: &R, booked: &Mutex<Booked<P, B>>) 
     booked.lock(rt).totals()
 }
 
-/// Settles, and asserts that so much was placed at the ports.
-pub fn assert_settles<P: Ledger, B: Ledger, R: Wait + Abort>(
+/// Settles at this time, and answers how much was placed at the ports. `None` if an allocation fails. The caller asserts it where it owns
+/// nothing of this, since each way out is dear to prove beside it.
+pub fn settled_at<P: Ledger, B: Ledger, R: Wait>(
     rt: &R,
     booked: &Mutex<Booked<P, B>>,
     drain: Drain<P, B>,
     ports: Vec<Port>,
-    wanted: Totals,
-)
-    requires parts { (P.parts ≡ 65) × (B.parts ≡ 65) }
-    requires ports { map ring_of_port ports.items ≡ map ring_id drain.rings }
-{
-    assert_settles_at(rt, booked, drain, ports, wanted, 0);
-}
-
-/// The same at this time.
-pub fn assert_settles_at<P: Ledger, B: Ledger, R: Wait + Abort>(
-    rt: &R,
-    booked: &Mutex<Booked<P, B>>,
-    drain: Drain<P, B>,
-    ports: Vec<Port>,
-    wanted: Totals,
     now: u64,
-)
+) -> Option<Totals>
     requires parts { (P.parts ≡ 65) × (B.parts ≡ 65) }
     requires ports { map ring_of_port ports.items ≡ map ring_id drain.rings }
 {
-    let now = moment(now);
-    match drain.settle(rt, booked, ports, now) {
-        Ok(settled) => assert_totals(rt, settled.share(), wanted),
-        Err(unsettled) => {
-            unsettled.drain.end(rt);
-            panic!(rt; "memory")
+    match drain.settle(rt, booked, ports, moment(now)) {
+        Ok(settled) => Some(settled.share()),
+        Err(
+            Unsettled {
+                drain,
+                ports: _ports,
+            },
+        ) => {
+            drain.end(rt);
+            None
         }
     }
 }

@@ -4,7 +4,7 @@ use std::thread;
 /// How often one looks for the others before it gives up.
 const LOOKS: u64 = 10_000_000;
 
-/// So many threads that look for each other.
+/// So many threads that are waited for.
 #[derive(Drop)]
 pub struct Crowd {
     wanted: u64,
@@ -20,9 +20,13 @@ impl Crowd {
         }
     }
 
-    /// One comes, and waits for all others; whether they have come.
-    pub fn meet(&self) -> bool {
+    /// One comes.
+    pub fn come(&self) {
         self.come.fetch_add(1, Ordering::SeqCst);
+    }
+
+    /// Waits until all have come, and answers whether they have.
+    pub fn have_come(&self) -> bool {
         for _look in 0..LOOKS {
             if self.come.load(Ordering::SeqCst) >= self.wanted {
                 return true;

@@ -2,10 +2,10 @@
 ghost use Rattle.std.specs.Prelude.{◌≡◌};
 
 use crate::common::{assert_count, packet, row, take_turn};
-use crate::traffic::Traffic;
-use crate::unbooked::{Unbooked, fresh};
+use crate::traffic::{Traffic, read_beside};
+use crate::unbooked::{Unbooked, end, fresh};
 use q_packet::Packet;
-use q_ports::{Booked, Drain, Gauge, Port};
+use q_ports::{Booked, Drain, Port};
 use std::alloc::Global;
 use std::marker::Brand;
 use std::process::Abort;
@@ -50,13 +50,13 @@ fn outlived<P: Ledger, B: Ledger, R: Threads + Wait + Abort>(
     let reading = read_beside(rt, traffic, &mut gauges);
     let one = offer_beside(rt, traffic, &mut ports, given);
     let zero = offer_beside(rt, traffic, &mut ports, given);
-    take_turns(rt, alloc, &booked, &mut drain, traffic);
-    drain.end(rt);
+    let arrived = take_turns(rt, alloc, &booked, &mut drain, traffic);
+    end(rt, booked, drain, ports, gauges);
     traffic.end();
     let placed = placed_by(rt, zero).saturating_add(placed_by(rt, one));
-    let wanted = row(rt, &booked).arrived.packets.saturating_add(2 * PLACES);
-    assert_count(rt, placed, wanted);
-    assert_count(rt, reading.join(rt), 0);
+    assert_count(rt, placed, arrived.saturating_add(2 * PLACES));
+    let (wrong, _most) = reading.join(rt);
+    assert_count(rt, wrong, 0);
 }
 
 // How many packets a sender has placed, once it has ended.
@@ -64,18 +64,19 @@ fn placed_by<R: Threads>(rt: &R, sender: JoinHandle<Port>) -> u64 {
     sender.join(rt).share().packets
 }
 
-// Takes turns until enough has arrived, and the gauge has read a row.
+// Takes turns until enough has arrived, and the gauge has read a row. Answers how many packets have arrived.
 fn take_turns<P: Ledger, B: Ledger, R: Wait + Abort>(
     rt: &R,
     alloc: Global,
     booked: &Mutex<Booked<P, B>>,
     drain: &mut Drain<P, B>,
     traffic: &Traffic,
-) {
+) -> u64 {
     for _turn in 0..10_000_000u64 {
         take_turn(rt, alloc, booked, drain, 0, 8);
-        if row(rt, booked).arrived.packets >= ARRIVED && traffic.read() > 0 {
-            return;
+        let arrived = row(rt, booked).arrived.packets;
+        if arrived >= ARRIVED && traffic.read() > 0 {
+            return arrived;
         }
         thread::yield_now();
     }
@@ -92,15 +93,4 @@ fn offer_beside<R: Threads + Abort>(
     let port = ports.pop().expect(rt, "a port");
     let traffic = Arc::try_clone(traffic).expect(rt, "a count");
     thread::spawn(rt, move || traffic.offer_on(port, given)).expect(rt, "a thread")
-}
-
-// A thread in which a gauge reads.
-fn read_beside<R: Threads + Abort>(
-    rt: &R,
-    traffic: &Arc<Traffic, Global>,
-    gauges: &mut Vec<Gauge>,
-) -> JoinHandle<u64> {
-    let gauge = gauges.pop().expect(rt, "a gauge");
-    let traffic = Arc::try_clone(traffic).expect(rt, "a count");
-    thread::spawn(rt, move || traffic.read_on(gauge)).expect(rt, "a thread")
 }

@@ -17,8 +17,6 @@ mod meeting;
 #[cfg(test)]
 mod open_gate;
 #[cfg(test)]
-mod pair;
-#[cfg(test)]
 mod port_calls;
 #[cfg(test)]
 mod ports;
@@ -36,6 +34,8 @@ mod rows;
 mod senders;
 #[cfg(test)]
 mod shaped;
+#[cfg(test)]
+mod shown;
 #[cfg(test)]
 mod signals;
 #[cfg(test)]

@@ -1,8 +1,6 @@
 use crate::crowd::Crowd;
-use crate::pair::Pair;
 use crate::port_calls::PortCalls;
 use crate::rows::{NO_ROW, is_balanced, is_not_lower};
-use q_device::Row;
 use q_ports::{Gate, Gauge};
 use std::alloc::{AllocError, Global};
 use std::sync::atomic::{AtomicU64, Ordering};
@@ -21,8 +19,8 @@ pub struct Meeting {
     fewest: u64,
     at_first: Crowd,
     at_last: Crowd,
-    begun: Pair,
-    read: Pair,
+    begun: Crowd,
+    read: Crowd,
     missed: AtomicU64,
     calls: Vec<PortCalls>,
     offered: AtomicU64,
@@ -41,8 +39,8 @@ impl Meeting {
             fewest,
             at_first: Crowd::new(ports as u64),
             at_last: Crowd::new(ports as u64),
-            begun: Pair::new(),
-            read: Pair::new(),
+            begun: Crowd::new(2),
+            read: Crowd::new(2),
             missed: AtomicU64::new(0),
             calls,
             offered: AtomicU64::new(0),
@@ -61,29 +59,26 @@ impl Meeting {
 
     /// Reads rows once half of the loads of ports 0 and 1 is placed: how many of them were there, balanced, no lower than the one
     /// before, and of no fewer arrivals than are to be seen.
-    pub fn read_often(&self, gauge: Gauge, is_zero: bool) -> u64 {
+    pub fn read_often(&self, gauge: Gauge) -> u64 {
         let mut gauge = gauge;
         self.wait_for(&self.begun);
         let mut good = 0u64;
         let mut before = NO_ROW;
         for _read in 0..READS {
             if let Some(row) = gauge.read() {
-                if self.is_good(&before, &row) {
+                let seen = row.arrived.packets >= self.fewest;
+                if seen && is_balanced(&row) && is_not_lower(&before, &row) {
                     good = good.saturating_add(1);
                 }
                 before = row;
             }
         }
-        self.read.come(is_zero);
+        self.read.come();
         good
     }
 
-    fn is_good(&self, before: &Row, row: &Row) -> bool {
-        row.arrived.packets >= self.fewest && is_balanced(row) && is_not_lower(before, row)
-    }
-
-    fn wait_for(&self, pair: &Pair) {
-        self.expect(pair.have_come());
+    fn wait_for(&self, crowd: &Crowd) {
+        self.expect(crowd.have_come());
     }
 
     fn expect(&self, holds: bool) {
@@ -101,13 +96,15 @@ impl Gate for Meeting {
             None => false,
         });
         if nth == 1 {
-            self.expect(self.at_first.meet());
+            self.at_first.come();
+            self.wait_for(&self.at_first);
         }
         if port <= 1 && nth == self.last / 2 {
-            self.begun.come(port == 0);
+            self.begun.come();
         }
         if nth == self.last {
-            self.expect(self.at_last.meet());
+            self.at_last.come();
+            self.wait_for(&self.at_last);
         }
         if port <= 1 && nth == self.last {
             self.wait_for(&self.read);

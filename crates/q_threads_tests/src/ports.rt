@@ -5,11 +5,10 @@ ghost use Rattle.q_ports.specs.Rings.{ring_id};
 ghost use Rattle.q_ports.specs.Rows.{new_gauge, shown_on, GaugeSeen};
 
 use crate::common::{
-    assert_count, assert_full, assert_settles, assert_totals, fill, hundreds, offer_at, packet,
-    row, turn,
+    assert_count, assert_full, assert_totals, hundreds, offer_at, packet, settled_at, turn,
 };
 use crate::rows::NO_ROW;
-use crate::unbooked::{Unbooked, end, fresh};
+use crate::unbooked::{Unbooked, end, fresh, last_row};
 use q_device::{Polled, Row};
 use q_packet::{Moment, Packet};
 use q_ports::{Booked, Drain, Gauge, Port, Turn};
@@ -38,28 +37,10 @@ fn ports_on_one_thread(rt: HostRuntime) -> Result<(), Fail> {
 fn a_turn_takes_1024_packets(rt: HostRuntime) -> Result<(), Fail> {
     let alloc = rt.alloc();
     let given = packet(77).expect(&rt, "a packet");
+    let packets = vec![in alloc; given; 1024]?;
     let unbooked = fresh(&rt, alloc, 2000, 0);
-    long_turn::<Brand, Brand, _>(&rt, alloc, unbooked, given);
+    long_turns::<Brand, Brand, _>(&rt, alloc, unbooked, packets, 1);
     Ok(())
-}
-
-// Fills a ring of 1024 places, and takes a turn of as many.
-fn long_turn<P: Ledger, B: Ledger, R: Wait + Abort>(
-    rt: &R,
-    alloc: Global,
-    unbooked: Unbooked,
-    given: Packet,
-)
-    requires { (unbooked.packets.name ≡ P.name) × (P.parts ≡ 65) × (unbooked.bytes.name ≡ B.name) × (B.parts ≡ 65) }
-{
-    let (booked, mut drain, mut ports, gauges) = unbooked.opened::<P, B, R>(
-        rt,
-        alloc,
-        (1, 1024, 0),
-    );
-    fill(rt, &mut ports, 1024, given);
-    assert_tells(rt, alloc, &booked, &mut drain, 1024, 1024);
-    end(rt, booked, drain, ports, gauges);
 }
 
 // More turns of 1024 than bring 2^20 packets: neither a port nor a drain nor what gauges see ends there.
@@ -71,16 +52,17 @@ fn more_than_a_million_go_through_a_drain(rt: HostRuntime) -> Result<(), Fail> {
     let given = packet(77).expect(&rt, "a packet");
     let packets = vec![in alloc; given; 1024]?;
     let unbooked = fresh(&rt, alloc, 2000, 0);
-    many_turns::<Brand, Brand, _>(&rt, alloc, unbooked, packets);
+    long_turns::<Brand, Brand, _>(&rt, alloc, unbooked, packets, TURNS);
     Ok(())
 }
 
-// Fills a ring for each turn, which takes and sends all that waits, and which a gauge shows.
-fn many_turns<P: Ledger, B: Ledger, R: Wait + Abort>(
+// Fills a ring for each of so many turns, which takes and sends all that waits, and which a gauge shows.
+fn long_turns<P: Ledger, B: Ledger, R: Wait + Abort>(
     rt: &R,
     alloc: Global,
     unbooked: Unbooked,
     packets: Vec<Packet>,
+    turns: u64,
 )
     requires { (unbooked.packets.name ≡ P.name) × (P.parts ≡ 65) × (unbooked.bytes.name ≡ B.name) × (B.parts ≡ 65) }
 {
@@ -90,7 +72,7 @@ fn many_turns<P: Ledger, B: Ledger, R: Wait + Abort>(
         (1, 1024, 1),
     );
     let mut shown = 0u64;
-    for _turn in 0..TURNS {
+    for _turn in 0..turns {
         place_all(rt, &mut ports, &packets);
         shown = shown.saturating_add(1024);
         assert_tells(rt, alloc, &booked, &mut drain, 1024, 1024);
@@ -113,18 +95,10 @@ fn place_all<R: Abort>(rt: &R, ports: &mut Vec<Port>, packets: &Vec<Packet>) {
 #[test]
 fn all_ports_of_the_longest_rings(rt: HostRuntime) -> Result<(), Fail> {
     let alloc = rt.alloc();
+    let given = packet(77).expect(&rt, "a packet");
     let unbooked = fresh(&rt, alloc, 1000, 0);
-    all_opened::<Brand, Brand, _>(&rt, alloc, unbooked);
+    gauged::<Brand, Brand, _>(&rt, alloc, unbooked, (64, 65_536, 16), given);
     Ok(())
-}
-
-fn all_opened<P: Ledger, B: Ledger, R: Wait + Abort>(rt: &R, alloc: Global, unbooked: Unbooked)
-    requires { (unbooked.packets.name ≡ P.name) × (P.parts ≡ 65) × (unbooked.bytes.name ≡ B.name) × (B.parts ≡ 65) }
-{
-    let (booked, drain, ports, gauges) = unbooked.opened::<P, B, R>(rt, alloc, (64, 65_536, 16));
-    assert_count(rt, ports.len() as u64, 64);
-    assert_count(rt, gauges.len() as u64, 16);
-    end(rt, booked, drain, ports, gauges);
 }
 
 // As many gauges as there may be, and none: each shows the turns before, learns of one more, and shows it.
@@ -134,29 +108,27 @@ fn each_number_of_gauges_reads_and_learns(rt: HostRuntime) -> Result<(), Fail> {
     let given = packet(77).expect(&rt, "a packet");
     for count in 0..17usize {
         let unbooked = fresh(&rt, alloc, 1000, 0);
-        gauged::<Brand, Brand, _>(&rt, alloc, unbooked, count, given);
+        gauged::<Brand, Brand, _>(&rt, alloc, unbooked, (1, 1, count), given);
     }
     Ok(())
 }
 
-// Opens a port with so many gauges, and takes a turn for each.
+// Opens so many ports with rings of so many places, and so many gauges, for each of which it takes a turn.
 fn gauged<P: Ledger, B: Ledger, R: Wait + Abort>(
     rt: &R,
     alloc: Global,
     unbooked: Unbooked,
-    count: usize,
+    counts: (usize, usize, usize),
     given: Packet,
 )
     requires { (unbooked.packets.name ≡ P.name) × (P.parts ≡ 65) × (unbooked.bytes.name ≡ B.name) × (B.parts ≡ 65) }
 {
-    let (booked, mut drain, mut ports, gauges) = unbooked.opened::<P, B, R>(
-        rt,
-        alloc,
-        (1, 1, count),
-    );
-    assert_count(rt, gauges.len() as u64, count as u64);
+    let (booked, mut drain, mut ports, gauges) = unbooked.opened::<P, B, R>(rt, alloc, counts);
+    let (opened, read) = (ports.len() as u64, gauges.len() as u64);
     read_each(rt, alloc, &booked, &mut drain, &mut ports, gauges, given);
     end(rt, booked, drain, ports, Vec::new(alloc));
+    assert_count(rt, opened, counts.0 as u64);
+    assert_count(rt, read, counts.2 as u64);
 }
 
 // A packet is placed and a turn taken for each gauge.
@@ -223,8 +195,12 @@ fn ring_of_one<P: Ledger, B: Ledger, R: Wait + Abort>(
         &mut gauges,
         given,
     );
-    assert_settles(rt, &booked, drain, ports, hundreds(2));
-    assert_left(rt, &booked);
+    let settled = settled_at(rt, &booked, drain, ports, 0);
+    let (row, polled) = left(rt, &booked);
+    let last = last_row(rt, booked, gauges);
+    assert_eq!(rt; settled, Some(hundreds(2)));
+    assert_left(rt, &row, &polled);
+    assert_totals(rt, last.sent, hundreds(2));
 }
 
 // Places a packet, which fills the ring, and another one after a turn.
@@ -251,13 +227,17 @@ fn place_two<P: Ledger, B: Ledger, R: Wait + Abort>(
     offer_under_lock(rt, booked, ports, 0, given);
 }
 
+// The row of the device, and what it gives next.
+fn left<P: Ledger, B: Ledger, R: Wait>(rt: &R, booked: &Mutex<Booked<P, B>>) -> (Row, Polled) {
+    let mut locked = booked.lock(rt);
+    (locked.totals(), locked.poll(Moment::zero()))
+}
+
 // Of two packets the first was sent, and the second is queued.
-fn assert_left<P: Ledger, B: Ledger, R: Wait + Abort>(rt: &R, booked: &Mutex<Booked<P, B>>) {
-    let row = row(rt, booked);
+fn assert_left<R: Abort>(rt: &R, row: &Row, polled: &Polled) {
     assert_totals(rt, row.arrived, hundreds(2));
     assert_totals(rt, row.sent, hundreds(1));
     assert_totals(rt, row.queued, hundreds(1));
-    let polled = booked.lock(rt).poll(Moment::zero());
     let Polled::Packet(second) = polled else {
         panic!(rt; "a packet waits");
     };
@@ -280,22 +260,18 @@ fn offer_under_lock<P: Ledger, B: Ledger, R: Wait + Abort>(
     assert!(rt; offer_at(ports, at, given).is_ok());
 }
 
-// The row of a device at which so many packets have arrived and were sent.
-fn all_sent(packets: u64) -> Row {
-    let (arrived, sent) = (hundreds(packets), hundreds(packets));
-    Row {
-        arrived,
-        sent,
-        ..NO_ROW
-    }
-}
-
 // The gauge reads a row in which so many packets have arrived and were sent, and nothing else is counted.
 fn assert_shows<R: Abort>(rt: &R, gauge: &mut Gauge, packets: u64)
     ensures { gauge.new.book ≡ gauge.old.book }
 {
     let row = gauge.read().expect(rt, "a row");
-    assert_eq!(rt; row, all_sent(packets));
+    let (arrived, sent) = (hundreds(packets), hundreds(packets));
+    let wanted = Row {
+        arrived,
+        sent,
+        ..NO_ROW
+    };
+    assert_eq!(rt; row, wanted);
 }
 
 // The first gauge reads such a row.

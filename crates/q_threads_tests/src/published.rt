@@ -4,11 +4,11 @@ ghost use Rattle.q_ports.specs.Placed.{ring_of_port};
 ghost use Rattle.q_ports.specs.Rings.{ring_id};
 
 use crate::common::{
-    assert_count, assert_settles, assert_totals, driven_all, fill, hundreds, loads, packet,
-    take_turn,
+    assert_count, assert_totals, driven_all, fill, hundreds, loads, packet, settled_at, take_turn,
 };
-use crate::traffic::Traffic;
-use crate::unbooked::{Unbooked, fresh};
+use crate::shown::Shown;
+use crate::traffic::{Traffic, read_beside};
+use crate::unbooked::{Unbooked, fresh, last_row};
 use crate::watch::Watch;
 use q_packet::Packet;
 use q_ports::{Booked, Drain, Gauge, Port};
@@ -19,7 +19,7 @@ use std::sync::ledger::Ledger;
 use std::sync::{Arc, Mutex, Wait};
 use std::test::Fail;
 use std::thread;
-use std::thread::{JoinHandle, Threads};
+use std::thread::Threads;
 
 /// How many packets are driven.
 const PACKETS: usize = 200;
@@ -46,10 +46,12 @@ fn watched<P: Ledger + Send + Sync, B: Ledger + Send + Sync, R: Threads + Wait +
 )
     requires { (unbooked.packets.name ≡ P.name) × (P.parts ≡ 65) × (unbooked.bytes.name ≡ B.name) × (B.parts ≡ 65) }
 {
-    assert!(rt; loads.len() == 1);
-    let (booked, drain, ports, mut gauges) = unbooked.opened::<P, B, R>(rt, alloc, (1, 4, 1));
+    let counts = (loads.len(), 4, 1);
+    let (booked, drain, ports, mut gauges) = unbooked.opened::<P, B, R>(rt, alloc, counts);
     let gauge = gauges.pop().expect(rt, "a gauge");
     drive_watched(rt, alloc, &booked, drain, ports, loads, gauge);
+    let row = last_row(rt, booked, gauges);
+    assert_totals(rt, row.arrived, hundreds(PACKETS as u64));
 }
 
 // Drives past the watch.
@@ -70,9 +72,14 @@ fn drive_watched<
     requires ports { map ring_of_port ports.items ≡ map ring_id drain.rings }
     requires loads { length loads.items ≡ length ports.items }
 {
-    let gate = Watch::new(rt, booked, gauge);
+    let shown = Shown::new(gauge);
+    let gate = Watch {
+        rt,
+        booked,
+        shown: &shown,
+    };
     let (settled, given_up) = driven_all(rt, alloc, booked, drain, ports, loads, &gate, 1, 1);
-    assert_eq!(rt; gate.counts(), (0u64, 0u64));
+    assert_eq!(rt; shown.counts(), (0u64, 0u64));
     assert_totals(rt, settled, hundreds(PACKETS as u64));
     assert_count(rt, given_up, 0);
 }
@@ -104,13 +111,16 @@ fn settled<P: Ledger, B: Ledger, R: Threads + Wait + Abort>(
         alloc,
         (1, 4, 1),
     );
-    fill(rt, &mut ports, 3, given);
+    fill(rt, &mut ports, 0, 3, given);
     take_turn(rt, alloc, &booked, &mut drain, 0, 1);
     let reading = read_beside(rt, traffic, &mut gauges);
     wait_for_reads(rt, traffic);
-    assert_settles(rt, &booked, drain, ports, hundreds(3));
+    let settled = settled_at(rt, &booked, drain, ports, 0);
     traffic.end();
-    assert_count(rt, reading.join(rt), 1);
+    let row = last_row(rt, booked, gauges);
+    assert_eq!(rt; settled, Some(hundreds(3)));
+    assert_totals(rt, row.arrived, hundreds(3));
+    assert_eq!(rt; reading.join(rt), (0u64, 1u64));
 }
 
 // Waits until the gauge reads.
@@ -122,15 +132,4 @@ fn wait_for_reads<R: Abort>(rt: &R, traffic: &Traffic) {
         thread::yield_now();
     }
     panic!(rt; "no row was read");
-}
-
-// A thread in which a gauge reads: the most arrivals that it sees.
-fn read_beside<R: Threads + Abort>(
-    rt: &R,
-    traffic: &Arc<Traffic, Global>,
-    gauges: &mut Vec<Gauge>,
-) -> JoinHandle<u64> {
-    let gauge = gauges.pop().expect(rt, "a gauge");
-    let traffic = Arc::try_clone(traffic).expect(rt, "a count");
-    thread::spawn(rt, move || traffic.most_arrivals(gauge)).expect(rt, "a thread")
 }

@@ -1,8 +1,8 @@
 //! From which time on the device behind the lock may give its next packet.
 ghost use Rattle.std.specs.Prelude.{◌≡◌};
 
-use crate::common::{device, packet};
-use crate::unbooked::Unbooked;
+use crate::common::packet;
+use crate::unbooked::{Unbooked, fresh};
 use q_device::{Burst, Command, Kind, Place, Polled, Rate, TbfLimit};
 use q_packet::{Moment, Packet};
 use q_ports::{Booked, Seat};
@@ -30,8 +30,8 @@ fn slow() -> Option<Command> {
 #[test]
 fn ready_once_the_bucket_has_enough(rt: HostRuntime) -> Result<(), Fail> {
     let given = packet(1).expect(&rt, "a packet");
-    let device = device(rt.alloc(), 0).expect(&rt, "memory");
-    booked::<Brand, Brand, _>(&rt, Unbooked::new(device), given);
+    let unbooked = fresh(&rt, rt.alloc(), 1000, 0);
+    booked::<Brand, Brand, _>(&rt, unbooked, given);
     Ok(())
 }
 
@@ -49,7 +49,8 @@ fn assert_waits<P: Ledger, B: Ledger, R: Abort>(
     seat: &mut Seat<P, B>,
     given: Packet,
 ) {
-    set_up(rt, booked);
+    let slow = slow().expect(rt, "in range");
+    assert_eq!(rt; booked.command(slow, Moment::zero()), Ok(()));
     assert_ready_at(rt, booked, None);
     arrive(rt, booked, seat, given);
     arrive(rt, booked, seat, given);
@@ -60,12 +61,6 @@ fn assert_waits<P: Ledger, B: Ledger, R: Abort>(
     assert_ready_at(rt, booked, Some(ready));
     assert_gives(rt, booked, ready, Polled::Packet(given));
     assert_ready_at(rt, booked, None);
-}
-
-// Makes the tbf the root.
-fn set_up<P: Ledger, B: Ledger, R: Abort>(rt: &R, booked: &mut Booked<P, B>) {
-    let slow = slow().expect(rt, "in range");
-    assert_eq!(rt; booked.command(slow, Moment::zero()), Ok(()));
 }
 
 // From this time on the device may give a packet.

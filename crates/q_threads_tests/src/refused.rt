@@ -7,9 +7,9 @@ ghost use Rattle.q_ports.specs.Held.{held};
 ghost use Rattle.q_ports.specs.Placed.{ring_of_port};
 ghost use Rattle.q_ports.specs.Rings.{ring_id};
 
-use crate::common::{assert_count, assert_totals, fill, hundreds, loads, packet, retried, row};
+use crate::common::{assert_count, assert_totals, fill, hundreds, limited, loads, packet};
 use crate::open_gate::OpenGate;
-use crate::unbooked::Unbooked;
+use crate::unbooked::{Unbooked, fresh, last_row};
 use q_packet::{Moment, Packet};
 use q_ports::{Booked, Drain, Driven, Gauge, Port, Seat, Share, Unsettled, drive, open_ports};
 use std::alloc::Global;
@@ -53,8 +53,8 @@ const THREE: Sizes = Sizes {
 fn what_was_refused_succeeds_later(rt: HostRuntime) -> Result<(), Fail> {
     let alloc = rt.alloc();
     let given = packet(5).expect(&rt, "a packet");
-    let device = retried(alloc, 4).expect(&rt, "memory");
-    refused::<Brand, Brand, _>(&rt, alloc, Unbooked::new(device), given);
+    let unbooked = retried(&rt, alloc);
+    refused::<Brand, Brand, _>(&rt, alloc, unbooked, given);
     Ok(())
 }
 
@@ -84,9 +84,17 @@ fn drive_all<R: Threads + Wait + Sync + Abort>(
         Err(_) => loads(alloc, sizes.ports, each, given)?,
     };
     assert!(rt; loads.len() == sizes.ports);
-    let device = retried(alloc, 4).expect(rt, "memory");
-    driven::<Brand, Brand, _>(rt, alloc, Unbooked::new(device), sizes, loads);
+    let unbooked = retried(rt, alloc);
+    driven::<Brand, Brand, _>(rt, alloc, unbooked, sizes, loads);
     Ok(())
+}
+
+// A device that records four events, at the second try if an allocation fails.
+fn retried<R: Abort>(rt: &R, alloc: Global) -> Unbooked {
+    match limited(alloc, 1000, 4) {
+        Some(device) => Unbooked::new(device),
+        None => fresh(rt, alloc, 1000, 4),
+    }
 }
 
 // Drives ports. Where that is refused, each port has placed all of its load or, as its sender got no thread, nothing; what was placed is
@@ -103,44 +111,46 @@ fn driven<P: Ledger + Send + Sync, B: Ledger + Send + Sync, R: Threads + Wait + 
     requires ledgers { (unbooked.packets.name ≡ P.name) × (P.parts ≡ 65) × (unbooked.bytes.name ≡ B.name) × (B.parts ≡ 65) }
 {
     let (booked, seat) = unbooked.locked::<P, B>();
-    let (drain, ports, _gauges) = open_all(rt, alloc, seat, sizes.ports, sizes.ring);
+    let (drain, ports, gauges) = open_all(rt, alloc, seat, sizes.ports, sizes.ring);
+    let share = drive_once(rt, alloc, &booked, drain, ports, loads, sizes);
+    let row = last_row(rt, booked, gauges);
+    assert_totals(rt, row.arrived, share);
+}
+
+// Drives the ports, and answers how much was settled: all of the loads, or what a refused drive had placed.
+fn drive_once<P: Ledger + Send + Sync, B: Ledger + Send + Sync, R: Threads + Wait + Sync + Abort>(
+    rt: &R,
+    alloc: Global,
+    booked: &Mutex<Booked<P, B>>,
+    drain: Drain<P, B>,
+    ports: Vec<Port>,
+    loads: Vec<Vec<Packet>>,
+    sizes: Sizes,
+) -> Share
+    requires parts { (P.parts ≡ 65) × (B.parts ≡ 65) }
+    requires ports { map ring_of_port ports.items ≡ map ring_id drain.rings }
+    requires loads { length loads.items ≡ length ports.items }
+{
     let start = Moment::zero();
-    let share = match drive(
-        rt, alloc, &booked, drain, ports, loads, &OpenGate, start, 1, TRIES,
+    match drive(
+        rt, alloc, booked, drain, ports, loads, &OpenGate, start, 1, TRIES,
     ) {
         Ok(driven) => share_of(rt, sizes, driven),
-        Err(Unsettled { drain, ports }) => settle_placed(rt, &booked, sizes, drain, ports),
-    };
-    assert_totals(rt, row(rt, &booked).arrived, share);
+        Err(Unsettled { drain, ports }) => {
+            let placed = placed(rt, sizes, &ports);
+            assert_totals(rt, settle(rt, booked, drain, ports), placed);
+            placed
+        }
+    }
 }
 
 // What a drive has settled, which is all of its loads.
 fn share_of<P: Ledger, B: Ledger, R: Abort>(rt: &R, sizes: Sizes, driven: Driven<P, B>) -> Share {
     let share = driven.settled.share();
-    assert_totals(rt, share, all_of(sizes));
+    let all = sizes.each.saturating_mul(sizes.ports as u64);
+    assert_totals(rt, share, hundreds(all));
     assert_count(rt, driven.given_up, 0);
     share
-}
-
-// All that the loads have.
-fn all_of(sizes: Sizes) -> Share {
-    hundreds(sizes.each.saturating_mul(sizes.ports as u64))
-}
-
-// Settles what a refused drive placed, and answers how much that is.
-fn settle_placed<P: Ledger, B: Ledger, R: Wait + Abort>(
-    rt: &R,
-    booked: &Mutex<Booked<P, B>>,
-    sizes: Sizes,
-    drain: Drain<P, B>,
-    ports: Vec<Port>,
-) -> Share
-    requires parts { (P.parts ≡ 65) × (B.parts ≡ 65) }
-    requires ports { map ring_of_port ports.items ≡ map ring_id drain.rings }
-{
-    let placed = placed(rt, sizes, &ports);
-    assert_totals(rt, settle(rt, booked, drain, ports), placed);
-    placed
 }
 
 // What the ports have placed, each all or nothing: nothing at one where its thread could not be started, and at each where no room for
@@ -148,23 +158,15 @@ fn settle_placed<P: Ledger, B: Ledger, R: Wait + Abort>(
 fn placed<R: Abort>(rt: &R, sizes: Sizes, ports: &Vec<Port>) -> Share {
     let mut full = 0u64;
     for port in ports {
-        if is_full(rt, sizes, port) {
+        let share = port.share();
+        if share != hundreds(0) {
+            assert_totals(rt, share, hundreds(sizes.each));
             full = full.saturating_add(1);
         }
     }
     let count = sizes.ports as u64;
     assert!(rt; full == 0 || full >= count.saturating_sub(1));
     hundreds(sizes.each.saturating_mul(full))
-}
-
-// Whether a port has placed all of its load, and not nothing.
-fn is_full<R: Abort>(rt: &R, sizes: Sizes, port: &Port) -> bool {
-    let share = port.share();
-    if share == hundreds(0) {
-        return false;
-    }
-    assert_totals(rt, share, hundreds(sizes.each));
-    true
 }
 
 // Opens a port, fills its ring, takes a turn and settles.
@@ -178,11 +180,12 @@ fn refused<P: Ledger, B: Ledger, R: Wait + Abort>(
 {
     let (booked, seat) = unbooked.locked::<P, B>();
     let (mut drain, mut ports, mut gauges) = open_all(rt, alloc, seat, 1, 128);
-    fill(rt, &mut ports, PACKETS, given);
+    fill(rt, &mut ports, 0, PACKETS, given);
     turn(rt, alloc, &booked, &mut drain, &mut gauges);
     let share = settle(rt, &booked, drain, ports);
+    let row = last_row(rt, booked, gauges);
     assert_totals(rt, share, hundreds(PACKETS));
-    assert_totals(rt, row(rt, &booked).arrived, hundreds(PACKETS));
+    assert_totals(rt, row.arrived, hundreds(PACKETS));
 }
 
 // A drain with ports and a gauge, at the second call if an allocation failed.

@@ -1,8 +1,8 @@
 //! Rings that are filled to their length.
 ghost use Rattle.std.specs.Prelude.{◌≡◌};
 
-use crate::common::{assert_full, assert_settles, fill, hundreds, packet};
-use crate::unbooked::{Unbooked, fresh};
+use crate::common::{assert_full, assert_totals, fill, hundreds, packet, settled_at};
+use crate::unbooked::{Unbooked, fresh, last_row};
 use q_packet::Packet;
 use std::alloc::Global;
 use std::marker::Brand;
@@ -32,8 +32,11 @@ fn filled<P: Ledger, B: Ledger, R: Wait + Abort>(
 )
     requires { (unbooked.packets.name ≡ P.name) × (P.parts ≡ 65) × (unbooked.bytes.name ≡ B.name) × (B.parts ≡ 65) }
 {
-    let (booked, drain, mut ports, _gauges) = unbooked.opened::<P, B, R>(rt, alloc, (1, ring, 0));
-    fill(rt, &mut ports, ring as u64, given);
+    let (booked, drain, mut ports, gauges) = unbooked.opened::<P, B, R>(rt, alloc, (1, ring, 0));
+    fill(rt, &mut ports, 0, ring as u64, given);
     assert_full(rt, &mut ports, given);
-    assert_settles(rt, &booked, drain, ports, hundreds(ring as u64));
+    let settled = settled_at(rt, &booked, drain, ports, 0);
+    let row = last_row(rt, booked, gauges);
+    assert_eq!(rt; settled, Some(hundreds(ring as u64)));
+    assert_totals(rt, row.arrived, hundreds(ring as u64));
 }

@@ -1,12 +1,12 @@
 //! Senders in threads of their own, while the drain takes turns and gauges read.
 ghost use Rattle.std.specs.Prelude.{◌≡◌};
 
-use crate::common::{assert_count, assert_totals, driven_all, hundreds, loads, packet, row};
+use crate::common::{assert_count, assert_totals, driven_all, hundreds, loads, packet};
 use crate::meeting::{Meeting, READS};
 use crate::open_gate::OpenGate;
 use crate::rows::{NO_ROW, is_balanced};
 use crate::shaped::{kinds, set_up};
-use crate::unbooked::{Unbooked, fresh};
+use crate::unbooked::{Unbooked, fresh, last_row};
 use q_device::{Event, Row, Totals};
 use q_packet::Packet;
 use q_ports::{Booked, Gauge};
@@ -32,7 +32,7 @@ fn four_senders_settle_on_a_device_with_defaults(rt: HostRuntime) -> Result<(), 
     let given = packet(5).expect(&rt, "a packet");
     let loads = loads(alloc, 4, 1000, given)?;
     let unbooked = fresh(&rt, alloc, 1000, 4096);
-    tried::<Brand, Brand, _>(&rt, alloc, unbooked, loads, (4, 16), (TRIES, 4000));
+    tried::<Brand, Brand, _>(&rt, alloc, unbooked, loads, 16, (TRIES, 4000, 0));
     Ok(())
 }
 
@@ -41,10 +41,10 @@ fn four_senders_settle_on_a_device_with_defaults(rt: HostRuntime) -> Result<(), 
 fn a_packet_is_tried_as_often_as_asked_for(rt: HostRuntime) -> Result<(), Fail> {
     let alloc = rt.alloc();
     let given = packet(5).expect(&rt, "a packet");
-    for wanted in &[(0u64, 0u64), (1, 16)] {
+    for wanted in &[(0u64, 0u64, 16u64), (1, 16, 0)] {
         let loads = loads(alloc, 2, 8, given)?;
         let unbooked = fresh(&rt, alloc, 1000, 0);
-        tried::<Brand, Brand, _>(&rt, alloc, unbooked, loads, (2, 8), *wanted);
+        tried::<Brand, Brand, _>(&rt, alloc, unbooked, loads, 8, *wanted);
     }
     Ok(())
 }
@@ -56,7 +56,7 @@ fn senders_that_offer_nothing_end_beside_others(rt: HostRuntime) -> Result<(), F
     let given = packet(5).expect(&rt, "a packet");
     let loads = every_other(alloc, given)?;
     let unbooked = fresh(&rt, alloc, 1000, 0);
-    tried::<Brand, Brand, _>(&rt, alloc, unbooked, loads, (64, 1), (TRIES, 32 * 8));
+    tried::<Brand, Brand, _>(&rt, alloc, unbooked, loads, 1, (TRIES, 32 * 8, 0));
     Ok(())
 }
 
@@ -70,38 +70,28 @@ fn every_other(alloc: Global, given: Packet) -> Result<Vec<Vec<Packet>>, AllocEr
     Ok(loads)
 }
 
-// Drives the device with a load for each of so many ports, over rings of so many places. Each packet is tried so often, and so
-// many are placed and arrive; the others are given up.
+// Drives the device with a load for each port, over rings of so many places. Each packet is tried so often; so many are placed and
+// arrive, and so many are given up.
 fn tried<P: Ledger + Send + Sync, B: Ledger + Send + Sync, R: Threads + Wait + Sync + Abort>(
     rt: &R,
     alloc: Global,
     unbooked: Unbooked,
     loads: Vec<Vec<Packet>>,
-    counts: (usize, usize),
-    wanted: (u64, u64),
+    ring: usize,
+    wanted: (u64, u64, u64),
 )
     requires { (unbooked.packets.name ≡ P.name) × (P.parts ≡ 65) × (unbooked.bytes.name ≡ B.name) × (B.parts ≡ 65) }
 {
-    let (tries, placed) = wanted;
-    let all = packets_of(loads.as_slice());
-    assert!(rt; loads.len() == counts.0);
-    let counts = (counts.0, counts.1, 0);
-    let (booked, drain, ports, _gauges) = unbooked.opened::<P, B, R>(rt, alloc, counts);
+    let (tries, placed, left) = wanted;
+    let counts = (loads.len(), ring, 0);
+    let (booked, drain, ports, gauges) = unbooked.opened::<P, B, R>(rt, alloc, counts);
     let (settled, given_up) = driven_all(
         rt, alloc, &booked, drain, ports, loads, &OpenGate, STEP, tries,
     );
+    let row = last_row(rt, booked, gauges);
     assert_totals(rt, settled, hundreds(placed));
-    assert_count(rt, given_up, all.saturating_sub(placed));
-    assert_arrived(rt, &booked, settled);
-}
-
-// How many packets all loads have.
-fn packets_of(loads: &[Vec<Packet>]) -> u64 {
-    let mut all = 0u64;
-    for load in loads {
-        all = all.saturating_add(load.len() as u64);
-    }
-    all
+    assert_count(rt, given_up, left);
+    assert_arrived(rt, &row, settled);
 }
 
 // So many senders place so many packets each over rings of so many. Half way so many have arrived at least.
@@ -176,47 +166,30 @@ fn driven<P: Ledger + Send + Sync, B: Ledger + Send + Sync, R: Threads + Wait + 
 {
     let all = hundreds(all_of(counts));
     let is_shaped = !has_long_rings(counts);
-    assert!(rt; loads.len() == counts.0);
-    let counts = (counts.0, counts.2, 2);
+    let counts = (loads.len(), counts.2, 2);
     let (booked, drain, ports, mut gauges) = unbooked.opened::<P, B, R>(rt, alloc, counts);
     if is_shaped {
         set_up(rt, &booked);
     }
-    let zero = read_beside(rt, gate, &mut gauges, true);
-    let one = read_beside(rt, gate, &mut gauges, false);
+    let zero = read_beside(rt, gate, &mut gauges);
+    let one = read_beside(rt, gate, &mut gauges);
     let (settled, given_up) = driven_all(
         rt, alloc, &booked, drain, ports, loads, &**gate, STEP, TRIES,
     );
+    let in_steps = is_in_steps(rt, &booked);
+    let row = last_row(rt, booked, gauges);
     assert_totals(rt, settled, all);
     assert_count(rt, given_up, 0);
     assert_count(rt, zero.join(rt), READS);
     assert_count(rt, one.join(rt), READS);
-    assert_ended(rt, &booked, all, is_shaped);
-}
-
-// So much has arrived, in steps.
-fn assert_ended<P: Ledger, B: Ledger, R: Wait + Abort>(
-    rt: &R,
-    booked: &Mutex<Booked<P, B>>,
-    all: Totals,
-    is_shaped: bool,
-) {
-    let row = assert_arrived(rt, booked, all);
-    assert!(rt; !is_shaped || is_counted(&row));
-    let in_steps = are_in_steps(booked.lock(rt).recorded());
-    assert!(rt; in_steps);
+    assert_arrived(rt, &row, all);
+    assert!(rt; in_steps && (!is_shaped || is_counted(&row)));
 }
 
 // So much has arrived, and the device's row is balanced.
-fn assert_arrived<P: Ledger, B: Ledger, R: Wait + Abort>(
-    rt: &R,
-    booked: &Mutex<Booked<P, B>>,
-    all: Totals,
-) -> Row {
-    let row = row(rt, booked);
+fn assert_arrived<R: Abort>(rt: &R, row: &Row, all: Totals) {
     assert_totals(rt, row.arrived, all);
-    assert!(rt; is_balanced(&row));
-    row
+    assert!(rt; is_balanced(row));
 }
 
 /// The nanoseconds between two turns.
@@ -243,11 +216,15 @@ fn read_beside<R: Threads + Abort>(
     rt: &R,
     gate: &Arc<Meeting, Global>,
     gauges: &mut Vec<Gauge>,
-    is_zero: bool,
 ) -> JoinHandle<u64> {
     let gauge = opening(rt, gauges);
     let gate = Arc::try_clone(gate).expect(rt, "a count");
-    thread::spawn(rt, move || gate.read_often(gauge, is_zero)).expect(rt, "a thread")
+    thread::spawn(rt, move || gate.read_often(gauge)).expect(rt, "a thread")
+}
+
+// Whether the recorded events are in steps.
+fn is_in_steps<P: Ledger, B: Ledger, R: Wait>(rt: &R, booked: &Mutex<Booked<P, B>>) -> bool {
+    are_in_steps(booked.lock(rt).recorded())
 }
 
 // Whether the first event comes at 0, and each other one with the one before or a step later, and there are two turns at least.

@@ -1,8 +1,12 @@
 use crate::rows::{NO_ROW, is_balanced, is_not_lower};
 use q_packet::Packet;
 use q_ports::{Gauge, Port};
+use std::alloc::Global;
+use std::process::Abort;
+use std::sync::Arc;
 use std::sync::atomic::{AtomicBool, AtomicU64, Ordering};
 use std::thread;
+use std::thread::{JoinHandle, Threads};
 
 /// How often one looks before it gives up.
 const LOOKS: u64 = 10_000_000;
@@ -55,28 +59,12 @@ impl Traffic {
         port
     }
 
-    /// Reads rows without a pause until the drain has ended; the most arrivals that one of them shows.
-    pub fn most_arrivals(&self, gauge: Gauge) -> u64 {
-        let mut gauge = gauge;
-        let mut most = 0u64;
-        for _read in 0..LOOKS {
-            if self.ended.load(Ordering::SeqCst) {
-                break;
-            }
-            if let Some(row) = gauge.read() {
-                most = most.max(row.arrived.packets);
-                self.read.fetch_add(1, Ordering::SeqCst);
-            }
-        }
-        most
-    }
-
-    /// Reads rows until the drain has ended, and some more; how many were not balanced, or lower than the one before.
-    pub fn read_on(&self, gauge: Gauge) -> u64 {
+    // Reads rows without a pause until the drain has ended, and some more: how many were not balanced, or lower than the one before, and
+    // the most arrivals that one of them shows.
+    fn read_on(&self, gauge: Gauge) -> (u64, u64) {
         let mut gauge = gauge;
         let mut before = NO_ROW;
-        let mut wrong = 0u64;
-        let mut after = 0u64;
+        let (mut wrong, mut most, mut after) = (0u64, 0u64, 0u64);
         for _read in 0..LOOKS {
             if self.ended.load(Ordering::SeqCst) {
                 after = after.saturating_add(1);
@@ -89,10 +77,21 @@ impl Traffic {
                     wrong = wrong.saturating_add(1);
                 }
                 before = row;
+                most = most.max(row.arrived.packets);
                 self.read.fetch_add(1, Ordering::SeqCst);
             }
-            thread::yield_now();
         }
-        wrong
+        (wrong, most)
     }
+}
+
+/// A thread in which a gauge reads: how many of its rows were wrong, and the most arrivals that one of them shows.
+pub fn read_beside<R: Threads + Abort>(
+    rt: &R,
+    traffic: &Arc<Traffic, Global>,
+    gauges: &mut Vec<Gauge>,
+) -> JoinHandle<(u64, u64)> {
+    let gauge = gauges.pop().expect(rt, "a gauge");
+    let traffic = Arc::try_clone(traffic).expect(rt, "a count");
+    thread::spawn(rt, move || traffic.read_on(gauge)).expect(rt, "a thread")
 }

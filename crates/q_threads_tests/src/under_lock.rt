@@ -3,12 +3,9 @@
 ghost use Rattle.std.specs.Prelude.{◌≡◌, ◌<◌, length, map};
 ghost use Rattle.q_ports.specs.Placed.{ring_of_port};
 
-use crate::common::{
-    assert_count, assert_settles_at, assert_totals, hundreds, moment, offer_at, packet, row,
-    take_turn,
-};
-use crate::unbooked::{Unbooked, fresh};
-use q_device::{Event, Lost};
+use crate::common::{assert_totals, fill, hundreds, moment, packet, settled_at, take_turn};
+use crate::unbooked::{Unbooked, fresh, last_row};
+use q_device::{Event, Lost, Row};
 use q_packet::{Cause, Packet};
 use q_ports::{Booked, Port};
 use std::alloc::Global;
@@ -65,17 +62,21 @@ fn turned_and_settled<P: Ledger, B: Ledger, R: Wait + Abort>(
 )
     requires { (unbooked.packets.name ≡ P.name) × (P.parts ≡ 65) × (unbooked.bytes.name ≡ B.name) × (B.parts ≡ 65) }
 {
-    let (booked, mut drain, mut ports, _gauges) = unbooked.opened::<P, B, R>(rt, alloc, (2, 8, 0));
+    let (booked, mut drain, mut ports, gauges) = unbooked.opened::<P, B, R>(rt, alloc, (2, 8, 0));
     offer(rt, &mut ports, (3, 2), given);
     take_turn(rt, alloc, &booked, &mut drain, 5, 4);
-    assert_events(rt, &booked, 8, given);
+    let after_first = has_events(rt, &booked, 8, given);
     offer(rt, &mut ports, (3, 0), given);
     take_turn(rt, alloc, &booked, &mut drain, 9, 2);
-    assert_events(rt, &booked, 12, given);
+    let after_second = has_events(rt, &booked, 12, given);
     offer(rt, &mut ports, (0, 2), given);
-    assert_settles_at(rt, &booked, drain, ports, hundreds(10), 12);
-    assert_events(rt, &booked, 16, given);
-    assert_left(rt, &booked, given);
+    let settled = settled_at(rt, &booked, drain, ports, 12);
+    let in_the_end = has_events(rt, &booked, 16, given);
+    let lost = reaped(rt, &booked);
+    let row = last_row(rt, booked, gauges);
+    assert!(rt; after_first && after_second && in_the_end);
+    assert_eq!(rt; settled, Some(hundreds(10)));
+    assert_left(rt, &row, &lost, given);
 }
 
 // Places so many packets at the first port and at the second.
@@ -84,31 +85,19 @@ fn offer<R: Abort>(rt: &R, ports: &mut Vec<Port>, counts: (u64, u64), given: Pac
     ensures rings { map ring_of_port ports.new.items ≡ map ring_of_port ports.old.items }
     ensures count { length ports.new.items ≡ length ports.old.items }
 {
-    place(rt, ports, 0, counts.0, given);
-    place(rt, ports, 1, counts.1, given);
+    fill(rt, ports, 0, counts.0, given);
+    fill(rt, ports, 1, counts.1, given);
 }
 
-// Places so many packets at this port.
-fn place<R: Abort>(rt: &R, ports: &mut Vec<Port>, at: usize, count: u64, given: Packet)
-    requires { at < length ports.old.items }
-    ensures rings { map ring_of_port ports.new.items ≡ map ring_of_port ports.old.items }
-    ensures count { length ports.new.items ≡ length ports.old.items }
-{
-    for _offer in 0..count {
-        assert!(rt; offer_at(ports, at, given).is_ok());
-    }
-}
-
-// So many events happened and no others, those of the list.
-fn assert_events<P: Ledger, B: Ledger, R: Wait + Abort>(
+// Whether so many events happened and no others, those of the list.
+fn has_events<P: Ledger, B: Ledger, R: Wait>(
     rt: &R,
     booked: &Mutex<Booked<P, B>>,
     count: usize,
     given: Packet,
-) {
-    let as_wanted = are_events(booked.lock(rt).recorded(), count, given);
-    assert!(rt; as_wanted);
-    assert_count(rt, booked.lock(rt).events(), count as u64);
+) -> bool {
+    let locked = booked.lock(rt);
+    locked.events() == count as u64 && are_events(locked.recorded(), count, given)
 }
 
 fn are_events(events: &[Event], count: usize, given: Packet) -> bool {
@@ -137,36 +126,29 @@ fn is_event(event: &Event, wanted: (u32, u64, u64), given: Packet) -> bool {
     *event == Event::Arrive(packet, now)
 }
 
-// Each packet that was refused comes back, and no other; three are queued.
-fn assert_left<P: Ledger, B: Ledger, R: Wait + Abort>(
+// The next three losses.
+fn reaped<P: Ledger, B: Ledger, R: Wait>(
     rt: &R,
     booked: &Mutex<Booked<P, B>>,
-    given: Packet,
-) {
-    let row = row(rt, booked);
+) -> [Option<Lost>; 3] {
+    let mut locked = booked.lock(rt);
+    [locked.reap(), locked.reap(), locked.reap()]
+}
+
+// Each packet that the queue had no room for comes back, and no other; three are queued.
+fn assert_left<R: Abort>(rt: &R, row: &Row, lost: &[Option<Lost>; 3], given: Packet) {
     assert_totals(rt, row.refused, hundreds(2));
     assert_totals(rt, row.dropped, hundreds(0));
     assert_totals(rt, row.queued, hundreds(3));
-    for lost in &LOST {
-        let (port, number) = *lost;
+    let cause = Cause::OverLimit;
+    for nth in 0..2usize {
+        let (port, number) = LOST[nth];
         let packet = Packet {
             port,
             number,
             ..given
         };
-        assert_lost(rt, booked, packet);
+        assert_eq!(rt; lost[nth], Some(Lost { packet, cause }));
     }
-    let last = booked.lock(rt).reap();
-    assert!(rt; last.is_none());
-}
-
-// The next loss is this packet, which the queue had no room for.
-fn assert_lost<P: Ledger, B: Ledger, R: Wait + Abort>(
-    rt: &R,
-    booked: &Mutex<Booked<P, B>>,
-    packet: Packet,
-) {
-    let cause = Cause::OverLimit;
-    let lost = booked.lock(rt).reap();
-    assert_eq!(rt; lost, Some(Lost { packet, cause }));
+    assert!(rt; lost[2].is_none());
 }

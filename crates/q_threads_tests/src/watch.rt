@@ -1,5 +1,6 @@
-use q_ports::{Booked, Gate, Gauge};
-use std::sync::atomic::{AtomicU64, Ordering};
+use crate::shown::Shown;
+use q_ports::{Booked, Gate};
+use std::sync::atomic::Ordering;
 use std::sync::ledger::Ledger;
 use std::sync::{Mutex, Wait};
 use std::thread;
@@ -11,40 +12,17 @@ const LOOKS: u64 = 10_000_000;
 /// each turn publishes it under the lock.
 #[derive(Drop)]
 pub struct Watch<'a, P: Ledger, B: Ledger, R: Wait> {
-    rt: &'a R,
-    booked: &'a Mutex<Booked<P, B>>,
-    gauge: Mutex<Gauge>,
-    wrong: AtomicU64,
-    missed: AtomicU64,
+    pub rt: &'a R,
+    pub booked: &'a Mutex<Booked<P, B>>,
+    pub shown: &'a Shown,
 }
 
-impl<'a, P: Ledger, B: Ledger, R: Wait> Watch<'a, P, B, R> {
-    /// A gate at which nobody has come.
-    pub fn new(rt: &'a R, booked: &'a Mutex<Booked<P, B>>, gauge: Gauge) -> Watch<'a, P, B, R> {
-        Watch {
-            rt,
-            booked,
-            gauge: Mutex::new(gauge),
-            wrong: AtomicU64::new(0),
-            missed: AtomicU64::new(0),
-        }
-    }
-
-    /// How often the gauge showed another row than the device's, and how often somebody has waited in vain.
-    pub fn counts(&self) -> (u64, u64) {
-        (
-            self.wrong.load(Ordering::SeqCst),
-            self.missed.load(Ordering::SeqCst),
-        )
-    }
-
+impl<P: Ledger, B: Ledger, R: Wait> Watch<'_, P, B, R> {
     // How many packets have arrived. The gauge has to show the same row.
     fn arrived(&self) -> u64 {
         let locked = self.booked.lock(self.rt);
         let row = locked.totals();
-        if self.gauge.lock(self.rt).read() != Some(row) {
-            self.wrong.fetch_add(1, Ordering::SeqCst);
-        }
+        self.shown.compare(self.rt, row);
         row.arrived.packets
     }
 }
@@ -57,7 +35,7 @@ impl<P: Ledger, B: Ledger, R: Wait> Gate for Watch<'_, P, B, R> {
             }
             thread::yield_now();
         }
-        self.missed.fetch_add(1, Ordering::SeqCst);
+        self.shown.missed.fetch_add(1, Ordering::SeqCst);
     }
 
     fn after_offer(&self, _port: u32, _nth: u64) {}

@@ -1,8 +1,8 @@
 use Rattle.q_threads_tests.proofs.ports.more_than_a_million_go_through_a_drain.Given as goal
 
 -- the two ledgers of the book that is made there
-abbrev pub ghosts-many_turns-P-Ledger : goal.ghosts-many_turns-P-Ledger
-ghosts-many_turns-P-Ledger g a = record { name = a.unbooked.packets.name; parts = a.unbooked.packets.parts }
+abbrev pub ghosts-long_turns-P-Ledger : goal.ghosts-long_turns-P-Ledger
+ghosts-long_turns-P-Ledger g a = record { name = a.unbooked.packets.name; parts = a.unbooked.packets.parts }
 
-abbrev pub ghosts-many_turns-B-Ledger : goal.ghosts-many_turns-B-Ledger
-ghosts-many_turns-B-Ledger g a = record { name = a.unbooked.bytes.name; parts = a.unbooked.bytes.parts }
+abbrev pub ghosts-long_turns-B-Ledger : goal.ghosts-long_turns-B-Ledger
+ghosts-long_turns-B-Ledger g a = record { name = a.unbooked.bytes.name; parts = a.unbooked.bytes.parts }
