@@ -4,6 +4,7 @@
 //! could not be done is done again.
 use crate::lines::{Ask, packet};
 use q_device::{Device, Event, Fate, Polled, Refusal, Reply, Settings, play};
+use q_model::{Handle, QdiscView};
 use q_packet::Moment;
 use std::alloc::{AllocError, Global};
 use std::test::Fail;
@@ -27,6 +28,11 @@ pub enum Call {
     Recorded(usize, Ask, u64),
     // How many events are recorded, and how many there were.
     Events(usize, u64),
+    // A node's place in the tree's order, its handle (0 for none), how many bands it has as a prio (0 where it is a pfifo of 100 packets), and how many
+    // packets are queued in it. Packets of priority 0 go to the first band, and all others to the second.
+    Node(usize, u16, u8, u64),
+    // How many nodes there are. The root has no filters.
+    Nodes(usize),
 }
 
 impl Call {
@@ -62,8 +68,30 @@ impl Call {
             Call::Events(recorded, events) => {
                 device.recorded().len() == recorded && device.events() == events
             }
+            Call::Node(i, major, bands, packets) => match device.tree().node(i) {
+                Some(node) => {
+                    node.handle == Handle::new(major)
+                        && is_qdisc(node.qdisc, bands)
+                        && node.row.queued.packets == packets
+                }
+                None => false,
+            },
+            Call::Nodes(count) => {
+                device.tree().node(count).is_none() && device.tree().filter(0, 0).is_none()
+            }
             _ => false,
         }
+    }
+}
+
+// Whether a qdisc is a prio of so many bands, or with 0 a pfifo.
+fn is_qdisc(qdisc: QdiscView, wanted: u8) -> bool {
+    match qdisc {
+        QdiscView::Prio { bands, priomap } => {
+            bands == wanted && priomap == [0, 1, 1, 1, 1, 1, 1, 1, 1, 1, 1, 1, 1, 1, 1, 1]
+        }
+        QdiscView::Pfifo { limit } => wanted == 0 && limit == 100,
+        _ => false,
     }
 }
 
