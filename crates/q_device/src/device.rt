@@ -41,7 +41,6 @@ use std::marker::Model;
 /// In contracts a device is the record `DeviceSeen`: its settings; the model's device with totals; the losses that wait, and how many were handed
 /// out; the recorded events, and how many events there were; and its memory, which no rule reads. Its invariant: the device is what all events so
 /// far make of a new one, the recorded events are the first of them, and there is room for the loss of each queued packet.
-#[derive(Drop)]
 pub struct Device {
     settings: Settings,
     /// Its clock is the device's: every event gives it the time at which it counts.
@@ -71,6 +70,21 @@ impl Model for Device {
     ghost view = { device_seen };
 
     ghost invariant = { IsKeptDevice };
+}
+
+/// What a device owns is dropped here, so that a crate above has one call to prove, and not how each part is dropped.
+impl Drop for Device {
+    fn drop(self) {
+        let Device {
+            settings: _,
+            tree: _tree,
+            losses: _losses,
+            handed_out: _,
+            recorded: _recorded,
+            spare: _,
+            others: _,
+        } = self;
+    }
 }
 
 impl Device {
