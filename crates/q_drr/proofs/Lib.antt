@@ -9,9 +9,11 @@ pub mod LookupLemmas
 pub mod NameLemmas
 pub mod PlaceLemmas
 pub mod RingLemmas
+pub mod RoundLemmas
 pub mod ScheduleLemmas
 pub mod ServedLemmas
 pub mod ServingLemmas
+pub mod ServingRounds
 pub mod SoundLemmas
 pub mod StateLemmas
 pub mod StretchLemmas

@@ -1,5 +1,5 @@
 -- What the fields of an active list show and keep, after each change of its table and of its circle of places.
-use Rattle.std.proofs.Common.{◌≡◌, ℕ, zero, suc, ◌+◌, ◌-◌, ◌<◌, ◌≤◌, ◌^◌, min, true, false, not, List, [], ◌∷◌, ◌++◌, map, length, set, Some, None, refl, sym, ap, ◌∙◌, subst, arith, take, drop}
+use Rattle.std.proofs.Common.{◌≡◌, ℕ, zero, suc, ◌+◌, ◌-◌, ◌*◌, ◌<◌, ◌≤◌, ◌^◌, min, true, false, not, List, [], ◌∷◌, ◌++◌, map, length, set, Some, None, refl, sym, ap, ◌∙◌, subst, arith, take, drop}
 use Rattle.std.specs.Prelude.{if◌then◌else◌, ◌==◌, slice_get, slice_index_or, nat_le, Option, option_map, option_and_then}
 use Rattle.std.specs.List.{All, remove}
 use Rattle.std.proofs.lemmas.List.{length-map, length_push}
@@ -16,7 +16,9 @@ use Rattle.q_drr.proofs.DifferLemmas.{StatesDiffer, numbers_apart, states_apart}
 use Rattle.q_drr.proofs.PlaceLemmas.{among_places, without_places, names_rotated, names_pushed, names_with, names_added, names_down, all_down}
 use Rattle.q_drr.proofs.ScheduleLemmas.{place_in, front_in, name_of_state, state_kept, kept_put, kept_push, kept_asleep, kept_rotated, kept_removed, kept_added, woken_shown, asleep_shown, removed_shown, added_shown, requantized_shown, lawful_view, not_among_without}
 use Rattle.q_drr.proofs.StateLemmas.{Stands, stands_in, stands_by, set_replaces, remove_drops, place_found, place_to_spare, few_states}
-use Rattle.q_drr.proofs.TurnLemmas.{front_deficit, sent_front, granted_front}
+use Rattle.q_drr.specs.Rounds.{front_given, front_need, IsWithin}
+use Rattle.q_drr.specs.Take.{grants_for}
+use Rattle.q_drr.proofs.TurnLemmas.{front_deficit, sent_front, granted_front, passed_front, front_can, front_needs}
 
 -- the class of a place, by the name that is shown there
 name_found : (states : List NamedState) (place n : ℕ) → name_at place (map class_in states) ≡ Some n → (place < length states) × (name_in states place ≡ n)
@@ -182,6 +184,31 @@ module _ (max_len turns : ℕ) (states : List NamedState) (circle : Circle) (h :
       ∙ ap (shown max_len (counted (turns + 1)) (with_state (named n k) states)) (names_rotated states circle.order)
       ∙ granted_front max_len turns len states (names_in states circle.order) n (named n k) (front_named place front)
       (numbers_apart (names_in states circle.order) h.kept.order_differs) differ s.there short refl quantum deficit granted
+
+  -- `grants_needed`
+  pub needs_front : (place len : ℕ) → slice_get circle.order 0 ≡ Some place → let n = name_in states place in
+      front_need len (shown max_len turns states (names_in states circle.order)) ≡ grants_for (state_of n states).quantum (state_of n states).deficit (Some len)
+  needs_front place len front = front_needs max_len turns states (names_in states circle.order) (name_in states place) len (front_named place front)
+
+  -- `grant_front`
+  pub within_front : (place k : ℕ) → slice_get circle.order 0 ≡ Some place → let n = name_in states place in
+      All (IsWithin k max_len (map class_in states)) (take 1 (shown max_len turns states (names_in states circle.order)).active)
+      → (state_of n states).deficit + k * (state_of n states).quantum < (state_of n states).quantum + max_len
+  within_front place k front within = front_can max_len turns k states (names_in states circle.order) (name_in states place) (front_named place front) within
+
+  pub shown_passed : (place grants : ℕ) (k : ClassState) → slice_get circle.order 0 ≡ Some place → let n = name_in states place in
+      k.quantum ≡ (state_of n states).quantum → k.deficit ≡ (state_of n states).deficit + grants * (state_of n states).quantum
+      → k.granted ≡ counted ((state_of n states).granted + grants * (state_of n states).quantum)
+      → shown max_len (counted (turns + grants)) (set states place (named (name_in states place) k))
+      (names_in (set states place (named (name_in states place) k)) (drop 1 circle.order ++ take 1 circle.order))
+      ≡ front_given grants (shown max_len turns states (names_in states circle.order))
+  shown_passed place grants k front quantum deficit granted =
+      let s = stands_front place front in
+      let n : ℕ = name_in states place in
+      shown_put place n (counted (turns + grants)) k (drop 1 circle.order ++ take 1 circle.order) s
+      ∙ ap (shown max_len (counted (turns + grants)) (with_state (named n k) states)) (names_rotated states circle.order)
+      ∙ passed_front max_len turns grants states (names_in states circle.order) n (named n k) (front_named place front)
+      (numbers_apart (names_in states circle.order) h.kept.order_differs) differ s.there refl quantum deficit granted
 
   -- `front`, and the place of the class that it names
   pub front_shown : (s : Schedule) → shown max_len turns states (names_in states circle.order) ≡ s → option_map (name_in states) (slice_get circle.order 0) ≡ front_of s

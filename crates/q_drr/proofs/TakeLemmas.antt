@@ -46,13 +46,13 @@ need_more q d (suc len) one short = need_more_at q d len one short
 same_entry : (n d d' g g' : ℕ) → d ≡ d' → g ≡ g' → ◌≡◌ {A = Entry} (record { class = n; deficit = d; granted = g }) (record { class = n; deficit = d'; granted = g' })
 same_entry n d d' g g' e f = cc
 
-grants_more : (q k : ℕ) (e : Entry) → after_grants q (suc k) e ≡ after_grants q k (after_grants q 1 e)
+pub grants_more : (q k : ℕ) (e : Entry) → after_grants q (suc k) e ≡ after_grants q k (after_grants q 1 e)
 grants_more q k e = same_entry e.class _ _ _ _ (omega arith) (omega arith)
 
 grants_none : (q : ℕ) (e : Entry) → e.granted < 2 ^ 64 → after_grants q 0 e ≡ e
 grants_none q e range = same_entry e.class _ _ _ _ (omega arith) (omega arith)
 
-granted_none : (quantum : ℕ → ℕ) (es : List Entry) → All (λ e. e.granted < 2 ^ 64) es → granted quantum 0 es ≡ es
+pub granted_none : (quantum : ℕ → ℕ) (es : List Entry) → All (λ e. e.granted < 2 ^ 64) es → granted quantum 0 es ≡ es
 granted_none quantum [] range = refl
 granted_none quantum (e ∷ es) range =
     ap (λ x. x ∷ granted quantum 0 es) (grants_none (quantum e.class) e (All-head (λ e. e.granted < 2 ^ 64) e es range))
@@ -119,7 +119,7 @@ pub front_is : (n : ℕ) (s : Schedule) → Some n ≡ front_of s → Front n s
 front_is n s h = let f = front_in_list n s.active (sym h) in record { first = f.0; rest = f.1; is = f.2; class = f.3 }
 
 -- where nothing stands in the front's way, the take has come to its class
-same_list : (s : Schedule) (es : List Entry) (turns : ℕ) → es ≡ s.active → turns ≡ s.turns → record s { active = es; turns = turns } ≡ s
+pub same_list : (s : Schedule) (es : List Entry) (turns : ℕ) → es ≡ s.active → turns ≡ s.turns → record s { active = es; turns = turns } ≡ s
 same_list s es turns e f = ap (λ xs. record s { active = xs; turns = turns }) e ∙ ap (λ k. record s { turns = k }) f
 
 -- the choice where the front needs no grant

@@ -1,6 +1,7 @@
 pub mod Changes
 pub mod Kept
 pub mod Links
+pub mod Rounds
 pub mod Schedule
 pub mod States
 pub mod Stretch

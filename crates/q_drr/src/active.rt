@@ -1,6 +1,7 @@
 ghost use Rattle.std.specs.Prelude.{◌≡◌, ℕ, ◌<◌, ◌≤◌, ◌+◌, IsTrue, OnOk, OnErr, false, length, is_some, option_and_then, ◌^◌};
 ghost use Rattle.q_drr.specs.Waiting.{deficits_ahead};
 ghost use Rattle.q_drr.specs.Schedule.{Schedule, no_classes, has_class, place_of, name_at, quantum_of, is_active, deficit_of, granted_of, added, woken, asleep, removed, with_quantum, front_of, turn_answer, turned, IsLawful};
+ghost use Rattle.q_drr.specs.Rounds.{front_need, rounds_given, front_given, AreWithin, IsFrontWithin};
 
 use crate::class_table::{ClassState, ClassTable};
 use crate::ring::Ring;
@@ -239,6 +240,58 @@ impl Active {
         );
         self.ring.rotate();
         Turn::Granted
+    }
+
+    /// How many grants the class in front needs until its deficit covers a head of so many bytes.
+    pub fn grants_needed(&self, head_len: u16) -> u64
+        requires front { 0 < length self.now.active }
+        ensures value { result ≡ front_need head_len self.now }
+        ensures lawful { IsLawful self.now }
+    {
+        let Some(place) = self.ring.front() else {
+            unreachable!()
+        };
+        let state = self.table.get(place);
+        let head_len = u64::from(head_len);
+        if head_len <= state.deficit {
+            return 0;
+        }
+        (head_len - state.deficit).div_ceil(u64::from(state.quantum))
+    }
+
+    /// Grants so many quanta to each active class at once: what so many rounds of turns come to, in each of which every class is
+    /// granted. No deficit may pass what turns could leave, a quantum and `max_len`. It takes time in proportion to the number of
+    /// active classes, however many rounds there are.
+    pub fn grant_rounds(&mut self, rounds: u64)
+        requires within { AreWithin rounds self.old }
+        ensures { self.new ≡ rounds_given rounds self.old }
+    {
+        for _passed in 0..self.ring.len() {
+            self.grant_front(rounds);
+        }
+    }
+
+    // Grants so many quanta to the class in front, which goes to the end.
+    fn grant_front(&mut self, grants: u64)
+        requires front { 0 < length self.old.active }
+        requires within { IsFrontWithin grants self.old }
+        ensures { self.new ≡ front_given grants self.old }
+    {
+        self.turns = self.turns.saturating_add(grants);
+        let Some(place) = self.ring.front() else {
+            unreachable!()
+        };
+        let state = self.table.get(place);
+        let bytes = grants * u64::from(state.quantum);
+        self.table.put(
+            place,
+            ClassState {
+                deficit: state.deficit + bytes,
+                granted: state.granted.saturating_add(bytes),
+                ..state
+            },
+        );
+        self.ring.rotate();
     }
 
     /// Sets the bytes of one grant, at least 1. The deficit is cut to at most `quantum + max_len - 1`.

@@ -47,6 +47,8 @@ mod active;
 mod class_table;
 pub mod laws;
 mod ring;
+mod round;
 mod take;
 
 pub use active::{Active, Turn};
+pub use round::Round;

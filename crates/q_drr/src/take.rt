@@ -2,6 +2,7 @@ ghost use Rattle.std.specs.Prelude.{◌≡◌, ◌<◌, ◌≤◌, All, length, 
 ghost use Rattle.q_drr.specs.Take.{met, served, head_at};
 
 use crate::active::{Active, Turn};
+use crate::round::Round;
 
 /// What a whole take met.
 #[derive(Clone, Copy, PartialEq, Eq, Debug)]
@@ -22,11 +23,12 @@ pub fn take_by_turns(active: &mut Active, heads: &[Option<u16>]) -> Option<Met>
     ensures met { result ≡ met (head_at heads.now) active.old }
     ensures after { active.new ≡ served (head_at heads.now) active.old }
 {
+    let mut round = Round::new();
     while let Some(class) = active.front() {
         let Some(len) = heads[class as usize] else {
             return Some(Met { class, head: None });
         };
-        match active.turn(len) {
+        match round.turn(active, len) {
             Turn::Send => {
                 return Some(Met {
                     class,

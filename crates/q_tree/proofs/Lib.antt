@@ -62,6 +62,7 @@ pub mod RowsOf
 pub mod SendBands
 pub mod SendForms
 pub mod SendLemmas
+pub mod RoundsServed
 pub mod ServeLemmas
 pub mod ShapeLemmas
 pub mod SinceLemmas

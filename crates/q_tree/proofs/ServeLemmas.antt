@@ -357,7 +357,7 @@ module _ {now : ℕ} {first s : Schedule} {ns ms : List (Node Kept)} {unasked : 
       pub short-enough : len ≤ s.max_len
       short-enough = omega (arith, shown-short met.can.each.mtu now (ask now (shape met.at.child)) offer.0 (answered now met.at.child child-can) offers, met.can.longest, met.asked.serving.longest, offer.2)
 
-      offered-head : heads_of now first ns met.class ≡ Some len
+      pub offered-head : heads_of now first ns met.class ≡ Some len
       offered-head = shown-head (Some offer.0) offers ∙ ap Some offer.2
 
       -- what was told, and when the packet arrived, where it can send it
@@ -442,7 +442,7 @@ module _ {now : ℕ} {first s : Schedule} {ns ms : List (Node Kept)} {unasked : 
 
       -- and is granted its quantum where it cannot
       module _ (granted : Granted ≡ turn_answer len s.active) {s1 : Schedule} (turn : s1 ≡ turned len s) where
-        short : met.front.first.deficit < len
+        pub short : met.front.first.deficit < len
         short = falls_short s met.class len met.front granted
 
         abbrev needs : Schedule → ℕ

@@ -19,7 +19,8 @@ use Rattle.q_tree.proofs.AskOnce.{fits-beside}
 use Rattle.q_tree.proofs.AtHandLemmas.{shown-len}
 use Rattle.q_tree.proofs.HereLemmas.{flow-packets}
 use Rattle.q_tree.proofs.Peeks.{asked-in, fifo-asked, fifo-peeked, held-of, each-of, room-of, own-room, items-are, serve-of, holding-after, can-in, enough, can-book, peeked-done, shown-here, told-here, tbf-none, tbf-allowed, tbf-none-since, tbf-waiting}
-use Rattle.q_tree.proofs.ServeLemmas.{classes-go-on, classes-start, class-once, class-shown, class-size, fewer-grants, front-met, place-within, short-enough, class-given, class-sends, class-unserved}
+use Rattle.q_tree.proofs.RoundsServed.{can-go, fewer-needed, round-goes-on, round-starts, rounds-go-on}
+use Rattle.q_tree.proofs.ServeLemmas.{classes-start, class-once, class-shown, class-size, front-met, place-within, short-enough, class-given, class-sends, class-unserved}
 use Rattle.q_tree.proofs.IdleClasses.{idle-unserved}
 use Rattle.q_tree.proofs.Quiet.{shown-nothing}
 use Rattle.q_tree.proofs.RouteLemmas.{child-size, children-size}
@@ -111,6 +112,7 @@ disciplines::drr::meet_class-loop-place-init g t c = (
       (record { dropped = ap (λ (s : Shown). s.dropped) c.at_hand-shown.ensures; marked = ap (λ (s : Shown). s.marked) c.at_hand-shown.ensures }),
   g.met.S.Sink.keeps_same c.args.sink.now,
   c.requires.clean ∙ sym (ap signals_of c.at_hand-shown.ensures),
+  round-starts c.args.now c.args.active.now c.args.active.now c.args.classes.now c.active_count-unasked.result c.new-round.result c.new-round.ensures,
 )
 
 pub disciplines::drr::meet_class-offset_bounds-classes-place : goal.disciplines::drr::meet_class-offset_bounds-classes-place
@@ -133,12 +135,19 @@ pub disciplines::drr::meet_class-returns-in_default-packet_len-clause-kept : goa
 disciplines::drr::meet_class-returns-in_default-packet_len-clause-kept g t c =
     g.met.S.Sink.keeps_on c.args.sink.now c.loop-place.sink c.peek_class-shown.new.sink c.loop-place.invariant.1 c.peek_class-shown.ensures.kept
 
-pub disciplines::drr::meet_class-turn-requires-clause-in_range : goal.disciplines::drr::meet_class-turn-requires-clause-in_range
-disciplines::drr::meet_class-turn-requires-clause-in_range g t c =
+pub disciplines::drr::meet_class-turn_class-requires-clause-in_range : goal.disciplines::drr::meet_class-turn_class-requires-clause-in_range
+disciplines::drr::meet_class-turn_class-requires-clause-in_range g t c =
     let met = front-met c.requires.ready c.loop-place.invariant.0 c.front_place.ensures.lawful c.in-Some.place (sym c.in-Some.is ∙ c.front_place.ensures.place) in
     let shows = class-shown met c.index-classes-place.result c.peek_class-shown.ensures.asked c.peek_class-shown.ensures.at_hand c.peek_class-shown.ensures.not_lost in
     let offer = shown-len c.peek_class-shown.result.packet c.packet_len.result c.in-Some-packet_len.len c.packet_len.ensures.some c.in-Some-packet_len.is in
     short-enough met shows offer
+
+pub disciplines::drr::meet_class-turn_class-requires-clause-round : goal.disciplines::drr::meet_class-turn_class-requires-clause-round
+disciplines::drr::meet_class-turn_class-requires-clause-round g t c =
+    let met = front-met c.requires.ready c.loop-place.invariant.0 c.front_place.ensures.lawful c.in-Some.place (sym c.in-Some.is ∙ c.front_place.ensures.place) in
+    let shows = class-shown met c.index-classes-place.result c.peek_class-shown.ensures.asked c.peek_class-shown.ensures.at_hand c.peek_class-shown.ensures.not_lost in
+    let offer = shown-len c.peek_class-shown.result.packet c.packet_len.result c.in-Some-packet_len.len c.packet_len.ensures.some c.in-Some-packet_len.is in
+    λ _. can-go met shows offer c.loop-place.invariant.3
 
 pub disciplines::drr::meet_class-returns-in-Send-clause-kept : goal.disciplines::drr::meet_class-returns-in-Send-clause-kept
 disciplines::drr::meet_class-returns-in-Send-clause-kept g t c =
@@ -149,16 +158,17 @@ disciplines::drr::meet_class-loop-place-smaller g t c =
     let met = front-met c.requires.ready c.loop-place.invariant.0 c.front_place.ensures.lawful c.in-Some.place (sym c.in-Some.is ∙ c.front_place.ensures.place) in
     let shows = class-shown met c.index-classes-place.result c.peek_class-shown.ensures.asked c.peek_class-shown.ensures.at_hand c.peek_class-shown.ensures.not_lost in
     let offer = shown-len c.peek_class-shown.result.packet c.packet_len.result c.in-Some-packet_len.len c.packet_len.ensures.some c.in-Some-packet_len.is in
-    fewer-grants met shows offer (sym c.in-Granted.is ∙ c.turn.ensures.answer) c.turn.ensures.after
+    fewer-needed met shows offer c.loop-place.invariant.3 (sym c.in-Granted.is ∙ c.turn_class.ensures.answer) c.turn_class.ensures.asks (λ none go. c.turn_class.ensures.goes c.in-Granted.is none go)
 
 pub disciplines::drr::meet_class-loop-place-preserved : goal.disciplines::drr::meet_class-loop-place-preserved
 disciplines::drr::meet_class-loop-place-preserved g t c =
     let met = front-met c.requires.ready c.loop-place.invariant.0 c.front_place.ensures.lawful c.in-Some.place (sym c.in-Some.is ∙ c.front_place.ensures.place) in
     let shows = class-shown met c.index-classes-place.result c.peek_class-shown.ensures.asked c.peek_class-shown.ensures.at_hand c.peek_class-shown.ensures.not_lost in
     let offer = shown-len c.peek_class-shown.result.packet c.packet_len.result c.in-Some-packet_len.len c.packet_len.ensures.some c.in-Some-packet_len.is in (
-      classes-go-on met shows offer (sym c.in-Granted.is ∙ c.turn.ensures.answer) c.turn.ensures.after c.saturating_sub-unasked.ensures,
+      rounds-go-on met shows offer c.loop-place.invariant.3 (sym c.in-Granted.is ∙ c.turn_class.ensures.answer) c.turn_class.ensures.asks (λ none go. c.turn_class.ensures.goes c.in-Granted.is none go) c.saturating_sub-unasked.ensures,
       g.met.S.Sink.keeps_on c.args.sink.now c.loop-place.sink c.peek_class-shown.new.sink c.loop-place.invariant.1 c.peek_class-shown.ensures.kept,
       c.peek_class-shown.ensures.signals,
+      round-goes-on met shows offer c.loop-place.invariant.3 (sym c.in-Granted.is ∙ c.turn_class.ensures.answer) c.turn_class.ensures.asks (λ none go. c.turn_class.ensures.goes c.in-Granted.is none go) c.saturating_sub-unasked.ensures,
     )
 
 pub disciplines::drr::meet_class-returns-clause-kept : goal.disciplines::drr::meet_class-returns-clause-kept
@@ -194,7 +204,7 @@ disciplines::drr::meet_class-returns-in-Send-clause-met g t c = λ p is.
     let met = front-met c.requires.ready c.loop-place.invariant.0 c.front_place.ensures.lawful c.in-Some.place (sym c.in-Some.is ∙ c.front_place.ensures.place) in
     let shows = class-shown met c.index-classes-place.result c.peek_class-shown.ensures.asked c.peek_class-shown.ensures.at_hand c.peek_class-shown.ensures.not_lost in
     let offer = shown-len c.peek_class-shown.result.packet c.packet_len.result c.in-Some-packet_len.len c.packet_len.ensures.some c.in-Some-packet_len.is in
-    class-sends met shows offer (sym c.in-Send.is ∙ c.turn.ensures.answer) c.turn.ensures.after
+    class-sends met shows offer (sym c.in-Send.is ∙ c.turn_class.ensures.answer) (c.turn_class.ensures.sends c.in-Send.is)
 
 pub disciplines::drr::peek_classes-bounds-classes-place : goal.disciplines::drr::peek_classes-bounds-classes-place
 disciplines::drr::peek_classes-bounds-classes-place g t c =

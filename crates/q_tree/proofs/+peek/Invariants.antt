@@ -7,6 +7,7 @@ use Rattle.q_tree.specs.AskSteps.{IsToldOf, answers, signals_of}
 use Rattle.q_tree.specs.NodeCode.{node_size, forest_size}
 use Rattle.q_tree.specs.Seen.{children_seen}
 use Rattle.q_tree.proofs.AskBands.{AreBandsAsked, told_to}
+use Rattle.q_tree.proofs.RoundsServed.{IsInRound}
 use Rattle.q_tree.proofs.ServeLemmas.{AreClassesAsked, heads_of}
 use Rattle.q_tree.proofs.+peek.Given as goal
 
@@ -15,6 +16,7 @@ invariant-disciplines::drr::meet_class-loop-place g l =
     AreClassesAsked l.fn.now l.fn.active l.active l.fn.classes l.classes l.unasked l.shown (g.S.Sink.state l.fn.sink) (g.S.Sink.state l.sink)
     × g.S.Sink.keeps l.fn.sink l.sink
     × (l.signals ≡ signals_of l.shown)
+    × IsInRound l.fn.now l.fn.active l.active l.fn.classes l.unasked l.round
 
 -- each grant lowers one class's need of grants by one
 abbrev pub decreases-disciplines::drr::meet_class-loop-place : goal.decreases-disciplines::drr::meet_class-loop-place

@@ -1,6 +1,8 @@
 //! drr: how one chooses a class, dequeues, shows its packet, is ready, and changes (tc-drr(8)).
 ghost use Rattle.std.specs.Prelude.{◌≡◌, ◌<◌, ◌≤◌, None, OnErr, OnOk, Some, false, length, map, option_and_then, slice_get, true, unwrap_or};
-ghost use Rattle.q_drr.specs.Schedule.{place_of};
+ghost use Rattle.q_drr.specs.Rounds.{CanGo, HasGone};
+ghost use Rattle.q_drr.specs.Schedule.{place_of, turn_answer, turned};
+ghost use Rattle.q_drr.specs.declared.active.Turn.TheVariants.{Granted, Send};
 ghost use Rattle.q_packet.specs.Descriptor.{Descriptor};
 ghost use Rattle.q_codel.specs.Losses.{IsTold};
 ghost use Rattle.q_model.specs.Ask.{ask_drr};
@@ -33,7 +35,7 @@ use crate::ready_at::Outlook;
 use crate::shown::Shown;
 use crate::signals::{NO_SIGNALS, Signals};
 use q_codel::Sink;
-use q_drr::{Active, Turn};
+use q_drr::{Active, Round, Turn};
 use q_model::{Minor, Quantum, Refusal, Totals};
 use q_packet::{Cause, KeptPacket, Moment};
 use std::alloc::AllocError;
@@ -140,13 +142,15 @@ fn meet_class<S: Sink>(
     let mut shown = Shown::at_hand(&None);
     // In the first round each class is asked once; in a later one it has at hand what it showed.
     let mut unasked = active.active_count();
+    let mut round = Round::new();
     while let Some(place) = active.front_place() {
-        shown = peek_class(&mut classes[place], unasked > 0, shown, now, signals, sink);
+        let is_unasked = unasked > 0;
+        shown = peek_class(&mut classes[place], is_unasked, shown, now, signals, sink);
         unasked = unasked.saturating_sub(1);
         let Some(len) = shown.packet_len() else {
             return shown;
         };
-        match active.turn(len) {
+        match turn_class(active, &mut round, len, is_unasked) {
             Turn::Send => {
                 *met = place;
                 return shown;
@@ -224,6 +228,24 @@ fn peek_class<S: Sink>(
         return class.peek_after(so_far, now, signals, sink);
     }
     class.peek_again(so_far)
+}
+
+// Gives the class in front its turn, whose packet has `len` bytes. Once each class was asked, rounds in which every class is granted are
+// given at once.
+#[inline(always)]
+fn turn_class(active: &mut Active, round: &mut Round, len: u16, is_unasked: bool) -> Turn
+    requires front { 0 < length active.old.active }
+    requires in_range { len ≤ active.old.max_len }
+    requires round { is_unasked ≡ false → CanGo len round.old active.old }
+    ensures answer { result ≡ turn_answer len active.old.active }
+    ensures sends { result ≡ Send → active.new ≡ turned len active.old }
+    ensures asks { is_unasked ≡ true → (active.new ≡ turned len active.old) × (round.new ≡ round.old) }
+    ensures goes { result ≡ Granted → is_unasked ≡ false → (h : CanGo len round.old active.old) → HasGone h.heads len active.old active.new round.new }
+{
+    if is_unasked {
+        return active.turn(len);
+    }
+    round.turn(active, len)
 }
 
 /// Returns what is known of the next packet of a drr, by the class in front: no other is asked before that one has shown a packet.
