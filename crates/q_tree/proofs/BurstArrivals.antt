@@ -51,7 +51,7 @@ none-more t = ap₂ (λ (n b : ℕ). record { packets = n; bytes = b }) (omega a
 pub both : (t : Totals) (ps qs : List Descriptor) → plus (plus t (totals_in ps)) (totals_in qs) ≡ plus t (totals_in (ps ++ qs))
 both t ps qs = ap₂ (λ (n b : ℕ). record { packets = n; bytes = b }) (omega (arith, length-append ps qs)) (omega (arith, sum_by-append (λ (p : Descriptor). p.len) ps qs))
 
-row-one : (r : Row) (p : Descriptor) → with_arrivals (totals_in (p ∷ [])) r ≡ with_arrival p nothing_lost r
+pub row-one : (r : Row) (p : Descriptor) → with_arrivals (totals_in (p ∷ [])) r ≡ with_arrival p nothing_lost r
 row-one r p =
     let queued : plus r.queued (totals_in (p ∷ [])) ≡ minus (with_packet r.queued p) (plus no_totals no_totals) =
     one-total r.queued p ∙ ap₂ (λ (n b : ℕ). record { packets = n; bytes = b }) (omega arith) (omega arith) in
@@ -59,7 +59,7 @@ row-one r p =
 
 -- ---- a packet at a fifo that has room for it
 
-record IsKeptBy (now : ℕ) (p : Descriptor) (n : Node Kept) : Type 0 where
+pub record IsKeptBy (now : ℕ) (p : Descriptor) (n : Node Kept) : Type 0 where
   pub way : route p n ≡ ends
   pub place : HasPlaceIn n.memory.places n.own.discipline
   pub becomes : with_queued now (p ∷ []) n ≡ booked kept n (put_along now p None [] (shape n)).node
@@ -228,8 +228,12 @@ queued-both now p ps n =
     d (spec.Drr s) = refl
     d (spec.FqCodel s) = refl
 
-row-both : (p : Descriptor) (ps : List Descriptor) (r : Row) → with_arrivals (totals_in ps) (with_arrivals (totals_in (p ∷ [])) r) ≡ with_arrivals (totals_in (p ∷ ps)) r
+pub row-both : (p : Descriptor) (ps : List Descriptor) (r : Row) → with_arrivals (totals_in ps) (with_arrivals (totals_in (p ∷ [])) r) ≡ with_arrivals (totals_in (p ∷ ps)) r
 row-both p ps r = λ i. record r { arrived = both r.arrived (p ∷ []) ps i; queued = both r.queued (p ∷ []) ps i }
+
+-- a row that counts some, and then others
+pub row-after : (ps qs : List Descriptor) (r : Row) → with_arrivals (totals_in qs) (with_arrivals (totals_in ps) r) ≡ with_arrivals (totals_in (ps ++ qs)) r
+row-after ps qs r = λ i. record r { arrived = both r.arrived ps qs i; queued = both r.queued ps qs i }
 
 pub row-none : (r : Row) → with_arrivals (totals_in []) r ≡ r
 row-none r = λ i. record r { arrived = sym (none-more r.arrived) i; queued = sym (none-more r.queued) i }

@@ -18,6 +18,8 @@ pub mod ClassPlaces
 pub mod ClassPlans
 pub mod CountedLosses
 pub mod CountingLemmas
+pub mod DrrGoesOn
+pub mod DrrPauses
 pub mod EditLemmas
 pub mod EmptyFifo
 pub mod FifoHead
@@ -25,7 +27,10 @@ pub mod FilterIndexValues
 pub mod FindLemmas
 pub mod FlowCounts
 pub mod FlowHeld
+pub mod GivenHeads
 pub mod GivenInto
+pub mod GivenMany
+pub mod GivenTree
 pub mod Foreseeing
 pub mod ForeseenAsks
 pub mod Forms
@@ -36,6 +41,8 @@ pub mod IdleBands
 pub mod IdleClasses
 pub mod IndexLemmas
 pub mod IndexOfFilterLemmas
+pub mod Keeping
+pub mod KeepingMany
 pub mod MakingLemmas
 pub mod MatchingLemmas
 pub mod MostPacketsAsks
@@ -50,6 +57,7 @@ pub mod OutlookLemmas
 pub mod Peeks
 pub mod PlacesLemmas
 pub mod Plans
+pub mod PolledTwice
 pub mod PopLemmas
 pub mod PurgeLemmas
 pub mod Puts

@@ -21,6 +21,8 @@ pub mod Holding
 pub mod Index
 pub mod IndexOfFilters
 pub mod IndexSeen
+pub mod GiveSteps
+pub mod KeepSteps
 pub mod Kept
 pub mod Lanes
 pub mod Laws

@@ -130,7 +130,7 @@ impl Node {
 
 /// Books packets that have arrived and are queued.
 #[inline(always)]
-fn book_arrivals(row: &mut Counters, kept: &Totals)
+pub(crate) fn book_arrivals(row: &mut Counters, kept: &Totals)
     requires balanced { IsBalanced row.old }
     requires packets { row.old.arrived.packets + kept.now.packets < 2 ^ 64 }
     requires bytes { row.old.arrived.bytes + kept.now.bytes < 2 ^ 64 }

@@ -118,7 +118,7 @@ impl Tree {
 impl Node {
     /// Returns whether the node is a fifo that has a packet and holds none, so that nobody has to be asked.
     #[inline(always)]
-    fn has_head(&self) -> bool
+    pub(crate) fn has_head(&self) -> bool
         ensures means { result ≡ true → HasHead self.now }
         ensures comes { HasHead self.now → result ≡ true }
     {
@@ -133,7 +133,7 @@ impl Node {
 
     /// Dequeues the head of a fifo, which has a packet and holds none, into `out`, as [`Node::dequeue_at_hand`] does.
     #[inline(always)]
-    fn send_head(&mut self, out: &mut KeptPacket)
+    pub(crate) fn send_head(&mut self, out: &mut KeptPacket)
         requires head { HasHead self.old }
         ensures packet { Some out.new ≡ (pop self.old).shown }
         ensures after { self.new ≡ booked kept self.old (pop self.old).after }

@@ -198,7 +198,7 @@ impl Tree {
 impl Node {
     /// Returns whether the node is a fifo that takes a packet of `len` bytes, and has a place for it.
     #[inline(always)]
-    fn can_keep(&self, len: u16) -> bool
+    pub(crate) fn can_keep(&self, len: u16) -> bool
         ensures means { result ≡ true → CanKeep len self.now }
         ensures comes { CanKeep len self.now → result ≡ true }
     {
@@ -210,7 +210,7 @@ impl Node {
 
     /// Keeps a packet that arrives at a fifo which takes it and has a place for it. No packet is lost for it.
     #[inline(always)]
-    fn keep(&mut self, packet: &KeptPacket, now: Moment)
+    pub(crate) fn keep(&mut self, packet: &KeptPacket, now: Moment)
         requires ready { CanCome now packet.now self.old }
         requires fifo { CanKeep packet.now.len self.old }
         ensures after { HasCome now packet.now self.old self.new nothing_lost }

@@ -1,5 +1,5 @@
 //! What holds for every tree and its calls. Each function does nothing: its contract is the law.
-ghost use Rattle.std.specs.Prelude.{◌≡◌, ◌≤◌, [], List, ℕ};
+ghost use Rattle.std.specs.Prelude.{None, ◌≡◌, ◌≤◌, [], List, ℕ};
 ghost use Rattle.q_model.specs.Lawful.{IsLawfulTree};
 ghost use Rattle.q_model.specs.Tally.{totals};
 ghost use Rattle.q_model.specs.TreeState.{given, noted_by_take, peek_packet, put, take_packet};
@@ -100,3 +100,18 @@ pub fn losses_are_counted()
     ensures peek { PeekCountsItsLosses }
     ensures take { TakeCountsItsLosses }
 {}
+
+/// A poll that gives nothing, made again at the same time, gives nothing, loses nothing and changes nothing.
+///
+/// `now` is not before the latest time that the tree was given.
+pub fn second_poll_changes_nothing(tree: &Tree, now: Moment)
+    requires order { tree.now.clock ≤ now }
+    requires nothing { given now tree.now.tree ≡ None }
+    ensures packet { given now (take_packet kept now tree.now.tree) ≡ None }
+    ensures quiet { noted_by_take now (take_packet kept now tree.now.tree) ≡ [] }
+    ensures same { take_packet kept now (take_packet kept now tree.now.tree) ≡ take_packet kept now tree.now.tree }
+{
+    // The tree is lawful, and a time is at most 2^62 nanoseconds.
+    let _ = &tree.mtu;
+    let _ = now.ns();
+}

@@ -1,0 +1,64 @@
+-- What an arrival comes to that is kept with nothing lost and no place made, at one node and in its discipline.
+-- tc-prio(8), tc-tbf(8), tc-drr(8), tc-pfifo(8).
+use Rattle.std.specs.Prelude.{◌≡◌, ℕ, ◌<◌, ◌+◌, ◌*◌, ◌^◌, List, [], ◌∷◌, None}
+use Rattle.q_packet.specs.Descriptor.{Descriptor}
+use Rattle.q_codel.specs.Losses.{SinkState}
+use Rattle.q_model.specs.declared.filter.Filter.{Filter}
+use Rattle.q_model.specs.Node as spec
+use Rattle.q_model.specs.Route.{route}
+use Rattle.q_tree.specs.Arrivals.{HasPlace}
+use Rattle.q_tree.specs.ArriveSteps.{HasCome, HasComeIn, HasPlaceOn, nothing_lost, rises_along, way_in}
+use Rattle.q_tree.specs.AskSteps.{IsToldOf}
+use Rattle.q_tree.specs.Bursts.{with_arrivals}
+use Rattle.q_tree.specs.Kept.{Kept}
+use Rattle.q_tree.specs.Seen.{IsKept, seen}
+use Rattle.q_tree.specs.declared.node.Node.TheInside.{Inside}
+use Rattle.q_invariants.proofs.Kept.{IsLawfulRoot}
+use Rattle.q_model.specs.Beneath.{totals_in}
+use Rattle.q_tree.specs.declared.node.Discipline.{Discipline}
+
+-- a sink that takes no loss: what is told to it is nothing
+abbrev pub no_sink : SinkState
+no_sink = record { losses = []; room = 0 }
+
+-- the packet came to the node, whose route ends in a queue with a place for it
+pub record IsKeptAlong (now : ℕ) (p : Descriptor) (before after : spec.Node Kept) : Type 0 where
+  pub come : HasCome now p before after nothing_lost
+  pub told : IsToldOf (rises_along now p before) no_sink no_sink
+  pub passes : (route p before).refusal ≡ None
+  pub place : HasPlace (route p before).path before
+
+-- and to a discipline with these filters
+pub record IsKeptIn (now : ℕ) (p : Descriptor) (filters : List Filter) (before after : Discipline) : Type 0 where
+  pub come : HasComeIn now p filters before after nothing_lost no_sink no_sink
+  pub passes : (way_in p filters before).refusal ≡ None
+  pub place : HasPlaceOn (way_in p filters before).path before
+
+-- such packets came one after another
+abbrev pub AreKeptAlong : ℕ → List Descriptor → spec.Node Kept → spec.Node Kept → Type 0
+AreKeptAlong now [] before after = after ≡ before
+AreKeptAlong now (p ∷ ps) before after = (mid : spec.Node Kept) × IsKeptAlong now p before mid × AreKeptAlong now ps mid after
+
+-- so many packets, none longer than the mtu, can come to the node: the tree is lawful at `now`, and the counters have room
+pub record CanComeMany (now mtu count : ℕ) (n : spec.Node Kept) : Type 0 where
+  pub lawful : IsLawfulRoot mtu now n
+  pub packets : n.memory.counts.arrived.packets + count < 2 ^ 64
+  pub bytes : n.memory.counts.arrived.bytes + count * 65535 < 2 ^ 64
+
+-- A node of which the discipline has kept these packets, and which has not counted them yet: counted together, they came one after another.
+pub record AreKeptBelow (now mtu : ℕ) (ps : List Descriptor) (a : Inside) (d : Discipline) : Type 0 where
+  pub lawful : IsLawfulRoot mtu now (seen (record a { row = with_arrivals (totals_in ps) a.row; discipline = d }))
+  pub kept : IsKept (record a { row = with_arrivals (totals_in ps) a.row; discipline = d })
+  pub along : AreKeptAlong now ps (seen a) (seen (record a { row = with_arrivals (totals_in ps) a.row; discipline = d }))
+
+-- this is the node of the discipline
+pub record IsKeeping (now mtu count : ℕ) (filters : List Filter) (d : Discipline) (a : Inside) : Type 0 where
+  pub can : CanComeMany now mtu count (seen a)
+  pub kept : IsKept a
+  pub discipline : a.discipline ≡ d
+  pub filters_are : a.filters ≡ filters
+
+-- there is such a node
+pub record CanKeepEach (now mtu count : ℕ) (filters : List Filter) (d : Discipline) : Type 0 where
+  pub node : Inside
+  pub is : IsKeeping now mtu count filters d node
