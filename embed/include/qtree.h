@@ -35,10 +35,11 @@
  *   - Pointers. Every pointer that a program passes is aligned and not null, and points to memory of the program that
  *     no other pointer of the same call overlaps. That includes pointers that the call does not read or write. A
  *     pointer whose length is 0 may be null. A bool is false or true.
- *   - Structs. A program may place a qtree_device, a qtree_port or a qtree_outlet wherever it likes, and initializes
- *     it with QTREE_CLOSED (all bytes 0). From then on only the functions of this header read and write it. It may be
- *     moved: copied, if the old one is never used again. Of two copies of an open one, only one may be used. It is
- *     closed before its memory is released.
+ *   - Structs. A program may place a qtree_device, a qtree_port or a qtree_outlet wherever it likes in the memory of
+ *     one process, and initializes it with QTREE_CLOSED (all bytes 0). From then on only the functions of this header
+ *     read and write it. It may be moved: copied, if the old one is never used again. Of two copies of an open one,
+ *     only one may be used. It is closed before its memory is released. Memory that processes share (MAP_SHARED) does
+ *     not serve: what the struct points to is on the heap of the process that opened it.
  *   - Threads. Only one call at a time may use a given qtree_device, qtree_port or qtree_outlet. That includes calls
  *     that take a pointer to a const one. Each of the three may go from one thread to another if the calls are
  *     ordered by a lock, by the start or the join of a thread, or by a sequentially consistent atomic. Devices are
@@ -46,8 +47,8 @@
  *     the outlet. A port belongs to one sender and needs no lock. An outlet is used by the thread that uses the
  *     device, or under the lock that guards the device. Functions that take none of these three may be called by
  *     several threads at once, each with memory of its own.
- *   - Signals and fork. No function is called from a signal handler, or in the child of a fork of a program with
- *     threads.
+ *   - Signals and fork. No function is called from a signal handler. After a fork, the child uses no device, port or
+ *     outlet that was opened before; the child of a program with threads calls no function at all.
  *   - Stack. A thread that calls a function has at least 64 KB of stack left.
  *   - Memory. malloc, realloc and free are those of the C library, or behave as those have to.
  *   - System. The system is Linux with any C library (glibc, musl), and the processor has pointers of 64 bits and
@@ -60,8 +61,10 @@
  *
  * What holds for all functions
  *
- * No function waits, prints, aborts or calls back. Offers, polls and reaps allocate nothing, and neither do functions
- * that read or mark headers, or that read counters, shares or times.
+ * No function waits for a thread, a file or a clock, and none prints, aborts or calls back. A call may take long all
+ * the same: a poll looks at each class or flow of which it may have to take a packet, and CoDel may drop many packets
+ * in one poll. docs/TIMING.md says what each call takes, and what to set so that it stays short. Offers, polls and
+ * reaps allocate nothing, and neither do functions that read or mark headers, or that read counters, shares or times.
  *
  * A time, such as the argument now, is in nanoseconds since an instant that the program chooses, and is at most
  * QTREE_MOMENT_MAX. The device reads no clock. Time never goes back: the latest time that has counted so far counts in
@@ -363,7 +366,8 @@ typedef struct qtree_undone {
  *         the bytes of the line in the text
  *
  * Returns
- *   QTREE_DONE          the tree is what the lines make of a new device, apart from packets and counters
+ *   QTREE_DONE          the tree is what the lines make of a new device, apart from packets, counters, the order of the
+ *                       classes of a drr, and handles that the device chose
  *   QTREE_UNDONE        some lines cannot be carried out, and nothing has changed
  *   QTREE_OUT_OF_RANGE  the time is out of its range; nothing has changed, and the report is all 0
  *   QTREE_IS_CLOSED     the device is closed; the report is all 0
@@ -378,7 +382,7 @@ qtree_code qtree_set_up(qtree_device *device, const uint8_t *text, size_t text_l
  *
  * bytes   the first count bytes of the packet, from its IP header on; the whole header and the 4 bytes behind it,
  *         which may be ports, are enough
- * seed    the seed of the hash: any number; docs/SETTINGS.md says how to choose it
+ * seed    the seed of the hash: any number, best one drawn at random (getrandom): docs/SETTINGS.md says why
  * packet  family, proto, addresses, ports, prio, ecn and hash are filled in. number, port, buf and len stay as they
  *         are, so the program sets len and buf itself.
  *
@@ -654,8 +658,8 @@ qtree_code qtree_totals(const qtree_device *device, qtree_row *row);
  * since the promise may be another one. */
 typedef struct qtree_promise {
     uint64_t link;  /* the rate of the tbf at the root, in bits a second */
-    uint64_t rate;  /* the class's share of that rate, in bits a second */
-    uint64_t part;  /* the class's share of a billion bytes, in bytes */
+    uint64_t rate;  /* the class's share of that rate, in bits a second, rounded down at each drr on the way */
+    uint64_t part;  /* the class's share of a billion bytes, in bytes, rounded down at each drr on the way */
     uint64_t slack; /* the most bytes that the class can fall short of its share */
 } qtree_promise;
 
@@ -694,9 +698,9 @@ qtree_code qtree_service(const qtree_device *device, uint32_t place, uint16_t ma
  *   QTREE_IS_CLOSED     the device is closed */
 qtree_code qtree_lateness(const qtree_device *device, uint32_t place, uint16_t major, uint16_t minor, uint64_t *late);
 
-/* How long a packet waits at most in a pfifo or bfifo whose packets no other packet overtakes, or in one in a class of a
- * drr, from when it was queued until it has left, whatever comes meanwhile. Until it has left, the device sends no more
- * bytes than the field bytes says, including those of the packet itself.
+/* How long a packet waits at most in a pfifo or bfifo whose packets no other packet overtakes, or in one in a class of
+ * a drr, from when it was queued until it has left, whatever comes meanwhile. Until it has left, the device sends no
+ * more bytes than the field bytes says, including those of the packet itself.
  *
  * With a tbf at the root, the packet has left as soon as the program has polled until no packet came at a time that
  * is ns nanoseconds after the packet's arrival, or later. So if the program is never late by more than x nanoseconds,
