@@ -145,10 +145,7 @@ impl Drain {
             return Err(Error::Memory);
         }
         for outlet in &mut self.outlets {
-            let (placed, taken) = (outlet.placed().unwrap_or_default(), outlet.taken());
-            settled.placed += placed;
-            settled.taken += taken;
-            settled.adds_up &= placed == taken;
+            settled.add(outlet.placed().unwrap_or_default(), outlet.taken());
         }
         Ok(settled)
     }

@@ -1,6 +1,7 @@
 //! Many arrivals by one call, frames with a number, causes, and what errors and names read as.
 use qtree::{Cause, Device, Error, Fate, Packet, PacketError, Place, Polled, Settings};
 use std::collections::HashSet;
+use std::net::{IpAddr, Ipv4Addr};
 
 fn burst(count: u32) -> Result<Vec<Packet>, PacketError> {
     (0..count)
@@ -79,6 +80,57 @@ fn a_packet_that_cannot_arrive_is_not_built() {
     assert!(Packet::builder(1).prio(15).ecn(3).build().is_ok());
     let whole: Error = PacketError::Prio.into();
     assert_eq!(whole.to_string(), "the priority of the packet is above 15");
+}
+
+/// Two packets are equal where all of their fields are.
+#[test]
+fn packets_that_differ_in_one_field_differ() -> Result<(), PacketError> {
+    let (from, to, other) = (v4(10, 0, 0, 1), v4(10, 0, 0, 2), v4(10, 0, 0, 3));
+    let packet = || {
+        let packet = Packet::builder(100).buf(1).number(2, 3);
+        packet.addresses(from, to).proto(6).ports(4, 5).hash(6)
+    };
+    assert_eq!(packet().build()?, packet().build()?);
+    let others = [
+        packet().buf(9),
+        packet().number(9, 3),
+        packet().number(2, 9),
+        packet().addresses(other, to),
+        packet().addresses(from, other),
+        packet().proto(17),
+        packet().ports(9, 5),
+        packet().ports(4, 9),
+        packet().hash(9),
+        packet().prio(9),
+        packet().ecn(1),
+        Packet::builder(101)
+            .buf(1)
+            .number(2, 3)
+            .addresses(from, to)
+            .proto(6)
+            .ports(4, 5)
+            .hash(6),
+    ];
+    for other in others {
+        assert_ne!(packet().build()?, other.build()?);
+    }
+    Ok(())
+}
+
+fn v4(a: u8, b: u8, c: u8, d: u8) -> IpAddr {
+    Ipv4Addr::new(a, b, c, d).into()
+}
+
+/// Beside an IPv6 address an IPv4 address is an IPv4-mapped one (RFC 4291, section 2.5.5.2).
+#[test]
+fn addresses_of_two_families_are_of_ipv6() -> Result<(), PacketError> {
+    let (four, six) = (v4(192, 0, 2, 1), "2001:db8::1".parse().expect("an address"));
+    let mapped: IpAddr = "::ffff:192.0.2.1".parse().expect("an address");
+    let packet = Packet::builder(100).addresses(four, six).build()?;
+    assert_eq!((packet.src(), packet.dst()), (Some(mapped), Some(six)));
+    let packet = Packet::builder(100).addresses(six, four).build()?;
+    assert_eq!((packet.src(), packet.dst()), (Some(six), Some(mapped)));
+    Ok(())
 }
 
 #[test]

@@ -41,6 +41,20 @@ fn device() -> Result<Device, Box<dyn std::error::Error>> {
     Ok(device)
 }
 
+// The call asks for more room where there are more lines than it has room for.
+#[test]
+fn every_number_of_undone_lines_is_reported() -> Result<(), Box<dyn std::error::Error>> {
+    let mut device = device()?;
+    for count in [1, 15, 16, 17, 18, 32, 33, 1000] {
+        let Err(SetUpError::Undone(undone)) = device.set_up("tc qdisc ad\n".repeat(count), 0)
+        else {
+            panic!("{count} lines are done");
+        };
+        assert!(undone.iter().map(|it| it.line).eq(1..=count as u64));
+    }
+    Ok(())
+}
+
 #[test]
 fn lines_that_are_not_done_are_told() -> Result<(), Box<dyn std::error::Error>> {
     let mut device = device()?;

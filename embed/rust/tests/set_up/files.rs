@@ -122,3 +122,57 @@ fn prio(chance: &mut Chance) -> String {
     let (first, second) = (chance.below(bands), chance.below(bands));
     format!("prio bands {bands} priomap {first} {second} 0 0 0 0 0 0 0 0 0 0 0 0 0 {first}")
 }
+
+/// The same file with some lines left out, some that say something else of the same, and some that are new, as far as a new device does them.
+pub fn edited(chance: &mut Chance, before: &str) -> Result<String, Error> {
+    let mut device = Device::open(Settings::default())?;
+    let mut text = String::new();
+    let names_chosen = before.contains(" 800");
+    for old in before.lines() {
+        let mut lines = match chance.below(16) {
+            0 => vec![],
+            1..=3 => vec![said_otherwise(chance, old)],
+            _ => vec![old.into()],
+        };
+        if chance.hits(16) {
+            lines.push(line(chance, names_chosen));
+        }
+        for line in lines {
+            if is_done(&mut device, &line)? {
+                text += &line;
+                text.push('\n');
+            }
+        }
+    }
+    Ok(text)
+}
+
+fn said_otherwise(chance: &mut Chance, old: &str) -> String {
+    if old.starts_with("tc qdisc add") {
+        let kinds = ["pfifo", "bfifo", "prio", "tbf", "drr", "fq_codel"];
+        if let Some(at) = kinds
+            .iter()
+            .filter_map(|it| old.find(&format!(" {it}")))
+            .min()
+        {
+            let (head, word) = (&old[..at], old[at + 1..].split(' ').next());
+            for _ in 0..200 {
+                let kind = kind(chance);
+                if kind.split(' ').next() == word {
+                    return format!("{head} {kind}");
+                }
+            }
+        }
+        return old.into();
+    }
+    match old.rfind(':') {
+        Some(at) if old.starts_with("tc filter add") => {
+            format!("{}:{}", &old[..at], chance.upto(4))
+        }
+        _ if old.starts_with("tc class add") => {
+            let head = old.split(" quantum").next().unwrap_or(old);
+            format!("{head} quantum {}", chance.upto(3) * 1000)
+        }
+        _ => old.into(),
+    }
+}

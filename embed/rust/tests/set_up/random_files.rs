@@ -1,7 +1,7 @@
 //! Random files in turn on a device whose packets go on, against a new device after the last one.
 use crate::chance::Chance;
 use crate::comparing::tree;
-use crate::files::file;
+use crate::files::{edited, file};
 use qtree::{Device, EventKind, Node, Packet, Place, Qdisc, Settings};
 
 type Tried<T> = Result<T, Box<dyn std::error::Error>>;
@@ -18,9 +18,14 @@ fn trees_agree_after_random_files() -> Tried<()> {
 // Three files in turn on a new device.
 fn check_files(chance: &mut Chance) -> Tried<()> {
     let mut device = Device::open(Settings::default())?;
+    let mut text = String::new();
     for now in [0, 1_000_000, 2_000_000] {
-        let drawn = chance.below(60);
-        let text = file(chance, drawn)?;
+        text = if chance.hits(2) && !text.is_empty() {
+            edited(chance, &text)?
+        } else {
+            let drawn = chance.below(60);
+            file(chance, drawn)?
+        };
         check_file(&mut device, &text, now)?;
         traffic(&mut device, chance, now)?;
     }
