@@ -16,6 +16,7 @@
 #include <inttypes.h>
 #include <signal.h>
 #include <string.h>
+#include <sys/random.h>
 
 enum { CE = 3, BURST = 32, MTU = 1518, QUEUED = 16384, LINE_SIZE = 512, CACHE = 256, DESCRIPTORS = 512 };
 enum { FRAME = 1000, FLOWS = 1024, FRAMES = 4096, WAITING = 1024 };
@@ -98,13 +99,16 @@ static uint8_t *ip_head(const struct rte_mbuf *mbuf, size_t *count) {
     return (uint8_t *)(head + 1);
 }
 
+/* Of the hash. Nobody outside knows it, and so which ports share a flow. */
+static uint32_t seed;
+
 /* The mbuf's address comes back in number, which has 64 bits. */
 static void qtree_classify(struct scheduler *it, struct rte_mbuf *mbuf) {
     size_t count;
     const uint8_t *head = ip_head(mbuf, &count);
     qtree_packet *packet = rte_mbuf_to_priv(mbuf);
     *packet = (qtree_packet){ .number = (uintptr_t)mbuf, .len = (uint16_t)mbuf->pkt_len };
-    qtree_read_head(head, count, 0, packet);
+    qtree_read_head(head, count, seed, packet);
 }
 
 static void qtree_free_losses(struct scheduler *it) {
@@ -329,6 +333,7 @@ int main(int argc, char **argv) {
     int used = rte_eal_init(argc, argv);
     wanted(used < 0 || argc - used < 2 ? NULL : argv, "DPDK, or a file that is not named,");
     argc -= used, argv += used;
+    wanted(getrandom(&seed, sizeof seed, 0) == sizeof seed ? argv : NULL, "a random seed");
     signal(SIGINT, stop);
     signal(SIGTERM, stop);
     if (strcmp(argv[1], "--bench") != 0) {

@@ -15,6 +15,7 @@
 #include <stdlib.h>
 #include <string.h>
 #include <sys/ioctl.h>
+#include <sys/random.h>
 #include <sys/timerfd.h>
 #include <time.h>
 #include <unistd.h>
@@ -30,6 +31,9 @@ static struct pbuf **held; /* a packet's buf is the index of its pbuf */
 static uint32_t *free_bufs;
 static size_t held_count, free_count;
 static uint64_t offered, full, sent, failed, lost;
+
+/* Of the hash. Nobody outside knows it, and so which ports share a flow. */
+static uint32_t seed;
 
 static uint64_t now_ns(void) {
     struct timespec now;
@@ -82,7 +86,7 @@ static err_t output(struct netif *unused, struct pbuf *frame) {
     }
     bool is_ip = head->type == PP_HTONS(ETHTYPE_IP) || head->type == PP_HTONS(ETHTYPE_IPV6);
     qtree_packet packet = { .buf = free_bufs[--free_count], .len = frame->tot_len };
-    qtree_read_head((const uint8_t *)(head + 1), is_ip ? frame->len - SIZEOF_ETH_HDR : 0, 0, &packet);
+    qtree_read_head((const uint8_t *)(head + 1), is_ip ? frame->len - SIZEOF_ETH_HDR : 0, seed, &packet);
     held[packet.buf] = frame;
     pbuf_ref(frame);
     qtree_code code = qtree_arrive(&device, &packet, now_ns());
@@ -179,7 +183,7 @@ static bool totals(void) {
 }
 
 int main(int argc, char **argv) {
-    if (argc != 3 || !open_all(argv[1])) {
+    if (argc != 3 || getrandom(&seed, sizeof seed, 0) != sizeof seed || !open_all(argv[1])) {
         fprintf(stderr, "lwip_tap: the TAP device cannot be opened, a line is faulty or refused, or the limits are too large\n");
         return 2;
     }

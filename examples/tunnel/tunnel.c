@@ -19,6 +19,7 @@
 #include <stdlib.h>
 #include <string.h>
 #include <sys/ioctl.h>
+#include <sys/random.h>
 #include <sys/signalfd.h>
 #include <sys/timerfd.h>
 #include <time.h>
@@ -50,6 +51,9 @@ struct tunnel {
     char lines[LINES][LINE_SIZE]; /* of the file, as they were played */
     int timer, signals;
 };
+
+/* Of the hash. Nobody outside knows it, and so which ports share a flow. */
+static uint32_t seed;
 
 static uint64_t now_ns(void) {
     struct timespec now;
@@ -124,7 +128,7 @@ static bool way_read(struct way *way) {
         }
         frame->len = (uint16_t)len;
         qtree_packet packet = { .number = ++way->arrived, .buf = buf, .len = frame->len };
-        qtree_read_head(frame->bytes, frame->len, 0, &packet);
+        qtree_read_head(frame->bytes, frame->len, seed, &packet);
         qtree_code code = has_buffer ? qtree_arrive(&way->device, &packet, now_ns()) : QTREE_MEMORY;
         if (code == QTREE_DONE || qtree_is_loss(code)) {
             way->free_count--;
@@ -275,7 +279,8 @@ static bool open_all(struct tunnel *tunnel) {
     struct way *ways = tunnel->ways;
     ways[0].from = ways[1].to = open_tun(ways[0].from_name);
     ways[0].to = ways[1].from = ways[0].from < 0 ? -1 : open_tun(ways[0].to_name);
-    return tunnel->signals >= 0 && tunnel->timer >= 0 && ways[0].to >= 0;
+    bool has_seed = getrandom(&seed, sizeof seed, 0) == sizeof seed;
+    return has_seed && tunnel->signals >= 0 && tunnel->timer >= 0 && ways[0].to >= 0;
 }
 
 /* Whether the program goes on. */
