@@ -30,7 +30,7 @@ def clang_of(versions):
     for it in versions:
         if shutil.which(f"clang-{it}"):
             return f"clang-{it}"
-    raise Missing(f"no clang is installed of version {min(versions)} to {max(versions)} (Debian's clang-{versions[0]}, say)")
+    raise Missing(f"no clang is installed of version {min(versions)} to {max(versions)} (Debian's clang-16, say)")
 
 
 def same_sessions(folder, runner, room):
