@@ -31,13 +31,32 @@ static bool open_way(struct way *way, int from, int to) {
     return from >= 0 && to >= 0 && qtree_open(&way->device, &way->settings) == QTREE_DONE;
 }
 
-/* Reads the file, and gets the buffers that the tree then needs; false if these cannot be had. */
-static bool read_file(struct way *way, const char *path) {
-    uint64_t now = now_ns();
-    way_set_up(way, path, now);
+/* Gets the buffers that the tree needs after a change; false if these cannot be had. */
+static bool changed(struct way *way, uint64_t now) {
     lateness_ask(&way->lateness, &way->device, now);
     buffers_reap(&way->buffers, &way->device);
     return buffers_grow(&way->buffers, &way->device);
+}
+
+/* Reads the file once more. If it is no set-up, the tree stays as it is. */
+static bool read_again(struct way *way, const char *path) {
+    uint64_t now = now_ns();
+    way_set_up(way, path, now);
+    return changed(way, now);
+}
+
+/* Sets both directions up; false, with a line, if the file does not: frames would leave unshaped. */
+static bool begin(struct way *ways, const char *path) {
+    bool done = true;
+    for (int i = 0; done && i < 2; i++) {
+        uint64_t now = now_ns();
+        done = way_set_up(&ways[i], path, now) && changed(&ways[i], now);
+    }
+    fflush(stdout);
+    if (!done) {
+        fprintf(stderr, "step8_tunnel: ended without sending a frame, since %s does not set it up\n", path);
+    }
+    return done;
 }
 
 /* Prints what became of the frames, and how late polls were. */
@@ -60,7 +79,7 @@ static bool take_line(struct way *ways, const char *path) {
     for (int i = 0; i < 2; i++) {
         if (line[0] != '\n') {
             show(&ways[i].device);
-        } else if (!read_file(&ways[i], path)) {
+        } else if (!read_again(&ways[i], path)) {
             return false;
         }
     }
@@ -75,11 +94,9 @@ int main(int argc, char **argv) {
     }
     struct way ways[2];
     int left = open_tun(argv[1]), right = open_tun(argv[2]), timer = timerfd_create(CLOCK_MONOTONIC, 0);
-    if (!open_way(&ways[0], left, right) || !open_way(&ways[1], right, left) || timer < 0 || !read_file(&ways[0], argv[3]) ||
-        !read_file(&ways[1], argv[3])) {
+    if (!open_way(&ways[0], left, right) || !open_way(&ways[1], right, left) || timer < 0 || !begin(ways, argv[3])) {
         return 1;
     }
-    fflush(stdout);
     struct pollfd watched[] = { { timer, POLLIN, 0 }, { STDIN_FILENO, POLLIN, 0 }, { left, POLLIN, 0 }, { right, POLLIN, 0 } };
     do {
         uint64_t due = UINT64_MAX;
