@@ -17,7 +17,7 @@ class Missing(Exception):
 
 
 class Kept:
-    """The archive, its module, the words with which the kit's clang compiled it and, of a proved one, the kit's verdict."""
+    """The archive, its module, the name of the kit, the words with which its clang compiled it and, of a proved one, its verdict."""
 
     def __init__(self, unproved):
         folder = f"{TOP}/crates/qtree_c/out" + "/unproved" * unproved
@@ -27,11 +27,13 @@ class Kept:
             if not os.path.exists(it):
                 raise Missing(f"{os.path.relpath(it, TOP)} is missing: {self.how} builds the library and keeps its module")
         said = json.loads(read(kept))
-        self.words, self.verdict = said["words"], said["verdict"]
+        self.words, self.verdict, self.kit = said["words"], said["verdict"], said.get("kit")
         with open(self.archive, "rb") as file:
             is_same = hashlib.sha256(file.read()).hexdigest() == said["archive"]
         if not is_same or not unproved and not re.match(PROVED, self.verdict):
             raise Missing(f"{os.path.relpath(kept, TOP)} is of another archive, or of none that was proved: {self.how} builds it anew")
+        if not self.kit:
+            raise Missing(f"{os.path.relpath(kept, TOP)} does not name the kit that compiled it: {self.how} builds it anew")
 
     def check_sources(self):
         """The archive and its module are newer than each source of the crates."""

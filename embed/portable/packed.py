@@ -43,7 +43,8 @@ class Release:
 
     def __init__(self, kept):
         options = read(f"{TOP}/crates/q_options/src/command_line.rt")
-        version, self.kit = re.search(r'VERSION: &str = "([\d.]+) for x86_64, proved with ([\w-]+)"', options).groups()
+        version = re.search(r'VERSION: &str = "([\d.]+) for x86_64, proved with ', options)[1]
+        self.kit = kept.kit
         self.version = version if kept.verdict else f"{version}+unproved"
         self.commit = "commit " + run("git", "rev-parse", "HEAD").strip()
         if run("git", "status", "--porcelain").strip():
@@ -147,12 +148,11 @@ def tried(package, *words):
     with tempfile.TemporaryDirectory(prefix="qtree-portable-") as room:
         folder = unpacked(package, room)
         make(folder, *words)
-        make(folder, *words, "install", f"PREFIX={room}/installed")
-        if read(f"{room}/installed/share/man/man3/qtree_open.3") != ".so man3/qtree.3\n":
-            raise Unreadable("there is no manual page of qtree_open")
+        install_and_remove(folder, f"{room}/installed", *words)
         report = run("env", "-i", PATH, "./qtree", "play", "examples/two_packets.qtree", cwd=folder)
         if report != read(f"{folder}/examples/two_of_three_packets.out"):
             raise Unreadable("the player plays two_packets.qtree to another report")
+        compare_memory(folder, *words)
         make(folder, *words, "test")
         make(folder, *words, "-C", "examples/tutorial")
         step = f"{folder}/examples/tutorial/step1_device.out"
@@ -166,6 +166,35 @@ def tried(package, *words):
         if broken := list(broken_links(folder)):
             raise Unreadable(f"a link of a packed page leads nowhere: {', '.join(broken)}")
         return said
+
+
+def install_and_remove(folder, prefix, *words):
+    """Each function of the header has its manual page; what is removed is what was installed, and no file beside it."""
+    files = lambda: {it for it in glob.glob(f"{prefix}/**", recursive=True) if os.path.isfile(it)}
+    others = {f"{prefix}/{it}" for it in ("include/other.h", "lib/libqtree.so", "share/man/man3/qtree_other.3")}
+    for it in others:
+        os.makedirs(os.path.dirname(it), exist_ok=True)
+        write(it, "")
+    make(folder, *words, "install", f"PREFIX={prefix}")
+    # The functions at the header's end are for a test, and have none.
+    for it in re.findall(r"(?m)^[a-z].* \**(qtree_\w+)\(", read(f"{folder}/include/qtree.h").partition("/* The rest is for a test")[0]):
+        page = f"{prefix}/share/man/man3/{it}.3"
+        if not os.path.exists(page) or read(page) != ".so man3/qtree.3\n":
+            raise Unreadable(f"there is no manual page of {it}")
+    if not {f"{prefix}/{it}" for it in ("include/qtree.h", "lib/libqtree.a", "lib/pkgconfig/qtree.pc")} <= files():
+        raise Unreadable("make install installs no header, library or file for pkg-config")
+    make(folder, *words, "uninstall", f"PREFIX={prefix}")
+    if files() != others:
+        raise Unreadable(f"make uninstall leaves or takes {', '.join(sorted(files() ^ others))}")
+
+
+def compare_memory(folder, *words):
+    """ROUTER.md has the bytes that make measure prints, in the order of its lines."""
+    measured = [f"{int(it):,}" for it in re.findall(r"(?m) (\d+) bytes$", make(folder, *words, "measure"))]
+    table = read(f"{folder}/doc/ROUTER.md").partition("| Device | Bytes of the heap |\n")[2].partition("\n\n")[0]
+    told = re.findall(r"(?m) ([\d,]+) \|$", table)
+    if measured != told or len(told) != 3:
+        raise Unreadable(f"make measure prints {', '.join(measured)} bytes, and ROUTER.md has {', '.join(told)}")
 
 
 def refuse_others(folder):
