@@ -5,16 +5,17 @@
 #include "metrics.h"
 
 #include <arpa/inet.h>
+#include <errno.h>
+#include <poll.h>
 #include <pthread.h>
 #include <signal.h>
 #include <stdlib.h>
 #include <string.h>
 #include <sys/socket.h>
-#include <sys/time.h>
 #include <time.h>
 #include <unistd.h>
 
-enum { LINE_SIZE = 512, REQUEST_SIZE = 4096, FLOWS = 64, CLASSES = 4, FIRST_PORT = 5000, PACKETS = 2, MILLISECOND = 1000000 };
+enum { LINE_SIZE = 512, REQUEST_SIZE = 4096, FLOWS = 64, CLASSES = 4, FIRST_PORT = 5000, PACKETS = 2, MILLISECOND = 1000000, SECOND = 1000000000 };
 
 struct exporter {
     const char *name;
@@ -101,12 +102,22 @@ static bool write_all(struct exporter *exporter, FILE *file) {
     return is_read;
 }
 
-/* Whether a request is one for the text. It is read to its blank line, or until a second has gone. */
+/* Whether a client can be read from, or written to, before this time. */
+static bool is_ready(int client, short what, uint64_t until) {
+    uint64_t now = now_ns();
+    return now < until && poll(&(struct pollfd){ .fd = client, .events = what }, 1, (int)((until - now) / MILLISECOND) + 1) > 0;
+}
+
+/* Whether a request is one for the text. It is read to its blank line, or until a second has gone, however slowly its bytes come. */
 static bool read_request(int client) {
     char request[REQUEST_SIZE + 1];
     size_t len = 0;
-    setsockopt(client, SOL_SOCKET, SO_RCVTIMEO, &(struct timeval){ .tv_sec = 1 }, sizeof(struct timeval));
-    for (ssize_t got; len < REQUEST_SIZE && (got = recv(client, request + len, REQUEST_SIZE - len, 0)) > 0;) {
+    uint64_t until = now_ns() + SECOND;
+    while (len < REQUEST_SIZE && is_ready(client, POLLIN, until)) {
+        ssize_t got = recv(client, request + len, REQUEST_SIZE - len, MSG_DONTWAIT);
+        if (got <= 0) {
+            return false;
+        }
         len += (size_t)got;
         request[len] = '\0';
         if (strstr(request, "\r\n\r\n") != NULL) {
@@ -114,6 +125,15 @@ static bool read_request(int client) {
         }
     }
     return false;
+}
+
+/* Sends a text, or what of it the client takes in a second. */
+static void send_all(int client, const char *text, size_t len) {
+    uint64_t until = now_ns() + SECOND;
+    for (size_t sent = 0; sent < len && is_ready(client, POLLOUT, until);) {
+        ssize_t more = send(client, text + sent, len - sent, MSG_DONTWAIT);
+        sent = more > 0 ? sent + (size_t)more : len;
+    }
 }
 
 static void answer(struct exporter *exporter, int client) {
@@ -127,10 +147,7 @@ static void answer(struct exporter *exporter, int client) {
     }
     len = is_written ? len : 0;
     dprintf(client, form, is_written ? "200 OK" : is_asked ? "503 Service Unavailable" : "404 Not Found", len);
-    for (size_t sent = 0; sent < len;) {
-        ssize_t more = send(client, text + sent, len - sent, 0);
-        sent = more > 0 ? sent + (size_t)more : len;
-    }
+    send_all(client, text, len);
     free(text);
     close(client);
 }
@@ -174,9 +191,25 @@ static int serve(struct exporter *exporter, uint16_t port) {
     }
 }
 
+/* The port that a word names; 0, with a line, if it names none. */
+static uint16_t port_of(const char *word) {
+    char *end;
+    errno = 0;
+    unsigned long port = strtoul(word, &end, 10);
+    if (strspn(word, "0123456789") != strlen(word) || errno != 0 || port < 1 || port > UINT16_MAX) {
+        fprintf(stderr, "exporter: '%s' is no port, which is a number from 1 to %d\n", word, UINT16_MAX);
+        return 0;
+    }
+    return (uint16_t)port;
+}
+
 int main(int argc, char **argv) {
     if (argc != 2 && (argc != 4 || strcmp(argv[2], "--listen") != 0)) {
         fprintf(stderr, "usage: exporter DEVICE [--listen PORT] <FILE\n");
+        return 2;
+    }
+    uint16_t port = argc == 4 ? port_of(argv[3]) : 0;
+    if (argc == 4 && port == 0) {
         return 2;
     }
     struct exporter exporter = { .name = argv[1], .lock = PTHREAD_MUTEX_INITIALIZER, .device = QTREE_CLOSED };
@@ -184,7 +217,7 @@ int main(int argc, char **argv) {
     if (!set_up(&exporter, stdin)) {
         status = 1;
     } else if (argc == 4) {
-        status = serve(&exporter, (uint16_t)strtoul(argv[3], NULL, 10));
+        status = serve(&exporter, port);
     } else {
         for (uint64_t now = 0; now < 10000 * (uint64_t)MILLISECOND; now += MILLISECOND) {
             bring(&exporter, now);
