@@ -1,4 +1,5 @@
-# libqtree for OpenWrt, over the portable package: package/libqtree/Makefile of a feed. Nobody has tried it in an OpenWrt tree.
+# libqtree for OpenWrt, over the portable package: package/libqtree/Makefile of a feed. Nobody has tried it in an OpenWrt tree. The copy
+# within the package cannot have the package's checksum; the one beside it does.
 #
 # The text is compiled by a clang of the machine that builds, version 15 or newer, which HOST_CLANG names; the SDK's compiler
 # does the rest. OpenWrt's own LLVM has the back end for BPF alone. Most MIPS routers have 32 bits or are big-endian: not these.
@@ -9,7 +10,7 @@ PKG_VERSION:=@VERSION@
 PKG_RELEASE:=1
 PKG_SOURCE:=qtree-$(PKG_VERSION)-portable.tar.xz
 PKG_SOURCE_URL:=file://$(CURDIR)
-PKG_HASH:=skip
+PKG_HASH:=@HASH@
 PKG_BUILD_DIR:=$(BUILD_DIR)/qtree-$(PKG_VERSION)-portable
 HOST_CLANG?=clang
 

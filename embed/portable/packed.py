@@ -8,6 +8,8 @@ import sys
 import tarfile
 import tempfile
 
+import beside
+import hardened
 from kept import TOP, Kept, Missing
 from llvm_text import Unreadable, read, write
 from pages import broken_links, relinked
@@ -74,6 +76,11 @@ def below(pattern, left=()):
     return [os.path.relpath(it, TOP) for it in sorted(glob.glob(f"{TOP}/{pattern}")) if os.path.basename(it) not in left]
 
 
+def openwrt(release, checksum):
+    """The makefile for OpenWrt, with the checksum of the package."""
+    return read(f"{HERE}/openwrt.mk").replace("@VERSION@", release.version).replace("@HASH@", checksum)
+
+
 def laid_out(kept, root):
     """Puts all files below a root, and answers the release."""
     module = read(kept.module)
@@ -87,7 +94,7 @@ def laid_out(kept, root):
     proved_for = "proved for x86_64-unknown-linux-gnu" if release.verdict else "NOT proved"
     write(f"{root}/Makefile", read(f"{HERE}/Makefile").replace("PROVED_FOR", proved_for))
     os.mkdir(f"{root}/openwrt")
-    write(f"{root}/openwrt/Makefile", read(f"{HERE}/openwrt.mk").replace("@VERSION@", release.version))
+    write(f"{root}/openwrt/Makefile", openwrt(release, "skip"))
     write(f"{root}/libqtree.ll", text)
     write(f"{root}/PROVED.md", release.proved(counts, functions, lines))
     files = {"include": ["embed/include/qtree.h"], "doc": ["embed/c/qtree.3"]}
@@ -130,6 +137,8 @@ def pack(unproved, to):
         name = f"qtree-{release.version}-portable"
         tar(f"{room}/root", release, name, f"{room}/{name}.tar.xz")
         os.replace(f"{room}/{name}.tar.xz", f"{to}/{name}.tar.xz")
+    write(f"{to}/qtree-{release.version}-openwrt.mk", openwrt(release, beside.checksum(f"{to}/{name}.tar.xz")))
+    beside.lay_beside(f"{to}/{name}.tar.xz", release, release.commit, [release.kit])
     return f"{to}/{name}.tar.xz"
 
 
@@ -147,7 +156,10 @@ def tried(package, *words):
     """Unpacks the package in a fresh folder, builds it, plays the example and runs the tests, with no Rattle on the path."""
     with tempfile.TemporaryDirectory(prefix="qtree-portable-") as room:
         folder = unpacked(package, room)
+        beside.check(package, room)
         make(folder, *words)
+        if lacking := hardened.lacks(f"{folder}/qtree", has_c=True):
+            raise Unreadable(f"the player has not {', '.join(lacking)}")
         install_and_remove(folder, f"{room}/installed", *words)
         report = run("env", "-i", PATH, "./qtree", "play", "examples/two_packets.qtree", cwd=folder)
         if report != read(f"{folder}/examples/two_of_three_packets.out"):
@@ -218,6 +230,6 @@ def status(unproved, to, is_tried):
     except Missing as error:
         print(error)
         return 3
-    except (OSError, Unreadable) as error:
+    except (OSError, Unreadable, beside.Differs) as error:
         print(f"package: {error}", file=sys.stderr)
         return ended
