@@ -11,6 +11,10 @@ import sys
 WIDTH, HEIGHT, LEFT, RIGHT, TOP, BOTTOM = 800, 400, 64, 784, 110, 350
 CAUSES = ("TooLong", "NoClass", "OverLimit", "CoDel", "FatFlow", "Purged")
 COLOURS = ("#d55e00", "#0072b2", "#009e73", "#cc79a7")
+PALE = "stroke-width:7;stroke-opacity:0.3"
+# What the tunnel's drr promises each customer: the part of its quantum (3000 and 1500) of the 20 Mbit/s. Of a packet of 1500 bytes TCP
+# carries 1448.
+PROMISED = {"drr of two fq_codels": [20 * part * 1448 / 1500 for part in (2 / 3, 1 / 3)]}
 STYLE = """
 text{font:11px sans-serif;fill:#222}.title{font-size:15px;font-weight:bold}.axis{font-size:12px}
 polyline{fill:none;stroke-width:1.3}line{stroke:#e4e4e4}.key{stroke-width:4}.wanted{stroke:#888;stroke-dasharray:4 3}"""
@@ -111,10 +115,15 @@ def shares(found, path):
             made += [text(LEFT - 6, y(rate) + 4, rate, 'text-anchor="end"')] if number == 0 else []
         for colour, rates in zip(COLOURS, one["rates"]):
             made.append(curve(colour, ((left + width * (at + 0.5) / last, y(rate)) for at, rate in enumerate(rates))))
+        for colour, rate in zip(COLOURS, PROMISED.get(one["name"], ())):
+            made.append(line(left, y(rate), left + width, y(rate), f'style="stroke:{colour};{PALE}"'))
         first, second = (sum(it) / len(it) for it in one["rates"])
         made.append(text(left + width / 2, TOP - 6, f"{one['name']}: {first / second:.2f} to 1", 'text-anchor="middle"'))
     entries = [(COLOURS[0], "first customer"), (COLOURS[1], "second customer")]
-    written(path, "Two customers with two TCP downloads each, in a tunnel of 20 Mbit/s", "throughput, Mbit/s", made + legend(entries))
+    told = "pale: what drr promises, 2/3 and 1/3 of the rate, which without headers are 12.87 and 6.44 Mbit/s"
+    pale = [line(LEFT, 72, LEFT + 12, 72, f'style="stroke:#888;{PALE}"'), text(LEFT + 18, 76, told)]
+    title = "Two customers with two TCP downloads each, in a tunnel of 20 Mbit/s"
+    written(path, title, "throughput, Mbit/s", made + legend(entries) + pale)
 
 
 def draw(found, folder):
