@@ -96,7 +96,7 @@ static bool write_all(struct exporter *exporter, FILE *file) {
     struct lateness lateness = exporter->lateness;
     pthread_mutex_unlock(&exporter->lock);
     if (is_read) {
-        metrics_write(file, exporter->name, &tree, &losses, &lateness);
+        metrics_write(file, &(struct source){ exporter->name, &tree, &losses, &lateness }, 1);
     }
     tree_free(&tree);
     return is_read;

@@ -24,13 +24,15 @@ void lateness_allow(struct lateness *lateness, const qtree_device *device) {
 
 /* The last time that was ahead counts. Once it has come it stays until a poll finds nothing, whatever arrives meanwhile: the bucket has been
  * filling up since then. */
-void lateness_ask(struct lateness *lateness, const qtree_device *device, uint64_t now) {
-    uint64_t at;
-    if (qtree_ready_at(device, &at) != QTREE_DONE) {
-        lateness->due = UINT64_MAX;
-    } else if (at > now || lateness->due > now) {
+void lateness_note(struct lateness *lateness, uint64_t at, uint64_t now) {
+    if (at == UINT64_MAX || at > now || lateness->due > now) {
         lateness->due = at;
     }
+}
+
+void lateness_ask(struct lateness *lateness, const qtree_device *device, uint64_t now) {
+    uint64_t at;
+    lateness_note(lateness, qtree_ready_at(device, &at) == QTREE_DONE ? at : UINT64_MAX, now);
 }
 
 void lateness_count(struct lateness *lateness, uint64_t now) {

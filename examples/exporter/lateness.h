@@ -23,6 +23,9 @@ void lateness_allow(struct lateness *lateness, const qtree_device *device);
 /* Asks when a packet is due: to be called after arrivals, commands and polls. */
 void lateness_ask(struct lateness *lateness, const qtree_device *device, uint64_t now);
 
+/* The same for a program that has asked itself: at is the time that qtree_ready_at gave, or UINT64_MAX where nothing is due. */
+void lateness_note(struct lateness *lateness, uint64_t at, uint64_t now);
+
 /* Counts how late the polls of this time are, where a packet is due: to be called once before them. */
 void lateness_count(struct lateness *lateness, uint64_t now);
 

@@ -1,4 +1,4 @@
-/* A device in the text format of Prometheus, version 0.0.4. */
+/* Devices in the text format of Prometheus, version 0.0.4. */
 #ifndef METRICS_H
 #define METRICS_H
 
@@ -12,6 +12,15 @@ struct losses {
     qtree_count by_cause[QTREE_LOST_MOST + 1];
 };
 
-void metrics_write(FILE *file, const char *device, const struct tree *tree, const struct losses *losses, const struct lateness *lateness);
+/* What is written of one device. */
+struct source {
+    const char *device;
+    const struct tree *tree;
+    const struct losses *losses;
+    const struct lateness *lateness;
+};
+
+/* Writes each family once, with the rows of all devices behind it. */
+void metrics_write(FILE *file, const struct source *sources, size_t source_count);
 
 #endif
