@@ -16,7 +16,7 @@ HERE = pathlib.Path(__file__).resolve().parent
 CRATE = HERE.parent / "crates" / "qtree_c"
 A, B = "10.77.0.1", "10.77.0.2"
 A_6, B_6 = "fd77::1", "fd77::2"
-PACKAGES = {"ip": "iproute2", "ping": "iputils-ping", "cc": "gcc", "make": "make", "ethtool": "ethtool", "valgrind": "valgrind", "iperf3": "iperf3"}
+PACKAGES = {"ip": "iproute2", "tc": "iproute2", "ping": "iputils-ping", "cc": "gcc"}
 SOL_PACKET, PACKET_AUXDATA, PACKET_IGNORE_OUTGOING, SO_RCVBUFFORCE = 263, 8, 23, 33
 LIBC = ctypes.CDLL(None, use_errno=True)
 
@@ -48,6 +48,10 @@ def build(*targets):
 
 def has_xdp():
     return run("pkg-config", "--exists", "libxdp", "libbpf", check=False).returncode == 0
+
+
+def text_of(path):
+    return path.read_text(encoding="utf-8", errors="replace")
 
 
 class Lab:
@@ -96,7 +100,7 @@ class Lab:
         shutil.rmtree(self.room, ignore_errors=True)
 
     def inside(self, place, *words, **how):
-        words = ["ip", "netns", "exec", self.places[place], "nice", "-n", "10", *(str(it) for it in words)]
+        words = ["ip", "netns", "exec", self.places[place], *(str(it) for it in words)]
         process = subprocess.Popen(words, text=True, **{"stdout": subprocess.PIPE, **how})
         self.running.append(process)
         return process
@@ -127,11 +131,9 @@ def enter(place):
 
 
 def received(fd, seconds, enough=None):
-    """The frames that come within some seconds, each with the tag that the kernel took out; no longer, once there are enough."""
-    found, until = [], time.monotonic() + seconds
-    while (left := until - time.monotonic()) > 0 and (enough is None or len(found) < enough):
-        if not select.select([fd], [], [], left)[0]:
-            break
+    """The frames that come until none has come for some seconds, or there are enough; each with the tag that the kernel took out."""
+    found = []
+    while (enough is None or len(found) < enough) and select.select([fd], [], [], seconds)[0]:
         data, notes, _, _ = fd.recvmsg(70000, 256)
         for level, kind, note in notes:
             if level == SOL_PACKET and kind == PACKET_AUXDATA:
@@ -172,7 +174,7 @@ class Wire:
         return self.process.wait(timeout=30)
 
     def said(self):
-        return self.log.read_text(encoding="utf-8", errors="replace")
+        return text_of(self.log)
 
     def ask(self, what):
         return run(HERE / "build/qtree-wire", what, self.socket, check=False).stdout

@@ -60,13 +60,14 @@ static void promise_class(struct direction *way, const qtree_class_view *class, 
     }
     qtree_lateness(&way->device, QTREE_CLASS, class->major, class->minor, &late);
     if (promise.link == 0) {
-        fprintf(file, "  class %x:%x: %.3g %% of what is sent, less %" PRIu64 " bytes\n", class->major, class->minor, (double)promise.part / 1e7,
-                promise.slack);
+        fprintf(file, "  class %x:%x: %.3g %% of what is sent, less %" PRIu64 " bytes\n", class->major, class->minor,
+                (double)promise.part / 1e7, promise.slack);
         return;
     }
-    fprintf(file, "  class %x:%x: %.6g of %.6g Mbit/s, less %" PRIu64 " bytes, if polls are at most %.3f ms late; the latest was %.3f ms: %s\n",
-            class->major, class->minor, (double)promise.rate / 1e6, (double)promise.link / 1e6, promise.slack, ms(late), ms(way->lateness.greatest),
-            way->lateness.greatest <= late ? "it holds" : "it did not hold then");
+    fprintf(file,
+            "  class %x:%x: %.6g of %.6g Mbit/s, less %" PRIu64 " bytes, if polls are at most %.3f ms late; the latest was %.3f ms: %s\n",
+            class->major, class->minor, (double)promise.rate / 1e6, (double)promise.link / 1e6, promise.slack, ms(late),
+            ms(way->lateness.greatest), way->lateness.greatest <= late ? "it holds" : "it did not hold then");
 }
 
 static void promise_wait(struct direction *way, const qtree_node_view *node, FILE *file) {
@@ -74,7 +75,8 @@ static void promise_wait(struct direction *way, const qtree_node_view *node, FIL
     if (qtree_worst(&way->device, node->place, node->parent_major, node->parent_minor, &delay) != QTREE_DONE) {
         fprintf(file, "  %s %x: no longest wait is promised\n", qtree_kind_name(node->kind), node->handle);
     } else if (delay.ns == UINT64_MAX) {
-        fprintf(file, "  %s %x: a packet has left before %" PRIu64 " bytes are sent\n", qtree_kind_name(node->kind), node->handle, delay.bytes);
+        fprintf(file, "  %s %x: a packet has left before %" PRIu64 " bytes are sent\n", qtree_kind_name(node->kind), node->handle,
+                delay.bytes);
     } else {
         fprintf(file, "  %s %x: a packet waits %.3f ms at most, if polls are at most %.3f ms late; the latest was %.3f ms: %s\n",
                 qtree_kind_name(node->kind), node->handle, ms(delay.ns), ms(delay.late), ms(way->lateness.greatest),
@@ -115,9 +117,12 @@ static void write_counts(struct direction *way, const struct reading *reading, F
     struct counts *counts = &way->counts;
     const qtree_row *row = &reading->tree.device;
     uint64_t socket = way->io->dropped(way);
-    fprintf(file, "%s to %s: read %" PRIu64 " written %" PRIu64 " not_ip %" PRIu64 " turns %" PRIu64 " sleeps %" PRIu64 "\n", way->from, way->to,
-            count_of(&counts->read), count_of(&counts->written), count_of(&counts->not_ip), count_of(&counts->turns), count_of(&counts->sleeps));
-    fprintf(file, "  tree: arrived %" PRIu64 " sent %" PRIu64 " refused %" PRIu64 " dropped %" PRIu64 " queued %" PRIu64 " marked %" PRIu64 "\n  lost in it:",
+    fprintf(file, "%s to %s: read %" PRIu64 " written %" PRIu64 " not_ip %" PRIu64 " turns %" PRIu64 " sleeps %" PRIu64 "\n", way->from,
+            way->to, count_of(&counts->read), count_of(&counts->written), count_of(&counts->not_ip), count_of(&counts->turns),
+            count_of(&counts->sleeps));
+    fprintf(file,
+            "  tree: arrived %" PRIu64 " sent %" PRIu64 " refused %" PRIu64 " dropped %" PRIu64 " queued %" PRIu64 " marked %" PRIu64
+            "\n  lost in it:",
             row->arrived.packets, row->sent.packets, row->refused.packets, row->dropped.packets, row->queued.packets, row->marked.packets);
     for (qtree_code cause = QTREE_LOST_TOO_LONG; cause <= QTREE_LOST_PURGED; cause++) {
         fprintf(file, " %s %" PRIu64, qtree_code_name(cause), reading->losses.by_cause[cause].packets);
@@ -179,7 +184,8 @@ void answer_metrics(struct wire *wire, FILE *file) {
         metrics_write(file, sources, 2);
     }
     write_family(wire, file, "qtree_wire_read_frames_total", "Frames read from the other card", offsetof(struct counts, read));
-    write_family(wire, file, "qtree_wire_read_bytes_total", "Bytes of frames read from the other card", offsetof(struct counts, read_bytes));
+    write_family(wire, file, "qtree_wire_read_bytes_total", "Bytes of frames read from the other card",
+                 offsetof(struct counts, read_bytes));
     write_family(wire, file, "qtree_wire_written_frames_total", "Frames given to the card", offsetof(struct counts, written));
     write_family(wire, file, "qtree_wire_written_bytes_total", "Bytes of frames given to the card", offsetof(struct counts, written_bytes));
     write_family(wire, file, "qtree_wire_not_ip_frames_total", "Frames in which no IP header was found", offsetof(struct counts, not_ip));

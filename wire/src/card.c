@@ -17,11 +17,8 @@ const char *const offload_names[OFFLOADS] = { "gro", "lro", "tso", "gso", "rxvla
 static const struct {
     uint32_t get, set, bit;
 } offloads[OFFLOADS] = {
-    { ETHTOOL_GGRO, ETHTOOL_SGRO, 1 },
-    { ETHTOOL_GFLAGS, ETHTOOL_SFLAGS, ETH_FLAG_LRO },
-    { ETHTOOL_GTSO, ETHTOOL_STSO, 1 },
-    { ETHTOOL_GGSO, ETHTOOL_SGSO, 1 },
-    { ETHTOOL_GFLAGS, ETHTOOL_SFLAGS, ETH_FLAG_RXVLAN },
+    { ETHTOOL_GGRO, ETHTOOL_SGRO, 1 }, { ETHTOOL_GFLAGS, ETHTOOL_SFLAGS, ETH_FLAG_LRO },    { ETHTOOL_GTSO, ETHTOOL_STSO, 1 },
+    { ETHTOOL_GGSO, ETHTOOL_SGSO, 1 }, { ETHTOOL_GFLAGS, ETHTOOL_SFLAGS, ETH_FLAG_RXVLAN },
 };
 
 static bool ask(const char *name, unsigned long what, struct ifreq *wanted) {
@@ -66,7 +63,8 @@ static void read_addresses(struct card *card) {
         if (it->ifa_addr->sa_family == AF_INET) {
             inet_ntop(AF_INET, &((const struct sockaddr_in *)(const void *)it->ifa_addr)->sin_addr, card->address, sizeof card->address);
         } else if (it->ifa_addr->sa_family == AF_INET6) {
-            inet_ntop(AF_INET6, &((const struct sockaddr_in6 *)(const void *)it->ifa_addr)->sin6_addr, card->address_6, sizeof card->address_6);
+            inet_ntop(AF_INET6, &((const struct sockaddr_in6 *)(const void *)it->ifa_addr)->sin6_addr, card->address_6,
+                      sizeof card->address_6);
         }
     }
     freeifaddrs(all);

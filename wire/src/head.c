@@ -37,9 +37,11 @@ size_t head_ip_at(const uint8_t *frame, size_t len) {
         return 0;
     }
     switch (number_at(frame, at)) {
-    case 0x0800: case 0x86dd: return at + 2;
+    case 0x0800:
+    case 0x86dd: return at + 2;
     case 0x8864: return behind_session(frame, len, at + 2);
-    case 0x8847: case 0x8848: return behind_labels(frame, len, at + 2);
+    case 0x8847:
+    case 0x8848: return behind_labels(frame, len, at + 2);
     default: return 0;
     }
 }

@@ -41,7 +41,9 @@ static bool set_output(int output) {
 
 static int open_socket(const char *card, bool reads) {
     int fd = socket(AF_PACKET, SOCK_RAW | SOCK_NONBLOCK | SOCK_CLOEXEC, 0);
-    struct sockaddr_ll at = { .sll_family = AF_PACKET, .sll_protocol = htons(reads ? ETH_P_ALL : 0), .sll_ifindex = (int)if_nametoindex(card) };
+    struct sockaddr_ll at = { .sll_family = AF_PACKET,
+                              .sll_protocol = htons(reads ? ETH_P_ALL : 0),
+                              .sll_ifindex = (int)if_nametoindex(card) };
     bool is_set = fd >= 0 && set(fd, PACKET_VNET_HDR, 1) && (reads ? set_input(fd) : set_output(fd));
     if (!is_set || bind(fd, (struct sockaddr *)&at, sizeof at) != 0) {
         fprintf(stderr, "qtree-wire: %s: %s\n", card, strerror(errno));
@@ -76,7 +78,8 @@ static void put_tag_back(struct pool *pool, uint32_t buf, struct msghdr *message
             continue;
         }
         uint8_t *bytes = slot_of(pool, buf) + frame->at - 4;
-        uint16_t tag[2] = { htons((found.tp_status & TP_STATUS_VLAN_TPID_VALID) != 0 ? found.tp_vlan_tpid : ETH_P_8021Q), htons(found.tp_vlan_tci) };
+        uint16_t tag[2] = { htons((found.tp_status & TP_STATUS_VLAN_TPID_VALID) != 0 ? found.tp_vlan_tpid : ETH_P_8021Q),
+                            htons(found.tp_vlan_tci) };
         memmove(bytes, bytes + 4, 12);
         memcpy(bytes + 12, tag, sizeof tag);
         frame->at -= 4;
@@ -107,7 +110,10 @@ static void lend(struct direction *way, struct state *state) {
         state->in_parts[i][0] = (struct iovec){ open, sizeof *open };
         state->in_parts[i][1] = (struct iovec){ slot_of(&way->pool, buf) + HEADROOM, way->pool.slot - HEADROOM };
         state->in[i].msg_hdr = (struct msghdr){
-            .msg_iov = state->in_parts[i], .msg_iovlen = 2, .msg_control = state->control[i], .msg_controllen = sizeof state->control[i],
+            .msg_iov = state->in_parts[i],
+            .msg_iovlen = 2,
+            .msg_control = state->control[i],
+            .msg_controllen = sizeof state->control[i],
         };
     }
 }

@@ -1,5 +1,6 @@
 /* AF_XDP: the slots of both directions are one area that the kernel knows, so that a frame is not copied in userspace. Each direction fills
- * and reads the rings of all queues of its first card, and sends by those of the first queue of its second, so that the threads share none. */
+ * and reads the rings of all queues of its first card, and sends by those of the first queue of its second, so that the threads share none.
+ */
 #include "card.h"
 #include "wire.h"
 #include "xdp_program.h"
@@ -64,7 +65,10 @@ static bool open_area(struct direction *both) {
 static bool open_queue(struct end *end, const char *card, uint32_t number) {
     struct queue *queue = &end->queues[number];
     struct xsk_socket_config config = {
-        .rx_size = RING, .tx_size = RING, .libxdp_flags = XSK_LIBXDP_FLAGS__INHIBIT_PROG_LOAD, .bind_flags = XDP_COPY,
+        .rx_size = RING,
+        .tx_size = RING,
+        .libxdp_flags = XSK_LIBXDP_FLAGS__INHIBIT_PROG_LOAD,
+        .bind_flags = XDP_COPY,
     };
     int error = xsk_socket__create_shared(&queue->socket, card, number, shared.umem, &queue->received, &queue->sent, &queue->fill,
                                           &queue->completed, &config);

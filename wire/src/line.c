@@ -10,11 +10,14 @@
 #include <string.h>
 #include <sys/stat.h>
 
-enum { LONGEST = 1522, PATH = 512 };
+enum { LONGEST = 1522, PATH = 512, LEAST_LATE = 2000000 };
 
 /* A rate as tc writes it, in bits a second; 0 if it is none. */
 static uint64_t rate_of(const char *words) {
-    static const struct { const char *unit; double bits; } units[] = { { "bit", 1 }, { "kbit", 1e3 }, { "mbit", 1e6 }, { "gbit", 1e9 } };
+    static const struct {
+        const char *unit;
+        double bits;
+    } units[] = { { "bit", 1 }, { "kbit", 1e3 }, { "mbit", 1e6 }, { "gbit", 1e9 } };
     char *end;
     double number = strtod(words, &end);
     for (size_t i = 0; i < sizeof units / sizeof units[0]; i++) {
@@ -27,8 +30,8 @@ static uint64_t rate_of(const char *words) {
 
 static bool is_name(const char *name) {
     size_t len = strlen(name);
-    return len > 0 && len < IF_NAMESIZE && strspn(name, "abcdefghijklmnopqrstuvwxyzABCDEFGHIJKLMNOPQRSTUVWXYZ0123456789_.-") == len && name[0] != '.' &&
-           name[0] != '-';
+    return len > 0 && len < IF_NAMESIZE && strspn(name, "abcdefghijklmnopqrstuvwxyzABCDEFGHIJKLMNOPQRSTUVWXYZ0123456789_.-") == len &&
+           name[0] != '.' && name[0] != '-';
 }
 
 static FILE *create(const char *folder, const char *name, const char *end, char path[PATH]) {
@@ -51,7 +54,8 @@ static void write_tree(FILE *file, const char *card, uint64_t rate, uint64_t lat
 static bool are_right(char **words) {
     for (int i = 0; i < 3; i++) {
         if (!is_name(words[i])) {
-            fprintf(stderr, "qtree-wire: a name has up to %d letters, digits, dots, dashes and underscores: %s\n", IF_NAMESIZE - 1, words[i]);
+            fprintf(stderr, "qtree-wire: a name has up to %d letters, digits, dots, dashes and underscores: %s\n", IF_NAMESIZE - 1,
+                    words[i]);
             return false;
         }
     }
@@ -77,9 +81,10 @@ int line_new(const char *folder, char **words) {
     }
     uint64_t late = burst_lateness(true);
     late = late == UINT64_MAX ? burst_lateness(false) : late;
-    late = late < 1000000 ? 1000000 : late;
-    fprintf(file, "# %s, towards %s and towards %s. The bursts are for polls that are up to %.1f ms late, as sleeps on this machine were.\n", name, left,
-            right, (double)late / 1e6);
+    late = late < LEAST_LATE ? LEAST_LATE : late;
+    fprintf(file,
+            "# %s, towards %s and towards %s. The bursts are for polls that are up to %.1f ms late; sleeps on this machine were no later.\n",
+            name, left, right, (double)late / 1e6);
     write_tree(file, left, rate_of(words[3]), late);
     write_tree(file, right, rate_of(words[4]), late);
     bool is_written = fclose(file) == 0;
@@ -88,7 +93,9 @@ int line_new(const char *folder, char **words) {
         remove(tree);
         return 1;
     }
-    fprintf(file, "# The cards, how frames are read (xdp or packet), and further options of qtree-wire.\nLEFT=%s\nRIGHT=%s\nIO=packet\nOPTIONS=-p 10\n",
+    fprintf(file,
+            "# The cards, how frames are read (xdp or packet), and further options of "
+            "qtree-wire.\nLEFT=%s\nRIGHT=%s\nIO=packet\nOPTIONS=-p 10\n",
             left, right);
     is_written = fclose(file) == 0 && is_written;
     printf("wrote %s and %s\n", settings, tree);

@@ -19,7 +19,10 @@ char *lines_read(const char *name, FILE *says) {
             fclose(file);
             return text;
         }
-        fprintf(says, "%s: %s\n", name, ferror(file) != 0 ? strerror(errno) : len > MOST_BYTES ? "it has more than 1 MiB" : "it has a zero byte");
+        fprintf(says, "%s: %s\n", name,
+                ferror(file) != 0  ? strerror(errno)
+                : len > MOST_BYTES ? "it has more than 1 MiB"
+                                   : "it has a zero byte");
     }
     if (file != NULL) {
         fclose(file);
@@ -40,9 +43,7 @@ static size_t next_word(const char **at, const char *end) {
     return len;
 }
 
-static bool is_blank(const char *line, const char *end) {
-    return next_word(&line, end) == 0 || *line == '#';
-}
+static bool is_blank(const char *line, const char *end) { return next_word(&line, end) == 0 || *line == '#'; }
 
 /* The card of a line: the word behind `dev`. */
 static size_t card_of(const char *line, const char *end, const char **card) {

@@ -36,7 +36,8 @@ static bool prepare_cards(void) {
         }
         uint32_t longest = cards[i].mtu + LINK_HEAD + options.overhead;
         if (longest > UINT16_MAX || (is_xdp && cards[i].mtu + LINK_HEAD + 256 > XDP_MOST_SLOT)) {
-            fprintf(stderr, "qtree-wire: %s: its mtu of %u is too large%s\n", names[i], cards[i].mtu, is_xdp ? " for xdp: take -i packet" : "");
+            fprintf(stderr, "qtree-wire: %s: its mtu of %u is too large%s\n", names[i], cards[i].mtu,
+                    is_xdp ? " for xdp: take -i packet" : "");
             return false;
         }
         wire.mtu = longest > wire.mtu ? (uint16_t)longest : wire.mtu;
@@ -68,7 +69,8 @@ static bool open_direction(struct direction *way, const char *from, const char *
 
 static bool open_all(void) {
     struct direction *both = wire.both;
-    if (!prepare_cards() || !open_direction(&both[0], options.left, options.right) || !open_direction(&both[1], options.right, options.left)) {
+    if (!prepare_cards() || !open_direction(&both[0], options.left, options.right) ||
+        !open_direction(&both[1], options.right, options.left)) {
         return false;
     }
     size_t slots = slots_wanted(), slot = SLOT;

@@ -59,10 +59,22 @@ static bool read_option(struct options *options, int option, const char *word) {
     case 'i': return read_io(options, word);
     case 'n': options->name = word; return true;
     case 'k': options->keeps_passing = true; return true;
-    case 'p': is_right = read_number(word, 0, 99, &number, 'p'); options->priority = (int)number; return is_right;
-    case 'w': is_right = read_number(word, 0, 10000, &number, 'w'); options->nap = (uint64_t)number * 1000; return is_right;
-    case 'o': is_right = read_number(word, 0, 256, &number, 'o'); options->overhead = (uint32_t)number; return is_right;
-    case 'b': is_right = read_number(word, 8192, 4194304, &number, 'b'); options->slots = (uint32_t)number; return is_right;
+    case 'p':
+        is_right = read_number(word, 0, 99, &number, 'p');
+        options->priority = (int)number;
+        return is_right;
+    case 'w':
+        is_right = read_number(word, 0, 10000, &number, 'w');
+        options->nap = (uint64_t)number * 1000;
+        return is_right;
+    case 'o':
+        is_right = read_number(word, 0, 256, &number, 'o');
+        options->overhead = (uint32_t)number;
+        return is_right;
+    case 'b':
+        is_right = read_number(word, 8192, 4194304, &number, 'b');
+        options->slots = (uint32_t)number;
+        return is_right;
     default: return false;
     }
 }

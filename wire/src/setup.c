@@ -28,8 +28,8 @@ static void explain(const char *file, const char *text, const qtree_undone *undo
     for (uint64_t i = 1; i < undone->line; i++) {
         line += strcspn(line, "\n") + 1;
     }
-    if (qtree_explain((const uint8_t *)line, strcspn(line, "\n"), undone->line, undone->code, &undone->fault, sentence, sizeof sentence, &len) ==
-        QTREE_DONE) {
+    if (qtree_explain((const uint8_t *)line, strcspn(line, "\n"), undone->line, undone->code, &undone->fault, sentence, sizeof sentence,
+                      &len) == QTREE_DONE) {
         fprintf(says, "%s: %.*s", file, (int)len, (const char *)sentence);
     } else {
         fprintf(says, "%s:%" PRIu64 ": %s\n", file, undone->line, qtree_code_sentence(undone->code));
@@ -63,7 +63,8 @@ struct wanted {
 static void set_up(struct direction *way, void *with) {
     struct wanted *wanted = with;
     qtree_undone undone;
-    wanted->code = qtree_set_up(&way->device, (const uint8_t *)wanted->lines, strlen(wanted->lines), clock_now(), &wanted->report, &undone, 1);
+    wanted->code =
+        qtree_set_up(&way->device, (const uint8_t *)wanted->lines, strlen(wanted->lines), clock_now(), &wanted->report, &undone, 1);
     direction_reap(way);
     lateness_allow(&way->lateness, &way->device);
     way->needs = setup_frames(&way->device);
@@ -76,7 +77,8 @@ static bool can_have(const struct wire *wire, const struct direction *way, const
     bool can = try_lines(&trial, wire->mtu, wire->file, lines, says);
     uint64_t needs = setup_frames(&trial) + SPARE;
     if (can && needs > way->pool.size) {
-        fprintf(says, "%s: the tree of %s can hold %" PRIu64 " frames, and there are %zu slots: lower its limits, or start with -b %" PRIu64 "\n",
+        fprintf(says,
+                "%s: the tree of %s can hold %" PRIu64 " frames, and there are %zu slots: lower its limits, or start with -b %" PRIu64 "\n",
                 wire->file, way->to, needs - SPARE, way->pool.size, needs);
         can = !is_running || needs <= way->needs + SPARE;
     }
@@ -91,8 +93,8 @@ static bool give_lines(struct direction *way, char *lines, bool is_running, FILE
     } else {
         set_up(way, &wanted);
     }
-    fprintf(says, "dev %s: %" PRIu64 " added, %" PRIu64 " changed, %" PRIu64 " deleted\n", way->to, wanted.report.added, wanted.report.changed,
-            wanted.report.deleted);
+    fprintf(says, "dev %s: %" PRIu64 " added, %" PRIu64 " changed, %" PRIu64 " deleted\n", way->to, wanted.report.added,
+            wanted.report.changed, wanted.report.deleted);
     if (wanted.code != QTREE_DONE) {
         fprintf(says, "dev %s: %s\n", way->to, qtree_code_sentence(wanted.code));
     }

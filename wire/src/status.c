@@ -17,8 +17,8 @@ struct found {
 static void say_offloads(const struct card *card, bool is_xdp, struct found *found) {
     for (int which = 0; which < OFFLOADS; which++) {
         if (card->is_on[which] && (which != OFFLOAD_TAGS || is_xdp)) {
-            SAY(found, "%s: %s is on, so frames may come joined or without their tag: ethtool -K %s %s off\n", card->name, offload_names[which], card->name,
-                offload_names[which]);
+            SAY(found, "%s: %s is on, so frames may come joined or without their tag: ethtool -K %s %s off\n", card->name,
+                offload_names[which], card->name, offload_names[which]);
         }
     }
 }
@@ -43,11 +43,12 @@ static void say_card(const char *name, const struct direction *from, struct foun
         SAY(found, "%s: it has the address %s, for which the kernel answers: ip addr flush dev %s\n", name, card.address, name);
     }
     if (card.address_6[0] != '\0') {
-        SAY(found, "%s: it has the address %s, for which the kernel answers: sysctl -w net.ipv6.conf.%s.disable_ipv6=1\n", name, card.address_6, name);
+        SAY(found, "%s: it has the address %s, for which the kernel answers: sysctl -w net.ipv6.conf.%s.disable_ipv6=1\n", name,
+            card.address_6, name);
     }
     if (is_xdp && card.queues > from->input_count) {
-        SAY(found, "%s: %" PRIu32 " queues, and %zu are read: ethtool -L %s combined %zu, and restart\n", name, card.queues, from->input_count, name,
-            from->input_count);
+        SAY(found, "%s: %" PRIu32 " queues, and %zu are read: ethtool -L %s combined %zu, and restart\n", name, card.queues,
+            from->input_count, name, from->input_count);
     }
 }
 
@@ -58,8 +59,8 @@ static void say_mtus(const struct wire *wire, struct found *found) {
         return;
     }
     bool is_left = left.mtu > right.mtu;
-    SAY(found, "%s: its mtu is %" PRIu32 " and the other's %" PRIu32 ", so long frames are lost: ip link set %s mtu %" PRIu32 "\n", names[!is_left],
-        is_left ? left.mtu : right.mtu, is_left ? right.mtu : left.mtu, names[!is_left], is_left ? right.mtu : left.mtu);
+    SAY(found, "%s: its mtu is %" PRIu32 " and the other's %" PRIu32 ", so long frames are lost: ip link set %s mtu %" PRIu32 "\n",
+        names[!is_left], is_left ? left.mtu : right.mtu, is_left ? right.mtu : left.mtu, names[!is_left], is_left ? right.mtu : left.mtu);
 }
 
 /* What is read of a direction between two of its turns. */
@@ -80,15 +81,19 @@ static void look(struct direction *way, void *with) {
 static void say_losses(struct direction *way, const struct seen *seen, struct found *found) {
     uint64_t none = count_of(&way->counts.lost[LOST_NO_BUFFER]), socket = way->io->dropped(way);
     if (seen->too_long > 0) {
-        SAY(found, "%s: %" PRIu64 " frames were longer than the mtu, as joined ones are: on the machine that sends them, ethtool -K CARD tso off gso off\n",
+        SAY(found,
+            "%s: %" PRIu64
+            " frames were longer than the mtu, as joined ones are: on the machine that sends them, ethtool -K CARD tso off gso off\n",
             way->from, seen->too_long);
     }
     if (none > 0) {
-        SAY(found, "%s: %" PRIu64 " frames found no slot: start with -b %" PRIu64 ", or lower the limits of the tree\n", way->from, none, seen->needs * 2);
+        SAY(found, "%s: %" PRIu64 " frames found no slot: start with -b %" PRIu64 ", or lower the limits of the tree\n", way->from, none,
+            seen->needs * 2);
     }
     if (socket > 0) {
-        SAY(found, "%s: the kernel lost %" PRIu64 " frames before they were read: start with -p 10, or -w 200 where processor time is short\n", way->from,
-            socket);
+        SAY(found,
+            "%s: the kernel lost %" PRIu64 " frames before they were read: start with -p 10, or -w 200 where processor time is short\n",
+            way->from, socket);
     }
 }
 
@@ -98,15 +103,17 @@ static void say_burst(const struct wire *wire, const struct direction *way, cons
     late = late < seen->lateness.greatest ? late : seen->lateness.greatest;
     uint64_t wanted = seen->root.kind == QTREE_TBF ? burst_for(seen->root.rate, late, wire->mtu) : 0;
     if (seen->root.burst < wanted) {
-        SAY(found, "%s: polls are up to %.3f ms late, for which the burst of %" PRIu32 " bytes is too small: in %s write burst %" PRIu64 ", and reload\n",
+        SAY(found,
+            "%s: polls are up to %.3f ms late, for which the burst of %" PRIu32 " bytes is too small: in %s write burst %" PRIu64
+            ", and reload\n",
             way->to, (double)late / 1e6, seen->root.burst, wire->file, wanted);
     }
 }
 
 void answer_status(struct wire *wire, FILE *file) {
     struct found found = { file, 0 };
-    fprintf(file, "%s: %s and %s are joined by %s, %s real-time priority\n", wire->name, wire->both[0].from, wire->both[0].to, wire->both[0].io->name,
-            wire->is_real_time ? "with" : "without");
+    fprintf(file, "%s: %s and %s are joined by %s, %s real-time priority\n", wire->name, wire->both[0].from, wire->both[0].to,
+            wire->both[0].io->name, wire->is_real_time ? "with" : "without");
     for (int i = 0; i < 2; i++) {
         say_card(wire->both[i].from, &wire->both[i], &found);
     }

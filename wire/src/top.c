@@ -50,13 +50,16 @@ static void draw_rates(const struct view *view) {
            rate(view, "qtree_wire_written_bytes_total", 1, "") * 8e-6);
     printf("%-26s %16.0f %16.0f\n", "written, frames/s", rate(view, "qtree_wire_written_frames_total", 0, ""),
            rate(view, "qtree_wire_written_frames_total", 1, ""));
-    printf("%-26s %16.0f %16.0f\n", "queued, frames", value(view, "qtree_queued_packets", 0, whole), value(view, "qtree_queued_packets", 1, whole));
+    printf("%-26s %16.0f %16.0f\n", "queued, frames", value(view, "qtree_queued_packets", 0, whole),
+           value(view, "qtree_queued_packets", 1, whole));
     printf("%-26s %16.2f %16.2f\n", "the oldest waits, ms", value(view, "qtree_oldest_packet_seconds", 0, whole) * 1e3,
            value(view, "qtree_oldest_packet_seconds", 1, whole) * 1e3);
-    printf("%-26s %16.1f %16.1f\n", "marked/s", rate(view, "qtree_marked_packets_total", 0, whole), rate(view, "qtree_marked_packets_total", 1, whole));
+    printf("%-26s %16.1f %16.1f\n", "marked/s", rate(view, "qtree_marked_packets_total", 0, whole),
+           rate(view, "qtree_marked_packets_total", 1, whole));
     printf("%-26s %16.3f %16.3f\n", "polls late at most, ms", value(view, "qtree_poll_lateness_greatest_seconds", 0, "") * 1e3,
            value(view, "qtree_poll_lateness_greatest_seconds", 1, "") * 1e3);
-    printf("%-26s %16.1f %16.1f\n", "polls too late/s", rate(view, "qtree_polls_too_late_total", 0, ""), rate(view, "qtree_polls_too_late_total", 1, ""));
+    printf("%-26s %16.1f %16.1f\n", "polls too late/s", rate(view, "qtree_polls_too_late_total", 0, ""),
+           rate(view, "qtree_polls_too_late_total", 1, ""));
 }
 
 /* The losses by cause, of those that ever occurred: a second's, and all. */
@@ -70,8 +73,8 @@ static void draw_losses(const struct view *view, const char *name, const char *o
         sscanf(it->labels, "cause=\"%63[^\"]", cause);
         double all[2] = { it->value, value(view, name, 1, it->labels) };
         if (all[0] + all[1] > 0) {
-            printf("lost %s: %-*s %7.0f/s %6.0f %7.0f/s %6.0f\n", of, (int)(19 - strlen(of)), cause, rate(view, name, 0, it->labels), all[0],
-                   rate(view, name, 1, it->labels), all[1]);
+            printf("lost %s: %-*s %7.0f/s %6.0f %7.0f/s %6.0f\n", of, (int)(19 - strlen(of)), cause, rate(view, name, 0, it->labels),
+                   all[0], rate(view, name, 1, it->labels), all[1]);
         }
     }
 }
@@ -86,7 +89,8 @@ static void draw_qdiscs(const struct view *view) {
         if (!is_row || sscanf(it->labels, "kind=\"%15[^\"]\",handle=\"%15[^\"]\",parent=\"%15[^\"]\"", kind, handle, parent) != 3) {
             continue;
         }
-        double lost = rate(view, "qtree_refused_packets_total", device, it->labels) + rate(view, "qtree_dropped_packets_total", device, it->labels);
+        double lost =
+            rate(view, "qtree_refused_packets_total", device, it->labels) + rate(view, "qtree_dropped_packets_total", device, it->labels);
         printf("%-8s %-9s %-6s %-9s %10.2f %8.0f %9.2f %8.1f\n", it->device, kind, handle, parent,
                rate(view, "qtree_sent_bytes_total", device, it->labels) * 8e-6, it->value,
                value(view, "qtree_oldest_packet_seconds", device, it->labels) * 1e3, lost);

@@ -27,7 +27,7 @@ enum {
 struct frame {
     uint32_t at; /* where the frame begins in its slot */
     uint32_t len;
-    uint32_t ip; /* where its IP header begins in the frame; 0 if none was found */
+    uint32_t ip;                /* where its IP header begins in the frame; 0 if none was found */
     struct virtio_net_hdr open; /* what the kernel left open, as a checksum that the card would fill in */
 };
 
@@ -53,10 +53,10 @@ struct direction;
 struct io {
     const char *name;
     bool (*open)(struct direction *both);
-    int (*receive)(struct direction *way);                                      /* hands up to a batch to direction_take; how many */
-    void (*send)(struct direction *way, const uint32_t *bufs, size_t count);    /* no more than there is room for */
-    size_t (*room)(struct direction *way);                                      /* how many frames may be sent now, up to a batch */
-    uint64_t (*dropped)(struct direction *way);                                 /* frames that the kernel lost before they were read */
+    int (*receive)(struct direction *way);                                   /* hands up to a batch to direction_take; how many */
+    void (*send)(struct direction *way, const uint32_t *bufs, size_t count); /* no more than there is room for */
+    size_t (*room)(struct direction *way);                                   /* how many frames may be sent now, up to a batch */
+    uint64_t (*dropped)(struct direction *way);                              /* frames that the kernel lost before they were read */
     void (*close)(struct direction *both, bool keeps_passing);
 };
 extern const struct io io_packet;

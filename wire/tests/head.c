@@ -7,7 +7,8 @@
 #define MACS "\x02\0\0\0\0\x02\x02\0\0\0\0\x01"
 #define IP4 "\x45\0\0\x1c"
 #define IP6 "\x60\0\0\0"
-#define CASE(name, at, bytes) { name, at, (const uint8_t *)(bytes), sizeof(bytes) - 1 }
+#define CASE(name, at, bytes)                                                                                                              \
+    { name, at, (const uint8_t *)(bytes), sizeof(bytes) - 1 }
 
 static const struct {
     const char *name;
