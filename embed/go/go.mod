@@ -1,0 +1,3 @@
+module qtree
+
+go 1.18
