@@ -74,6 +74,8 @@ qtree_code qtree_batch_hash(qtree_packet *packets, size_t count, uint32_t seed, 
     return code;
 }
 
+const char *qtree_batch_sentence(qtree_code code) { return qtree_code_sentence(code); }
+
 /* A device whose packets are followed: a packet's number is its index. */
 typedef struct followed {
     qtree_device *device;

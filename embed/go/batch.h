@@ -47,6 +47,9 @@ qtree_code qtree_batch_frames(qtree_device *device, const uint8_t *base, size_t 
 /* Hashes the flow of each packet, as qtree_hash does. *done says how many were hashed; the next one is out of range if they are fewer. */
 qtree_code qtree_batch_hash(qtree_packet *packets, size_t count, uint32_t seed, size_t *done);
 
+/* Returns the sentence of qtree_code_sentence, for a program in a language that does not compile the header. */
+const char *qtree_batch_sentence(qtree_code code);
+
 /* What became of a packet. */
 typedef struct qtree_batch_fate {
     uint64_t at;     /* when it was sent or lost; the end if it is still queued */
