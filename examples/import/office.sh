@@ -4,7 +4,7 @@ tc qdisc replace dev $WAN root handle 1: prio bands 4
 tc qdisc add dev $WAN parent 1:1 handle 10: tbf rate 1mbit burst 2kb latency 40ms peakrate 2mbit minburst 1540
 tc qdisc add dev $WAN parent 1:2 handle 20: drr
 for i in 1 2; do tc class add dev $WAN parent 20: classid 20:$i drr; done
-tc class add dev $WAN parent 20: classid 20:1 drr quantum 3000
+tc class replace dev $WAN parent 20: classid 20:1 drr quantum 3000
 tc class add dev $WAN parent 20: classid 20:2 drr
 tc class change dev $WAN classid 20:2 drr quantum 1.5kb
 tc qdisc add dev $WAN parent 20:1 fq_codel limit 1000 noecn

@@ -2,13 +2,18 @@
 import json
 import re
 
-from .model import ROOT, Classifier, Qdisc, TrafficClass
+from .model import ROOT, Qdisc, TrafficClass
 from .script import filter_of
-from .values import Unfit, id_of
-from .words import Matches, options_of
+from .values import Unfit, Unread, id_of, shown, whole
+from .words import READERS, Matches, bits, options_of
 
 # json has rates in bytes a second, sizes in bytes and times in microseconds, but some sizes as text.
 RATES = ("rate", "ceil", "peakrate", "bandwidth", "maxrate")
+# What each part of a row is, where the row has it.
+TYPES = {
+    **dict.fromkeys(("kind", "dev", "handle", "parent", "protocol", "class", "leaf"), str),
+    **{"root": bool, "options": dict, "stab": dict, "pref": int, "chain": int},
+}
 
 
 def pairs(found):
@@ -25,9 +30,13 @@ def rows_of(text, name):
     try:
         rows = json.loads(text, object_pairs_hook=pairs)
     except (ValueError, RecursionError) as error:
-        raise Unfit(f"{name} is no json: {error}") from None
+        raise Unread(f"{name} is no json: {shown(str(error).splitlines()[0])}") from None
     if not isinstance(rows, list) or not all(isinstance(it, dict) for it in rows):
-        raise Unfit(f"{name} is not what tc prints")
+        raise Unread(f"{name} is not what tc prints")
+    for row in rows:
+        for part, value in row.items():
+            if part in TYPES and type(value) is not TYPES[part]:
+                raise Unread(f"{name} is not what tc prints: {part} is {shown(json.dumps(value))} in a row of {shown(str(row.get('kind')))}")
     return rows
 
 
@@ -37,12 +46,15 @@ def words_of(options):
         return options["text"].split()
     words = []
     for name, value in options.items():
+        is_list = name == "priomap" and isinstance(value, list) and all(type(it) is int for it in value)
+        if (name in READERS and isinstance(value, (dict, list)) and name != "rate") or (name == "priomap" and not is_list):
+            raise Unfit(f"its {name} is {shown(json.dumps(value))}")
         if isinstance(value, bool):
             words += [name] if value else []
         elif isinstance(value, list):
-            words += [name, *map(str, value)]
+            words += [name, *(str(it) for it in value[:20])]
         elif isinstance(value, dict):
-            words += [name, f"{value['rate'] * 8}bit"] if name == "rate" else [name]
+            words += [name, f"{int(value['rate']) * 8}bit"] if name == "rate" else [name]
         elif name in RATES and isinstance(value, int):
             words += [name, f"{value * 8}bit"]
         elif name == "default":
@@ -99,6 +111,8 @@ def filter_of_row(row, parent):
         return None
     parent = id_of(row["parent"]) if "parent" in row else parent
     protocol, prio = row.get("protocol", "all"), row.get("pref", 0)
+    if not 1 <= prio <= 65535:
+        raise Unfit(f"there is no prio {prio}")
     target = options.get("flowid") or options.get("classid")
     words = [row["kind"], *(["flowid", target] if target else [])]
     if row["kind"] == "flower":
@@ -112,9 +126,9 @@ def filter_of_row(row, parent):
     if row["kind"] == "u32":
         matches = Matches(protocol == "ipv6")
         for one in options["match"]:
-            matches.add(int(one["value"], 16), int(one["mask"], 16), int(one["off"]), bool(one.get("offmask")))
+            matches.add(bits(one["value"], 32), bits(one["mask"], 32), whole(str(one["off"])), bool(one.get("offmask")))
         it.keys = matches.keys()
-        it.lost = it.lost + matches.lost + ([f"link {options['link']}"] if "link" in options else [])
+        it.lost = it.lost + matches.lost + ([f"link {shown(str(options['link']))}"] if "link" in options else [])
     return it
 
 
@@ -123,19 +137,28 @@ def read_shown(text, name, setups, device, parent=None):
     if not text.lstrip().startswith("["):
         for line in text.splitlines():
             if line.startswith("class "):
-                setups[device].classes.append(class_of_text(line))
+                add(setups[device], name, line.split()[1:2], lambda line=line: setups[device].add_class(class_of_text(line)))
         return
     for row in rows_of(text, name):
         setup = setups[row.get("dev", device)]
-        try:
-            if "protocol" in row:
-                found = filter_of_row(row, parent or setup.parent_of_filters())
-                setup.filters += [found] if found else []
-            elif "class" in row:
-                setup.classes.append(class_of(row))
-            elif "kind" in row:
-                setup.qdiscs.append(qdisc_of(row))
-        except Unfit as error:
-            setup.remarks.append(f"{row.get('kind')} {row.get('handle', '')} is left out, since {error}")
-        except (KeyError, TypeError, ValueError, AttributeError) as error:
-            raise Unfit(f"{name} is not what tc prints: {error!r} in a row of {row.get('kind')}") from None
+        add(setup, name, [row.get("kind") or row.get("class"), row.get("handle")], lambda row=row, setup=setup: add_row(setup, row, parent))
+
+
+def add(setup, name, what, carry_out):
+    what = " ".join(it for it in what if it)
+    try:
+        carry_out()
+    except Unfit as error:
+        setup.leave_out(f"{shown(what)} is left out, since {error}")
+    except (KeyError, TypeError, ValueError, AttributeError, IndexError, OverflowError) as error:
+        raise Unread(f"{name} is not what tc prints: {shown(repr(error))} in a row of {shown(what)}") from None
+
+
+def add_row(setup, row, parent):
+    if "protocol" in row:
+        if found := filter_of_row(row, parent or setup.parent_of_filters()):
+            setup.add_filter(found)
+    elif "class" in row:
+        setup.add_class(class_of(row))
+    elif "kind" in row:
+        setup.add_qdisc(qdisc_of(row))

@@ -4,7 +4,17 @@ from fractions import Fraction
 
 
 class Unfit(Exception):
-    """What cannot be read, in a line for the user."""
+    """What is left out, and why, in a line for the user."""
+
+
+class Unread(Exception):
+    """Input that cannot be read at all, in a line for the user."""
+
+
+def shown(text, most=60):
+    """A text of the input for a message: no control characters, and not longer than this."""
+    text = text if len(text) <= most else f"{text[: most - 20]}..{text[-16:]}"
+    return "".join(it if it.isprintable() else it.encode("unicode_escape", "backslashreplace").decode() for it in text)
 
 
 SI = {"": 1, "k": 10**3, "m": 10**6, "g": 10**9, "t": 10**12}
@@ -17,15 +27,15 @@ TIMES |= {"s": 10**9, "sec": 10**9, "secs": 10**9, "ns": 1}
 
 
 def scaled(text, units, what):
-    found = re.fullmatch(r"(\d+\.?\d*|\.\d+)([a-z]*)", text.lower())
+    found = re.fullmatch(r"([0-9]{1,30}(?:\.[0-9]{0,30})?|\.[0-9]{1,30})([a-z]*)", text.lower())
     if not found or found[2] not in units:
-        raise Unfit(f"{text} is no {what}")
+        raise Unfit(f"{shown(text)} is no {what}")
     return int(Fraction(found[1]) * units[found[2]])
 
 
 def rate(text):
     if text.endswith("%"):
-        raise Unfit(f"the rate {text} depends on the interface's speed: write it as a number")
+        raise Unfit(f"the rate {shown(text)} depends on the interface's speed: write it as a number")
     return scaled(text, RATES, "rate")
 
 
@@ -39,8 +49,8 @@ def time(text):
 
 
 def whole(text):
-    if not re.fullmatch(r"\d+|0x[0-9a-fA-F]+", text):
-        raise Unfit(f"{text} is no number")
+    if not re.fullmatch(r"[0-9]{1,30}|0x[0-9a-fA-F]{1,30}", text):
+        raise Unfit(f"{shown(text)} is no number")
     return int(text, 0) if text.startswith("0x") else int(text)
 
 
@@ -54,7 +64,7 @@ def id_of(text):
     if text == "root":
         return 0xFFFF, 0xFFFF
     if not re.fullmatch(r"[0-9a-fA-F]{0,4}(:[0-9a-fA-F]{0,4})?", text):
-        raise Unfit(f"{text} is no handle and no class id")
+        raise Unfit(f"{shown(text)} is no handle and no class id")
     parts = text.partition(":")
     return int(parts[0] or "0", 16), int(parts[2] or "0", 16)
 

@@ -1,9 +1,10 @@
 """The words behind a kind: the options of a qdisc or class, and what a filter compares."""
 import ipaddress
+import itertools
 import re
 
 from . import values
-from .values import Unfit
+from .values import Unfit, shown
 
 READERS = {
     **dict.fromkeys(("rate", "ceil", "peakrate", "bandwidth", "maxrate"), values.rate),
@@ -23,7 +24,7 @@ def options_of(words):
     while at < len(words):
         name = SAME.get(words[at], words[at])
         if name == "priomap":
-            options[name] = [int(it) for it in words[at + 1 :] if it.isdigit()][:16]
+            options[name] = [int(it) for it in itertools.takewhile(re.compile("[0-9]+").fullmatch, map(short, words[at + 1 : at + 17]))]
             at += 1 + len(options[name])
         elif words[at : at + 2] == ["bandwidth", "unlimited"]:
             at += 2
@@ -39,6 +40,12 @@ def options_of(words):
     return options, rest
 
 
+def short(text):
+    if len(text) > 1000:
+        raise Unfit(f"{shown(text)} is too long")
+    return text
+
+
 def protocol_text(number):
     return next((name for name, it in PROTOCOLS.items() if it == number), f"{number:x}")
 
@@ -51,7 +58,26 @@ def network(text):
     try:
         return str(ipaddress.ip_network(f"{address}/{length}" if length else address, strict=False))
     except ValueError:
-        raise Unfit(f"{text} is no address") from None
+        raise Unfit(f"{shown(text)} is no address") from None
+
+
+def bits(text, count):
+    """A number that tc reads in hexadecimal, of so many bits at most."""
+    if not re.fullmatch("(0[xX])?[0-9a-fA-F]{1,8}", text) or int(text, 16) >> count:
+        raise Unfit(f"{shown(text)} is no number of {count} bits")
+    return int(text, 16)
+
+
+def ip_proto(text):
+    """The protocol as flower writes it: a name, or the number in hexadecimal."""
+    return text.lower() if text.lower() in PROTOCOLS else protocol_text(bits(text, 8))
+
+
+def port(text):
+    number = values.whole(text)
+    if number > 65535:
+        raise Unfit(f"there is no port {number}")
+    return str(number)
 
 
 def flower_keys(words):
@@ -62,8 +88,8 @@ def flower_keys(words):
         if name in ("skip_sw", "skip_hw", "verbose"):
             at += 1
             continue
-        if name in FLOWER and not (name.endswith("port") and not value.isdigit()):
-            keys[name] = network(value) if name.endswith("_ip") else value.lower()
+        if name in FLOWER and not (name.endswith("port") and not re.fullmatch("[0-9]+", value)):
+            keys[name] = network(value) if name.endswith("_ip") else port(value) if name.endswith("port") else ip_proto(value)
         elif name != "eth_type":
             lost.append(f"{name} {value}".strip())
         at += 2
@@ -133,7 +159,7 @@ def match_words(words, matches):
         offset = words[4] if words[3:4] == ["at"] else "0"
         is_behind = offset.startswith("nexthdr")
         offset = values.whole(offset.removeprefix("nexthdr").removeprefix("+") or "0")
-        value, mask = (int(it, 16) for it in words[1:3])
+        value, mask = (bits(it, int(raw[1])) for it in words[1:3])
         matches.add_bytes(value, mask, offset, int(raw[1]) // 8, is_behind)
         return 5 if words[3:4] == ["at"] else 3
     layer, field, value = words[:3]
@@ -143,11 +169,13 @@ def match_words(words, matches):
         for at, byte in enumerate(it.network_address.packed):
             matches.add_bytes(byte, it.netmask.packed[at], first + at, 1)
         return 3
-    mask = int(words[3], 0)
+    mask = bits(words[3], 16)
     if field in ("sport", "dport", "src", "dst"):
-        matches.add_bytes(values.whole(value), mask, 0 if field.startswith("s") else 2, 2, True)
+        matches.add_bytes(int(port(value)), mask, 0 if field.startswith("s") else 2, 2, True)
     elif field == "protocol" and layer in ("ip", "ip6"):
         number = PROTOCOLS[value] if value in PROTOCOLS else values.whole(value)
+        if (number | mask) >> 8:
+            raise Unfit(f"there is no protocol {shown(value)} under the mask {shown(words[3])}")
         matches.add_bytes(number, mask, 6 if layer == "ip6" else 9, 1)
     else:
         matches.lost.append(f"{layer} {field}")
@@ -161,7 +189,7 @@ def u32_keys(words, is_six):
             try:
                 at += 1 + match_words(words[at + 1 :], matches)
             except (ValueError, IndexError):
-                raise Unfit(f"the match {' '.join(words[at + 1 : at + 5])} is not understood") from None
+                raise Unfit(f"the match {shown(' '.join(words[at + 1 : at + 5]))} is not understood") from None
         else:
             matches.lost.append(words[at])
             at += 1
