@@ -18,9 +18,9 @@ class Differs(Exception):
     """What differs from the package."""
 
 
-def checksum(path, how="sha256"):
+def checksum(path):
     with open(path, "rb") as file:
-        return hashlib.file_digest(file, how).hexdigest() if hasattr(hashlib, "file_digest") else hashlib.new(how, file.read()).hexdigest()
+        return hashlib.sha256(file.read()).hexdigest()
 
 
 def members(package):
@@ -47,7 +47,7 @@ def part(name, words, **more):
 def bill(package, release, source, made_by):
     """The bill of materials of a package: its files with their checksums, the commit, and by what it was made."""
     name = os.path.basename(package)
-    files = [file_of(*it) for it in enumerate_files(members(package))]
+    files = [file_of(number, *it) for number, it in enumerate(sorted(members(package).items()), 1)]
     ones = sorted(it["checksums"][0]["checksumValue"] for it in files)
     code = {"packageVerificationCodeValue": hashlib.sha1("".join(ones).encode()).hexdigest()}
     whole = {"versionInfo": release.version, "packageFileName": name, "filesAnalyzed": True, "packageVerificationCode": code}
@@ -57,15 +57,10 @@ def bill(package, release, source, made_by):
     relations += [(it["SPDXID"], "BUILD_TOOL_OF", "SPDXRef-qtree") for it in parts[1:]]
     when = datetime.datetime.fromtimestamp(release.moment, datetime.timezone.utc).strftime("%Y-%m-%dT%H:%M:%SZ")
     space = f"https://spdx.org/spdxdocs/{name}-{uuid.uuid5(uuid.NAMESPACE_OID, checksum(package))}"
-    return {
-        "spdxVersion": "SPDX-2.3", "dataLicense": "CC0-1.0", "SPDXID": "SPDXRef-DOCUMENT", "name": name, "documentNamespace": space,
-        "creationInfo": {"created": when, "creators": ["Tool: qtree-tools-package"]}, "packages": parts, "files": files,
-        "relationships": [dict(zip(("spdxElementId", "relationshipType", "relatedSpdxElement"), it)) for it in relations],
-    }  # fmt: skip
-
-
-def enumerate_files(found):
-    return ((number, name, found[name]) for number, name in enumerate(sorted(found), 1))
+    head = {"spdxVersion": "SPDX-2.3", "dataLicense": "CC0-1.0", "SPDXID": "SPDXRef-DOCUMENT", "name": name, "documentNamespace": space}
+    made = {"created": when, "creators": ["Tool: qtree-tools-package"]}
+    relations = [dict(zip(("spdxElementId", "relationshipType", "relatedSpdxElement"), it)) for it in relations]
+    return head | {"creationInfo": made, "packages": parts, "files": files, "relationships": relations}
 
 
 def lay_beside(package, release, source, made_by):

@@ -104,7 +104,8 @@ def laid_out(kept, root):
     for folder, names in files.items():
         copy(names, f"{root}/{folder}")
     places = {it: f"{folder}/{os.path.basename(it)}" for folder, names in files.items() for it in names}
-    places |= {f"docs/{it}.md": f"doc/{it}.md" for it in PAGES} | {"CHANGELOG.md": "doc/CHANGELOG.md", "examples/README.md": "examples/README.md"}
+    places |= {f"docs/{it}.md": f"doc/{it}.md" for it in PAGES} | {f"{it}.md": f"doc/{it}.md" for it in ("CHANGELOG", "SECURITY")}
+    places["examples/README.md"] = "examples/README.md"
     for it in (it for it in places if it.endswith(".md")):
         write(f"{root}/{places[it]}", relinked(it, places))
     return release
