@@ -15,7 +15,7 @@
 #include <time.h>
 #include <xdp/xsk.h>
 
-enum { RING = 4096, TRIES = 8, PAUSE = 50000 };
+enum { TRIES = 8, PAUSE = 50000 };
 
 struct queue {
     struct xsk_socket *socket;
@@ -33,6 +33,7 @@ static struct {
     struct xsk_umem *umem;
     uint8_t *area;
     size_t half, slot; /* slots of each direction, and bytes of a slot */
+    uint32_t ring;     /* places of each ring */
     struct end ends[2];
     struct xsk_ring_prod fill; /* of the umem itself, until the first socket takes them over */
     struct xsk_ring_cons completed;
@@ -52,8 +53,9 @@ static bool failed(const char *what, int error) {
 static bool open_area(struct direction *both) {
     shared.half = both[0].pool.size;
     shared.slot = both[0].pool.slot;
+    shared.ring = both[0].ring;
     size_t size = shared.half * 2 * shared.slot;
-    struct xsk_umem_config config = { .fill_size = RING, .comp_size = RING, .frame_size = (uint32_t)shared.slot };
+    struct xsk_umem_config config = { .fill_size = shared.ring, .comp_size = shared.ring, .frame_size = (uint32_t)shared.slot };
     shared.area = mmap(NULL, size, PROT_READ | PROT_WRITE, MAP_PRIVATE | MAP_ANONYMOUS, -1, 0);
     if (shared.area == MAP_FAILED) {
         return failed("the frames' memory", errno);
@@ -65,8 +67,8 @@ static bool open_area(struct direction *both) {
 static bool open_queue(struct end *end, const char *card, uint32_t number) {
     struct queue *queue = &end->queues[number];
     struct xsk_socket_config config = {
-        .rx_size = RING,
-        .tx_size = RING,
+        .rx_size = shared.ring,
+        .tx_size = shared.ring,
         .libxdp_flags = XSK_LIBXDP_FLAGS__INHIBIT_PROG_LOAD,
         .bind_flags = XDP_COPY,
     };
@@ -135,7 +137,7 @@ static bool has_unsent(const struct queue *queue) {
 /* Takes back the slots of frames that are sent. */
 static void complete(struct direction *way, struct queue *queue) {
     const struct state *state = way->state;
-    uint32_t at = 0, count = xsk_ring_cons__peek(&queue->completed, RING, &at);
+    uint32_t at = 0, count = xsk_ring_cons__peek(&queue->completed, shared.ring, &at);
     for (uint32_t i = 0; i < count; i++) {
         pool_give(&way->pool, (uint32_t)(*xsk_ring_cons__comp_addr(&queue->completed, at + i) / shared.slot) - state->base);
     }

@@ -82,9 +82,10 @@ int line_new(const char *folder, char **words) {
     uint64_t late = burst_lateness(true);
     late = late == UINT64_MAX ? burst_lateness(false) : late;
     late = late < LEAST_LATE ? LEAST_LATE : late;
-    fprintf(file,
-            "# %s, towards %s and towards %s. The bursts are for polls that are up to %.1f ms late; sleeps on this machine were no later.\n",
-            name, left, right, (double)late / 1e6);
+    fprintf(
+        file,
+        "# %s, towards %s and towards %s. The bursts are for polls that are up to %.1f ms late; sleeps on this machine were no later.\n",
+        name, left, right, (double)late / 1e6);
     write_tree(file, left, rate_of(words[3]), late);
     write_tree(file, right, rate_of(words[4]), late);
     bool is_written = fclose(file) == 0;

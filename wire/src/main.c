@@ -20,7 +20,7 @@
 #include <sys/signalfd.h>
 #include <unistd.h>
 
-enum { LEAST_SLOTS = 16384, MOST_SLOTS = 131072, LINK_HEAD = 22, SLOT = 2048, XDP_MOST_SLOT = 4096 };
+enum { LEAST_SLOTS = 16384, MOST_SLOTS = 131072, LINK_HEAD = 22, SLOT = 2048, XDP_MOST_SLOT = 4096, RING = 4096, LOOK = 1000 };
 
 static struct wire wire;
 static struct options options;
@@ -41,13 +41,20 @@ static bool prepare_cards(void) {
             return false;
         }
         wire.mtu = longest > wire.mtu ? (uint16_t)longest : wire.mtu;
+        wire.queues = cards[i].queues > wire.queues ? cards[i].queues : wire.queues;
+        wire.cards[i] = if_nametoindex(names[i]);
     }
     return true;
 }
 
+/* Rings are shorter where there are many. */
+static uint32_t ring_wanted(void) { return wire.queues == 1 ? RING : wire.queues <= 4 ? RING / 2 : RING / 4; }
+
+/* Those for the tree, and those that the rings of each queue and the one that sends have. */
 static size_t slots_wanted(void) {
-    uint64_t needs = setup_needs(&wire);
+    uint64_t needs = setup_needs(&wire), queues = wire.queues < MOST_INPUTS ? wire.queues : MOST_INPUTS;
     needs = needs < LEAST_SLOTS ? LEAST_SLOTS : needs > MOST_SLOTS ? MOST_SLOTS : needs;
+    needs += options.io == &io_packet ? 0 : ring_wanted() * (queues + 1);
     return options.slots > 0 ? options.slots : (size_t)needs;
 }
 
@@ -57,6 +64,7 @@ static bool open_direction(struct direction *way, const char *from, const char *
     way->io = options.io;
     way->overhead = options.overhead;
     way->nap = options.nap;
+    way->ring = ring_wanted();
     way->bell = eventfd(0, EFD_NONBLOCK | EFD_CLOEXEC);
     bool is_open = way->bell >= 0 && getrandom(&way->seed, sizeof way->seed, 0) == sizeof way->seed &&
                    qtree_open(&way->device, &(qtree_settings){ .txqueuelen = 1000, .mtu = wire.mtu }) == QTREE_DONE;
@@ -124,11 +132,27 @@ static bool goes_on_after(int signals) {
     return it.ssi_signo == SIGUSR1 || it.ssi_signo == SIGHUP;
 }
 
-static void serve(int signals, int listener) {
+/* A card that was taken out, or comes back as another one. */
+static bool is_card_gone(void) {
+    const char *names[2] = { options.left, options.right };
+    for (int i = 0; i < 2; i++) {
+        if (if_nametoindex(names[i]) != wire.cards[i]) {
+            fprintf(stderr, "qtree-wire: the card %s is gone\n", names[i]);
+            return true;
+        }
+    }
+    return false;
+}
+
+/* Whether the program is to end well. */
+static bool serve(int signals, int listener) {
     struct pollfd watched[] = { { signals, POLLIN, 0 }, { listener, POLLIN, 0 } };
     int period = notify_period();
     for (bool goes_on = true; goes_on;) {
-        int count = poll(watched, 2, period);
+        int count = poll(watched, 2, period > 0 && period < LOOK ? period : LOOK);
+        if (is_card_gone()) {
+            return false;
+        }
         if (period > 0) {
             beat();
         }
@@ -139,9 +163,10 @@ static void serve(int signals, int listener) {
             control_answer(&wire, listener);
         }
     }
+    return true;
 }
 
-static void run(int signals, int listener) {
+static bool run(int signals, int listener) {
     pthread_t threads[2];
     for (int i = 0; i < 2; i++) {
         start(&wire.both[i], &threads[i]);
@@ -151,7 +176,7 @@ static void run(int signals, int listener) {
     }
     fprintf(stderr, "qtree-wire: %s and %s are joined by %s\n", options.left, options.right, options.io->name);
     notify("READY=1\nSTATUS=joined");
-    serve(signals, listener);
+    bool is_well = serve(signals, listener);
     notify("STOPPING=1");
     for (int i = 0; i < 2; i++) {
         wire.both[i].is_over = true;
@@ -159,6 +184,7 @@ static void run(int signals, int listener) {
         pthread_join(threads[i], NULL);
     }
     answer_last_counts(&wire, stderr);
+    return is_well;
 }
 
 static void close_all(void) {
@@ -183,8 +209,7 @@ static int join(int argc, char **argv) {
     if (open_all()) {
         listener = control_listen(options.name);
         if (listener >= 0 && options.io->open(wire.both)) {
-            run(signals, listener);
-            status = 0;
+            status = run(signals, listener) ? 0 : 1;
         }
         if (listener >= 0) {
             options.io->close(wire.both, options.keeps_passing && status == 0);

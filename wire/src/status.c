@@ -26,7 +26,6 @@ static void say_offloads(const struct card *card, bool is_xdp, struct found *fou
 static void say_card(const char *name, const struct direction *from, struct found *found) {
     struct card card;
     if (!card_read(&card, name)) {
-        SAY(found, "%s: the card is gone: systemctl restart qtree-wire@NAME once it is back\n", name);
         return;
     }
     bool is_xdp = strcmp(from->io->name, "xdp") == 0;

@@ -85,6 +85,7 @@ struct direction {
     uint32_t seed;
     uint32_t overhead;
     uint64_t nap;
+    uint32_t ring;  /* places of each ring, where the io has rings */
     uint64_t needs; /* frames that the tree can hold */
     struct counts counts;
     _Atomic(struct request *) request;
@@ -95,7 +96,9 @@ struct direction {
 struct wire {
     struct direction both[2]; /* the first from LEFT to RIGHT */
     const char *file, *name;
-    uint16_t mtu; /* the longest frame that a device takes */
+    uint16_t mtu;      /* the longest frame that a device takes */
+    uint32_t queues;   /* of the card that has more */
+    unsigned cards[2]; /* their indexes, by which the kernel knows them */
     bool is_real_time;
 };
 
