@@ -6,9 +6,11 @@
 #include <linux/ethtool.h>
 #include <linux/if_packet.h>
 #include <linux/sockios.h>
+#include <stddef.h>
 #include <string.h>
 #include <sys/ioctl.h>
 #include <sys/socket.h>
+#include <sys/un.h>
 #include <unistd.h>
 
 const char *const offload_names[OFFLOADS] = { "gro", "lro", "tso", "gso", "rxvlan" };
@@ -109,11 +111,22 @@ static bool take_all(const char *name) {
     return fd >= 0 && setsockopt(fd, SOL_PACKET, PACKET_ADD_MEMBERSHIP, &all, sizeof all) == 0;
 }
 
+/* A socket's abstract name is that of the network namespace, as the card's is, and goes with the process. */
+bool card_claim(const char *name) {
+    struct sockaddr_un at = { .sun_family = AF_UNIX };
+    int fd = socket(AF_UNIX, SOCK_DGRAM | SOCK_CLOEXEC, 0);
+    int len = snprintf(at.sun_path + 1, sizeof at.sun_path - 1, "qtree-wire/%s", name);
+    if (fd >= 0 && bind(fd, (struct sockaddr *)&at, (socklen_t)(offsetof(struct sockaddr_un, sun_path) + 1 + (size_t)len)) == 0) {
+        return true;
+    }
+    fprintf(stderr, "qtree-wire: another qtree-wire has the card %s: %s\n", name, strerror(errno));
+    return false;
+}
+
 bool card_prepare(const char *name, bool without_tags) {
     struct card card;
     struct ifreq wanted;
     if (!card_read(&card, name)) {
-        fprintf(stderr, "qtree-wire: %s: %s; `ip link` lists the cards\n", name, strerror(errno));
         return false;
     }
     for (int which = 0; which < OFFLOADS; which++) {

@@ -21,6 +21,9 @@ struct card {
 /* Reads what a card is set to; false where there is none with this name. */
 bool card_read(struct card *card, const char *name);
 
+/* Takes the card for this process, as long as it runs; false, with the reason in a line, where another qtree-wire has it. */
+bool card_claim(const char *name);
+
 /* Turns offloads off, brings the card up, and has it take frames for all addresses as long as the program runs; says what it changed. That
  * of tags is turned off only if frames are read before the kernel could put them back. */
 bool card_prepare(const char *name, bool without_tags);

@@ -26,12 +26,13 @@ static struct wire wire;
 static struct options options;
 
 /* Both devices take the longest frame of either card, with two tags. */
-static bool prepare_cards(void) {
+static bool read_cards(void) {
     struct card cards[2];
     const char *names[2] = { options.left, options.right };
     bool is_xdp = options.io != &io_packet;
     for (int i = 0; i < 2; i++) {
-        if (!card_prepare(names[i], is_xdp) || !card_read(&cards[i], names[i])) {
+        if (!card_read(&cards[i], names[i])) {
+            fprintf(stderr, "qtree-wire: %s: %s; `ip link` lists the cards\n", names[i], strerror(errno));
             return false;
         }
         uint32_t longest = cards[i].mtu + LINK_HEAD + options.overhead;
@@ -75,10 +76,16 @@ static bool open_direction(struct direction *way, const char *from, const char *
     return is_open;
 }
 
+/* Only once the file is known to be right. */
+static bool prepare_cards(void) {
+    bool is_xdp = options.io != &io_packet;
+    return card_claim(options.left) && card_claim(options.right) && card_prepare(options.left, is_xdp) &&
+           card_prepare(options.right, is_xdp);
+}
+
 static bool open_all(void) {
     struct direction *both = wire.both;
-    if (!prepare_cards() || !open_direction(&both[0], options.left, options.right) ||
-        !open_direction(&both[1], options.right, options.left)) {
+    if (!read_cards() || !open_direction(&both[0], options.left, options.right) || !open_direction(&both[1], options.right, options.left)) {
         return false;
     }
     size_t slots = slots_wanted(), slot = SLOT;
@@ -91,7 +98,7 @@ static bool open_all(void) {
             return false;
         }
     }
-    return setup_load(&wire, false, stderr);
+    return setup_load(&wire, false, stderr) && prepare_cards();
 }
 
 static void start(struct direction *way, pthread_t *thread) {
