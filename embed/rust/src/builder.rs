@@ -91,7 +91,10 @@ impl PacketBuilder {
         self
     }
 
-    /// Sets the seed with which the hash is computed if no hash is set.
+    /// Sets the seed with which the hash is computed if no hash is set. By default it is 0, so that
+    /// tests have the same flows each time. Everybody knows that seed: on a network that you do not
+    /// control, draw one at random when the program starts, so that nobody outside can choose ports
+    /// that share a flow.
     pub fn seed(mut self, seed: u32) -> Self {
         self.seed = seed;
         self
