@@ -16,6 +16,7 @@ pub mod LawfulLemmas
 pub mod ListsLemmas
 pub mod LostLemmas
 pub mod MovedLemmas
+pub mod NeedLemmas
 pub mod NewFlowLemmas
 pub mod NodesLemmas
 pub mod OldestLemmas
@@ -25,8 +26,10 @@ pub mod PoolLemmas
 pub mod PooledLemmas
 pub mod PutLemmas
 pub mod QuantaLemmas
+pub mod RoundLemmas
 pub mod SelectionLemmas
 pub mod SentLemmas
 pub mod ShedLemmas
 pub mod TurnLemmas
+pub mod VisitLemmas
 pub mod WinnerLemmas

@@ -1,5 +1,5 @@
 -- What one quantum does to the number of quanta that a flow needs, and to those who stay in a list and those who leave it.
-use Rattle.std.proofs.Common.{◌≡◌, ℕ, zero, suc, ◌+◌, ◌*◌, ◌<◌, ◌≤◌, ℤ, pos, negsuc, ◌+ℤ◌, ◌≤ℤ◌, ◌<ℤ◌, int_lt, unsigned_abs, nat_lt, nat_le, Bool, true, false, cond, List, [], ◌∷◌, ◌++◌, map, refl, sym, ap, ◌∙◌, arith, ⊎_elim, mul-le-mul_left, suc-mul, ap₂, ◌-◌}
+use Rattle.std.proofs.Common.{◌≡◌, ℕ, zero, suc, ◌+◌, ◌*◌, ◌<◌, ◌≤◌, ℤ, pos, negsuc, ◌+ℤ◌, ◌≤ℤ◌, ◌<ℤ◌, int_lt, unsigned_abs, nat_lt, nat_le, Bool, true, false, cond, List, [], ◌∷◌, ◌++◌, map, refl, sym, ap, ◌∙◌, arith, ⊎_elim, mul-le-mul_left, suc-mul, ap₂, ◌-◌, ◌⊎◌, inl, inr}
 use Rattle.std.proofs.lemmas.Int.{ints}
 use Rattle.std.proofs.lemmas.Bool.{lt-ltb, le-ltb, le-leb, lt-leb, cases_lt, cond-true, cond-false}
 use Rattle.std.proofs.lemmas.List.{map-append}
@@ -41,6 +41,11 @@ times_up k q h = omega (arith, mul-le-mul_left k h)
 -- one quantum first, and then k, are k + 1
 pub quantum_more : (z : ℤ) (q k : ℕ) → (z +ℤ pos (1 * q)) +ℤ pos (k * q) ≡ z +ℤ pos (suc k * q)
 quantum_more z q k = let m : suc k * q ≡ k * q + q = suc-mul k q in omega (arith, ints, m)
+
+pub credits_sign : (z : ℤ) → (pos 0 <ℤ z) ⊎ (z ≤ℤ pos 0)
+credits_sign (pos zero) = inr (omega (arith, ints))
+credits_sign (pos (suc n)) = inl (omega (arith, ints))
+credits_sign (negsuc n) = inr (omega (arith, ints))
 
 -- A flow with credits needs no quantum.
 pub need_none : (q : ℕ) (e : Entry) → pos 0 <ℤ e.credits → need q e ≡ 0
@@ -85,6 +90,17 @@ unfolding given
 given_none q e =
     let z : e.credits +ℤ pos (0 * q) ≡ e.credits = omega (arith, ints) in
     ap (λ z. record e { credits = z }) z
+
+-- n quanta lower the need by n, where it is no less
+pub need-given : (q n : ℕ) (e : Entry) → 1 ≤ q → n ≤ need q e → need q e ≡ n + need q (given q n e)
+need-given q zero e h within = omega (arith, ap (need q) (given_none q e))
+need-given q (suc n) e h within =
+    ⊎_elim
+    (λ (high : pos 0 <ℤ e.credits). absurd (omega (arith, within, need_none q e high)))
+    (λ (low : e.credits ≤ℤ pos 0).
+    let more : need q e ≡ suc (need q (given q 1 e)) = need_more q e h low in
+    omega (arith, more, need-given q n (given q 1 e) h (omega (arith, more, within)), ap (need q) (given_more q n e)))
+    (credits_sign e.credits)
 
 -- an entry with one quantum more
 pub given_is : (q : ℕ) (e : Entry) (z : ℤ) → z ≡ e.credits +ℤ pos q → record { flow = e.flow; credits = z } ≡ given q 1 e

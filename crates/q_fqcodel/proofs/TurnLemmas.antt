@@ -1,9 +1,11 @@
 -- One turn of the scheduler: what it does to the state, and that the selection stays the same.
-use Rattle.std.proofs.Common.{◌≡◌, ℕ, suc, ◌+◌, ◌<◌, ◌≤◌, pos, ◌≤ℤ◌, ◌<ℤ◌, Bool, true, false, List, [], ◌∷◌, ◌++◌, length, drop, sum_by, refl, sym, ap, ap₂, ◌∙◌, subst, arith, IfSome, Some, None, IsSome}
+use Rattle.std.proofs.Common.{◌≡◌, ℕ, suc, ◌+◌, ◌<◌, ◌≤◌, pos, ◌≤ℤ◌, ◌<ℤ◌, Bool, true, false, List, [], ◌∷◌, ◌++◌, length, drop, sum_by, refl, sym, ap, ap₂, ◌∙◌, subst, subst₂, arith, IfSome, Some, None, IsSome, ◌*◌, inl, inr}
 use Rattle.std.specs.Prelude.{slice_get}
+use Rattle.std.proofs.lemmas.Bool.{cases_lt}
 use Rattle.std.proofs.lemmas.List.Sums.{sum_by-cons, sum_by_push}
 use Rattle.q_fqcodel.specs.Cleared.{adjust, clear}
-use Rattle.q_fqcodel.specs.Quanta.{need, given}
+use Rattle.q_fqcodel.specs.Quanta.{need, given, stay, leave}
+use Rattle.q_fqcodel.specs.Rounds.{OldNeed, rounds_given}
 use Rattle.q_fqcodel.specs.Selection.{Lists, chosen, turned, arranged}
 use Rattle.q_fqcodel.specs.FqState.{FqSettings, Flow, FqState, is_idle, rested_flow}
 use Rattle.q_fqcodel.specs.Lawful.{IsLawful}
@@ -13,7 +15,9 @@ use Rattle.q_fqcodel.specs.Entry.{Entry}
 use Rattle.q_fqcodel.proofs.ClearedLemmas.{clear-nil, clear-cons}
 use Rattle.q_fqcodel.proofs.FlowLemmas.{is_idle-rested_flow, packets_of-rested_flow}
 use Rattle.q_fqcodel.proofs.LawfulLemmas.{lawful_moved, lawful_turned, lawful_left, lawful_rested, front_within}
-use Rattle.q_fqcodel.proofs.QuantaLemmas.{need_none, need_more, flow-given}
+use Rattle.q_fqcodel.proofs.QuantaLemmas.{need_none, need_more, need-given, flow-given, stay_kept, stay_dropped, stay-nil}
+use Rattle.q_fqcodel.proofs.RoundLemmas.{rounds_turned}
+use Rattle.q_fqcodel.proofs.VisitLemmas.{is_idle-clear}
 use Rattle.q_fqcodel.proofs.SelectionLemmas.{Agree, same_lists, turned_granted, turned_leaves, turned_ready, arranged-nil, arranged_granted, arranged_moves, arranged_ready}
 
 with_lists : FqState → List Flow → List Entry → List Entry → FqState
@@ -201,6 +205,41 @@ module _ (s : FqState) (lawful : IsLawful s) (e : Entry) (rest : List Entry) (no
       selected_is s
       ∙ ap (λ (l : Lists). with_lists s (clear rested_flow l.gone s.flows) l.new_flows l.old_flows) lists
       ∙ ap (λ (l : List Flow). with_lists s l s.new_flows s.old_flows) (clear-nil rested_flow s.flows)
+
+-- ---- rounds of the old list in which no flow sends
+
+pub rounds_selected : (n : ℕ) (s : FqState) → s.new_flows ≡ [] → 1 ≤ s.settings.quantum → OldNeed n s → selected (rounds_given n s) ≡ selected s
+unfolding arranged_in
+rounds_selected n s none positive needed =
+    let q : ℕ = s.settings.quantum in
+    let es : List Entry = s.old_flows in
+    let t : FqState = rounds_given n s in
+    let before : arranged_in s ≡ turned q es (chosen q (is_idle s.flows) es) =
+    ap (λ (l : List Entry). arranged q (is_idle s.flows) l es) none ∙ arranged-nil q (is_idle s.flows) es in
+    let after : arranged_in t ≡ turned q (stay q n es) (chosen q (is_idle s.flows) (stay q n es)) =
+    ap₂ (λ (i : ℕ → Bool) (l : List Entry). arranged q i l (stay q n es)) (is_idle-clear (leave q n es) s.flows) none
+    ∙ arranged-nil q (is_idle s.flows) (stay q n es) in
+    sym (same_selected s t refl
+    (subst₂ (λ (a b : Lists). Agree rested_flow s.flows t.flows a b) (sym before) (sym after)
+    (rounds_turned rested_flow q (is_idle s.flows) positive n es needed s.flows)))
+
+-- the work that is left: k is 1 where a round was given, or 0
+turns_stay : (q n k : ℕ) → 1 ≤ q → k ≤ n → k ≤ 1 → (es : List Entry) → sum_by (old_turns q) (stay q n es) + k * length es ≤ sum_by (old_turns q) es
+turns_stay q n k positive some one [] = omega (arith, ap (sum_by (old_turns q)) (stay-nil q n))
+turns_stay q n k positive some one (e ∷ es) =
+    let rest = turns_stay q n k positive some one es in
+    let all : sum_by (old_turns q) (e ∷ es) ≡ old_turns q e + sum_by (old_turns q) es = sum_by-cons (old_turns q) e es in
+    let more : k * length (e ∷ es) ≡ k + k * length es = omega arith in
+    elim (cases_lt (need q e) n) [
+      | inl few ↦ omega (arith, rest, all, more, old_turns_is q e, ap (sum_by (old_turns q)) (stay_dropped q n e es few))
+      | inr enough ↦
+          let kept = ap (sum_by (old_turns q)) (stay_kept q n e es enough) ∙ sum_by-cons (old_turns q) (given q n e) (stay q n es) in
+          omega (arith, rest, all, more, old_turns_is q e, old_turns_is q (given q n e), kept, need-given q n e positive enough)
+    ]
+
+pub turns_rounds : (n k : ℕ) (s : FqState) → 1 ≤ s.settings.quantum → k ≤ n → k ≤ 1 → turns (rounds_given n s) + k * length s.old_flows ≤ turns s
+turns_rounds n k s positive some one =
+    omega (arith, turns_is s, turns_is (rounds_given n s), turns_stay s.settings.quantum n k positive some one s.old_flows)
 
 pub none_left : (s : FqState) → s.new_flows ≡ [] → s.old_flows ≡ [] → selected s ≡ s
 unfolding with_lists arranged_in chosen turned

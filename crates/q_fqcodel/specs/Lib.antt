@@ -17,6 +17,7 @@ pub mod Put
 pub mod Quanta
 pub mod QuantaGiven
 pub mod Ranges
+pub mod Rounds
 pub mod Selection
 pub mod Take
 pub mod Turns

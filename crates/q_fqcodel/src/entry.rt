@@ -1,5 +1,5 @@
-ghost use Rattle.std.specs.Prelude.{◌≡◌, ◌-ℤ◌, ◌<ℤ◌, ◌≤ℤ◌, pos};
-ghost use Rattle.q_fqcodel.specs.Quanta.{given};
+ghost use Rattle.std.specs.Prelude.{◌≡◌, ◌-ℤ◌, ◌<ℤ◌, ◌≤ℤ◌, ◌≤◌, pos};
+ghost use Rattle.q_fqcodel.specs.Quanta.{given, need};
 
 use std::marker::Model;
 
@@ -33,6 +33,29 @@ impl Entry {
         Entry {
             flow: self.flow,
             credits: self.credits + quantum as i64,
+        }
+    }
+
+    /// How many quanta it takes until the flow may send: a division where it has no credits.
+    pub(crate) fn needed(self, quantum: u32) -> u64
+        requires { 1 ≤ quantum }
+        ensures { result ≡ need quantum self }
+    {
+        if self.credits > 0 {
+            return 0;
+        }
+        self.credits.unsigned_abs() / quantum as u64 + 1
+    }
+
+    /// The flow with so many quanta more, none of which it could do without.
+    pub(crate) fn given(self, quanta: u64, quantum: u32) -> Entry
+        requires { quanta ≤ need quantum self }
+        ensures { result ≡ given quantum quanta self }
+    {
+        let credits = self.credits;
+        Entry {
+            flow: self.flow,
+            credits: credits.saturating_add_unsigned(quanta * quantum as u64),
         }
     }
 

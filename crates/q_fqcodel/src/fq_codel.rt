@@ -8,6 +8,7 @@ ghost use Rattle.q_codel.specs.Losses.{AreLost};
 ghost use Rattle.q_packet.specs.declared.stamped.Stamped.{Stamped};
 
 mod oldest;
+mod rounds;
 
 use crate::active_lists::ActiveLists;
 use crate::dropped::Dropped;
@@ -363,8 +364,13 @@ impl FqCodel {
             }
         }
         while self.has_old() {
-            if let Some(first) = self.turn_old() {
+            let visit = self.visit_old();
+            if let Some(first) = visit.first {
                 return Some(first);
+            }
+            // A quantum that is too small for its packet: rounds may follow in which no flow sends.
+            if visit.short {
+                self.skip_rounds();
             }
         }
         None
@@ -403,34 +409,6 @@ impl FqCodel {
         if self.flows.is_idle(entry.flow) {
             self.flows.rest(entry.flow);
             self.lists.move_to_old(entry);
-            return None;
-        }
-        Some(entry)
-    }
-
-    // The flow in front of the old list, if it sends, where the new one is empty; where it does not, it goes to the end or
-    // leaves.
-    fn turn_old(&mut self) -> Option<Entry>
-        requires no_new { self.old.state.new_flows ≡ [] }
-        requires waiting { 0 < length self.old.state.old_flows }
-        ensures first { IsSome result → result ≡ front self.old.state }
-        ensures stays { IsSome result → self.new ≡ self.old }
-        ensures settled { IsSome result → IsSettled self.new.state }
-        ensures on { IsNone result → GoesOn self.old.state self.new.state }
-        ensures no_new { self.new.state.new_flows ≡ [] }
-        ensures places { self.new.places ≡ self.old.places }
-    {
-        let settings = self.settings;
-        let entry = self.lists.first_old().unwrap();
-        // Its quantum is spent: it is given the next, and the others have their turn before it.
-        if entry.credits <= 0 {
-            self.lists.rotate(entry.granted(settings.quantum));
-            return None;
-        }
-        // Emptied, and met a round later: it leaves, and its next packet makes it new again.
-        if self.flows.is_idle(entry.flow) {
-            self.flows.rest(entry.flow);
-            self.lists.remove_old();
             return None;
         }
         Some(entry)

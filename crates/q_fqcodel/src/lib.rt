@@ -38,14 +38,15 @@
 //! is memory for. `put` is `after_put` and `lost_by_put` of `specs/Put.antt`: the fat flow and its batch. `take` is `selected`
 //! and what is sent from it (`specs/Take.antt`): for each listed flow the least number of quanta that makes its credits
 //! positive (`specs/Quanta.antt`), and from these numbers the flow that sends and both lists (`specs/Selection.antt`). No
-//! definition goes round by round, as the code does. Each call's losses reach the lent sink in order, with their cause.
+//! definition goes round by round. Each call's losses reach the lent sink in order, with their cause.
 //! `specs/Lawful.antt` has what every value of the type keeps.
 //!
 //! The packets of each flow are linked through one slab, and both lists through the flows' own links; a tournament tree has
 //! the fat flow at its root. A packet that leaves is not cleared: its node stays in the slab, linked to others that are spare,
 //! and the next packet takes the first of these. So a put takes a few steps, and one for each level of the tree at most, twice where it drops. A
-//! take does so too, after a few steps for each listed flow that it passes over, as it has no credits or no packets. A change
-//! of the settings touches no flow. A flow takes 96 bytes at most, and a packet 88.
+//! take does so too, after a few steps for each listed flow that it passes over, as it has no credits or no packets. However small the
+//! quantum is, these are no more: where a flow needs a second quantum, the rounds in which no flow sends are given at once, each flow
+//! getting the fewest quanta that one with a packet needs (`specs/Rounds.antt`). A change of the settings touches no flow. A flow takes 96 bytes at most, and a packet 88.
 //!
 //! [`laws`] states what follows from these definitions: nothing is made or lost, a put leaves a packet, each call keeps the
 //! state lawful, a flow that has just become new sends before any flow of the old list, and a flow's credits grow by the quanta
@@ -71,6 +72,7 @@ mod place;
 mod pool;
 mod sent;
 mod settings;
+mod visit;
 mod winners;
 
 pub use dropped::Dropped;
