@@ -31,6 +31,7 @@ pub mod GivenHeads
 pub mod GivenInto
 pub mod GivenMany
 pub mod GivenTree
+pub mod GivingComes
 pub mod Foreseeing
 pub mod ForeseenAsks
 pub mod Forms
@@ -42,6 +43,7 @@ pub mod IdleClasses
 pub mod IndexLemmas
 pub mod IndexOfFilterLemmas
 pub mod Keeping
+pub mod KeepingComes
 pub mod KeepingMany
 pub mod MakingLemmas
 pub mod MatchingLemmas

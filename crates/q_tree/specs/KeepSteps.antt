@@ -1,17 +1,18 @@
 -- What an arrival comes to that is kept with nothing lost and no place made, at one node and in its discipline.
 -- tc-prio(8), tc-tbf(8), tc-drr(8), tc-pfifo(8).
-use Rattle.std.specs.Prelude.{◌≡◌, ℕ, ◌<◌, ◌+◌, ◌*◌, ◌^◌, List, [], ◌∷◌, None}
+use Rattle.std.specs.Prelude.{◌≡◌, ℕ, ◌<◌, ◌+◌, ◌*◌, ◌^◌, List, [], ◌∷◌, Option, None, Some, option_and_then, slice_get}
 use Rattle.q_packet.specs.Descriptor.{Descriptor}
 use Rattle.q_codel.specs.Losses.{SinkState}
 use Rattle.q_model.specs.declared.filter.Filter.{Filter}
+use Rattle.q_model.specs.Find.{node_at}
 use Rattle.q_model.specs.Node as spec
 use Rattle.q_model.specs.Route.{route}
 use Rattle.q_tree.specs.Arrivals.{HasPlace}
-use Rattle.q_tree.specs.ArriveSteps.{HasCome, HasComeIn, HasPlaceOn, nothing_lost, rises_along, way_in}
+use Rattle.q_tree.specs.ArriveSteps.{CanKeep, HasCome, HasComeIn, HasPlaceOn, nothing_lost, rises_along, way_in}
 use Rattle.q_tree.specs.AskSteps.{IsToldOf}
 use Rattle.q_tree.specs.Bursts.{with_arrivals}
 use Rattle.q_tree.specs.Kept.{Kept}
-use Rattle.q_tree.specs.Seen.{IsKept, seen}
+use Rattle.q_tree.specs.Seen.{IsKept, children_seen, seen}
 use Rattle.q_tree.specs.declared.node.Node.TheInside.{Inside}
 use Rattle.q_invariants.proofs.Kept.{IsLawfulRoot}
 use Rattle.q_model.specs.Beneath.{totals_in}
@@ -33,6 +34,35 @@ pub record IsKeptIn (now : ℕ) (p : Descriptor) (filters : List Filter) (before
   pub come : HasComeIn now p filters before after nothing_lost no_sink no_sink
   pub passes : (way_in p filters before).refusal ≡ None
   pub place : HasPlaceOn (way_in p filters before).path before
+
+-- So it comes wherever the route of the packet ends in a fifo that takes it and has a place for it: at the node or below,
+pub record CanBeKept (p : Descriptor) (n : spec.Node Kept) : Type 0 where
+  pub passes : (route p n).refusal ≡ None
+  pub end : spec.Node Kept
+  pub there : node_at (route p n).path n ≡ Some end
+  pub fifo : CanKeep p.len end
+
+-- or below alone,
+abbrev pub node_below : List ℕ → spec.Node Kept → Option (spec.Node Kept)
+node_below [] n = None
+node_below (i ∷ rest) n = node_at (i ∷ rest) n
+
+pub record CanBeKeptBelow (p : Descriptor) (n : spec.Node Kept) : Type 0 where
+  pub passes : (route p n).refusal ≡ None
+  pub end : spec.Node Kept
+  pub there : node_below (route p n).path n ≡ Some end
+  pub fifo : CanKeep p.len end
+
+-- and below a discipline with these filters.
+abbrev pub node_under : List ℕ → Discipline → Option (spec.Node Kept)
+node_under [] d = None
+node_under (i ∷ rest) d = option_and_then (node_at rest) (slice_get (children_seen d) i)
+
+pub record CanBeKeptIn (p : Descriptor) (filters : List Filter) (d : Discipline) : Type 0 where
+  pub passes : (way_in p filters d).refusal ≡ None
+  pub end : spec.Node Kept
+  pub there : node_under (way_in p filters d).path d ≡ Some end
+  pub fifo : CanKeep p.len end
 
 -- such packets came one after another
 abbrev pub AreKeptAlong : ℕ → List Descriptor → spec.Node Kept → spec.Node Kept → Type 0

@@ -1,12 +1,14 @@
-//! Bursts of packets that come to a fifo at the root, or leave it. The checks of the single calls are made once for a burst, and the counters of
-//! the root and of the device above it are written once.
-ghost use Rattle.std.specs.Prelude.{◌≡◌, ◌≤◌, ◌<◌, ◌+◌, ◌*◌, ◌^◌, ◌++◌, All, IfSome, drop, length, map, slice_get, take};
+//! Bursts of packets that come to a tree, or leave it. At a fifo at the root the checks of the single calls are made once for a burst, and the
+//! counters of the root and of the device above it are written once; for other roots see `keep.rt` and `giving.rt`.
+ghost use Rattle.std.specs.Prelude.{◌≡◌, ◌≤◌, ◌<◌, ◌+◌, ◌*◌, ◌^◌, ◌++◌, All, IfSome, drop, false, length, map, slice_get, take, true};
 ghost use Rattle.q_packet.specs.Stored.{descriptor};
 ghost use Rattle.q_codel.specs.Bursts.{HasWidths, IsShort};
 ghost use Rattle.q_model.specs.Beneath.{packets_in, totals_in};
 ghost use Rattle.q_model.specs.Conserved.{IsBalanced};
 ghost use Rattle.q_model.specs.Node as spec;
 ghost use Rattle.q_tree.specs.Bursts.{AreKept, IsGivenOut, arrived_each, room_at, with_arrivals, with_queued, with_sends, with_taken};
+ghost use Rattle.q_tree.specs.GiveSteps.{CanGive, IsNoFifo};
+ghost use Rattle.q_tree.specs.KeepSteps.{CanBeKeptBelow};
 ghost use Rattle.q_tree.specs.Kept.{kept};
 ghost use Rattle.q_tree.specs.PopSteps.{HasHead};
 
@@ -19,12 +21,13 @@ use q_model::Totals;
 use q_packet::{Moment, StoredPacket};
 
 impl Tree {
-    /// Lets the first of these packets arrive in order, all at the time `now`, as long as the root is a fifo with a limit in packets that keeps
-    /// them without further checks. Returns how many arrived. Allocates nothing, and loses nothing.
+    /// Lets the first of these packets arrive in order, all at the time `now`, as long as each is kept with nothing lost for it and no place made.
+    /// Returns how many arrived. Allocates nothing.
     ///
     /// `now` is not before the latest time that the tree was given. The burst ends before a packet that has a field out of range
-    /// ([`StoredPacket::in_range`]) or is longer than the mtu, and where the fifo is full or has no further place. If the root is another qdisc, no
-    /// packet arrives. [`Tree::arrive_stored`] is for the packet that follows.
+    /// ([`StoredPacket::in_range`]) or is longer than the mtu. A fifo at the root with a limit in packets keeps all that it has places for, and
+    /// other fifos at the root none. At another root a packet is kept where its route ends in a fifo that takes it and has a place for it.
+    /// [`Tree::arrive_stored`] is for the packet that follows.
     #[inline(always)]
     pub fn arrive_burst(&mut self, packets: &[StoredPacket], now: Moment) -> usize
         requires order { self.old.clock ≤ now }
@@ -34,11 +37,16 @@ impl Tree {
         ensures taken { All (IsShort self.old.tree.device.mtu) (take result packets.now) }
         ensures widths { All HasWidths (take result packets.now) }
         ensures next { result < room_at self.old.tree.root → IfSome (slice_get packets.now result) (λ c. IsShort self.old.tree.device.mtu c → ⊥) }
+        ensures below { IsNoFifo self.old.tree.root.own.discipline →
+            IfSome (slice_get packets.now result) (λ c. IsShort self.old.tree.device.mtu c → CanBeKeptBelow (descriptor c) self.new.tree.root → ⊥) }
         ensures after { self.new ≡ arrived_each kept now (map descriptor (take result packets.now)) self.old }
         ensures kept { AreKept kept now (map descriptor (take result packets.now)) self.old }
     {
         // A time is at most 2^62 nanoseconds.
         let _ = now.ns();
+        if !self.root.is_fifo() {
+            return self.arrive_some(packets, now);
+        }
         let kept = self.root.keep_burst(packets, self.mtu, now);
         if kept.packets == 0 {
             return 0;
@@ -48,20 +56,24 @@ impl Tree {
         kept.packets as usize
     }
 
-    /// Sends packets in order, all at the time `now`, as many as there are places for and as a fifo at the root has. What is told of each packet is
-    /// written into the places. Returns how many packets were sent. Allocates nothing, and loses nothing.
+    /// Sends packets in order, all at the time `now`, as many as there are places for and as go with nothing lost or marked. What is told of each
+    /// packet is written into the places. Returns how many packets were sent. Allocates nothing.
     ///
-    /// `now` is not before the latest time that the tree was given. If the root is another qdisc, no packet is sent. [`Tree::send`] is for what
-    /// follows.
+    /// `now` is not before the latest time that the tree was given. A fifo at the root gives all that it has. A prio or a tbf at the root gives as
+    /// long as nobody has to be asked but fifos, and another qdisc gives nothing. [`Tree::send`] is for what follows.
     #[inline(always)]
     pub fn send_burst<T: Told>(&mut self, now: Moment, places: &mut [T]) -> usize
         requires order { self.old.clock ≤ now }
         ensures given { IsGivenOut T.told now result places.old places.new self.old self.new }
         ensures most { result ≤ length places.old }
         ensures next { result < length places.old → HasHead self.new.tree.root → ⊥ }
+        ensures below { result < length places.old → IsNoFifo self.old.tree.root.own.discipline → CanGive now self.new.tree.root → ⊥ }
     {
         // A time is at most 2^62 nanoseconds.
         let _ = now.ns();
+        if !self.root.is_fifo() {
+            return self.send_some(now, places);
+        }
         self.top.fit();
         let sent = self.root.send_heads(places);
         if sent.packets == 0 {
@@ -74,6 +86,18 @@ impl Tree {
 }
 
 impl Node {
+    // Whether the node is a fifo.
+    #[inline(always)]
+    fn is_fifo(&self) -> bool
+        ensures other { result ≡ false → IsNoFifo self.now.own.discipline }
+        ensures means { result ≡ true → IsNoFifo self.now.own.discipline → ⊥ }
+    {
+        let Discipline::Fifo(_) = &self.discipline else {
+            return false;
+        };
+        true
+    }
+
     /// Keeps the first of these packets at a fifo whose limit is in packets, as many as it keeps with nothing asked, and counts them.
     #[inline(always)]
     fn keep_burst(&mut self, packets: &[StoredPacket], mtu: u16, now: Moment) -> Totals

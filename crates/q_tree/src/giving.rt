@@ -1,5 +1,5 @@
 //! A departure for which nothing is lost or marked, as most are, at a qdisc whose children are fifos. Where it is another, nothing has changed.
-ghost use Rattle.std.specs.Prelude.{◌≡◌, ◌≤◌, length, List, [], ◌∷◌, Option, Some, true, false, option_map, ℕ};
+ghost use Rattle.std.specs.Prelude.{◌≡◌, ◌≤◌, ◌<◌, length, List, [], ◌∷◌, Option, Some, true, false, option_map, ℕ};
 ghost use Rattle.q_bucket.specs.Level.{TokenBucket};
 ghost use Rattle.q_packet.specs.Descriptor.{Descriptor};
 ghost use Rattle.q_model.specs.Ask.{ask_prio, ask_tbf};
@@ -10,25 +10,29 @@ ghost use Rattle.q_model.specs.declared.filter.Filter.{Filter};
 ghost use Rattle.q_tree.specs.AskSteps.{AreAsked, CanAsk, CanAskEach, CanAskIn, answer_of, answers};
 ghost use Rattle.q_tree.specs.Bursts.{IsGivenAlone, IsGivenOut};
 ghost use Rattle.q_tree.specs.DisciplineChanges.{IsUnchanged};
-ghost use Rattle.q_tree.specs.GiveSteps.{IsGivenOne, alone};
+ghost use Rattle.q_tree.specs.GiveSteps.{CanGive, CanGiveFrom, CanSpendHead, HasFirstHead, IsGivenOne, IsNoFifo, alone};
 ghost use Rattle.q_tree.specs.KeepSteps.{no_sink};
 ghost use Rattle.q_tree.specs.Kept.{kept};
 ghost use Rattle.q_tree.specs.PopSteps.{HasHead};
+ghost use Rattle.q_tree.specs.Seen.{children_seen, discipline_seen};
 ghost use Rattle.q_tree.specs.SendSteps.{AreSent, IsSentIn};
 
 use crate::booking::book_sent;
 use crate::node::{Discipline, Node};
-use q_bucket::Bucket;
 use crate::tree::Tree;
+use q_bucket::Bucket;
 use q_codel::Told;
 use q_packet::{KeptPacket, Moment, SOME_KEPT};
 
 impl Tree {
-    /// Sends packets in order, all at the time `now`, as long as each goes with nothing lost or marked. Returns how many.
-    pub fn send_some<T: Told>(&mut self, now: Moment, places: &mut [T]) -> usize
+    /// Sends packets in order, all at the time `now`, as long as each goes with nothing lost or marked. Returns how many. The root is no fifo.
+    pub(crate) fn send_some<T: Told>(&mut self, now: Moment, places: &mut [T]) -> usize
         requires order { self.old.clock ≤ now }
+        requires other { IsNoFifo self.old.tree.root.own.discipline }
         ensures given { IsGivenOut T.told now result places.old places.new self.old self.new }
         ensures most { result ≤ length places.old }
+        ensures other { IsNoFifo self.new.tree.root.own.discipline }
+        ensures below { result < length places.old → CanGive now self.new.tree.root → ⊥ }
     {
         let mut packet = SOME_KEPT;
         for i in 0..places.len() {
@@ -46,7 +50,9 @@ impl Tree {
         requires order { self.old.clock ≤ now }
         ensures given { result ≡ true → IsGivenAlone kept now out.new self.old }
         ensures after { result ≡ true → self.new ≡ (poll kept now self.old).device }
+        ensures other { result ≡ true → IsNoFifo self.new.tree.root.own.discipline }
         ensures same { result ≡ false → self.new ≡ self.old }
+        ensures comes { CanGive now self.old.tree.root → result ≡ true }
     {
         // A time is at most 2^62 nanoseconds.
         let _ = now.ns();
@@ -66,7 +72,9 @@ impl Node {
     pub(crate) fn give_one(&mut self, now: Moment, out: &mut KeptPacket) -> bool
         requires asks { CanAsk now self.old }
         ensures given { result ≡ true → IsGivenOne now out.new self.old self.new }
+        ensures other { result ≡ true → IsNoFifo self.new.own.discipline }
         ensures same { result ≡ false → self.new ≡ self.old }
+        ensures comes { CanGive now self.old → result ≡ true }
         ensures none { result ≡ false → out.new ≡ out.old }
     {
         self.row.fit();
@@ -102,7 +110,9 @@ impl Discipline {
     fn give_one(&mut self, now: Moment, out: &mut KeptPacket) -> bool
         requires asks { CanAskIn now self.old }
         ensures given { result ≡ true → (handle : Option ℕ) (filters : List Filter) → IsSentIn (answer_of now handle filters self.old) self.old self.new (alone out.new) no_sink no_sink }
+        ensures other { result ≡ true → IsNoFifo (discipline_seen self.new) }
         ensures same { result ≡ false → IsUnchanged self.old self.new }
+        ensures comes { CanGiveFrom now (children_seen self.old) (discipline_seen self.old) → result ≡ true }
         ensures none { result ≡ false → out.new ≡ out.old }
     {
         match self {
@@ -120,6 +130,7 @@ fn give_from_bands(bands: &mut [Node], now: Moment, out: &mut KeptPacket) -> boo
     requires asks { CanAskEach now bands.old }
     ensures given { result ≡ true → (own : Own) → AreSent (ask_prio own (answers now bands.old)) bands.old bands.new (alone out.new) no_sink no_sink }
     ensures same { result ≡ false → bands.new ≡ bands.old }
+    ensures comes { HasFirstHead bands.old → result ≡ true }
     ensures none { result ≡ false → out.new ≡ out.old }
 {
     for place in 0..bands.len() {
@@ -136,17 +147,13 @@ fn give_from_bands(bands: &mut [Node], now: Moment, out: &mut KeptPacket) -> boo
 }
 
 // Gives the head of a tbf's child that is a fifo, where the bucket allows it.
-fn give_from_child(
-    bucket: &mut Bucket,
-    child: &mut Node,
-    now: Moment,
-    out: &mut KeptPacket,
-) -> bool
+fn give_from_child(bucket: &mut Bucket, child: &mut Node, now: Moment, out: &mut KeptPacket) -> bool
     requires asks { CanAsk now child.old }
     requires order { bucket.old.last ≤ now }
     ensures bucket { result ≡ true → (own : Own) (limit : ℕ) → own.discipline ≡ Tbf bucket.old limit → Tbf bucket.new limit ≡ (ask_tbf now own (answers now (child.old ∷ [])) bucket.old limit).peeked.own.discipline }
     ensures given { result ≡ true → (own : Own) (limit : ℕ) → AreAsked (ask_tbf now own (answers now (child.old ∷ [])) bucket.old limit) (child.old ∷ []) (child.new ∷ []) (alone out.new) no_sink no_sink }
     ensures same { result ≡ false → (child.new ≡ child.old) × (bucket.new ≡ bucket.old) }
+    ensures comes { CanSpendHead now bucket.old (child.old ∷ []) → result ≡ true }
     ensures none { result ≡ false → out.new ≡ out.old }
 {
     if !child.has_head() {

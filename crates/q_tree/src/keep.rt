@@ -1,5 +1,5 @@
 //! An arrival that is kept with nothing lost and no place made, as most are. Where it is not, nothing has changed.
-ghost use Rattle.std.specs.Prelude.{◌≡◌, ◌≤◌, ◌<◌, ◌+◌, ◌*◌, ◌^◌, All, length, map, take, true, false};
+ghost use Rattle.std.specs.Prelude.{◌≡◌, ◌≤◌, ◌<◌, ◌+◌, ◌*◌, ◌^◌, All, IfSome, length, map, slice_get, take, true, false};
 ghost use Rattle.q_packet.specs.Stored.{descriptor};
 ghost use Rattle.q_codel.specs.Bursts.{HasWidths, IsShort};
 ghost use Rattle.q_model.specs.Beneath.{totals_in};
@@ -8,7 +8,7 @@ ghost use Rattle.q_tree.specs.Kept.{kept};
 ghost use Rattle.q_tree.specs.declared.node.Node.TheInside as inside;
 ghost use Rattle.q_tree.specs.ArriveSteps.{CanCome, CanComeIn};
 ghost use Rattle.q_tree.specs.DisciplineChanges.{IsUnchanged};
-ghost use Rattle.q_tree.specs.KeepSteps.{AreKeptAlong, AreKeptBelow, CanComeMany, CanKeepEach, IsKeeping, IsKeptAlong, IsKeptIn};
+ghost use Rattle.q_tree.specs.KeepSteps.{AreKeptAlong, AreKeptBelow, CanBeKept, CanBeKeptBelow, CanBeKeptIn, CanComeMany, CanKeepEach, IsKeeping, IsKeptAlong, IsKeptIn};
 
 use crate::arrived::book_kept;
 use crate::bursts::book_arrivals;
@@ -29,6 +29,7 @@ impl Node {
         requires ready { CanCome now packet.now self.old }
         ensures kept { result ≡ true → IsKeptAlong now packet.now self.old self.new }
         ensures same { result ≡ false → self.new ≡ self.old }
+        ensures comes { CanBeKept packet.now self.old → result ≡ true }
     {
         if self.can_keep(packet.stored.len) {
             self.keep(packet, now);
@@ -44,6 +45,7 @@ impl Node {
         requires ready { CanCome now packet.now self.old }
         ensures kept { result ≡ true → IsKeptAlong now packet.now self.old self.new }
         ensures same { result ≡ false → self.new ≡ self.old }
+        ensures comes { CanBeKeptBelow packet.now self.old → result ≡ true }
     {
         if !self.discipline.keep_one(&self.filters, packet, now) {
             return false;
@@ -61,6 +63,7 @@ impl Discipline {
         requires ready { CanComeIn now packet.now self.old }
         ensures kept { result ≡ true → IsKeptIn now packet.now filters.now self.old self.new }
         ensures same { result ≡ false → IsUnchanged self.old self.new }
+        ensures comes { CanBeKeptIn packet.now filters.now self.old → result ≡ true }
     {
         match self {
             Discipline::Fifo(_) => return false,
@@ -75,12 +78,14 @@ impl Discipline {
                 };
                 match choice {
                     Choice::Child(place) => return bands[place].keep_one(packet, now),
-                    _ => return false,
+                    Choice::Refused(_) => return false,
+                    Choice::Here => unreachable!(),
                 }
             }
             Discipline::Tbf { bucket, child, .. } => match tbf::choose(bucket, packet) {
                 Choice::Child(_) => return child.keep_one(packet, now),
-                _ => return false,
+                Choice::Refused(_) => return false,
+                Choice::Here => unreachable!(),
             },
             Discipline::Drr { active, classes } => {
                 match drr::choose(active, filters, classes.len(), packet) {
@@ -91,7 +96,8 @@ impl Discipline {
                         settle(active, place, classes[place].is_empty());
                         return true;
                     }
-                    _ => return false,
+                    Choice::Refused(_) => return false,
+                    Choice::Here => unreachable!(),
                 }
             }
         }
@@ -99,14 +105,16 @@ impl Discipline {
 }
 
 impl Tree {
-    /// Lets the first of these packets arrive in order, all at the time `now`, as long as each is kept with nothing lost and no place made.
-    pub fn arrive_some(&mut self, packets: &[StoredPacket], now: Moment) -> usize
+    /// Lets the first of these packets arrive in order, all at the time `now`, as long as each is kept below the root with nothing lost and no
+    /// place made.
+    pub(crate) fn arrive_some(&mut self, packets: &[StoredPacket], now: Moment) -> usize
         requires order { self.old.clock ≤ now }
         requires packets { self.old.tree.top.counts.arrived.packets + length packets.now < 2 ^ 64 }
         requires bytes { self.old.tree.top.counts.arrived.bytes + length packets.now * 65535 < 2 ^ 64 }
         ensures most { result ≤ length packets.now }
         ensures taken { All (IsShort self.old.tree.device.mtu) (take result packets.now) }
         ensures widths { All HasWidths (take result packets.now) }
+        ensures below { IfSome (slice_get packets.now result) (λ c. IsShort self.old.tree.device.mtu c → CanBeKeptBelow (descriptor c) self.new.tree.root → ⊥) }
         ensures after { self.new ≡ arrived_each kept now (map descriptor (take result packets.now)) self.old }
         ensures kept { AreKept kept now (map descriptor (take result packets.now)) self.old }
     {
@@ -129,6 +137,7 @@ impl Node {
         ensures most { result.packets ≤ length packets.now }
         ensures taken { All (IsShort mtu) (take result.packets packets.now) }
         ensures widths { All HasWidths (take result.packets packets.now) }
+        ensures below { IfSome (slice_get packets.now result.packets) (λ c. IsShort mtu c → CanBeKeptBelow (descriptor c) self.new → ⊥) }
         ensures totals { result ≡ totals_in (map descriptor (take result.packets packets.now)) }
         ensures after { AreKeptAlong now (map descriptor (take result.packets packets.now)) self.old self.new }
     {
@@ -150,6 +159,7 @@ fn keep_each(
     ensures most { result.packets ≤ length packets.now }
     ensures taken { All (IsShort mtu) (take result.packets packets.now) }
     ensures widths { All HasWidths (take result.packets packets.now) }
+    ensures below { IfSome (slice_get packets.now result.packets) (λ c. IsShort mtu c → CanBeKeptIn (descriptor c) filters.now discipline.new → ⊥) }
     ensures totals { result ≡ totals_in (map descriptor (take result.packets packets.now)) }
     ensures after { (a : inside.Inside) → IsKeeping now mtu (length packets.now) filters.now discipline.old a → AreKeptBelow now mtu (map descriptor (take result.packets packets.now)) a discipline.new }
 {
@@ -182,6 +192,7 @@ fn totals(count: usize, bytes: u64) -> Totals
 #[inline(always)]
 fn is_short(packet: &StoredPacket, longest: u16) -> bool
     ensures means { result ≡ true → IsShort longest packet.now }
+    ensures comes { result ≡ false → IsShort longest packet.now → ⊥ }
     ensures widths { HasWidths packet.now }
 {
     // That a number fits its field is known where it is read.

@@ -57,6 +57,7 @@ pub(crate) fn choose(
 }
 
 // Returns the place of the class that a filter names for a packet, if there is one (tc-drr(8)).
+#[inline(always)]
 fn class_place(active: &Active, filters: &Filters, packet: &KeptPacket) -> Option<usize>
     ensures { result ≡ option_and_then (λ minor. place_of minor active.now.classes) (named_class filters.now packet.now) }
 {

@@ -77,6 +77,7 @@ pub(crate) fn choose(
 }
 
 // Returns the band of a packet, from 0: that of the class which a filter names, else that of its priority (tc-prio(8)).
+#[inline(always)]
 fn band(filters: &Filters, priomap: &[u8; 16], packet: &KeptPacket) -> usize
     ensures { result ≡ option_map_or (λ minor. minor - 1) (named_class filters.now packet.now) (slice_index priomap.now packet.now.prio) }
 {

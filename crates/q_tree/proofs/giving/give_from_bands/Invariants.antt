@@ -1,6 +1,6 @@
-use Rattle.std.proofs.Common.{◌≡◌}
+use Rattle.std.proofs.Common.{◌≡◌, ◌≤◌}
 use Rattle.q_tree.specs.AskSteps.{IsToldOf, answers}
-use Rattle.q_tree.specs.GiveSteps.{nothing_shown}
+use Rattle.q_tree.specs.GiveSteps.{HasFirstHead, nothing_shown}
 use Rattle.q_tree.specs.KeepSteps.{no_sink}
 use Rattle.q_tree.proofs.AskBands.{AreBandsAsked, told_to}
 use Rattle.q_tree.proofs.giving.give_from_bands.Given as goal
@@ -11,3 +11,4 @@ invariant-loop-place l =
     × IsToldOf (told_to l.place (answers l.fn.now l.initial.bands)) no_sink no_sink
     × (l.bands ≡ l.initial.bands)
     × (l.out ≡ l.initial.out)
+    × ((h : HasFirstHead l.initial.bands) → l.place ≤ h.place)

@@ -1,6 +1,7 @@
 use Rattle.std.proofs.Common.{◌≡◌, ℕ, ◌+◌, ◌∙◌, List, [], ◌∷◌, ◌++◌, length, map, refl, sym, ap, subst, arith}
-use Rattle.std.specs.Prelude.{slice_index_or, take}
+use Rattle.std.specs.Prelude.{IfSome, slice_get, slice_index_or, take}
 use Rattle.std.proofs.lemmas.List.{map_push, take_more}
+use Rattle.std.proofs.lemmas.Bool.{false≢true}
 use Rattle.std.proofs.lemmas.List.Elements.{All-push, All-same}
 use Rattle.q_packet.specs.Descriptor.{Descriptor}
 use Rattle.q_packet.specs.Stored.{descriptor}
@@ -10,15 +11,16 @@ use Rattle.q_model.specs.declared.filter.Filter.{Filter}
 use Rattle.q_model.specs.declared.totals.Totals.{Totals}
 use Rattle.q_model.specs.Beneath.{totals_in}
 use Rattle.q_tree.specs.Bursts.{with_arrivals}
-use Rattle.q_tree.specs.KeepSteps.{AreKeptBelow, IsKeptIn}
+use Rattle.q_tree.specs.KeepSteps.{AreKeptBelow, CanBeKeptIn, IsKeptIn}
 use Rattle.q_tree.specs.Seen.{seen}
 use Rattle.q_tree.specs.declared.node.Node.TheInside.{Inside}
 use Rattle.q_tree.proofs.ArrivedNodes.{can-come-in}
+use Rattle.q_tree.proofs.KeepingComes.{next-is, none-next, still-can}
 use Rattle.q_tree.proofs.KeepingMany.{below-begins, below-more, below-same, can-next, next-fits, totals-more}
 use Rattle.q_tree.proofs.keep.keep_each.Goals as goal
 
 abbrev some : StoredPacket
-some = record {src_high = 0; src_low = 0; dst_high = 0; dst_low = 0; number = 0; port = 0; buf = 0; hash = 0; len = 0; sport = 0; dport = 0; proto = 0; family = 0; prio = 0; ecn = 0}
+some = record { src_high = 0; src_low = 0; dst_high = 0; dst_low = 0; number = 0; port = 0; buf = 0; hash = 0; len = 0; sport = 0; dport = 0; proto = 0; family = 0; prio = 0; ecn = 0 }
 
 pub loop-i-init : goal.loop-i-init
 loop-i-init c = (
@@ -46,6 +48,25 @@ pub returns-then-not-keep_one-clause-after : goal.returns-then-not-keep_one-clau
 returns-then-not-keep_one-clause-after c = λ a is.
     subst (λ (n : ℕ). AreKeptBelow c.args.now c.args.mtu (map descriptor (take n c.args.packets.now)) a c.keep_one.new.self) (sym (ap (λ (t : Totals). t.packets) c.totals-then-not-keep_one.ensures))
     (below-same c.args.now c.args.mtu a (map descriptor (take c.loop-i.i c.args.packets.now)) c.loop-i.discipline c.keep_one.new.self (c.loop-i.invariant.0 a is) (c.if-not-keep_one.ensures.same refl))
+
+pub returns-then-not-is_short-clause-below : goal.returns-then-not-is_short-clause-below
+returns-then-not-is_short-clause-below c =
+    let Next : StoredPacket → Type 0 = λ x. IsShort c.args.mtu x → CanBeKeptIn (descriptor x) c.args.filters.now c.loop-i.discipline → ⊥ in
+    subst (λ (n : ℕ). IfSome (slice_get c.args.packets.now n) Next) (sym (ap (λ (t : Totals). t.packets) c.totals.ensures))
+    (next-is Next c.args.packets.now c.loop-i.i some c.loop-i-test.true (λ short can. c.is_short.ensures.comes c.if-not-is_short.true short))
+
+pub returns-then-not-keep_one-clause-below : goal.returns-then-not-keep_one-clause-below
+returns-then-not-keep_one-clause-below c =
+    let x : StoredPacket = slice_index_or c.args.packets.now c.loop-i.i some in
+    let Next : StoredPacket → Type 0 = λ y. IsShort c.args.mtu y → CanBeKeptIn (descriptor y) c.args.filters.now c.keep_one.new.self → ⊥ in
+    subst (λ (n : ℕ). IfSome (slice_get c.args.packets.now n) Next) (sym (ap (λ (t : Totals). t.packets) c.totals-then-not-keep_one.ensures))
+    (next-is Next c.args.packets.now c.loop-i.i some c.loop-i-test.true (λ short can. false≢true (c.if-not-keep_one.ensures.comes
+    (still-can (descriptor x) c.args.filters.now c.loop-i.discipline c.keep_one.new.self (c.if-not-keep_one.ensures.same refl) can))))
+
+pub returns-clause-below : goal.returns-clause-below
+returns-clause-below c =
+    let Next : StoredPacket → Type 0 = λ x. IsShort c.args.mtu x → CanBeKeptIn (descriptor x) c.args.filters.now c.loop-i.discipline → ⊥ in
+    none-next Next c.args.packets.now c.totals-2.result.packets (omega (arith, ap (λ (t : Totals). t.packets) c.totals-2.ensures))
 
 pub loop-i-preserved : goal.loop-i-preserved
 loop-i-preserved c =

@@ -23,8 +23,9 @@ use Rattle.q_tree.specs.declared.node.Discipline.{Discipline}
 use Rattle.q_tree.specs.declared.node.Discipline.TheVariants as code
 use Rattle.q_tree.proofs.ArrivedNodes.{can-come-in}
 use Rattle.q_tree.proofs.Arriving.{drr-way, prio-way}
-use Rattle.q_tree.proofs.ChoosingLemmas.{child-there, drr-child}
+use Rattle.q_tree.proofs.ChoosingLemmas.{child-there, drr-child, drr-refused}
 use Rattle.q_tree.proofs.Keeping.{kept-below, kept-node, kept-up}
+use Rattle.q_tree.proofs.KeepingComes.{below-can, child-can, nowhere}
 use Rattle.q_tree.proofs.Puts.{is-empty-put}
 use Rattle.q_tree.proofs.RouteLemmas.{child-size, children-size}
 use Rattle.q_tree.proofs.node.+keep_one.Goals as goal
@@ -141,6 +142,36 @@ Discipline::keep_one-returns-in-Child-choose-2-clause-kept t c so =
     (ap spec.Drr (c.settle.ensures ∙ ap (λ b. settled_class c.in-Child-choose-2.place b c.in-Drr.active) emptied) ∙ sym (ap (λ (d : Discipline).
     settled_in c.in-Child-choose-2.place (is_empty (put_along c.args.now c.args.packet.now (route c.args.packet.now
     x).refusal (route c.args.packet.now x).path (shape h.come.placed)).node) (discipline_seen d)) c.in-Drr.is))
+
+pub Discipline::keep_one-returns-then-not-keep_one-clause-comes : goal.Discipline::keep_one-returns-then-not-keep_one-clause-comes
+Discipline::keep_one-returns-then-not-keep_one-clause-comes t c can =
+    let all : c.len-in-Drr.result ≡ length c.in-Drr.classes.items = omega (arith, c.len-in-Drr.ensures, c.in-Drr.classes.ok) in
+    let chosen = drr-child c.len-in-Drr.result c.in-Child-choose-2.place (option_and_then (λ minor. drr.place_of minor c.in-Drr.active.classes)
+    (named_class c.args.filters.now c.args.packet.now)) (sym c.in-Child-choose-2.is ∙ c.choose-in-Drr.ensures) in
+    let to : way_in c.args.packet.now c.args.filters.now c.args.self.now ≡ through (ways c.args.packet.now c.in-Drr.classes.items)
+    c.in-Child-choose-2.place =
+    drr-way c.args.packet.now c.args.filters.now c.args.self.now c.in-Drr.active c.in-Drr.classes.items (option_and_then (λ minor. drr.place_of
+    minor c.in-Drr.active.classes) (named_class c.args.filters.now c.args.packet.now)) (ap discipline_seen c.in-Drr.is) (ap children_seen
+    c.in-Drr.is) refl
+    ∙ ap (λ (o : Option ℕ). option_map_or (through (ways c.args.packet.now c.in-Drr.classes.items)) o (refused NoClass)) chosen.0 in
+    c.if-not-keep_one.ensures.comes (child-can c.args.packet.now c.args.filters.now c.args.self.now c.in-Drr.classes.items c.in-Child-choose-2.place
+    c.index_mut-in-Child-choose-2.result.now (ap children_seen c.in-Drr.is) (omega (arith, chosen.1, all)) c.index_mut-in-Child-choose-2.ensures.value to can)
+
+pub Discipline::keep_one-returns-in-Refused-choose-2-clause-comes : goal.Discipline::keep_one-returns-in-Refused-choose-2-clause-comes
+Discipline::keep_one-returns-in-Refused-choose-2-clause-comes t c can =
+    let all : c.len-in-Drr.result ≡ length c.in-Drr.classes.items = omega (arith, c.len-in-Drr.ensures, c.in-Drr.classes.ok) in
+    let named = option_and_then (λ minor. drr.place_of minor c.in-Drr.active.classes) (named_class c.args.filters.now c.args.packet.now) in
+    let not = drr-refused c.args.packet.now c.in-Drr.classes.items c.len-in-Drr.result c.in-Refused-choose-2.field-0 named all
+    (sym c.in-Refused-choose-2.is ∙ c.choose-in-Drr.ensures) in
+    let to : way_in c.args.packet.now c.args.filters.now c.args.self.now ≡ refused NoClass =
+    drr-way c.args.packet.now c.args.filters.now c.args.self.now c.in-Drr.active c.in-Drr.classes.items named (ap discipline_seen c.in-Drr.is)
+    (ap children_seen c.in-Drr.is) refl
+    ∙ not.1 in
+    absurd (nowhere c.args.packet.now c.args.filters.now c.args.self.now (refused NoClass) to refl can)
+
+pub Node::keep_one_further-returns-then-not-keep_one-clause-comes : goal.Node::keep_one_further-returns-then-not-keep_one-clause-comes
+Node::keep_one_further-returns-then-not-keep_one-clause-comes t c can =
+    c.if-not-keep_one.ensures.comes (below-can c.args.packet.now c.self.inside c.args.self.now c.self.view_is c.self.inside.filters refl can)
 
 pub Node::keep_one_further-keep_one-requires : goal.Node::keep_one_further-keep_one-requires
 Node::keep_one_further-keep_one-requires t c = (

@@ -1,13 +1,17 @@
-use Rattle.std.proofs.Common.{◌≡◌, ◌∙◌, refl, sym, ap, arith, None, rules}
+use Rattle.std.proofs.Common.{◌≡◌, ◌∙◌, refl, sym, ap, subst, arith, None, rules}
 use Rattle.q_model.specs.declared.row.Row.{Row}
 use Rattle.q_model.specs.declared.totals.Totals.{Totals}
-use Rattle.q_tree.specs.GiveSteps.{alone}
+use Rattle.q_model.specs.Node.{Node, children}
+use Rattle.q_invariants.proofs.Forests.{nodes-side}
+use Rattle.q_tree.specs.GiveSteps.{CanGiveFrom, alone}
 use Rattle.q_tree.specs.Holding.{packet_held}
 use Rattle.q_tree.proofs.HeldLemmas.{none-kept}
 use Rattle.q_tree.proofs.Peeks.{can-book, can-in, shown-here, told-here}
 use Rattle.q_tree.proofs.Quiet.{shown-nothing}
 use Rattle.q_tree.proofs.SendForms.{sent-row, sent-queued, one-sent}
 use Rattle.q_tree.specs.KeepSteps.{no_sink}
+use Rattle.q_tree.specs.Kept.{Kept}
+use Rattle.q_tree.specs.Seen.{children_seen, discipline_seen}
 use Rattle.q_tree.proofs.node.Node.give_one.Goals as goal
 
 pub give_one-requires : goal.give_one-requires
@@ -67,3 +71,8 @@ returns-clause-given c so =
       signals = refl;
       told = told-here c.args.now c.self.inside c.args.self.now c.self.invariant c.self.view_is c.requires.asks none no_sink no_sink sent.children.told;
     }
+
+pub returns-then-not-give_one-clause-comes : goal.returns-then-not-give_one-clause-comes
+returns-then-not-give_one-clause-comes c can =
+    c.if-not-give_one.ensures.comes (subst (λ ns. CanGiveFrom c.args.now ns (discipline_seen c.self.inside.discipline)) (nodes-side (children_seen c.self.inside.discipline))
+    (subst (λ (n : Node Kept). CanGiveFrom c.args.now (children n) n.own.discipline) (sym c.self.view_is) can.can))
