@@ -11,10 +11,20 @@ mod codel;
 #[cfg(test)]
 mod drr;
 #[cfg(test)]
+mod fifo;
+#[cfg(test)]
 mod fnv;
 #[cfg(test)]
 mod fq_codel;
 #[cfg(test)]
+mod fq_codel_calls;
+#[cfg(test)]
 mod packet;
 #[cfg(test)]
+mod plain_fq_codel;
+#[cfg(test)]
 mod show;
+#[cfg(test)]
+mod twins;
+#[cfg(test)]
+mod words;
