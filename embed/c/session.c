@@ -120,7 +120,7 @@ static bool play_words(struct session *session, uint64_t number, struct reader *
     uint64_t polls;
     if (word_is(first, "pkt") || word_is(first, "frame")) {
         bool is_frame = word_is(first, "frame");
-        if (!(is_frame ? read_frame : read_packet)(reader, session->seed, &packet)) {
+        if (!(is_frame ? read_frame(reader, session->seed, &packet) : read_packet(reader, session->seed, &packet))) {
             return false;
         }
         arrive(session, number, &packet, report);
@@ -137,7 +137,11 @@ static bool play_words(struct session *session, uint64_t number, struct reader *
         if (!line_ends(reader)) {
             return false;
         }
-        (word_is(first, "reap") ? reap : totals)(session, report);
+        if (word_is(first, "reap")) {
+            reap(session, report);
+        } else {
+            totals(session, report);
+        }
     } else {
         return fault_here(reader, QTREE_FAULT_UNKNOWN_WORD);
     }
