@@ -2,7 +2,7 @@
 use Rattle.std.proofs.Common.{◌≡◌, ℕ, zero, suc, ◌+◌, ◌-◌, ◌<◌, ◌≤◌, List, [], ◌∷◌, ◌++◌, refl, sym, ap, ap₂, subst, ◌∙◌, append_assoc, arith, Some, None}
 use Rattle.std.specs.Prelude.{All, IfSome, drop, length, map, replicate, set, slice_get, slice_index_or, take}
 use Rattle.std.specs.List.{between}
-use Rattle.std.proofs.lemmas.List.{append-nil, drop-drop, drop_at, length-map, map-append, take_at}
+use Rattle.std.proofs.lemmas.List.{append-nil, drop-drop, drop_at, length-drop, length-map, map-append, take_at}
 use Rattle.std.proofs.lemmas.Slice.{between_to_end}
 use Rattle.std.proofs.Math.ListN.{drop_of_length-le}
 use Rattle.std.proofs.Math.Seq.{take-add}
@@ -14,22 +14,14 @@ use Rattle.q_model.specs.declared.fate.Fate.{Fate}
 use Rattle.q_model.specs.declared.fate.Fate.TheVariants.{Kept}
 use Rattle.q_device.specs.declared.bursts.Stopped.{Stopped}
 use Rattle.q_device.specs.declared.bursts.Stopped.TheVariants as stopped
-use Rattle.q_device.specs.Bursts.{IsArrivals, IsNotNext, IsStoppedAt, arrival, arrived_by, fate_in, fates_by}
+use Rattle.q_device.specs.Bursts.{IsArrivals, IsArriving, IsNotNext, IsStoppedAt, arrival, arrived_by, fate_in, fates_by}
 use Rattle.q_device.specs.DeviceSeen.{DeviceSeen}
 use Rattle.q_device.specs.Events.{after_event, reply_to, with_memory}
 use Rattle.q_device.specs.Room.{KeepsPlaces}
 use Rattle.q_device.proofs.BurstEvents.{arrived-memory, fates-memory}
 use Rattle.q_device.proofs.EventMemory.{after-memory, reply-memory}
 use Rattle.q_device.proofs.PlaceLemmas.{filled-more, length-front, map-more, some-is-none}
-use Rattle.q_device.proofs.RoomLemmas.{keeps-then}
-
--- the first `i` packets arrived, and this is written of their fates in the first places; no place of the device was lost
-pub record IsArriving {A : Type 0} (answer : Fate → A) (i now : ℕ) (packets : List StoredPacket) (before after : List A) (d n : DeviceSeen) : Type 0 where
-  pub arrived : n ≡ with_memory n.memory (arrived_by now (take i packets) d)
-  pub fates : after ≡ map answer (fates_by now (take i packets) d) ++ drop i before
-  pub in_range : All IsStored (take i packets)
-  pub places : KeepsPlaces d n
-  pub first : i ≡ 0 → n ≡ d
+use Rattle.q_device.proofs.RoomLemmas.{keeps-same, keeps-then}
 
 -- ---- one packet more
 
@@ -50,17 +42,9 @@ map-replicate : {A B : Type 0} (f : A → B) (n : ℕ) (x : A) → map f (replic
 map-replicate f zero x = refl
 map-replicate f (suc n) x = ap (λ ys. f x ∷ ys) (map-replicate f n x)
 
--- the first ones were kept, all at once
-pub arriving-begins : {A : Type 0} (answer : Fate → A) (i now : ℕ) (packets : List StoredPacket) (before after : List A) (d n : DeviceSeen)
-    → n ≡ with_memory n.memory (arrived_by now (take i packets) d) → fates_by now (take i packets) d ≡ replicate i Kept → after ≡ replicate i (answer Kept) ++ drop i before
-    → All IsStored (take i packets) → KeepsPlaces d n → (i ≡ 0 → n ≡ d) → IsArriving answer i now packets before after d n
-arriving-begins {A = A} answer i now packets before after d n arrived fates written in_range places first = record {
-  arrived = arrived;
-  fates = written ∙ ap (λ (xs : List A). xs ++ drop i before) (sym (ap (λ (fs : List Fate). map answer fs) fates ∙ map-replicate answer i Kept));
-  in_range = in_range;
-  places = places;
-  first = first;
-}
+-- before the first of them
+pub arriving-starts : {A : Type 0} (answer : Fate → A) (now : ℕ) (packets : List StoredPacket) (before : List A) (d : DeviceSeen) → IsArriving answer 0 now packets before before d d
+arriving-starts answer now packets before d = record { arrived = refl; fates = refl; in_range = All-nil IsStored; places = keeps-same d; first = λ none. refl }
 
 pub arriving-more : {A : Type 0} (answer : Fate → A) (i now : ℕ) (packets : List StoredPacket) (before after : List A) (d d' d'' : DeviceSeen) (c : StoredPacket) (f : Fate) (x : A)
     → IsArriving answer i now packets before after d d' → i < length packets → length packets ≤ length before → take (i + 1) packets ≡ take i packets ++ c ∷ []
@@ -150,6 +134,10 @@ arriving-part {A = A} answer i k now packets before after part d d' d'' inv with
     (ap (λ (xs : List A). take i after ++ (part ++ xs)) past
     ∙ ap (λ (xs : List A). take i after ++ xs) (append-nil part ∙ written ∙ ap (λ (xs : List A). replicate k (answer Kept) ++ drop k xs) left))
     (subst (λ (cs : List StoredPacket). All IsStored (take k cs)) rest in_range) places none
+
+-- so many of those behind the first ones are among all
+pub part-within : {A : Type 0} (i k : ℕ) (xs : List A) → k ≤ length (between i (length xs) xs) → i ≤ length xs → i + k ≤ length xs
+part-within i k xs few within = omega (arith, few, within, ap length (between_to_end xs i (length xs) (omega arith)), length-drop i xs)
 
 -- all of them arrived
 pub arriving-ends : {A : Type 0} (answer : Fate → A) (i now : ℕ) (packets : List StoredPacket) (before after : List A) (d d' : DeviceSeen)

@@ -93,6 +93,14 @@ pub record IsArrivals {A : Type 0} (answer : Fate → A) (now : ℕ) (packets : 
   pub next : IfSome stop (λ why. done < length packets)
   pub places : KeepsPlaces d n
 
+-- the first `i` packets arrived, and this is written of their fates in the first places; no place of the device was lost
+pub record IsArriving {A : Type 0} (answer : Fate → A) (i now : ℕ) (packets : List StoredPacket) (before after : List A) (d n : DeviceSeen) : Type 0 where
+  pub arrived : n ≡ with_memory n.memory (arrived_by now (take i packets) d)
+  pub fates : after ≡ map answer (fates_by now (take i packets) d) ++ drop i before
+  pub in_range : All IsStored (take i packets)
+  pub places : KeepsPlaces d n
+  pub first : i ≡ 0 → n ≡ d
+
 -- ---- polls
 
 -- the device after so many polls
@@ -136,3 +144,12 @@ pub record IsPolls {A : Type 0} (told : Descriptor → A) (now : ℕ) (answer : 
   pub answered : answer ≡ answer_by (length before) now d
   pub given : count ≡ length (given_by (length before) now d)
   pub packets : after ≡ map told (given_by (length before) now d) ++ drop count before
+
+-- The first `i` of `n` polls gave a packet each, of which the first places tell. What is left of them gives the rest.
+pub record IsPolling {A : Type 0} (told : Descriptor → A) (i n now : ℕ) (before after : List A) (d d' : DeviceSeen) : Type 0 where
+  pub firsts : List Descriptor
+  pub counted : length firsts ≡ i
+  pub places : after ≡ map told firsts ++ drop i before
+  pub given : firsts ++ given_by (n - i) now d' ≡ given_by n now d
+  pub polled : polled_by (n - i) now d' ≡ polled_by n now d
+  pub answer : answer_by (n - i) now d' ≡ answer_by n now d

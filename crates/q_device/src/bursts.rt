@@ -1,11 +1,12 @@
-//! Calls for several packets, all at the same time. Each does what the single calls do, one for each packet. If a fifo is at the root, it makes the
-//! checks of the single calls once, and counts all packets together.
-ghost use Rattle.std.specs.Prelude.{◌≡◌, ◌≢◌, ◌≤◌, ◌++◌, IfErr, IfOk, OnErr, OnOk, None, Some, drop, length, option_map, replicate};
+//! Calls for several packets, all at the same time. Each does what the single calls do, one for each packet. Packets that a fifo keeps, or gives,
+//! with nothing lost go together: the checks of the single calls are made once, and the device counts all of them at once.
+ghost use Rattle.std.specs.Prelude.{◌≡◌, ◌≢◌, ◌≤◌, ◌++◌, IfErr, IfOk, List, OnErr, OnOk, None, Some, drop, length, option_map, replicate};
 ghost use Rattle.q_model.specs.declared.event.Event.TheVariants.{Poll};
 ghost use Rattle.q_model.specs.declared.fate.Fate.TheVariants.{Kept};
 ghost use Rattle.q_packet.specs.Stored.{IsStored, descriptor};
-ghost use Rattle.q_device.specs.Bursts.{IsArrivals, IsNotNext, IsPolls, arrival, fate_in, given_as};
+ghost use Rattle.q_device.specs.Bursts.{IsArrivals, IsArriving, IsNotNext, IsPolling, IsPolls, arrival, fate_in, given_as};
 ghost use Rattle.q_device.specs.DeviceLaws.{HasItsMemory};
+ghost use Rattle.q_device.specs.DeviceSeen.{DeviceSeen};
 ghost use Rattle.q_device.specs.Events.{after_event, reply_to, with_memory};
 ghost use Rattle.q_device.specs.Polls.{after_poll, given_at};
 ghost use Rattle.q_device.specs.Room.{KeepsPlaces};
@@ -49,26 +50,26 @@ impl Device {
         requires { length packets.now ≤ length fates.old }
         ensures { IsArrivals A.answer now packets.now result.1 result.0 fates.old fates.new self.old self.new }
     {
-        let kept = self.arrive_burst(packets, now);
-        all_kept(fates, kept);
-        if kept == packets.len() {
-            return (kept, None);
-        }
-        // It may have ended at one packet alone, or for want of a place that this one makes.
-        match self.arrive_next(&packets[kept], now) {
-            Ok(fate) => fates[kept] = A::of(fate),
-            Err(why) => return (kept, Some(why)),
-        }
-        let next = kept + 1;
-        let more = self.arrive_burst(&packets[next..], now);
-        all_kept(&mut fates[next..], more);
-        for i in next + more..packets.len() {
-            match self.arrive_next(&packets[i], now) {
-                Ok(fate) => fates[i] = A::of(fate),
-                Err(why) => return (i, Some(why)),
+        let mut done = 0;
+        while done < packets.len() {
+            let kept = self.arrive_burst(&packets[done..], now);
+            all_kept(&mut fates[done..], kept);
+            // Where a burst keeps none, the others come one by one.
+            if kept == 0 {
+                return self.arrive_each(packets, fates, now, done);
             }
+            done += kept;
+            if done == packets.len() {
+                return (done, None);
+            }
+            // A burst may have ended at this one alone, or for want of a place that it makes.
+            match self.arrive_next(&packets[done], now) {
+                Ok(fate) => fates[done] = A::of(fate),
+                Err(why) => return (done, Some(why)),
+            }
+            done += 1;
         }
-        (packets.len(), None)
+        (done, None)
     }
 
     /// Polls until each place has a packet, or until a poll gives none, all at the time `now`. The packets are written into the first places, in
@@ -79,15 +80,48 @@ impl Device {
     pub fn poll_many<T: Told>(&mut self, now: Moment, places: &mut [T]) -> (usize, Given)
         ensures { IsPolls T.told now result.1 result.0 places.old places.new self.old self.new }
     {
-        let given = self.poll_burst(now, places);
-        for i in given..places.len() {
-            match self.poll_next(now, &mut places[i]) {
+        let mut done = 0;
+        while done < places.len() {
+            let given = self.poll_burst(now, &mut places[done..]);
+            // Where a burst gives none, the others go one by one.
+            if given == 0 {
+                return self.poll_each(now, places, done);
+            }
+            done += given;
+            if done == places.len() {
+                return (done, Given::Packet);
+            }
+            match self.poll_next(now, &mut places[done]) {
                 Given::Packet => {}
-                Given::Idle => return (i, Given::Idle),
-                Given::Later => return (i, Given::Later),
+                Given::Idle => return (done, Given::Idle),
+                Given::Later => return (done, Given::Later),
+            }
+            done += 1;
+        }
+        (done, Given::Packet)
+    }
+
+    // Those behind the first `done` arrive one by one.
+    #[inline(always)]
+    fn arrive_each<A: Answer>(
+        &mut self,
+        packets: &[StoredPacket],
+        fates: &mut [A],
+        now: Moment,
+        done: usize,
+    ) -> (usize, Option<Stopped>)
+        requires room { length packets.now ≤ length fates.old }
+        requires within { done ≤ length packets.now }
+        ensures { (before : List A) (d : DeviceSeen) → length packets.now ≤ length before → IsArriving A.answer done now packets.now before fates.old d self.old →
+            IsArrivals A.answer now packets.now result.1 result.0 before fates.new d self.new }
+    {
+        for i in done..packets.len() {
+            match self.arrive_next(&packets[i], now) {
+                Ok(fate) => fates[i] = A::of(fate),
+                Err(why) => return (i, Some(why)),
             }
         }
-        (places.len(), Given::Packet)
+        (packets.len(), None)
     }
 
     // One of them arrives.
@@ -107,6 +141,23 @@ impl Device {
             Ok(fate) => Ok(fate),
             Err(_) => Err(Stopped::Memory),
         }
+    }
+
+    // Those behind the first `done` polls are made one by one.
+    #[inline(always)]
+    fn poll_each<T: Told>(&mut self, now: Moment, places: &mut [T], done: usize) -> (usize, Given)
+        requires within { done ≤ length places.old }
+        ensures { (before : List T) (d : DeviceSeen) → length before ≡ length places.old → IsPolling T.told done (length before) now before places.old d self.old →
+            IsPolls T.told now result.1 result.0 before places.new d self.new }
+    {
+        for i in done..places.len() {
+            match self.poll_next(now, &mut places[i]) {
+                Given::Packet => {}
+                Given::Idle => return (i, Given::Idle),
+                Given::Later => return (i, Given::Later),
+            }
+        }
+        (places.len(), Given::Packet)
     }
 
     // One of the polls.

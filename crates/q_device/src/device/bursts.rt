@@ -1,10 +1,12 @@
-//! Bursts at a fifo at the root: what each call asks is asked once.
-ghost use Rattle.std.specs.Prelude.{◌≡◌, ◌≤◌, ◌<◌, ◌+◌, ◌-◌, ◌*◌, ◌/◌, ◌^◌, All, IfSome, length, min, replicate, slice_get, take};
-ghost use Rattle.q_packet.specs.Stored.{IsStored};
+//! Bursts of packets that fifos keep or give: what each call asks is asked once.
+ghost use Rattle.std.specs.Prelude.{◌≡◌, ◌≤◌, ◌<◌, ◌+◌, ◌-◌, ◌*◌, ◌/◌, ◌^◌, All, IfSome, length, max, min, replicate, slice_get, take};
+ghost use Rattle.q_packet.specs.Stored.{IsStored, descriptor};
 ghost use Rattle.q_codel.specs.Bursts.{IsShort};
 ghost use Rattle.q_model.specs.Beneath.{beneath};
 ghost use Rattle.q_model.specs.declared.fate.Fate.TheVariants.{Kept};
 ghost use Rattle.q_tree.specs.Bursts.{room_at};
+ghost use Rattle.q_tree.specs.GiveSteps.{CanGive, IsNoFifo};
+ghost use Rattle.q_tree.specs.KeepSteps.{CanBeKeptBelow};
 ghost use Rattle.q_tree.specs.PopSteps.{HasHead};
 ghost use Rattle.q_device.specs.Bursts.{IsPolledFirst, arrived_by, budget_at, fates_by};
 ghost use Rattle.q_device.specs.DeviceSeen.{longest};
@@ -20,8 +22,8 @@ use q_packet::{Moment, StoredPacket};
 use q_tree::Tree;
 
 impl Device {
-    /// The first of these packets arrive, which a fifo at the root keeps with nothing more asked. Returns how many: all for which the device
-    /// and the fifo have room, to the first that the fifo would not keep.
+    /// The first of these packets arrive that are kept with nothing lost and no place made. Returns how many: all for which the device has room,
+    /// to the first that is not kept so.
     #[inline(always)]
     pub(crate) fn arrive_burst(&mut self, packets: &[StoredPacket], now: Moment) -> usize
         ensures most { result ≤ length packets.now }
@@ -31,6 +33,8 @@ impl Device {
         ensures none { result ≡ 0 → self.new ≡ self.old }
         ensures next { result < budget_at self.old → result < room_at self.old.memory.tree.tree.root →
             IfSome (slice_get packets.now result) (λ c. IsShort self.old.memory.tree.tree.device.mtu c → ⊥) }
+        ensures below { result < budget_at self.old → IsNoFifo self.old.memory.tree.tree.root.own.discipline →
+            IfSome (slice_get packets.now result) (λ c. IsShort self.old.memory.tree.tree.device.mtu c → CanBeKeptBelow (descriptor c) self.new.memory.tree.tree.root → ⊥) }
         ensures places { KeepsPlaces self.old self.new }
     {
         moment_range(now);
@@ -50,12 +54,14 @@ impl Device {
         kept
     }
 
-    /// The first polls, each of which a fifo at the root gives a packet for, where no event is recorded any more. Returns how many.
+    /// The first polls that give a packet with nothing lost or marked, where no event is recorded any more. Returns how many.
     #[inline(always)]
     pub(crate) fn poll_burst<T: Told>(&mut self, now: Moment, places: &mut [T]) -> usize
         ensures given { IsPolledFirst T.told now result places.old places.new self.old self.new }
         ensures most { result ≤ length places.old }
         ensures next { self.old.settings.recorder ≤ length self.old.recorded → result < length places.old → HasHead self.new.memory.tree.tree.root → ⊥ }
+        ensures below { self.old.settings.recorder ≤ length self.old.recorded → result < length places.old → IsNoFifo self.old.memory.tree.tree.root.own.discipline →
+            CanGive (max self.old.memory.tree.clock now) self.new.memory.tree.tree.root → ⊥ }
     {
         moment_range(now);
         if has_room(&self.recorded, &self.settings) {

@@ -2,12 +2,15 @@ use Rattle.std.proofs.Common.{◌≡◌, ◌+◌, ◌-◌, ◌<◌, ◌≤◌, �
 use Rattle.std.specs.Prelude.{◌/◌, ◌^◌, IfSome, min, replicate, slice_get, take}
 use Rattle.std.proofs.lemmas.List.{length-take, length-take-le, take-take}
 use Rattle.q_packet.specs.Descriptor.{Descriptor}
+use Rattle.q_packet.specs.Stored.{descriptor}
 use Rattle.q_packet.specs.declared.stored_packet.StoredPacket.{StoredPacket}
 use Rattle.q_model.specs.declared.fate.Fate.TheVariants.{Kept}
 use Rattle.q_model.specs.Beneath.{beneath}
 use Rattle.q_model.specs.Step.{DeviceState}
 use Rattle.q_codel.specs.Bursts.{IsShort}
 use Rattle.q_tree.specs.Bursts.{room_at}
+use Rattle.q_tree.specs.GiveSteps.{IsNoFifo}
+use Rattle.q_tree.specs.KeepSteps.{CanBeKeptBelow}
 use Rattle.q_tree.specs.Kept as code
 use Rattle.q_device.specs.declared.device.Device.TheInside.{Inside}
 use Rattle.q_device.specs.Bursts.{arrived_by, budget_at, fates_by}
@@ -78,9 +81,8 @@ within-budget : (k all most spare budget : ℕ) → k ≤ most → most ≡ min 
 within-budget k all most spare budget few is low least lt = grind (arith, few, is, low, least, lt)
 
 -- it ended for no want of a budget
-next-here : (c : After-arrive_burst-kept) → c.arrive_burst-kept.result < budget_at (device_seen c.self.inside) → c.arrive_burst-kept.result < room_at c.self.inside.tree.tree.root
-    → IfSome (slice_get c.args.packets.now c.arrive_burst-kept.result) (λ (p : StoredPacket). IsShort c.self.inside.tree.tree.device.mtu p → ⊥)
-next-here c budget room =
+within-here : (c : After-arrive_burst-kept) → c.arrive_burst-kept.result < budget_at (device_seen c.self.inside) → c.arrive_burst-kept.result < length c.args.packets.now → c.arrive_burst-kept.result < c.min-most.result
+within-here c budget =
     let a : Inside = c.self.inside in
     let k = c.arrive_burst-kept.result in
     let some = budget-of k (device_seen a) budget in
@@ -88,11 +90,16 @@ next-here c budget room =
     subst (λ n. k < min (min (a.losses.places - length a.losses.waiting - n) (2 ^ 64 - 1 - a.tree.tree.top.counts.arrived.packets))
     ((2 ^ 64 - 1 - a.tree.tree.top.counts.arrived.bytes) / longest))
     (ap (λ (ps : List Descriptor). length ps) (waits-numbers a.tree)) some.1 in
-    let within = within-budget k (length c.args.packets.now) c.min-most.result c.renewed-spare.result
+    within-budget k (length c.args.packets.now) c.min-most.result c.renewed-spare.result
     (min (min (a.losses.places - length a.losses.waiting - length (beneath a.tree.tree.root)) (2 ^ 64 - 1 - a.tree.tree.top.counts.arrived.packets))
     ((2 ^ 64 - 1 - a.tree.tree.top.counts.arrived.bytes) / longest))
-    (few c) c.min-most.ensures low (c.renewed-spare.ensures.least some.0) in
-    next-of (λ (p : StoredPacket). IsShort a.tree.tree.device.mtu p → ⊥) c.args.packets.now c.min-most.result k within (c.arrive_burst-kept.ensures.next room)
+    (few c) c.min-most.ensures low (c.renewed-spare.ensures.least some.0)
+
+next-here : (c : After-arrive_burst-kept) → c.arrive_burst-kept.result < budget_at (device_seen c.self.inside) → c.arrive_burst-kept.result < room_at c.self.inside.tree.tree.root
+    → IfSome (slice_get c.args.packets.now c.arrive_burst-kept.result) (λ (p : StoredPacket). IsShort c.self.inside.tree.tree.device.mtu p → ⊥)
+next-here c budget room =
+    next-of (λ (p : StoredPacket). IsShort c.self.inside.tree.tree.device.mtu p → ⊥) c.args.packets.now c.min-most.result c.arrive_burst-kept.result (within-here c budget)
+    (c.arrive_burst-kept.ensures.next room)
 
 pub returns-clause-next : goal.returns-clause-next
 returns-clause-next c =
@@ -100,3 +107,21 @@ returns-clause-next c =
     let k = c.arrive_burst-kept.result in
     subst (λ (x : DeviceSeen). k < budget_at x → k < room_at x.memory.tree.tree.root
     → IfSome (slice_get c.args.packets.now k) (λ (p : StoredPacket). IsShort x.memory.tree.tree.device.mtu p → ⊥)) c.self.view_is (next-here d)
+
+-- nor below another root
+below-here : (c : After-arrive_burst-kept) → c.arrive_burst-kept.result < budget_at (device_seen c.self.inside) → IsNoFifo c.self.inside.tree.tree.root.own.discipline
+    → IfSome (slice_get c.args.packets.now c.arrive_burst-kept.result)
+    (λ (p : StoredPacket). IsShort c.self.inside.tree.tree.device.mtu p → CanBeKeptBelow (descriptor p) c.arrive_burst-kept.new.self.tree.root → ⊥)
+below-here c budget other =
+    let a : Inside = c.self.inside in
+    let k = c.arrive_burst-kept.result in
+    next-of (λ (p : StoredPacket). IsShort a.tree.tree.device.mtu p → CanBeKeptBelow (descriptor p) c.arrive_burst-kept.new.self.tree.root → ⊥) c.args.packets.now c.min-most.result k
+    (within-here c budget) (c.arrive_burst-kept.ensures.below other)
+
+pub returns-clause-below : goal.returns-clause-below
+returns-clause-below c =
+    let d = (goal.at.returns-clause-below c).After-arrive_burst-kept in
+    let k = c.arrive_burst-kept.result in
+    subst (λ (x : DeviceSeen). k < budget_at x → IsNoFifo x.memory.tree.tree.root.own.discipline
+    → IfSome (slice_get c.args.packets.now k) (λ (p : StoredPacket). IsShort x.memory.tree.tree.device.mtu p → CanBeKeptBelow (descriptor p) c.arrive_burst-kept.new.self.tree.root → ⊥))
+    c.self.view_is (below-here d)
