@@ -17,21 +17,24 @@ import json
 import os
 import re
 import resource
-import subprocess
 import sys
 import tempfile
+import time
 
 HERE = os.path.dirname(os.path.realpath(__file__))
 sys.dont_write_bytecode = True
 PROGRAM = f"{HERE}/../../tools/import-tc"
 ADD = "tc qdisc add dev e root pfifo limit "
 DIGITS = "9" * 6000
+MOST_SECONDS = 20
+FILTER = {"kind": "flower", "protocol": "ip", "pref": 1, "options": {}}
+WORDS = {"kind": "u32", "protocol": "ip", "pref": 1}
 
 # Text, status, and words of what is said on standard error or in a comment.
 SCRIPTS = {
     "twenty thousand lines": ("a\n" * 20_000, 2, "no line of tc"),
     "twenty thousand lines and one of tc": ("a\n" * 20_000 + ADD + "3\n", 0, ""),
-    "a variable that grows tenfold a line": ("A=aaaaaaaaaa\n" + 'A="$A$A$A$A$A$A$A$A$A$A"\n' * 30, 2, "line 5: the value of A grows beyond"),
+    "a variable that grows tenfold a line": ("A=aaaaaaaaaa\n" + 'A="$A$A$A$A$A$A$A$A$A$A"\n' * 30, 2, "line 5: the value of A grows"),
     "an empty sum": (ADD + "$(())\n", 2, "a sum is empty"),
     "a number of 6000 digits": (ADD + DIGITS + "\n", 2, "999..999"),
     "a rate of 6000 digits": (f"tc qdisc add dev e root tbf rate {DIGITS} burst 3k latency 1s\n", 2, "is no rate"),
@@ -68,42 +71,32 @@ QDISC = {"kind": "pfifo", "handle": "1:", "root": True, "options": {}}
 ROWS = [
     {"kind": 5}, {"kind": ["pfifo"]}, {"kind": {}}, {"handle": 7}, {"handle": []}, {"options": []}, {"options": "limit"}, {"dev": []},
     {"dev": {}}, {"root": 1}, {"parent": 5, "root": False}, {"kind": "tbf", "options": {"rate": {"rate": "x"}}},
-    {"kind": "tbf", "options": {"rate": {"rate": [1]}}}, {"kind": "tbf", "options": {"rate": {}}}, {"kind": "prio", "options": {"bands": {}}},
-    {"kind": "u32", "protocol": "ip", "pref": 1, "options": {"match": 5}}, {"kind": "u32", "protocol": "ip", "pref": 1, "options": {"match": [{}]}},
-    {"kind": "u32", "protocol": "ip", "pref": 1, "options": {"match": {"value": 1, "mask": 2, "off": 3}}},
-    {"kind": "flower", "protocol": "ip", "pref": "1", "options": {}}, {"kind": "flower", "protocol": ["ip"], "pref": 1, "options": {}},
-    {"kind": "flower", "protocol": "ip", "pref": 1, "options": {"keys": []}}, {"kind": "flower", "protocol": "ip", "pref": 1, "options": {"classid": 5}},
-    {"kind": "flower", "protocol": "ip", "pref": 0, "options": {}}, {"kind": "flower", "protocol": "ip", "pref": 1, "chain": "x", "options": {}},
+    {"kind": "tbf", "options": {"rate": {"rate": [1]}}}, {"kind": "tbf", "options": {"rate": {}}},
+    {"kind": "prio", "options": {"bands": {}}}, {"kind": "prio", "options": {"priomap": ["x", None, [1]]}},
+    WORDS | {"options": {"match": 5}}, WORDS | {"options": {"match": [{}]}},
+    WORDS | {"options": {"match": {"value": 1, "mask": 2, "off": 3}}},
+    WORDS | {"options": {"match": {"value": "1", "mask": "-2", "off": -3}}},
+    FILTER | {"pref": "1"}, FILTER | {"protocol": ["ip"]}, FILTER | {"options": {"keys": []}}, FILTER | {"options": {"classid": 5}},
+    FILTER | {"pref": 0}, FILTER | {"chain": "x"},
     {"class": 7}, {"class": "drr", "handle": 5}, {"class": "drr", "handle": None}, {"stab": 3}, {"kind": "\x1b[31m"},
-    {"kind": "pfifo", "options": {"limit": 10**4000}}, {"kind": "pfifo", "options": {"limit": 1e400}}, {"kind": "pfifo", "options": {"limit": None}},
-    {"kind": "pfifo", "options": {"limit": "\x1b"}}, {"kind": "prio", "options": {"priomap": ["x", None, [1]]}},
+    {"kind": "pfifo", "options": {"limit": 10**4000}}, {"kind": "pfifo", "options": {"limit": 1e400}},
+    {"kind": "pfifo", "options": {"limit": None}}, {"kind": "pfifo", "options": {"limit": "\x1b"}},
 ]  # fmt: skip
 
 
-def bounded():
-    resource.setrlimit(resource.RLIMIT_CPU, (20, 20))
-    resource.setrlimit(resource.RLIMIT_AS, (2**30, 2**30))
-
-
-def run(text, room, *words):
-    path = f"{room}/input"
+def run(text, room):
+    """The program in this process, with the seconds of a processor that it took."""
+    path, out, err = f"{room}/input", io.StringIO(), io.StringIO()
     with open(path, "wb") as file:
         file.write(text.encode("utf-8", "surrogateescape"))
-    return subprocess.run([PROGRAM, "--dev", "e", *words, path], capture_output=True, text=True, check=False, preexec_fn=bounded)
-
-
-def run_here(text, room):
-    """The same in this process."""
-    path, out, err = f"{room}/input", io.StringIO(), io.StringIO()
-    with open(path, "w", encoding="utf-8") as file:
-        file.write(text)
     sys.argv = ["import-tc", "--dev", "e", path]
+    began = time.process_time()
     with contextlib.redirect_stdout(out), contextlib.redirect_stderr(err):
         try:
             status = program_of_tc().main()
         except Exception as error:  # Whatever it is, it is a fault of the program.
-            return subprocess.CompletedProcess([], 3, out.getvalue(), f"Traceback: {error!r}\n")
-    return subprocess.CompletedProcess([], status, out.getvalue(), err.getvalue())
+            status = f"{error!r}"
+    return status, out.getvalue(), err.getvalue(), time.process_time() - began
 
 
 @functools.cache
@@ -117,30 +110,35 @@ def program_of_tc():
 
 def fault_of(ran, statuses, words):
     """What is wrong with a run, or None."""
-    said = ran.stderr + " ".join(ran.stdout.replace("\n#  ", "").split())
-    if ran.returncode not in statuses:
-        return f"status {ran.returncode}"
-    if "Traceback" in ran.stderr or len(ran.stderr.splitlines()) != (ran.returncode != 0) or ran.returncode == 2 and ran.stdout:
+    status, out, err, seconds = ran
+    if status not in statuses:
+        return f"status {status}"
+    if len(err.splitlines()) != (status != 0) or status == 2 and out:
         return "not one line of error"
-    if re.search("[\x00-\x09\x0b-\x1f\x7f-\x9f\u202e]", ran.stdout + ran.stderr):
+    if re.search("[\x00-\x09\x0b-\x1f\x7f-\x9f\u202e]", out + err):
         return "a control character"
-    return None if words in said else f"does not say {words}"
+    if seconds > MOST_SECONDS:
+        return f"{seconds:.0f} seconds"
+    return None if words in err + " ".join(out.replace("\n#  ", "").split()) else f"does not say {words}"
 
 
 def main():
     if sys.argv[1:2] in (["-h"], ["--help"]):
         print(__doc__.strip())
         return 0
+    resource.setrlimit(resource.RLIMIT_CPU, (10 * MOST_SECONDS, 10 * MOST_SECONDS))
+    resource.setrlimit(resource.RLIMIT_AS, (2**30, 2**30))
+    sys.setrecursionlimit(10_000)
+    cases = [(name, text, (status,), words) for name, (text, status, words) in SCRIPTS.items()]
+    for row in ROWS:
+        rows = [QDISC, QDISC | row] if "class" in row or "protocol" in row else [QDISC | row]
+        cases.append((f"{row}", json.dumps(rows), (1, 2), ""))
     faults = []
     with tempfile.TemporaryDirectory() as room:
-        for name, (text, status, words) in SCRIPTS.items():
+        for name, text, statuses, words in cases:
             ran = run(text, room)
-            if why := fault_of(ran, (status,), words):
-                faults.append(f"{name}: {why}: {ran.stderr[:300]!r}")
-        for row in ROWS:
-            ran = run_here(json.dumps([QDISC, QDISC | row] if "class" in row or "protocol" in row else [QDISC | row]), room)
-            if why := fault_of(ran, (1, 2), ""):
-                faults.append(f"{row}: {why}: {ran.stderr[:300]!r}")
+            if why := fault_of(ran, statuses, words):
+                faults.append(f"{name[:200]}: {why}: {ran[2][:300]!r}")
     print("\n".join(faults), end="\n" if faults else "")
     return int(bool(faults))
 

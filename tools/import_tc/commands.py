@@ -9,13 +9,13 @@ from .values import Unfit, shown
 
 # Words before a command, with those of their options that have a value.
 BEFORE = {
-    **{"sudo": "ugCp", "doas": "u", "exec": "a", "command": "", "env": "u", "nice": "n", "nohup": "", "time": "", "busybox": "", "builtin": ""},
-    **{"ionice": "cn", "chroot": "", "stdbuf": "ioe"},
+    **{"sudo": "ugCp", "doas": "u", "exec": "a", "env": "u", "nice": "n", "ionice": "cn", "stdbuf": "ioe"},
+    **dict.fromkeys(("command", "nohup", "time", "busybox", "builtin"), ""),
 }
 # Programs that are taken to succeed; of any other it is not known.
 SUCCEED = {
-    **dict.fromkeys(("modprobe", "insmod", "ip", "ifconfig", "ethtool", "sysctl", "logger", "mkdir", "rm", "sleep", "touch", "chmod"), True),
-    **dict.fromkeys(("iptables", "ip6tables", "nft", "ulimit", "cd", "umask", "trap", "wait", "alias", "hash", "kill", "set", "unset"), True),
+    **dict.fromkeys(("modprobe", "insmod", "ip", "ifconfig", "ethtool", "sysctl", "logger", "mkdir", "rm", "sleep", "touch"), True),
+    **dict.fromkeys(("iptables", "ip6tables", "nft", "ulimit", "cd", "umask", "trap", "wait", "hash", "kill", "chmod"), True),
     **{":": True, "true": True, "false": False},
 }
 

@@ -41,7 +41,8 @@ class Carrier(Kinds):
         for it in [it for it in self.setup.qdiscs if id(it) not in self.seen]:
             if id(it) not in self.seen:
                 self.pass_over(it)
-                self.leave_out(f"left out with all below it, since nothing has its place: {shown(it.kind)} {it.handle:x}: at {id_text(it.parent)}")
+                text = f"{shown(it.kind)} {it.handle:x}: at {id_text(it.parent)}"
+                self.leave_out(f"left out with all below it, since nothing has its place: {text}")
         known = {it.handle for it in self.setup.qdiscs}
         for it in self.setup.classes.values():
             if it.id[0] not in known:

@@ -36,7 +36,7 @@ class TrafficClass:
 
 @dataclasses.dataclass
 class Classifier:
-    """A filter: what it compares (keys), its class, and what of it has no counterpart (lost)."""
+    """A filter: what it compares (keys), its class, and what of it has no counterpart (lost); is_behind where a u32 asks for the next header."""
 
     kind: str
     parent: tuple
@@ -45,6 +45,7 @@ class Classifier:
     keys: dict
     target: tuple
     lost: list
+    is_behind: bool = False
 
 
 class Setup:

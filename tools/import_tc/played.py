@@ -312,4 +312,5 @@ def loss_text(way, why, packets):
     if not node.classes:
         return f"{where} has no class, and loses every packet, as in Linux"
     families = [text for it, text in ((4, "ip"), (6, "ipv6"), (0, "other protocols")) if any(one["family"] == it for one in packets)]
-    return f"{where} has no filter for some packets of {', '.join(families)}, as in Linux: a last filter with protocol all and no keys takes them"
+    some = f"some packets of {', '.join(families)}"
+    return f"{where} has no filter for {some}, as in Linux: a last filter with protocol all and no keys takes them"

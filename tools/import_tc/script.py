@@ -139,14 +139,14 @@ def filter_of(words, parent, prio, protocol):
             at += 1
     if target and not target[0]:
         target = (parent[0], target[1])
-    keys = {}
+    keys, is_behind = {}, False
     if kind == "flower":
         keys, more = flower_keys(own)
     elif kind == "u32":
-        keys, more = u32_keys(own, protocol == "ipv6")
+        keys, more, is_behind = u32_keys(own, protocol == "ipv6")
     else:
         more = own if kind != "matchall" else []
-    return Classifier(kind, parent, prio, protocol, keys, target, more + lost)
+    return Classifier(kind, parent, prio, protocol, keys, target, more + lost, is_behind)
 
 
 class Reader:

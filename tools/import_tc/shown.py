@@ -36,7 +36,8 @@ def rows_of(text, name):
     for row in rows:
         for part, value in row.items():
             if part in TYPES and type(value) is not TYPES[part]:
-                raise Unread(f"{name} is not what tc prints: {part} is {shown(json.dumps(value))} in a row of {shown(str(row.get('kind')))}")
+                text = f"{part} is {shown(json.dumps(value))} in a row of {shown(str(row.get('kind')))}"
+                raise Unread(f"{name} is not what tc prints: {text}")
     return rows
 
 
@@ -128,6 +129,7 @@ def filter_of_row(row, parent):
         for one in options["match"]:
             matches.add(bits(one["value"], 32), bits(one["mask"], 32), whole(str(one["off"])), bool(one.get("offmask")))
         it.keys = matches.keys()
+        it.is_behind = matches.is_behind
         it.lost = it.lost + matches.lost + ([f"link {shown(str(options['link']))}"] if "link" in options else [])
     return it
 

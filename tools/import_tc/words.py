@@ -68,6 +68,15 @@ def bits(text, count):
     return int(text, 16)
 
 
+def key(text, count):
+    """A number as tc reads what a u32 compares: 0x is hexadecimal, a leading 0 octal."""
+    is_octal = re.fullmatch("0[0-7]{1,11}", text)
+    number = int(text, 8) if is_octal else values.whole(text)
+    if number >> count or text[:1] == "0" and len(text) > 1 and not is_octal and text[:2] not in ("0x", "0X"):
+        raise Unfit(f"{shown(text)} is no number of {count} bits")
+    return number
+
+
 def ip_proto(text):
     """The protocol as flower writes it: a name, or the number in hexadecimal."""
     return text.lower() if text.lower() in PROTOCOLS else protocol_text(bits(text, 8))
@@ -100,11 +109,12 @@ class Matches:
     """The 32-bit words that a u32 compares, by their offset in the header, and behind it."""
 
     def __init__(self, is_six):
-        self.is_six, self.words, self.behind, self.lost = is_six, {}, {}, []
+        self.is_six, self.words, self.behind, self.lost, self.is_behind = is_six, {}, {}, [], False
 
     def add(self, value, mask, offset, is_behind=False):
         """A word of 32 bits at an offset of whole words."""
         length = 40 if self.is_six else 20
+        self.is_behind |= is_behind
         if not is_behind and offset >= length:
             is_behind, offset = True, offset - length
         words = self.behind if is_behind else self.words
@@ -159,7 +169,7 @@ def match_words(words, matches):
         offset = words[4] if words[3:4] == ["at"] else "0"
         is_behind = offset.startswith("nexthdr")
         offset = values.whole(offset.removeprefix("nexthdr").removeprefix("+") or "0")
-        value, mask = (bits(it, int(raw[1])) for it in words[1:3])
+        value, mask = key(words[1], int(raw[1])), bits(words[2], int(raw[1]))
         matches.add_bytes(value, mask, offset, int(raw[1]) // 8, is_behind)
         return 5 if words[3:4] == ["at"] else 3
     layer, field, value = words[:3]
@@ -171,11 +181,13 @@ def match_words(words, matches):
         return 3
     mask = bits(words[3], 16)
     if field in ("sport", "dport", "src", "dst"):
-        matches.add_bytes(int(port(value)), mask, 0 if field.startswith("s") else 2, 2, True)
+        # ip sport is the word behind a header of 20 bytes; tcp src is that behind the header's own length.
+        first = (0 if field.startswith("s") else 2) + (0 if layer in ("tcp", "udp") else 40 if matches.is_six else 20)
+        matches.add_bytes(key(value, 16), mask, first, 2, layer in ("tcp", "udp"))
     elif field == "protocol" and layer in ("ip", "ip6"):
-        number = PROTOCOLS[value] if value in PROTOCOLS else values.whole(value)
-        if (number | mask) >> 8:
-            raise Unfit(f"there is no protocol {shown(value)} under the mask {shown(words[3])}")
+        number = PROTOCOLS[value] if value in PROTOCOLS else key(value, 8)
+        if mask >> 8:
+            raise Unfit(f"{shown(words[3])} is no number of 8 bits")
         matches.add_bytes(number, mask, 6 if layer == "ip6" else 9, 1)
     else:
         matches.lost.append(f"{layer} {field}")
@@ -194,4 +206,4 @@ def u32_keys(words, is_six):
             matches.lost.append(words[at])
             at += 1
     keys = matches.keys()
-    return keys, matches.lost
+    return keys, matches.lost, matches.is_behind

@@ -98,6 +98,8 @@ class Writer:
                 continue
             if one.parent[1]:
                 self.say(f"this filter was at class {id_text(one.parent)}: here it is tried for all packets")
+            if one.is_behind:
+                self.say("Linux finds the ports of tcp, udp or nexthdr only below a link with an offset: here they are compared in each packet")
             if one.lost:
                 self.action(one)
             self.filter_line(handle, one.prio, one.protocol, one.keys, one.target)
