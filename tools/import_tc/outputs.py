@@ -101,11 +101,11 @@ def printf(words, _given):
     pieces = re.split("(%.)", form, flags=re.DOTALL)
     if "\\" in form or any(it not in ("%s", "%d", "%%") for it in pieces[1::2]):
         raise Unfit(f"printf {shown(form)} is not followed")
-    values = iter(values)
-    made = "".join("%" if it == "%%" else it if not it.startswith("%") else next(values, "") for it in pieces)
-    if next(values, None) is not None:
-        raise Unfit(f"printf {shown(form)} has more values than places")
-    return made
+    places, made = sum(it in ("%s", "%d") for it in pieces[1::2]), []
+    for first in range(0, max(len(values), 1), places or max(len(values), 1)):
+        row = iter(values[first:])
+        made += ["%" if it == "%%" else it if not it.startswith("%") else next(row, "") for it in pieces]
+    return "".join(made)
 
 
 def seq(words, _given):

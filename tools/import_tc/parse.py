@@ -151,7 +151,12 @@ class Parser:
         if not isinstance(it, Operator) or it.text[0] not in "<>" and it.text not in ("&>", "&>>"):
             return False
         self.at += 1
-        if it.body is None:
+        after = self.tokens[self.at + 1] if self.at + 1 < len(self.tokens) else None
+        if it.body is None and self.is_operator("<", ">") and isinstance(after, Operator) and after.text == "(":
+            self.at += 1
+        if it.body is None and self.is_operator("("):
+            into.append((it, self.process()))
+        elif it.body is None:
             if not isinstance(self.here(), Word):
                 raise self.fault("the name of a file")
             into.append((it, self.here()))
@@ -159,6 +164,12 @@ class Parser:
         else:
             into.append((it, None))
         return True
+
+    def process(self):
+        """<( .. ) or >( .. ), whose commands are not followed."""
+        line, first = self.here().line, self.here().at
+        self.bracket()
+        return Word([("strange", self.text[first : self.tokens[self.at - 1].end], False)], line)
 
     def simple(self):
         words, redirections, first = [], [], self.here()
