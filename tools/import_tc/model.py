@@ -1,7 +1,7 @@
 """A set-up of one device: qdiscs, classes and filters, with the commands that changed them."""
 import dataclasses
 
-from .values import Unfit, Unread, id_text
+from .values import Unfit, Unread
 
 ROOT = (0xFFFF, 0xFFFF)
 INGRESS = 0xFFFF
@@ -36,7 +36,10 @@ class TrafficClass:
 
 @dataclasses.dataclass
 class Classifier:
-    """A filter: what it compares (keys), its class, and what of it has no counterpart (lost); is_behind where a u32 asks for the next header."""
+    """A filter: what it compares (keys), its class, and what of it has no counterpart (lost).
+
+    is_behind where a u32 asks for the next header.
+    """
 
     kind: str
     parent: tuple

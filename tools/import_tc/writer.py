@@ -5,7 +5,7 @@ import textwrap
 from .model import INGRESS
 from .played import Tree, losses
 from .tables import HARMLESS, INSTEAD, PROTOCOLS, RANGES, WRITTEN
-from .texts import counted, filter_text, option_text
+from .texts import filter_text, option_text
 from .values import id_text, shown
 from .words import FLOWER
 
@@ -99,7 +99,7 @@ class Writer:
             if one.parent[1]:
                 self.say(f"this filter was at class {id_text(one.parent)}: here it is tried for all packets")
             if one.is_behind:
-                self.say("Linux finds the ports of tcp, udp or nexthdr only below a link with an offset: here they are compared in each packet")
+                self.say("Linux finds ports of tcp, udp or nexthdr only below a link with an offset: here each packet's are compared")
             if one.lost:
                 self.action(one)
             self.filter_line(handle, one.prio, one.protocol, one.keys, one.target)
