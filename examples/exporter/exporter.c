@@ -15,7 +15,8 @@
 #include <time.h>
 #include <unistd.h>
 
-enum { LINE_SIZE = 512, REQUEST_SIZE = 4096, FLOWS = 64, CLASSES = 4, FIRST_PORT = 5000, PACKETS = 2, MILLISECOND = 1000000, SECOND = 1000000000 };
+enum { LINE_SIZE = 512, REQUEST_SIZE = 4096, FLOWS = 64, CLASSES = 4, FIRST_PORT = 5000, PACKETS = 2 };
+enum { MILLISECOND = 1000000, SECOND = 1000 * MILLISECOND };
 
 struct exporter {
     const char *name;
