@@ -23,13 +23,17 @@ def checksum(path):
         return hashlib.sha256(file.read()).hexdigest()
 
 
+def opened(package):
+    """The tar file that a package is, or has."""
+    if not package.endswith(".deb"):
+        return tarfile.open(package)
+    said = subprocess.run(["dpkg-deb", "--fsys-tarfile", package], capture_output=True, check=True)
+    return tarfile.open(fileobj=io.BytesIO(said.stdout))
+
+
 def members(package):
     """Each file of a package by its path, with its bytes; a link has those of the file that it leads to."""
-    how = {"name": package}
-    if package.endswith(".deb"):
-        said = subprocess.run(["dpkg-deb", "--fsys-tarfile", package], capture_output=True, check=True)
-        how = {"fileobj": io.BytesIO(said.stdout)}
-    with tarfile.open(**how) as file:
+    with opened(package) as file:
         return {os.path.normpath(it.name): file.extractfile(it).read() for it in file if not it.isdir()}
 
 
@@ -79,7 +83,8 @@ def write_sums(folder):
 
 
 def check(package, root):
-    """The checksums are those of the files; the bill is JSON, and has each file below the root, where the package was unpacked."""
+    """The checksums are those of the files; the bill is JSON, and has each file below the root, where the package was unpacked; and all
+    files have one time, that of the commit."""
     folder, name = os.path.split(package)
     said = subprocess.run(["sha256sum", "--quiet", "--strict", "-c", "SHA256SUMS"], cwd=folder, capture_output=True, text=True, check=False)
     with open(f"{folder}/SHA256SUMS", encoding="utf-8") as file:
@@ -96,5 +101,8 @@ def check(package, root):
     if listed != there:
         other = sorted({*listed.items()} ^ {*there.items()})[0][0]
         raise Differs(f"{name}.spdx.json does not have the files of the package: {other}")
+    with opened(package) as file:
+        if len({it.mtime for it in file}) != 1:
+            raise Differs(f"the files of {name} have times of their own, so that each build of it differs")
     if told["packages"][0]["checksums"][0]["checksumValue"] != checksum(package):
         raise Differs(f"{name}.spdx.json is of another package")
