@@ -6,9 +6,11 @@ import pathlib
 import re
 import select
 import shutil
+import signal
 import socket
 import struct
 import subprocess
+import sys
 import tempfile
 import time
 
@@ -26,7 +28,8 @@ class Skip(Exception):
 
 
 def ready(*programs):
-    """Raises Skip with what is missing."""
+    """Raises Skip with what is missing. From then on SIGTERM ends the program like an error, so that namespaces are removed."""
+    signal.signal(signal.SIGTERM, lambda *_: sys.exit(1))
     for it in ("cc", "make", "ip", *programs):
         if not shutil.which(it):
             raise Skip(f"{it} is not installed ({PACKAGES.get(it, it)})")
