@@ -94,15 +94,19 @@ def mutated(count, seed):
     return sorted(made, key=lambda it: chance.random())
 
 
-def ecn(number, version):
-    """A packet of a flow that can be marked, of 1000 bytes."""
-    if version == 4:
-        return HEAD + IP4 + ip4(udp(972, 1000 + number % 8), tos=2)
-    return HEAD + IP6 + ip6(udp(952, 1000 + number % 8), traffic=2)
+def ecn(number):
+    """A frame of 1014 bytes whose packet can be marked: in turn of IPv4, of IPv6, in a PPPoE session, and behind a label of MPLS."""
+    kind, port = number % 4, 1000 + number % 32
+    if kind == 1:
+        return HEAD + IP6 + ip6(udp(952, port), traffic=2)
+    room = (1000, 0, 992, 996)[kind]
+    packet = ip4(udp(room - 28, port), tos=2)
+    return HEAD + (IP4 + packet if kind == 0 else session(b"\x00\x21", packet) if kind == 2 else b"\x88\x47\x00\x01\x01\x40" + packet)
 
 
 def mark_of(frame):
-    """The ECN codepoint of a frame without a tag, and whether the checksum of an IPv4 header is right."""
-    if frame[12:14] == IP4:
-        return frame[15] & 3, checksum(frame[14:34]) == 0
-    return (struct.unpack("!I", frame[14:18])[0] >> 20) & 3, True
+    """The ECN codepoint of a frame as above, and whether the checksum of an IPv4 header is right."""
+    at = {b"\x88\x64": 22, b"\x88\x47": 18}.get(frame[12:14], 14)
+    if frame[at] >> 4 == 4:
+        return frame[at + 1] & 3, checksum(frame[at : at + 20]) == 0
+    return (struct.unpack("!I", frame[at : at + 4])[0] >> 20) & 3, True
