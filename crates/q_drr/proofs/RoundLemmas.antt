@@ -94,9 +94,13 @@ module _ (quantum : ℕ → ℕ) (heads : ℕ → Option ℕ) (k : ℕ) where
       → sum_by (need quantum heads) (granted quantum k es) ≤ sum_by (need quantum heads) es
   needs_fall [] one within = omega arith
   needs_fall (e ∷ es) one within =
-      omega (arith, sum_by-cons (need quantum heads) (after_grants (quantum e.class) k e) (granted quantum k es), sum_by-cons (need quantum heads) e es,
-      need_granted e (All-head (λ (e : Entry). 1 ≤ quantum e.class) e es one) (All-head (λ (e : Entry). k ≤ need quantum heads e) e es within),
-      needs_fall es (All-tail (λ (e : Entry). 1 ≤ quantum e.class) e es one) (All-tail (λ (e : Entry). k ≤ need quantum heads e) e es within))
+      omega (
+        arith,
+        sum_by-cons (need quantum heads) (after_grants (quantum e.class) k e) (granted quantum k es),
+        sum_by-cons (need quantum heads) e es,
+        need_granted e (All-head (λ (e : Entry). 1 ≤ quantum e.class) e es one) (All-head (λ (e : Entry). k ≤ need quantum heads e) e es within),
+        needs_fall es (All-tail (λ (e : Entry). 1 ≤ quantum e.class) e es one) (All-tail (λ (e : Entry). k ≤ need quantum heads e) e es within),
+      )
 
   take_granted : (n : ℕ) (es : List Entry) → take n (granted quantum k es) ≡ granted quantum k (take n es)
   take_granted zero es = refl
@@ -165,8 +169,8 @@ module _ (heads : ℕ → Option ℕ) (k : ℕ) (s : Schedule) (one : Quanta (λ
       by (x ∷ es) some =
           let after : Option Choice = choice_of heads (rounds_given k s) in
           let there : after ≡ None → ⊥ = λ e.
-              let none : s.active ≡ [] = granted_nobody quantum k s.active (nobody_chosen quantum heads (granted quantum k s.active) e) in
-              let both : x ∷ es ≡ [] = sym some ∙ none in cc
+          let none : s.active ≡ [] = granted_nobody quantum k s.active (nobody_chosen quantum heads (granted quantum k s.active) e) in
+          let both : x ∷ es ≡ [] = sym some ∙ none in cc
           in
           ap (λ o. turns_until o (length s.active)) choice_rounds
           ∙ turns_lifted k (length s.active) after (omega (arith, ap length some)) there

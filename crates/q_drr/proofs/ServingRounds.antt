@@ -1,7 +1,7 @@
 -- A take in its midst, once rounds were given at once: it goes on as if they had been given turn by turn.
 use Rattle.std.proofs.Common.{◌≡◌, ℕ, ◌+◌, ◌*◌, ◌≤◌, List, [], ◌∷◌, ◌++◌, map, length, take, drop, Option, refl, sym, ap, ◌∙◌, arith}
 use Rattle.std.proofs.lemmas.List.{length-map}
-use Rattle.q_drr.specs.Schedule.{Entry, Schedule, quantum_of, after_grants, turned, IsLawful}
+use Rattle.q_drr.specs.Schedule.{Entry, Schedule, quantum_of, after_grants, IsLawful}
 use Rattle.q_drr.specs.Take.{granted}
 use Rattle.q_drr.specs.Rounds.{AllNeed, rounds_given}
 use Rattle.q_drr.proofs.RoundLemmas.{quanta_of, prepared_rounds, until_rounds}

@@ -37,10 +37,15 @@
 //! which class a take meets, and [`laws::grants_come_where_short`] that no class is granted whose deficit covers its head
 //! (`specs/Turns.antt`). [`laws::changes_stay_lawful`] says of each change that it keeps `IsLawful` (`specs/Changes.antt`).
 //!
-//! Only [`Active::add`] allocates, as much for a class with a large number as for one with a small one. But for it and
-//! [`Active::remove`] each call takes the same few steps however many classes there are: a map in order of adding has what
-//! is kept of a class at its place, and links lead from the place of each active class to its neighbours. A name is hashed
-//! only by a call that has a name as its argument: a turn, and the calls by place, hash nothing.
+//! Only [`Active::add`] allocates, as much for a class with a large number as for one with a small one. But for it,
+//! [`Active::remove`], [`Active::deficits_ahead`] and [`Active::grant_rounds`] each call takes the same few steps however many
+//! classes there are: a map in order of adding has what is kept of a class at its place, and links lead from the place of each
+//! active class to its neighbours. A name is hashed only by a call that has a name as its argument: a turn, and the calls by
+//! place, hash nothing.
+//!
+//! [`Round`] keeps a take short where quanta are small: once every active class was granted and none may send,
+//! [`Active::grant_rounds`] gives the rounds that follow, in which every class is granted too, at once. So a take turns a few rounds
+//! and passes over the list once, however many rounds of single turns it stands for; [`Active::turns`] counts those.
 #![tactic(auto)]
 
 mod active;
