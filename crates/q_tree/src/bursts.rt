@@ -1,6 +1,7 @@
 //! Bursts of packets that come to a tree, or leave it. At a fifo at the root the checks of the single calls are made once for a burst, and the
 //! counters of the root and of the device above it are written once; for other roots see `keep.rt` and `giving.rt`.
-ghost use Rattle.std.specs.Prelude.{◌≡◌, ◌≤◌, ◌<◌, ◌+◌, ◌*◌, ◌^◌, ◌++◌, All, IfSome, drop, false, length, map, slice_get, take, true};
+ghost use Rattle.std.specs.Prelude.{◌≡◌, ◌≤◌, ◌<◌, ◌+◌, ◌*◌, ◌^◌, ◌++◌, All, IfSome, drop, false, length, map, slice_get, take, true, ℕ};
+ghost use Rattle.q_packet.specs.Descriptor.{Descriptor};
 ghost use Rattle.q_packet.specs.Stored.{descriptor};
 ghost use Rattle.q_codel.specs.Bursts.{HasWidths, IsShort};
 ghost use Rattle.q_model.specs.Beneath.{packets_in, totals_in};
@@ -45,6 +46,9 @@ impl Tree {
         // A time is at most 2^62 nanoseconds.
         let _ = now.ns();
         if !self.root.is_fifo() {
+            if self.root.is_an_fq_codel() {
+                return 0;
+            }
             return self.arrive_some(packets, now);
         }
         let kept = self.root.keep_burst(packets, self.mtu, now);
@@ -72,6 +76,9 @@ impl Tree {
         // A time is at most 2^62 nanoseconds.
         let _ = now.ns();
         if !self.root.is_fifo() {
+            if !self.root.is_a_prio_or_tbf() {
+                return 0;
+            }
             return self.send_some(now, places);
         }
         self.top.fit();
@@ -96,6 +103,29 @@ impl Node {
             return false;
         };
         true
+    }
+
+    // Whether the node is an fq_codel, where each packet's route ends.
+    #[inline(always)]
+    fn is_an_fq_codel(&self) -> bool
+        ensures ends { result ≡ true → (p : Descriptor) → CanBeKeptBelow p self.now → ⊥ }
+    {
+        let Discipline::FqCodel(_) = &self.discipline else {
+            return false;
+        };
+        true
+    }
+
+    // Whether the node is a prio or a tbf.
+    #[inline(always)]
+    fn is_a_prio_or_tbf(&self) -> bool
+        ensures others { result ≡ false → (now : ℕ) → CanGive now self.now → ⊥ }
+    {
+        match &self.discipline {
+            Discipline::Prio { .. } => return true,
+            Discipline::Tbf { .. } => return true,
+            _ => return false,
+        }
     }
 
     /// Keeps the first of these packets at a fifo whose limit is in packets, as many as it keeps with nothing asked, and counts them.

@@ -1,4 +1,4 @@
-use Rattle.std.proofs.Common.{◌≡◌, ◌∙◌, ℕ, List, length, sym, ap, ap₂, subst, arith}
+use Rattle.std.proofs.Common.{◌≡◌, ◌∙◌, ℕ, List, length, refl, sym, ap, ap₂, subst, arith}
 use Rattle.std.specs.Prelude.{take}
 use Rattle.std.proofs.lemmas.List.{length-take-le}
 use Rattle.q_packet.specs.Descriptor.{Descriptor}
@@ -6,6 +6,7 @@ use Rattle.q_model.specs.declared.totals.Totals.{Totals}
 use Rattle.q_model.specs.Beneath.{packets_in, totals_in}
 use Rattle.q_model.specs.Step.{DeviceState}
 use Rattle.q_tree.specs.Bursts.{AreGiven, polled_each, with_sends}
+use Rattle.q_tree.specs.GiveSteps.{CanGive}
 use Rattle.q_tree.specs.Kept.{Kept, kept}
 use Rattle.q_tree.specs.declared.tree.Tree.TheInside.{Inside}
 use Rattle.q_tree.proofs.BurstSends.{IsSentBurst, heads-sent, heads-within, went-all}
@@ -81,3 +82,7 @@ returns-clause-given g c =
       given = subst (λ (x : DeviceState Kept). AreGiven kept c.args.now (gone g d) x) c.self.view_is (burst g d).each;
       polled = (burst g d).after ∙ ap₂ (λ (k : ℕ) (x : DeviceState Kept). polled_each kept c.args.now k x) (counted g d) c.self.view_is;
     }
+
+pub returns-then-not-is_a_prio_or_tbf-clause-below : goal.returns-then-not-is_a_prio_or_tbf-clause-below
+returns-then-not-is_a_prio_or_tbf-clause-below g c some other can =
+    c.if-not-is_a_prio_or_tbf.ensures.others refl c.args.now (subst (λ (d : DeviceState Kept). CanGive c.args.now d.tree.root) (sym c.self.view_is) can)
