@@ -10,9 +10,9 @@ use Rattle.q_drr.specs.Schedule.{Class, Entry, Schedule}
 use Rattle.q_drr.specs.Take.{choice_of, met, met_in, sent_in, served}
 use Rattle.q_drr.specs.declared.take.Met.{Met}
 use Rattle.q_drr.proofs.ServingLemmas.{IsServing}
-use Rattle.q_model.specs.Ask.{Asked, Service, ask_drr, class_answer, class_gives, class_serves, gives_nothing, head_of, is_among, length_of, peeked_classes, place_met, service_of}
+use Rattle.q_model.specs.Ask.{Asked, Service, ask_drr, class_answer, class_gives, class_serves, gives_nothing, head_of, is_among, length_of, place_met, service_of}
 use Rattle.q_model.specs.Grants.{grant_notes, granted_notes}
-use Rattle.q_model.specs.Node.{Drr, Forest, Node, Own}
+use Rattle.q_model.specs.Node.{Drr, Forest, Own}
 use Rattle.q_model.specs.Tally.{Granted, Note, noted}
 use Rattle.q_model.specs.Work.{Worked, booked}
 use Rattle.q_tree.specs.Kept.{Kept, kept}

@@ -1,16 +1,15 @@
 -- A packet that is given with nothing lost or marked.
-use Rattle.std.proofs.Common.{◌≡◌, ℕ, ◌∙◌, List, [], ◌∷◌, set, refl, sym, ap, subst, Some, None, arith}
+use Rattle.std.proofs.Common.{◌≡◌, ℕ, ◌∙◌, List, [], set, refl, sym, ap, subst, Some, None}
 use Rattle.std.specs.Prelude.{slice_get}
 use Rattle.q_packet.specs.Descriptor.{Descriptor}
 use Rattle.q_packet.specs.declared.stamped.Stamped.{Stamped}
-use Rattle.q_codel.specs.Losses.{SinkState}
 use Rattle.q_codel.specs.declared.limit.Limit.{Limit}
 use Rattle.q_codel.proofs.SinkLemmas.{told_nothing}
 use Rattle.q_model.specs.Ask.{ask, ask_prio}
 use Rattle.q_model.specs.Node as spec
 use Rattle.q_model.specs.Node.{Discipline, Node, Own, none, shape}
 use Rattle.q_model.specs.Pop.{pop}
-use Rattle.q_model.specs.Tally.{Note, counts_in, no_totals}
+use Rattle.q_model.specs.Tally.{Note, no_totals}
 use Rattle.q_model.specs.Work.{booked}
 use Rattle.q_tree.specs.Arrivals.{plus}
 use Rattle.q_tree.specs.AskSteps.{CanAskEach, IsAskedOnce, IsToldOf, answers}

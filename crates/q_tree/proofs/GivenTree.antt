@@ -1,11 +1,10 @@
 -- A tree whose root gives a packet with nothing lost or marked: it is a poll.
-use Rattle.std.proofs.Common.{◌≡◌, ℕ, ◌<◌, ◌≤◌, ◌^◌, List, [], refl, sym, Some, arith}
+use Rattle.std.proofs.Common.{◌≡◌, ℕ, ◌<◌, ◌≤◌, ◌^◌, refl, sym, arith}
 use Rattle.q_packet.specs.Descriptor.{Descriptor}
 use Rattle.q_model.specs.declared.row.Row.{Row}
 use Rattle.q_model.specs.Ask.{ask}
 use Rattle.q_model.specs.Node.{Node, shape}
-use Rattle.q_model.specs.Step.{DeviceState, poll}
-use Rattle.q_model.specs.TreeState.{given}
+use Rattle.q_model.specs.Step.{poll}
 use Rattle.q_model.specs.Work.{booked}
 use Rattle.q_tree.specs.Arrivals.{CanCount}
 use Rattle.q_tree.specs.AskSteps.{CanShow, with_shown}

@@ -1,6 +1,6 @@
 -- A packet that is kept with nothing lost and no place made: what is known of its way, from the queue up.
-use Rattle.std.proofs.Common.{◌≡◌, ℕ, ◌<◌, ◌∙◌, List, [], ◌∷◌, map, set, length, refl, sym, ap, subst, Option, Some, None, option_and_then}
-use Rattle.std.specs.Prelude.{Bool, true, IfSome, if◌then◌else◌, slice_get, slice_index_or}
+use Rattle.std.proofs.Common.{◌≡◌, ℕ, ◌<◌, ◌∙◌, List, [], ◌∷◌, map, set, length, refl, sym, ap, subst, Option, Some, option_and_then}
+use Rattle.std.specs.Prelude.{Bool, IfSome, if◌then◌else◌, slice_get, slice_index_or}
 use Rattle.std.proofs.lemmas.Option.{slice_get_read}
 use Rattle.q_packet.specs.Descriptor.{Descriptor}
 use Rattle.q_packet.specs.declared.cause.Cause.TheVariants.{OverLimit}

@@ -15,7 +15,7 @@ use Rattle.q_tree.specs.AskSteps.{own_of}
 use Rattle.q_tree.specs.DisciplineChanges.{IsUnchanged}
 use Rattle.q_tree.specs.KeepSteps.{CanBeKept, CanBeKeptBelow, CanBeKeptIn, node_below, node_under}
 use Rattle.q_tree.specs.Kept.{Kept}
-use Rattle.q_tree.specs.Seen.{children_seen, discipline_seen, seen}
+use Rattle.q_tree.specs.Seen.{children_seen, seen}
 use Rattle.q_tree.specs.declared.node.Discipline.{Discipline}
 use Rattle.q_tree.specs.declared.node.Node.TheInside.{Inside}
 use Rattle.q_tree.proofs.Arriving.{through-at}

@@ -1,15 +1,13 @@
 -- Packets that are kept one after another with nothing lost and no place made, at a node that counts them together, and in a tree.
-use Rattle.std.proofs.Common.{inl, ◌≡◌, ℕ, suc, ◌+◌, ◌*◌, ◌<◌, ◌≤◌, ◌^◌, ◌∙◌, List, [], ◌∷◌, ◌++◌, length, refl, sym, ap, ap₂, map, subst, Option, Some, None, arith}
+use Rattle.std.proofs.Common.{inl, ◌≡◌, ℕ, ◌+◌, ◌*◌, ◌<◌, ◌≤◌, ◌^◌, ◌∙◌, List, [], ◌∷◌, ◌++◌, length, refl, sym, ap, ap₂, map, subst, Option, Some, None, arith}
 use Rattle.std.specs.Prelude.{Bool, IfSome, take, if◌then◌else◌}
 use Rattle.std.proofs.lemmas.List.Sums.{sum_by-cons, sum_by_push}
 use Rattle.std.specs.List.{AllByRecursion}
 use Rattle.q_packet.specs.Descriptor.{Descriptor}
-use Rattle.q_codel.specs.Losses.{SinkState}
 use Rattle.q_model.specs.declared.reply.Reply.TheVariants as reply
-use Rattle.q_model.specs.declared.row.Row.{Row}
 use Rattle.q_model.specs.declared.totals.Totals.{Totals}
 use Rattle.q_model.specs.Beneath.{beneath_own, totals_in}
-use Rattle.q_model.specs.Node.{Node, Own, shape}
+use Rattle.q_model.specs.Node.{Node, shape}
 use Rattle.q_model.specs.Numbers.{IsWithin}
 use Rattle.q_model.specs.Put.{put_along}
 use Rattle.q_model.specs.Route.{Route, route, device_route}
@@ -22,10 +20,10 @@ use Rattle.q_model.specs.Lawful.{IsLawfulOwn}
 use Rattle.q_invariants.proofs.Puts.{along-put}
 use Rattle.q_invariants.proofs.Told.{IsRootTold, booked-lawful, each-booked, root-memory}
 use Rattle.q_tree.specs.Arrivals.{CanCount, HasPlace, with_arrival}
-use Rattle.q_tree.specs.ArriveSteps.{CanCome, HasCome, HasComeBelow, nothing_lost}
+use Rattle.q_tree.specs.ArriveSteps.{CanCome, HasComeBelow, nothing_lost}
 use Rattle.q_tree.specs.AskSteps.{IsToldOf}
 use Rattle.q_tree.specs.Bursts.{AreKept, arrived_each, with_arrivals}
-use Rattle.q_tree.specs.KeepSteps.{AreKeptAlong, AreKeptBelow, CanComeMany, IsKeptAlong, IsKeptIn, no_sink}
+use Rattle.q_tree.specs.KeepSteps.{AreKeptAlong, AreKeptBelow, IsKeptAlong, IsKeptIn, no_sink}
 use Rattle.q_tree.specs.Kept.{Kept, kept}
 use Rattle.q_tree.specs.RouteSeen.{route_seen}
 use Rattle.q_tree.specs.Seen.{IsKept, seen}

@@ -1,5 +1,5 @@
 -- A drr in the midst of it, where rounds in which every class is granted are given at once.
-use Rattle.std.proofs.Common.{◌≡◌, ℕ, suc, ◌+◌, ◌*◌, ◌-◌, ◌≤◌, ◌<◌, ◌^◌, ◌∙◌, List, [], ◌∷◌, set, take, length, refl, sym, ap, subst, inl, inr, Option, Some, arith}
+use Rattle.std.proofs.Common.{◌≡◌, ℕ, ◌+◌, ◌*◌, ◌-◌, ◌≤◌, ◌<◌, ◌^◌, ◌∙◌, List, [], ◌∷◌, set, take, length, refl, sym, ap, subst, inl, inr, Option, Some, arith}
 use Rattle.std.specs.Prelude.{true, false, nat_lt, option_and_then, slice_get, map}
 use Rattle.std.specs.List.{sum_by}
 use Rattle.std.proofs.lemmas.Bool.{cases_Bool, ltb-false, ltb-true}
@@ -7,8 +7,7 @@ use Rattle.std.proofs.lemmas.List.{take_all}
 use Rattle.q_packet.specs.Descriptor.{Descriptor}
 use Rattle.q_codel.specs.Losses.{SinkState}
 use Rattle.q_drr.specs.Changes.{HeadsFit}
-use Rattle.q_drr.specs.Rounds.{AllNeed, CanGo, HasGone, IsRound, rounds_given}
-use Rattle.q_drr.specs.Schedule as drr
+use Rattle.q_drr.specs.Rounds.{CanGo, HasGone, IsRound}
 use Rattle.q_drr.specs.Schedule.{Entry, Schedule, quantum_of, turned, turn_answer, front_of}
 use Rattle.q_drr.specs.Take.{need}
 use Rattle.q_drr.specs.declared.active.Turn.TheVariants.{Granted}

@@ -1,14 +1,12 @@
-use Rattle.std.proofs.Common.{◌≡◌, ◌∙◌, List, length, set, refl, sym, ap, subst, arith}
+use Rattle.std.proofs.Common.{◌≡◌, ◌∙◌, length, refl, sym, ap, subst, arith}
 use Rattle.std.specs.Prelude.{slice_index_or}
 use Rattle.std.proofs.lemmas.Bool.{false≢true}
 use Rattle.std.proofs.lemmas.Option.{same_Some}
 use Rattle.q_tree.specs.EmptyFifo.{IsEmptyFifo}
 use Rattle.q_tree.specs.PopSteps.{HasHead}
 use Rattle.q_codel.proofs.SinkLemmas.{told_nothing}
-use Rattle.q_model.specs.Node.{Node}
 use Rattle.q_tree.specs.GiveSteps.{nothing_shown}
 use Rattle.q_tree.specs.KeepSteps.{no_sink}
-use Rattle.q_tree.specs.Kept.{Kept}
 use Rattle.q_tree.proofs.AskBands.{band-at, bands-start}
 use Rattle.q_tree.proofs.GivenHeads.{head-band}
 use Rattle.q_tree.proofs.GivingComes.{band-decides, band-passed, no-band}

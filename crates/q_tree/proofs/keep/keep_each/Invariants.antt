@@ -1,6 +1,5 @@
-use Rattle.std.proofs.Common.{◌≡◌, ◌≤◌, ◌*◌, List, length, map}
+use Rattle.std.proofs.Common.{◌≡◌, ◌≤◌, ◌*◌, length, map}
 use Rattle.std.specs.Prelude.{All, take}
-use Rattle.q_packet.specs.Descriptor.{Descriptor}
 use Rattle.q_packet.specs.Stored.{descriptor}
 use Rattle.q_codel.specs.Bursts.{HasWidths, IsShort}
 use Rattle.q_model.specs.Beneath.{totals_in}

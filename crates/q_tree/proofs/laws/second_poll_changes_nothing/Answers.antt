@@ -1,13 +1,12 @@
-use Rattle.std.proofs.Common.{◌≡◌, ◌≤◌, ◌^◌, ap, subst, sym, ◌∙◌, arith, None}
+use Rattle.std.proofs.Common.{◌≤◌, ◌^◌, ap, subst, ◌∙◌, arith}
 use Rattle.q_model.specs.Node.{shape}
 use Rattle.q_model.specs.Step.{DeviceState}
 use Rattle.q_model.specs.TreeState.{given}
 use Rattle.q_invariants.proofs.Forests.{lawful-with_memory}
 use Rattle.q_invariants.proofs.Kept.{IsLawfulRoot}
-use Rattle.q_tree.specs.Kept.{Kept, kept}
+use Rattle.q_tree.specs.Kept.{Kept}
 use Rattle.q_tree.specs.TreeSeen.{tree_seen}
 use Rattle.q_tree.proofs.PolledTwice.{IsPolledTwice, polled-twice}
-use Rattle.q_tree.proofs.DrrPauses.{node-goes-on}
 use Rattle.q_tree.proofs.TreeLemmas.{lawful-root, least-mtu}
 use Rattle.q_tree.proofs.laws.second_poll_changes_nothing.Goals.{After-ns}
 use Rattle.q_tree.proofs.laws.second_poll_changes_nothing.Goals as goal

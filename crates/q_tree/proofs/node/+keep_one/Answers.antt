@@ -1,5 +1,5 @@
 use Rattle.std.proofs.Common.{◌≡◌, ℕ, ◌<◌, ◌-◌, ◌∙◌, ◌∷◌, List, [], length, refl, sym, ap, arith, Option, Some, option_and_then}
-use Rattle.std.specs.Prelude.{Bool, slice_get, slice_index}
+use Rattle.std.specs.Prelude.{slice_get, slice_index}
 use Rattle.std.proofs.lemmas.Option.{slice_get_read}
 use Rattle.std.proofs.lemmas.List.{get_or-set_same}
 use Rattle.std.specs.Option.{option_map_or}
@@ -15,7 +15,6 @@ use Rattle.q_model.specs.Route.{refused, route, through}
 use Rattle.q_model.specs.Work.{settled_class, settled_in}
 use Rattle.q_tree.specs.Ahead.{ways}
 use Rattle.q_tree.specs.ArriveSteps.{way_in}
-use Rattle.q_tree.specs.KeepSteps.{IsKeptAlong}
 use Rattle.q_tree.specs.Kept.{Kept}
 use Rattle.q_tree.specs.NodeCode.{forest_size}
 use Rattle.q_tree.specs.Seen.{children_seen, discipline_seen, places_seen}

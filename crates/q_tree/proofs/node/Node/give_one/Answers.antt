@@ -1,6 +1,4 @@
-use Rattle.std.proofs.Common.{◌≡◌, ◌∙◌, refl, sym, ap, subst, arith, None, rules}
-use Rattle.q_model.specs.declared.row.Row.{Row}
-use Rattle.q_model.specs.declared.totals.Totals.{Totals}
+use Rattle.std.proofs.Common.{◌≡◌, refl, sym, subst, arith, None, rules}
 use Rattle.q_model.specs.Node.{Node, children}
 use Rattle.q_invariants.proofs.Forests.{nodes-side}
 use Rattle.q_tree.specs.GiveSteps.{CanGiveFrom, alone}
@@ -8,7 +6,7 @@ use Rattle.q_tree.specs.Holding.{packet_held}
 use Rattle.q_tree.proofs.HeldLemmas.{none-kept}
 use Rattle.q_tree.proofs.Peeks.{can-book, can-in, shown-here, told-here}
 use Rattle.q_tree.proofs.Quiet.{shown-nothing}
-use Rattle.q_tree.proofs.SendForms.{sent-row, sent-queued, one-sent}
+use Rattle.q_tree.proofs.SendForms.{sent-queued, one-sent}
 use Rattle.q_tree.specs.KeepSteps.{no_sink}
 use Rattle.q_tree.specs.Kept.{Kept}
 use Rattle.q_tree.specs.Seen.{children_seen, discipline_seen}

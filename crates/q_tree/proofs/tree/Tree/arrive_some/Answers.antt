@@ -10,7 +10,7 @@ use Rattle.q_tree.specs.Bursts.{AreKept, arrived_each, with_arrivals}
 use Rattle.q_tree.specs.Kept.{Kept, kept}
 use Rattle.q_tree.specs.declared.tree.Tree.TheInside.{Inside}
 use Rattle.q_tree.proofs.BurstArrivals.{IsBurst, bytes-bound, long-each}
-use Rattle.q_tree.proofs.KeepingMany.{burst-along, ended, ended-some}
+use Rattle.q_tree.proofs.KeepingMany.{burst-along, ended-some}
 use Rattle.q_tree.proofs.TreeLemmas.{lawful-root, top-row}
 use Rattle.q_tree.proofs.tree.Tree.arrive_some.Goals.{After-book_arrivals}
 use Rattle.q_tree.proofs.tree.Tree.arrive_some.Goals as goal

@@ -1,4 +1,4 @@
-use Rattle.std.proofs.Common.{◌≡◌, ◌≤◌, ◌<◌, ◌^◌, ◌∙◌, refl, ap, subst, arith}
+use Rattle.std.proofs.Common.{◌∙◌, refl, ap, subst, arith}
 use Rattle.q_model.specs.Step.{DeviceState, poll}
 use Rattle.q_tree.specs.Bursts.{IsGivenAlone}
 use Rattle.q_tree.specs.Kept.{Kept, kept}

@@ -1,4 +1,4 @@
-use Rattle.std.proofs.Common.{◌≡◌, refl, ap, arith}
+use Rattle.std.proofs.Common.{refl, ap, arith}
 use Rattle.q_model.specs.Step.{DeviceState}
 use Rattle.q_tree.specs.Kept.{Kept}
 use Rattle.q_tree.proofs.GivenMany.{out-more}

@@ -1,4 +1,4 @@
-use Rattle.std.proofs.Common.{◌≡◌, ◌≤◌}
+use Rattle.std.proofs.Common.{◌≤◌}
 use Rattle.q_tree.specs.Bursts.{IsGivenOut}
 use Rattle.q_tree.specs.GiveSteps.{IsNoFifo}
 use Rattle.q_tree.proofs.tree.Tree.send_some.Given as goal
