@@ -103,7 +103,7 @@ class Carrier(Kinds):
             self.tc("qdisc", "add", *place.split(), "pfifo", "limit", str(it.options["limit"]))
 
     def shaper(self, place, handle, rate, burst):
-        """A tbf that is proposed. Its limit is without effect beneath another qdisc."""
+        """A tbf that is proposed. Its limit is without effect below another qdisc."""
         rate, burst = self.in_range("tbf", "rate", rate), self.in_range("tbf", "burst", burst)
         words = ["tbf", "rate", rate_text(rate), "burst", size_text(burst), "latency", "50ms"]
         self.tc("qdisc", "add", *place.split(), "handle", f"{handle:x}:", *words)
@@ -125,7 +125,7 @@ class Carrier(Kinds):
     def put_cake(self, it, place):
         rate = it.options.get("bandwidth")
         self.say(
-            "proposal: an fq_codel in the place of cake, beneath a tbf where cake has a bandwidth. It shares among flows, not among hosts; "
+            "proposal: an fq_codel in the place of cake, below a tbf where cake has a bandwidth. It shares among flows, not among hosts; "
             "classes of DiffServ would be a prio above fq_codels"
         )
         if words := [*(option_text(*one) for one in it.options.items() if one[0] != "bandwidth"), *it.rest]:
