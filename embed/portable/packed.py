@@ -16,9 +16,31 @@ from pages import broken_links, relinked
 from rewrite import portable
 import tie
 
-PAGES = ("TUTORIAL", "CONCEPTS", "SETTINGS", "LANGUAGE", "DISCIPLINES", "TC", "SERVICE", "GUARANTEES", "EMBEDDING", "ROUTER")
+PAGES = ("TUTORIAL", "CONCEPTS", "SETTINGS", "LANGUAGE", "DISCIPLINES", "TC", "SERVICE", "GUARANTEES", "EMBEDDING", "VPN", "ROUTER")
 # Programs of embed/c that are no tests, or need more than a C compiler.
-LEFT = ("fuzz.c", "bench.c", "figures.c", "until_idle.c", "long_session.c", "standards.c")
+LEFT = ("fuzz.c", "bench.c", "figures.c", "long_session.c", "standards.c")
+# Commands of the repository in its pages, and those of the package: each is in a page, or there is a line too many here.
+COMMANDS = {
+    "To build the library, run one of these two commands at the top of the repository (`rt` is the command of Rattle's kit):":
+        "To build the library, run this command at the top of the package:",
+    "    (cd crates/qtree_c && rt lib)    # proves and builds the library, in most of an hour\n": "",
+    "    embed/library --unproved         # builds the library without proofs, in a minute or two\n":
+        "    make    # builds the static and the shared library, in a minute\n",
+    "make -C embed/c install PREFIX": "make install PREFIX",
+    "`make -C embed/c install`": "`make install`",
+    "`make -C embed/c uninstall`": "`make uninstall`",
+    "    make -C embed/c test valgrind fuzz bench    # a minute or two\n": "    make test\n",
+    "make -C embed/c CC=musl-gcc": "make CC=musl-gcc",
+    "A relative path counts from `embed/c`.": "A relative path counts from the package.",
+    "man -l embed/c/qtree.3": "man -l doc/qtree.3",
+    "./qtree --unproved play": "./qtree play",
+    "    pip install --no-index --no-build-isolation --target \"$HOME/qtree/python\" embed/python ":
+        "    pip install --no-index --no-build-isolation --target \"$HOME/qtree/python\" ./python ",
+    "-replace=qtree=/path/to/embed/go": "-replace=qtree=/path/to/go",
+    "$QTREE/embed/include": "$QTREE/include",
+    "$QTREE/embed/c/build": "$QTREE/build",
+    "In a clone, `../../tools/promise": "`../../tools/promise",
+}
 HERE = f"{TOP}/embed/portable"
 PATH = "PATH=/usr/bin:/bin"
 # What PROVED.md says of a module that was proved, and of one that was not.
@@ -38,6 +60,15 @@ that was made of a proved module, and not for this one.""",
 
 def run(*words, cwd=TOP):
     return tie.run(*words, cwd=cwd).decode(errors="replace")
+
+
+def with_own_commands(pages):
+    """The texts of pages, with the commands of the package."""
+    for old, new in COMMANDS.items():
+        if not any(old in it for it in pages.values()):
+            raise Unreadable(f"no page has the command {old!r}, for which the package has another")
+        pages = {path: text.replace(old, new) for path, text in pages.items()}
+    return pages
 
 
 class Release:
@@ -97,7 +128,12 @@ def laid_out(kept, root):
     write(f"{root}/openwrt/Makefile", openwrt(release, "skip"))
     write(f"{root}/libqtree.ll", text)
     write(f"{root}/PROVED.md", release.proved(counts, functions, lines))
-    files = {"include": ["embed/include/qtree.h"], "doc": ["embed/c/qtree.3"]}
+    files = {"include": ["embed/include/qtree.h"], "doc": ["embed/c/qtree.3", "embed/c/qtree-play.1"], "go": below("embed/go/*", ("test",))}
+    files["tools"] = [*(f"tools/{it}" for it in ("promise", "import-tc", "capture", "picture")), "docs/pictures/replay.py"]
+    files["tools/import_tc"] = below("tools/import_tc/*.py")
+    files["python"] = [it for it in below("embed/python/*", ("test",)) if os.path.isfile(f"{TOP}/{it}")]
+    files |= {f"python/{it}": below(f"embed/python/{it}/*.py") for it in ("qtree", "examples", "tests")}
+    files["python/qtree"].append("embed/python/qtree/py.typed")
     files["tests"] = below("embed/c/*.[ch]", LEFT) + below("crates/qtree/tests/corpus/*.txt")
     files["examples"] = [it for it in below("examples/*.*") if not it.endswith(".md")]
     files["examples/tutorial"] = [it for it in below("examples/tutorial/*") if os.path.isfile(f"{TOP}/{it}")]
@@ -106,8 +142,8 @@ def laid_out(kept, root):
     places = {it: f"{folder}/{os.path.basename(it)}" for folder, names in files.items() for it in names}
     places |= {f"docs/{it}.md": f"doc/{it}.md" for it in PAGES} | {f"{it}.md": f"doc/{it}.md" for it in ("CHANGELOG", "SECURITY")}
     places["examples/README.md"] = "examples/README.md"
-    for it in (it for it in places if it.endswith(".md")):
-        write(f"{root}/{places[it]}", relinked(it, places))
+    for it, text in with_own_commands({it: relinked(it, places) for it in places if it.endswith(".md")}).items():
+        write(f"{root}/{places[it]}", text)
     return release
 
 
@@ -117,7 +153,7 @@ def tar(root, release, name, to):
     def plain(it):
         it.uid = it.gid = 0
         it.uname = it.gname = "root"
-        it.mtime, it.mode = release.moment, 0o755 if it.isdir() else 0o644
+        it.mtime, it.mode = release.moment, 0o755 if it.isdir() or it.mode & 0o100 else 0o644
         return it
 
     with tarfile.open(to, "w:xz") as file:
@@ -184,7 +220,7 @@ def tried(package, *words):
 def install_and_remove(folder, prefix, *words):
     """Each function of the header has its manual page; what is removed is what was installed, and no file beside it."""
     files = lambda: {it for it in glob.glob(f"{prefix}/**", recursive=True) if os.path.isfile(it)}
-    others = {f"{prefix}/{it}" for it in ("include/other.h", "lib/libqtree.so", "share/man/man3/qtree_other.3")}
+    others = {f"{prefix}/{it}" for it in ("include/other.h", "lib/libother.so", "bin/qtree", "share/man/man3/qtree_other.3")}
     for it in others:
         os.makedirs(os.path.dirname(it), exist_ok=True)
         write(it, "")
@@ -196,9 +232,28 @@ def install_and_remove(folder, prefix, *words):
             raise Unreadable(f"there is no manual page of {it}")
     if not {f"{prefix}/{it}" for it in ("include/qtree.h", "lib/libqtree.a", "lib/pkgconfig/qtree.pc")} <= files():
         raise Unreadable("make install installs no header, library or file for pkg-config")
+    try_installed(folder, prefix)
     make(folder, *words, "uninstall", f"PREFIX={prefix}")
     if files() != others:
         raise Unreadable(f"make uninstall leaves or takes {', '.join(sorted(files() ^ others))}")
+
+
+def try_installed(folder, prefix):
+    """The player and the tools that were installed run, and so does the package for Python over the shared library."""
+    examples = f"{folder}/examples"
+    report = read(f"{examples}/two_of_three_packets.out")
+    if run("env", "-i", PATH, f"{prefix}/bin/qtree-play", f"{examples}/two_packets.qtree") != report:
+        raise Unreadable("the player that was installed plays two_packets.qtree to another report")
+    lines = f"{examples}/tutorial/two_customers.tc"
+    if "bit" not in run("env", "-i", PATH, f"{prefix}/bin/qtree-promise", lines):
+        raise Unreadable("qtree-promise promises nothing to the customers of the tutorial")
+    if "tc qdisc add" not in run("env", "-i", PATH, f"{prefix}/bin/qtree-import-tc", lines):
+        raise Unreadable("qtree-import-tc reads no line of the tutorial")
+    if "FILE is a pcap" not in run("env", "-i", PATH, f"{prefix}/bin/qtree-capture", "--help"):
+        raise Unreadable("qtree-capture has no help")
+    for library in (f"{prefix}/lib/libqtree.so", ""):
+        named = [f"QTREE_LIBRARY={library}"] if library else []
+        run("env", "-i", PATH, "PYTHONDONTWRITEBYTECODE=1", *named, "python3", "-m", "unittest", "discover", "-q", "-s", "tests", cwd=f"{folder}/python")
 
 
 def compare_memory(folder, *words):

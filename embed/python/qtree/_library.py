@@ -10,8 +10,8 @@ MOMENT_MAX = 1 << 62
 MAJOR, MINOR = 1, 3
 NAME = f"libqtree.so.{MAJOR}"
 HERE = os.path.dirname(os.path.realpath(__file__))
-# Where this file is in a package and in the repository, and where the libraries are from there.
-BESIDE = {"/qtree/python/qtree": "../../..", "/embed/python/qtree": "../../c/build"}
+# Where the libraries are from here: beside a folder python in which this was installed, in the repository, and in packages.
+BESIDE = ("../../lib", "../../c/build", "../../build", "../../..")
 
 
 def _found() -> str:
@@ -19,9 +19,9 @@ def _found() -> str:
     named = os.environ.get("QTREE_LIBRARY")
     if named:
         return os.path.realpath(named)
-    for place, folder in BESIDE.items():
-        for path in sorted(glob.glob(os.path.join(HERE, folder, NAME + "*"))):
-            if HERE.endswith(place):
+    if HERE.endswith("/python/qtree"):
+        for folder in BESIDE:
+            for path in sorted(glob.glob(os.path.join(HERE, folder, NAME + "*"))):
                 return os.path.realpath(path)
     return NAME
 
