@@ -199,7 +199,8 @@ def draw(page, folder):
             page.open(f"?preset={number}")
             page.run("document.getElementById('speed').value = '0';")
             page.wait("done")
-            wide = page.run("return document.documentElement.scrollWidth - innerWidth;")
+            wide = page.run("return Math.max(document.documentElement.scrollWidth - innerWidth, "
+                            "...[...document.querySelectorAll('article')].map(it => it.scrollWidth - it.clientWidth));")
             page.check(wide <= 0, f"preset {number} is {wide} pixels too wide at {width}")
             page.browser.picture(f"{folder}/preset_{number}_{width}{'_dark' * dark}.png")
 
