@@ -8,7 +8,7 @@
 #include <string.h>
 #include <unistd.h>
 
-enum { COLUMNS = 8, SLICE = 20000, WIDTH = 720, BAR = 40 };
+enum { COLUMNS = 8, SLICE = 20000, WIDTH = 720, BAR = 40, MANY = 1000000 };
 
 struct asked {
     const char *file, *picture, *session;
@@ -80,9 +80,20 @@ static bool read_file(const char *name, struct text *text) {
     return is_read;
 }
 
+/* Says what a run of many packets will take. */
+static void show_cost(const struct simulation *sim) {
+    uint64_t packets = simulation_packets(sim);
+    if (packets > MANY) {
+        fprintf(stderr, "simulate: up to %" PRIu64 " packets, which take some %" PRIu64 " seconds\n", packets, packets / MANY);
+    }
+}
+
 /* Runs a tree to its end, with a progress bar on a terminal. */
 static bool run(struct simulation *sim, const struct mix *mix, size_t tree, uint32_t recorder, enum plant plant) {
     bool is_open = simulation_open(sim, mix, tree, recorder, plant);
+    if (is_open && recorder == 0) {
+        show_cost(sim);
+    }
     while (is_open && !simulation_run(sim, UINT64_MAX, SLICE)) {
         show_progress(sim, false);
     }
@@ -165,9 +176,6 @@ static int run_mix(const struct asked *asked, const struct mix *mix) {
     struct simulation *sims = calloc(TREES, sizeof *sims);
     if (sims == NULL) {
         return failed(asked->file, "no memory");
-    }
-    if (asked->plant == PLANT_NOTHING && isatty(2)) {
-        fprintf(stderr, "%s: %" PRIu64 " s\n", asked->file, mix->last / 1000000000);
     }
     int status = run_all(asked, mix, sims);
     for (size_t tree = 0; tree < TREES; tree++) {
