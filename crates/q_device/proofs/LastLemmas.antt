@@ -1,5 +1,5 @@
 -- What noting events one by one leaves in a ring.
-use Rattle.std.proofs.Common.{◌≡◌, ◌∙◌, ◌+◌, ◌-◌, ◌≤◌, ℕ, List, [], ◌∷◌, ◌++◌, length, drop, min, refl, sym, ap, ap₂, arith}
+use Rattle.std.proofs.Common.{◌≡◌, ◌∙◌, ◌-◌, ◌≤◌, ℕ, List, [], ◌∷◌, ◌++◌, length, drop, min, refl, sym, ap, ap₂, arith}
 use Rattle.std.proofs.lemmas.List.{append_assoc, append-nil, drop_all, drop-append-le, drop-drop, length-append, length-drop}
 use Rattle.q_model.specs.declared.event.Event.{Event}
 use Rattle.q_device.specs.DeviceSeen.{most_events}

@@ -3,7 +3,7 @@ use Rattle.std.proofs.Common.{◌≡◌, ℕ, ◌+◌, ◌∙◌, List, [], ◌�
 use Rattle.std.specs.Prelude.{slice_get}
 use Rattle.q_packet.specs.Descriptor.{Descriptor}
 use Rattle.q_model.specs.declared.class_id.ClassId.{ClassId}
-use Rattle.q_model.specs.Beneath.{beneath, beneath_own, totals_in}
+use Rattle.q_model.specs.Beneath.{beneath_own, totals_in}
 use Rattle.q_model.specs.Find.{class_path}
 use Rattle.q_model.specs.Node.{Discipline, Fifo, Prio, Tbf, Drr, FqCodel, Own, Node, children}
 use Rattle.q_model.specs.Stretches.{length_held}

@@ -1,6 +1,6 @@
 -- What a ring of the last events keeps: of all events that were noted in it the last, as many as it has places.
 -- Nothing here is of a standard.
-use Rattle.std.specs.Prelude.{◌≡◌, ◌≤◌, ◌+◌, ◌-◌, ℕ, List, [], ◌∷◌, ◌++◌, min, length, drop}
+use Rattle.std.specs.Prelude.{◌≡◌, ◌+◌, ◌-◌, ℕ, List, [], ◌∷◌, ◌++◌, min, length, drop}
 use Rattle.q_model.specs.declared.event.Event.{Event}
 use Rattle.q_device.specs.DeviceSeen.{most_events}
 

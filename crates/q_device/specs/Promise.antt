@@ -1,6 +1,6 @@
 -- What a class of a drr is promised, in numbers that a program can read: its part of a rate, or of what the drr at the root sends, and
 -- the bytes that it may lack, rounded against the class; tc-tbf(8) and tc-drr(8). q_laws proves that the class gets them.
-use Rattle.std.specs.Prelude.{ℕ, ◌+◌, ◌-◌, ◌*◌, ◌/◌, ◌^◌, ◌≤◌, min, max, nat_le, Bool, true, if◌then◌else◌, List, [], ◌∷◌, Option, Some, None, option_map, option_and_then}
+use Rattle.std.specs.Prelude.{ℕ, ◌+◌, ◌-◌, ◌*◌, ◌/◌, ◌^◌, min, max, nat_le, Bool, true, if◌then◌else◌, List, [], ◌∷◌, Option, Some, None, option_map, option_and_then}
 use Rattle.std.specs.Int.{div_ceil}
 use Rattle.q_bucket.specs.Level.{units_in_byte}
 use Rattle.q_model.specs.declared.place.Place.{Place}

@@ -1,5 +1,4 @@
-use Rattle.std.proofs.Common.{◌≡◌, ◌<◌, ◌++◌, ◌∙◌, length, set, ap, arith}
-use Rattle.std.specs.Prelude.{drop, replicate}
+use Rattle.std.proofs.Common.{◌∙◌, set, ap, arith}
 use Rattle.q_model.specs.declared.fate.Fate.TheVariants.{Kept}
 use Rattle.q_device.proofs.PlaceLemmas.{same-more}
 use Rattle.q_device.proofs.bursts.all_kept.Goals as goal

@@ -1,4 +1,4 @@
-use Rattle.std.proofs.Common.{◌≡◌, ◌<◌, ℕ, None, length, subst, arith}
+use Rattle.std.proofs.Common.{◌≡◌, ℕ, None, length, subst, arith}
 use Rattle.std.proofs.lemmas.List.{take_more}
 use Rattle.q_device.specs.Bursts.{IsArrivals}
 use Rattle.q_device.proofs.Arriving.{arriving-ends, arriving-more, arriving-stops}

@@ -1,4 +1,4 @@
-use Rattle.std.proofs.Common.{◌≡◌, ◌+◌, ◌-◌, ◌<◌, ◌≤◌, ℕ, length, subst, arith}
+use Rattle.std.proofs.Common.{◌+◌, ◌-◌, ◌<◌, ℕ, length, subst, arith}
 use Rattle.std.proofs.lemmas.List.{take_more}
 use borrow.Rule.Slice.PartMut.{put_mid}
 use Rattle.q_device.specs.Bursts.{IsArriving}

@@ -1,13 +1,12 @@
-use Rattle.std.proofs.Common.{◌∙◌, ◌-◌, ◌≤◌, List, ◌++◌, length, refl, sym, ap, subst, arith}
+use Rattle.std.proofs.Common.{◌∙◌, ◌-◌, ◌≤◌, refl, sym, ap, subst, arith}
 use Rattle.q_codel.specs.Losses.{LossList, SinkState}
-use Rattle.q_packet.specs.Descriptor.{Descriptor}
 use Rattle.q_packet.specs.Stored.{descriptor}
 use Rattle.q_model.specs.declared.event.Event.TheVariants as event
 use Rattle.q_model.specs.declared.reply.Reply.TheVariants as reply
 use Rattle.q_model.specs.Node.{shape}
-use Rattle.q_model.specs.Step.{DeviceState, fate_of, losses_in, step}
-use Rattle.q_model.specs.Tally.{Counts, totals, with_packet}
-use Rattle.q_model.specs.TreeState.{noted_by_put, own_loss}
+use Rattle.q_model.specs.Step.{fate_of, step}
+use Rattle.q_model.specs.Tally.{totals, with_packet}
+use Rattle.q_model.specs.TreeState.{own_loss}
 use Rattle.q_tree.specs.Places.{places_at}
 use Rattle.q_tree.specs.TreeSeen.{numbers}
 use Rattle.q_device.specs.declared.device.Device.TheInside.{Inside}

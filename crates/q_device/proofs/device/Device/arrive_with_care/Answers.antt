@@ -5,8 +5,8 @@ use Rattle.q_model.specs.declared.event.Event.TheVariants as event
 use Rattle.q_model.specs.declared.reply.Reply.TheVariants as reply
 use Rattle.q_model.specs.Node.{shape}
 use Rattle.q_model.specs.Ranges.{HasPacketFields}
-use Rattle.q_model.specs.Step.{DeviceState, fate_of, losses_in, step}
-use Rattle.q_model.specs.Tally.{Counts, totals, with_packet}
+use Rattle.q_model.specs.Step.{fate_of, losses_in, step}
+use Rattle.q_model.specs.Tally.{totals, with_packet}
 use Rattle.q_model.specs.TreeState.{noted_by_put, own_loss}
 use Rattle.q_tree.specs.Places.{places_at}
 use Rattle.q_tree.specs.TreeSeen.{numbers}

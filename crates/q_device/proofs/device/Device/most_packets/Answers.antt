@@ -1,9 +1,8 @@
-use Rattle.std.proofs.Common.{◌∙◌, ◌≡◌, ◌≤◌, ◌^◌, List, length, sym, ap, subst}
+use Rattle.std.proofs.Common.{◌∙◌, ◌≤◌, ◌^◌, List, length, sym, ap, subst}
 use Rattle.std.specs.Prelude.{◌-◌, min}
 use Rattle.q_packet.specs.Descriptor.{Descriptor}
 use Rattle.q_model.specs.Beneath.{beneath}
 use Rattle.q_tree.specs.MostPackets.{most_packets}
-use Rattle.q_tree.specs.TreeSeen.{tree_numbers}
 use Rattle.q_device.specs.DeviceSeen.{DeviceSeen}
 use Rattle.q_device.proofs.ReadyNumbers.{beneath-numbers, most-numbers}
 use Rattle.q_device.proofs.device.Device.most_packets.Goals as goal

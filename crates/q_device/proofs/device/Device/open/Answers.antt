@@ -1,7 +1,7 @@
 use Rattle.std.proofs.Common.{◌∙◌, refl, ap, subst, arith}
 use Rattle.q_model.specs.Settings.{DeviceSettings, IsInRange}
-use Rattle.q_model.specs.Step.{DeviceState, new_device}
-use Rattle.q_model.specs.Tally.{Counts, totals}
+use Rattle.q_model.specs.Step.{new_device}
+use Rattle.q_model.specs.Tally.{totals}
 use Rattle.q_device.proofs.KeptLemmas.{new-kept}
 use Rattle.q_device.proofs.device.Device.open.Goals as goal
 

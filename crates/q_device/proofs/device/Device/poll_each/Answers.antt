@@ -1,4 +1,4 @@
-use Rattle.std.proofs.Common.{◌≡◌, ◌<◌, ◌∙◌, ℕ, ap, arith, length, refl, set, subst, sym}
+use Rattle.std.proofs.Common.{◌≡◌, ◌∙◌, ℕ, ap, arith, length, refl, set, subst, sym}
 use Rattle.std.proofs.lemmas.List.{set-get_or}
 use Rattle.q_device.specs.Bursts.{IsPolls}
 use Rattle.q_device.specs.declared.given.Given.TheVariants as given

@@ -1,4 +1,4 @@
-use Rattle.std.proofs.Common.{◌≡◌, ◌∙◌, refl, sym, ap, ap₂, subst, Option, arith}
+use Rattle.std.proofs.Common.{◌∙◌, refl, sym, ap, ap₂, subst, Option, arith}
 use Rattle.std.specs.Prelude.{is_some, unwrap_or}
 use Rattle.q_codel.specs.Losses.{LossList}
 use Rattle.q_packet.specs.Descriptor.{Descriptor}

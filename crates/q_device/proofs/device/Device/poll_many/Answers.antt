@@ -1,4 +1,4 @@
-use Rattle.std.proofs.Common.{◌≡◌, ◌+◌, ◌-◌, ◌<◌, ◌≤◌, ◌∙◌, ℕ, ap, arith, length, length-set, refl, set, subst, sym}
+use Rattle.std.proofs.Common.{◌+◌, ◌-◌, ◌<◌, ◌≤◌, ◌∙◌, ℕ, ap, arith, length, length-set, refl, set, subst, sym}
 use Rattle.std.proofs.lemmas.List.{set-get_or}
 use borrow.Rule.Slice.PartMut.{put_mid}
 use Rattle.q_device.specs.Bursts.{IsPolling, IsPolls}

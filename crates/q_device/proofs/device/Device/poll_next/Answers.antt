@@ -1,4 +1,4 @@
-use Rattle.std.proofs.Common.{◌≡◌, ◌∙◌, Option, Some, ap, refl, sym}
+use Rattle.std.proofs.Common.{◌∙◌, Option, Some, ap, refl, sym}
 use Rattle.std.specs.Prelude.{option_map}
 use Rattle.q_packet.specs.Descriptor.{Descriptor}
 use Rattle.q_device.specs.Bursts.{given_as}

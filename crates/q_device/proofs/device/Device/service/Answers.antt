@@ -1,4 +1,4 @@
-use Rattle.std.proofs.Common.{◌≡◌, ◌∙◌, ℕ, sym, ap, option_map, Option, Some, None}
+use Rattle.std.proofs.Common.{◌∙◌, ℕ, sym, ap, option_map}
 use Rattle.q_model.specs.declared.place.Place.{Place}
 use Rattle.q_model.specs.declared.place.Place.TheVariants as place
 use Rattle.q_model.specs.Node.{Node}
