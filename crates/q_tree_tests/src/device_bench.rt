@@ -2,9 +2,9 @@
 //!
 //! With ample memory no allocation fails. `rt try --test --fail-alloc N` refuses the Nth allocation of each test, and these pass for every N: what
 //! could not be done is done again.
-use crate::lines::{Ask, packet};
+use crate::lines::{Ask, Spot, packet};
 use q_device::{Device, Event, Fate, Polled, Refusal, Reply, Settings, play};
-use q_model::{Handle, QdiscView};
+use q_model::{ClassKind, Handle, QdiscView};
 use q_packet::Moment;
 use std::alloc::{AllocError, Global};
 use std::test::Fail;
@@ -33,6 +33,10 @@ pub enum Call {
     Node(usize, u16, u8, u64),
     // How many nodes there are. The root has no filters.
     Nodes(usize),
+    // A node's place in the tree's order, that of a class of a drr in it, and its deficit.
+    Deficit(usize, usize, u64),
+    // The bytes that arrived in a place, those that were sent and those that were refused there.
+    Bytes(Spot, [u64; 3]),
 }
 
 impl Call {
@@ -79,9 +83,28 @@ impl Call {
             Call::Nodes(count) => {
                 device.tree().node(count).is_none() && device.tree().filter(0, 0).is_none()
             }
+            Call::Deficit(i, j, wanted) => has_deficit(device, (i, j), wanted),
+            Call::Bytes(spot, wanted) => bytes(device, spot) == Some(wanted),
             _ => false,
         }
     }
+}
+
+// Whether a class of a drr is active with this deficit.
+fn has_deficit(device: &Device, (i, j): (usize, usize), wanted: u64) -> bool {
+    match device.tree().class(i, j) {
+        Some(class) => match class.kind {
+            ClassKind::Drr { deficit, .. } => deficit == Some(wanted),
+            _ => false,
+        },
+        None => false,
+    }
+}
+
+// The bytes that arrived in a place, those that were sent and those that were refused there.
+fn bytes(device: &Device, spot: Spot) -> Option<[u64; 3]> {
+    let row = device.stats(spot.place()?)?;
+    Some([row.arrived.bytes, row.sent.bytes, row.refused.bytes])
 }
 
 // Whether a qdisc is a prio of so many bands, or with 0 a pfifo.
@@ -153,14 +176,30 @@ fn first_wrong(
     })
 }
 
-// The same of a play and a new device: a pfifo of 100 packets, of at most 1500 bytes each, with a recorder of three events.
-fn tried(alloc: Global, calls: &[Call]) -> Result<Option<usize>, AllocError> {
-    let Some(settings) = Settings::new(1500, 100, 3) else {
-        return Ok(Some(0));
-    };
+// The settings of a pfifo of 100 packets, of at most 1500 bytes each, with a recorder of three events.
+fn settings() -> Option<Settings> {
+    Settings::new(1500, 100, 3)
+}
+
+// What a play of the events among these calls replies.
+fn played(alloc: Global, settings: Settings, calls: &[Call]) -> Result<Vec<Reply>, AllocError> {
     let mut events = Vec::with_capacity(alloc, calls.len())?;
     add_events(&mut events, calls);
-    let replies = replies(alloc, settings, events.as_slice())?;
+    replies(alloc, settings, events.as_slice())
+}
+
+/// What a play of the events among these calls replies.
+pub fn play_calls(alloc: Global, calls: &[Call]) -> Result<Vec<Reply>, Fail> {
+    let settings = settings().ok_or("settings")?;
+    Ok(played(alloc, settings, calls)?)
+}
+
+// The same of a play and a new device.
+fn tried(alloc: Global, calls: &[Call]) -> Result<Option<usize>, AllocError> {
+    let Some(settings) = settings() else {
+        return Ok(Some(0));
+    };
+    let replies = played(alloc, settings, calls)?;
     let mut device = Device::open(alloc, settings)?;
     first_wrong(&mut device, calls, replies.as_slice())
 }

@@ -4,6 +4,8 @@
 //! - `device_commands`: `play`, which has no call in Rust or C, also where `rt try --fail-alloc` refuses memory; and a qdisc in place of the device
 //!   itself, which no line names.
 //! - `many_packets`: a play of more events than 16 bits count.
+//! - `sharing`: plays whose sums are compared with quanta and deficits, and with a bucket's burst and rate.
+//! - `tree_scripts`: scripts of calls on a tree without a device.
 //! - `tree_calls`: the calls of a tree without a device, such as a peek or one for each kind of command; and commands that no line says.
 //! - `device`: how a refusal is shown, with its number and its name. The crate for Rust shows a sentence instead.
 //!
@@ -22,4 +24,8 @@ mod lines;
 #[cfg(test)]
 mod many_packets;
 #[cfg(test)]
+mod sharing;
+#[cfg(test)]
 mod tree_calls;
+#[cfg(test)]
+mod tree_scripts;

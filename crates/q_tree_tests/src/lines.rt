@@ -39,6 +39,8 @@ pub enum New {
     FqCodel(u32),
     // The burst; the rate is 1 mbit a second, and the limit 10,000 bytes.
     Tbf(u32),
+    // A tbf of this rate in bits a second, with this burst; the limit is 5,000 bytes.
+    Shaper(u64, u32),
     // It has no classes yet.
     Drr,
 }
@@ -53,11 +55,8 @@ impl New {
                 let options = FqCodelOptions::new(limit, flows, None, None, None, None, None);
                 Some(Kind::FqCodel(options?))
             }
-            New::Tbf(burst) => Some(Kind::Tbf {
-                rate: Rate::new(1_000_000)?,
-                burst: Burst::new(burst)?,
-                limit: TbfLimit::Bytes(10_000),
-            }),
+            New::Tbf(burst) => tbf(1_000_000, burst, 10_000),
+            New::Shaper(rate, burst) => tbf(rate, burst, 5_000),
             New::Drr => Some(Kind::Drr),
         }
     }
@@ -69,6 +68,14 @@ fn prio(bands: u8) -> Option<Kind> {
         *band = (i as u8).min(bands.saturating_sub(1));
     }
     Some(Kind::Prio(PrioOptions::new(bands, priomap)?))
+}
+
+fn tbf(rate: u64, burst: u32, limit: u32) -> Option<Kind> {
+    Some(Kind::Tbf {
+        rate: Rate::new(rate)?,
+        burst: Burst::new(burst)?,
+        limit: TbfLimit::Bytes(limit),
+    })
 }
 
 /// What a line of tc asks for. A handle or a quantum of 0 is none.

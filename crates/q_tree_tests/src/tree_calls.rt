@@ -1,11 +1,12 @@
 //! What a tree alone has: a call for each kind of command, and packets that are routed, put, peeked at and taken. And commands that no line of tc
 //! asks for: a qdisc at the top, and one that neither its place nor its handle names.
-ghost use Rattle.std.specs.Prelude.{◌+◌, ◌-◌, ◌≤◌, length, OnOk};
+ghost use Rattle.std.specs.Prelude.{◌+◌, ◌-◌, ◌≤◌, length, IfOk, OnOk};
 ghost use Rattle.q_model.specs.Beneath.{beneath};
 
 use crate::lines::{Ask, New, Spot, packet};
 use q_codel::Losses;
-use q_model::{Command, Fate, Refusal};
+use q_model::{ClassKind, Command, Fate, Refusal};
+use q_packet::{Cause, Moment};
 use q_tree::Tree;
 use std::alloc::Global;
 use std::test::Fail;
@@ -17,17 +18,31 @@ const DONE: Answer = Ok(());
 const PFIFO: New = New::Pfifo(None);
 
 // A call on a tree, and what it has to answer.
-enum Call {
+pub enum Call {
     // The call for this kind of command. Where it is refused, so is the call for every command.
     Do(Ask, Answer),
+    // The same, so many times, and each is done.
+    Repeat(u16, Ask),
     // A packet of 100 bytes with this number is kept.
     Put(u64),
+    // The number, the length and the priority of a packet, and what becomes of it.
+    Arrive(u64, u16, u8, Fate),
     // The number of the packet that a peek shows; 0 where none is.
     Peek(u64),
     // The number of the packet that a take gives; 0 where none is.
     Take(u64),
+    // The same at this time in nanoseconds, or at the tree's, if that is later.
+    TakeAt(u64, u64),
+    // The number of the packet that was lost first of those that wait to be reaped, and why.
+    Lost(u64, Cause),
+    // No loss waits.
+    NoLoss,
     // How many packets wait in a place.
     Waiting(Spot, u64),
+    // The packets that arrived in a place, those that were sent, refused and dropped there, and those that wait.
+    Counts(Spot, [u64; 5]),
+    // A node's place in the tree's order, that of a class of a drr in it, and its quantum and deficit; with none it is not active.
+    Class(usize, usize, u32, Option<u64>),
 }
 
 // Makes room for every packet that may be lost, and one more.
@@ -97,9 +112,30 @@ fn is_answered(
     Ok(tree.command(alloc, *command, now, losses) == answer)
 }
 
-// What becomes of a packet of 100 bytes with this number.
-fn put(tree: &mut Tree, losses: &mut Losses, number: u64) -> Result<Fate, Fail> {
-    let packet = packet(number, 100, 0).ok_or("packet")?;
+fn are_done(
+    alloc: Global,
+    tree: &mut Tree,
+    losses: &mut Losses,
+    times: u16,
+    command: &Command,
+) -> Result<bool, Fail> {
+    for _ in 0..times {
+        if !is_answered(alloc, tree, losses, command, DONE)? {
+            return Ok(false);
+        }
+    }
+    Ok(true)
+}
+
+// What becomes of a packet with this number, this length and this priority.
+fn put(
+    tree: &mut Tree,
+    losses: &mut Losses,
+    number: u64,
+    len: u16,
+    prio: u8,
+) -> Result<Fate, Fail> {
+    let packet = packet(number, len, prio).ok_or("packet")?;
     let now = tree.clock();
     let route = tree.route(&packet);
     tree.prepare(&route)?;
@@ -107,9 +143,20 @@ fn put(tree: &mut Tree, losses: &mut Losses, number: u64) -> Result<Fate, Fail> 
     Ok(tree.put(&route, packet, now, losses))
 }
 
-// The number of the packet whose turn it is, which a take gives and a peek shows; 0 where none is.
-fn next(tree: &mut Tree, losses: &mut Losses, is_taken: bool) -> Result<u64, Fail> {
-    let now = tree.clock();
+// This time, or that of the tree, if that is later.
+fn later(tree: &Tree, ns: u64) -> Result<Moment, Fail>
+    ensures { IfOk result (λ now. tree.now.clock ≤ now) }
+{
+    let clock = tree.clock();
+    if ns <= clock.ns() {
+        return Ok(clock);
+    }
+    Ok(Moment::new(ns).ok_or("time")?)
+}
+
+// The number of the packet whose turn it is at that time, which a take gives and a peek shows; 0 where none is.
+fn next(tree: &mut Tree, losses: &mut Losses, ns: u64, is_taken: bool) -> Result<u64, Fail> {
+    let now = later(tree, ns)?;
     make_room(tree, losses)?;
     let packet = if is_taken {
         tree.take(now, losses)
@@ -119,6 +166,36 @@ fn next(tree: &mut Tree, losses: &mut Losses, is_taken: bool) -> Result<u64, Fai
     match packet {
         Some(packet) => Ok(packet.number),
         None => Ok(0),
+    }
+}
+
+fn has_lost(losses: &mut Losses, number: u64, cause: Cause) -> bool {
+    match losses.reap() {
+        Some(loss) => {
+            let packet = loss.packet;
+            packet.number == number && loss.cause == cause
+        }
+        None => false,
+    }
+}
+
+// The packets in a place: those that arrived, were sent, refused and dropped, and those that wait.
+fn counts(tree: &Tree, spot: Spot) -> Option<[u64; 5]> {
+    let row = tree.stats(spot.place()?)?;
+    Some([
+        row.arrived.packets,
+        row.sent.packets,
+        row.refused.packets,
+        row.dropped.packets,
+        row.queued.packets,
+    ])
+}
+
+// Whether a class of a drr has this quantum and deficit.
+fn has(tree: &Tree, (i, j): (usize, usize), quantum: u32, deficit: Option<u64>) -> bool {
+    match tree.class(i, j) {
+        Some(class) => class.kind == ClassKind::Drr { quantum, deficit },
+        None => false,
     }
 }
 
@@ -133,32 +210,64 @@ fn is_right(
             let command = ask.command().ok_or("command")?;
             is_answered(alloc, tree, losses, &command, *answer)
         }
-        Call::Put(number) => Ok(put(tree, losses, *number)? == Fate::Kept),
-        Call::Peek(number) => Ok(next(tree, losses, false)? == *number),
-        Call::Take(number) => Ok(next(tree, losses, true)? == *number),
-        Call::Waiting(spot, packets) => match tree.stats(spot.place().ok_or("place")?) {
-            Some(row) => Ok(row.queued.packets == *packets),
-            None => Ok(false),
-        },
+        Call::Repeat(times, ask) => {
+            let command = ask.command().ok_or("command")?;
+            are_done(alloc, tree, losses, *times, &command)
+        }
+        Call::Put(number) => Ok(put(tree, losses, *number, 100, 0)? == Fate::Kept),
+        Call::Arrive(number, len, prio, fate) => {
+            Ok(put(tree, losses, *number, *len, *prio)? == *fate)
+        }
+        Call::Peek(number) => Ok(next(tree, losses, 0, false)? == *number),
+        Call::Take(number) => Ok(next(tree, losses, 0, true)? == *number),
+        Call::TakeAt(ns, number) => Ok(next(tree, losses, *ns, true)? == *number),
+        Call::Lost(number, cause) => Ok(has_lost(losses, *number, *cause)),
+        Call::NoLoss => Ok(losses.reap().is_none()),
+        _ => Ok(is_seen(tree, call)),
     }
 }
 
-// Fails at the first call that is not answered as it has to be, with its place.
-fn expect(alloc: Global, tree: &mut Tree, losses: &mut Losses, calls: &[Call]) -> Result<(), Fail> {
+// Whether a call that only reads answers as it has to.
+fn is_seen(tree: &Tree, call: &Call) -> bool {
+    match call {
+        Call::Waiting(spot, packets) => match counts(tree, *spot) {
+            Some(counts) => counts[4] == *packets,
+            None => false,
+        },
+        Call::Counts(spot, wanted) => counts(tree, *spot) == Some(*wanted),
+        Call::Class(i, j, quantum, deficit) => has(tree, (*i, *j), *quantum, *deficit),
+        _ => false,
+    }
+}
+
+// The place of the first call that is not answered as it has to be.
+fn wrong_at(
+    alloc: Global,
+    tree: &mut Tree,
+    losses: &mut Losses,
+    calls: &[Call],
+) -> Result<Option<usize>, Fail> {
     for (place, call) in calls.iter().enumerate() {
         if !is_right(alloc, tree, losses, call)? {
-            return Err(Fail::new(format_args!("call {place}")));
+            return Ok(Some(place));
         }
     }
-    Ok(())
+    Ok(None)
 }
 
-// Makes these calls on a new tree, a pfifo of 100 packets, of at most 1500 bytes each. This alone drops a tree, in one place, since each way on which
-// one is dropped takes long to prove.
-fn called(alloc: Global, calls: &[Call]) -> Result<(), Fail> {
+/// The same of these calls on a new tree, a pfifo of 100 packets, of at most 1500 bytes each. This alone drops a tree, in one place, since each way on
+/// which one is dropped takes long to prove.
+pub fn first_wrong(alloc: Global, calls: &[Call]) -> Result<Option<usize>, Fail> {
     let mut tree = Tree::new(alloc, 1500, 100);
     let mut losses = Losses::new(alloc);
-    expect(alloc, &mut tree, &mut losses, calls)
+    wrong_at(alloc, &mut tree, &mut losses, calls)
+}
+
+fn called(alloc: Global, calls: &[Call]) -> Result<(), Fail> {
+    match first_wrong(alloc, calls)? {
+        None => Ok(()),
+        Some(place) => Err(Fail::new(format_args!("call {place}"))),
+    }
 }
 
 // First at the tree as it is, and then at a prio, 1:, over a pfifo, 2:.
