@@ -10,6 +10,7 @@
 #include <inttypes.h>
 #include <poll.h>
 #include <stdio.h>
+#include <sys/random.h>
 #include <sys/timerfd.h>
 #include <time.h>
 #include <unistd.h>
@@ -29,6 +30,15 @@ static inline uint64_t now_ns(void) {
     struct timespec now;
     clock_gettime(CLOCK_MONOTONIC, &now);
     return (uint64_t)now.tv_sec * BILLION + (uint64_t)now.tv_nsec;
+}
+
+/* The seed of the hash, drawn once, so that nobody outside knows which ports share a flow. */
+static inline uint32_t hash_seed(void) {
+    static uint32_t seed;
+    if (seed == 0 && getrandom(&seed, sizeof seed, 0) != sizeof seed) {
+        seed = (uint32_t)now_ns();
+    }
+    return seed;
 }
 
 /* Whether the program will have enough buffers for the tree that the lines make, which it tries on a device of its own. If they make no
@@ -67,7 +77,7 @@ static inline void way_read(struct way *way) {
         way->read++;
         buffer->len = (uint16_t)len;
         qtree_packet packet = { .len = buffer->len, .buf = buf };
-        qtree_read_head(buffer->bytes, buffer->len, 0, &packet);
+        qtree_read_head(buffer->bytes, buffer->len, hash_seed(), &packet);
         uint64_t now = now_ns();
         qtree_code code = qtree_arrive(&way->device, &packet, now);
         if (code != QTREE_DONE && !qtree_is_loss(code)) {
