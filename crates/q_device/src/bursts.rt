@@ -101,8 +101,8 @@ impl Device {
         (done, Given::Packet)
     }
 
-    // Those behind the first `done` arrive one by one.
-    #[inline(always)]
+    // Those behind the first `done` arrive one by one. In a function of its own the loop has the registers for itself.
+    #[inline(never)]
     fn arrive_each<A: Answer>(
         &mut self,
         packets: &[StoredPacket],
@@ -144,7 +144,7 @@ impl Device {
     }
 
     // Those behind the first `done` polls are made one by one.
-    #[inline(always)]
+    #[inline(never)]
     fn poll_each<T: Told>(&mut self, now: Moment, places: &mut [T], done: usize) -> (usize, Given)
         requires within { done ≤ length places.old }
         ensures { (before : List T) (d : DeviceSeen) → length before ≡ length places.old → IsPolling T.told done (length before) now before places.old d self.old →
