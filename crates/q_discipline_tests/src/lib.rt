@@ -27,4 +27,6 @@ mod show;
 #[cfg(test)]
 mod twins;
 #[cfg(test)]
+mod units;
+#[cfg(test)]
 mod words;
