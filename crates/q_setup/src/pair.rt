@@ -74,11 +74,8 @@ impl<'a> Pair<'a> {
         None
     }
 
-    /// Whether a qdisc that stays has the filters of this priority that the file wants, in their order.
+    /// Whether a qdisc, which stays, has the filters of this priority that the file wants, in their order.
     pub(crate) fn filters_stay(&self, parent: Handle, prio: FilterPrio) -> bool {
-        if !self.handle_stays(parent) {
-            return false;
-        }
         let (wanted, seen) = (
             self.wanted.group(parent, prio),
             self.seen.group(parent, prio),
@@ -94,5 +91,29 @@ impl<'a> Pair<'a> {
             }
         }
         false
+    }
+}
+
+/// Whether the qdiscs of filters stay. Filters come qdisc by qdisc, so the answer for the last one serves all of its filters.
+#[derive(Clone, Copy)]
+pub(crate) struct Parents {
+    last: Option<Handle>,
+    stays: bool,
+}
+
+impl Parents {
+    pub(crate) fn new() -> Parents {
+        Parents {
+            last: None,
+            stays: false,
+        }
+    }
+
+    pub(crate) fn stays(&mut self, pair: &Pair<'_>, parent: Handle) -> bool {
+        if self.last != Some(parent) {
+            self.stays = pair.handle_stays(parent);
+            self.last = Some(parent);
+        }
+        self.stays
     }
 }

@@ -8,7 +8,7 @@ use crate::adding::add;
 use crate::alike::{are_alike, quantum_of};
 use crate::kinds::kind_of;
 use crate::naming::is_chosen;
-use crate::pair::Pair;
+use crate::pair::{Pair, Parents};
 use crate::seen::Seen;
 use q_model::{ClassId, ClassView, Command, NodeView, Place, QdiscView, Quantum};
 use q_tree::Tree;
@@ -48,13 +48,14 @@ pub(crate) fn planned(
 // The filters of a priority that are not those that the file wants; what goes takes its filters along.
 fn delete_filters(pair: &Pair<'_>, commands: &mut Vec<Command>) -> Result<(), AllocError> {
     let mut last = None;
+    let mut parents = Parents::new();
     for filter in &pair.seen.filters {
         let (parent, prio) = (filter.parent, filter.filter.prio);
         if last == Some((parent, prio)) {
             continue;
         }
         last = Some((parent, prio));
-        if pair.handle_stays(parent) && !pair.filters_stay(parent, prio) {
+        if parents.stays(pair, parent) && !pair.filters_stay(parent, prio) {
             add(commands, Command::FilterDel { parent, prio })?;
         }
     }
@@ -258,8 +259,9 @@ fn class_command(class: ClassId, old: Option<u32>, bytes: u32) -> Option<Command
 
 // The filters of each priority of which not all stay.
 fn add_filters(pair: &Pair<'_>, commands: &mut Vec<Command>) -> Result<(), AllocError> {
+    let mut parents = Parents::new();
     for view in &pair.wanted.filters {
-        if !pair.filters_stay(view.parent, view.filter.prio) {
+        if !parents.stays(pair, view.parent) || !pair.filters_stay(view.parent, view.filter.prio) {
             add(
                 commands,
                 Command::FilterAdd {

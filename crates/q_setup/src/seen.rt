@@ -14,6 +14,8 @@ pub(crate) struct Seen {
     pub(crate) nodes: Vec<NodeView>,
     pub(crate) classes: Vec<ClassView>,
     pub(crate) filters: Vec<FilterView>,
+    /// Where the filters of each node begin, so that no other node's filters are searched.
+    first_filters: Vec<usize>,
 }
 
 impl Seen {
@@ -23,11 +25,13 @@ impl Seen {
             nodes: Vec::new(alloc),
             classes: Vec::new(alloc),
             filters: Vec::new(alloc),
+            first_filters: Vec::new(alloc),
         };
         let mut nodes = tree.nodes();
         while let Some(node) = nodes.next() {
             add(&mut seen.nodes, node.view())?;
             add_classes(&mut seen.classes, &node)?;
+            add(&mut seen.first_filters, seen.filters.len())?;
             add_filters(&mut seen.filters, &node)?;
         }
         Ok(seen)
@@ -55,10 +59,25 @@ impl Seen {
 
     /// The place among all filters of the first of a qdisc's filters with this priority.
     pub(crate) fn group(&self, parent: Handle, prio: FilterPrio) -> usize {
-        for place in 0..self.filters.len() {
+        for place in self.first_filter(parent)..self.filters.len() {
             let filter = &self.filters[place];
-            if filter.parent == parent && filter.filter.prio == prio {
+            if filter.parent != parent {
+                return self.filters.len();
+            }
+            if filter.filter.prio == prio {
                 return place;
+            }
+        }
+        self.filters.len()
+    }
+
+    // The place of the first of a qdisc's filters, if it has one.
+    fn first_filter(&self, parent: Handle) -> usize {
+        for at in 0..self.nodes.len() {
+            if self.nodes[at].handle == Some(parent) {
+                if let Some(first) = self.first_filters.get(at) {
+                    return *first;
+                }
             }
         }
         self.filters.len()
