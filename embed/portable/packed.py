@@ -18,7 +18,7 @@ import tie
 
 PAGES = ("TUTORIAL", "CONCEPTS", "SETTINGS", "LANGUAGE", "DISCIPLINES", "TC", "SERVICE", "GUARANTEES", "EMBEDDING", "VPN", "ROUTER")
 # Programs of embed/c that are no tests, or need more than a C compiler.
-LEFT = ("fuzz.c", "bench.c", "figures.c", "long_session.c", "standards.c")
+LEFT = ("fuzz.c", "bench.c", "figures.c", "long_session.c", "standards.c", "steps.c")
 # Commands of the repository in its pages, and those of the package: each is in a page, or there is a line too many here.
 COMMANDS = {
     "To build the library, run one of these two commands at the top of the repository (`rt` is the command of Rattle's kit):":
