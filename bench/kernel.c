@@ -1,4 +1,4 @@
-/* The workloads of src/devices.rs over the kernel's own qdiscs, in user space. `kpeer.h` is that of a kernel bench, a folder
+/* The workloads of src/devices.rs, and those of embed/c/bench.c, over the kernel's own qdiscs, in user space. `kpeer.h` is that of a kernel bench, a folder
  * beside this repository (docs/PERFORMANCE.md): it puts the source files of Linux's qdiscs under a thin stand-in for the rest
  * of the kernel. A packet is a pointer here. Its fields are written at each arrival, since buffers go round. */
 #include "kpeer.h"
@@ -370,4 +370,47 @@ u64 kernel_harness(const struct load *load, u32 passes)
 	qdisc_put(q);
 	free(made);
 	return sum;
+}
+
+/* A tree with its queue, which calls from C are measured beside: embed/c/bench_kernel.h. */
+struct opened {
+	struct Qdisc *q;
+	struct made *made;
+	u32 packets, next;
+	bool ecn;
+};
+
+void *bench_kernel_open(const struct load *load)
+{
+	struct opened *opened = malloc(sizeof(*opened));
+
+	*opened = (struct opened){ .made = made_of(load), .packets = load->packets, .next = load->queued % load->packets, .ecn = load->ecn };
+	opened->q = ready(load, opened->made);
+	return opened;
+}
+
+u64 bench_kernel_run(void *of, u32 step, u32 packets, u32 burst)
+{
+	struct opened *opened = of;
+	u64 sum = 1;
+
+	for (u32 done = 0; done + burst <= packets; done += burst) {
+		shim_now += (u64)step * burst;
+		for (u32 i = 0; i < burst; i++) {
+			sum = with(sum, arrive(opened->q, &opened->made[opened->next], opened->ecn));
+			opened->next = (opened->next + 1) % opened->packets;
+		}
+		for (u32 i = 0; i < burst; i++)
+			sum = with(sum, poll(opened->q));
+	}
+	return sum;
+}
+
+void bench_kernel_close(void *of)
+{
+	struct opened *opened = of;
+
+	qdisc_put(opened->q);
+	free(opened->made);
+	free(opened);
 }

@@ -1,16 +1,20 @@
 /* What a packet costs from C, by an arrival and a poll: one at a time, 32 in a crossing, and 32 at a time through a ring.
  *
- *     bench [PACKETS [ROUNDS]]     so many packets for each row, by default 1,000,000, in 5 rounds. These span an interval of CoDel: of
- *                                  more packets it would drop some in the drr of 8 fq_codels, and the row would stop.
+ *     bench [PACKETS [ROUNDS [WORD]]]     so many packets for each figure, by default 1,000,000, in 5 rounds, in the rows with this word in
+ *                                         their names. A million spans an interval of CoDel: of more it would drop some in the drr of
+ *                                         8 fq_codels, and the row would stop.
  *
  * Packets also arrive by their first bytes, one at a time, by qtree_arrive_frame and qtree_poll_buf, with the hash of the packet; 32 at a
- * time also leave by qtree_poll_bufs, and are placed in the ring by qtree_offer_many. Two rows are for reading a header with a hash and
- * without. The last is for two threads at once, each with a device of its own, whose structs stand side by side or far apart: the
+ * time also leave by qtree_poll_bufs, and are placed in the ring by qtree_offer_many. Where the kernel's own code is linked
+ * (bench_kernel.h), it takes its turn in each round, a packet at a time and 32, and each figure also says how many times the kernel's
+ * time it takes: of each round the ratio to the same burst, and of the rounds the median. Two rows are for reading a header with a hash
+ * and without. The last is for two threads at once, each with a device of its own, whose structs stand side by side or far apart: the
  * processor time of the slower thread for a packet, which is the same as long as no call writes to a struct.
  *
  * Packets are made before, 8192 of them in turn, and some are queued first. Trees, packets and times are those of the rows of the same
- * names that bench/run measures from Rattle. A row is the least of the rounds, in nanoseconds a packet. */
+ * names that bench/run measures from Rattle. Figures are nanoseconds a packet: the least of the rounds, and the median. */
 #define _POSIX_C_SOURCE 200809L
+#include "bench_kernel.h"
 #include "check.h"
 #include "qtree.h"
 
@@ -25,18 +29,19 @@ enum { BATCH = 32, MADE = 8192, CLASSES = 8, FIRST_PORT = 5000, HEAD = 28, MTU =
 struct row {
     const char *name, *root, *leaf;
     uint32_t flows, queued, step;
+    enum shape shape;
 };
 
 static const char FLOWS[] = "fq_codel limit 10240 flows 1024 noecn drop_batch 64";
 
 static const struct row rows[] = {
-    { "root pfifo, 1000 queued", "pfifo limit 200000", NULL, 1, 1000, 100 },
-    { "prio of 3 pfifos", "prio bands 3 priomap 1 2 2 2 1 2 0 0 1 1 1 1 1 1 1 1", NULL, 1, 1000, 100 },
-    { "tbf that never waits", "tbf rate 34gbit burst 1gb limit 1gb", NULL, 1, 1000, 1000 },
-    { "drr of 8 pfifos", "drr", "pfifo limit 200000", 1, 1000, 100 },
-    { "drr of 8 fq_codels", "drr", FLOWS, 64, 1000, 100 },
-    { "fq_codel, 1024 flows, 0 queued", FLOWS, NULL, 1024, 0, 100 },
-    { "fq_codel, 1024 flows, 10000 queued", FLOWS, NULL, 1024, 10000, 100 },
+    { "root pfifo, 1000 queued", "pfifo limit 200000", NULL, 1, 1000, 100, PFIFO },
+    { "prio of 3 pfifos", "prio bands 3 priomap 1 2 2 2 1 2 0 0 1 1 1 1 1 1 1 1", NULL, 1, 1000, 100, PRIO },
+    { "tbf that never waits", "tbf rate 34gbit burst 1gb limit 1gb", NULL, 1, 1000, 1000, TBF },
+    { "drr of 8 pfifos", "drr", "pfifo limit 200000", 1, 1000, 100, DRR_OF_PFIFOS },
+    { "drr of 8 fq_codels", "drr", FLOWS, 64, 1000, 100, DRR_OF_FQ_CODELS },
+    { "fq_codel, 1024 flows, 0 queued", FLOWS, NULL, 1024, 0, 100, FQ_CODEL },
+    { "fq_codel, 1024 flows, 10000 queued", FLOWS, NULL, 1024, 10000, 100, FQ_CODEL },
 };
 
 /* The packets, with their indexes as buf. */
@@ -191,19 +196,98 @@ static double by_ring(const struct row *row, qtree_device *device, uint32_t pack
 static double by_ring_many(const struct row *row, qtree_device *device, uint32_t packets) { return by_a_ring(row, device, packets, true); }
 
 /* Every packet that arrived was sent or is queued, and in an fq_codel none was dropped. */
-static double least(double (*play)(const struct row *, qtree_device *, uint32_t), const struct row *row, uint32_t packets, uint32_t rounds) {
-    double best = 1e9;
-    for (uint32_t round = 0; round < rounds; round++) {
-        qtree_device device = QTREE_CLOSED;
-        open_with(&device, row);
-        double cost = play(row, &device, packets);
-        best = cost < best ? cost : best;
-        qtree_row totals;
-        CHECK(qtree_totals(&device, &totals) == QTREE_DONE && totals.queued.packets == row->queued);
-        CHECK(totals.arrived.packets == totals.sent.packets + row->queued);
-        qtree_close(&device);
+static double by_device(double (*play)(const struct row *, qtree_device *, uint32_t), const struct row *row, uint32_t packets) {
+    qtree_device device = QTREE_CLOSED;
+    open_with(&device, row);
+    double cost = play(row, &device, packets);
+    qtree_row totals;
+    CHECK(qtree_totals(&device, &totals) == QTREE_DONE && totals.queued.packets == row->queued);
+    CHECK(totals.arrived.packets == totals.sent.packets + row->queued);
+    qtree_close(&device);
+    return cost * 1e9;
+}
+
+/* The same packets through the kernel's own code, so many at a time. */
+static double by_kernel(const struct row *row, uint32_t packets, uint32_t burst) {
+    static uint32_t hashes[MADE];
+    static uint8_t prios[MADE];
+    static uint16_t ports[MADE];
+    for (uint32_t i = 0; i < MADE; i++) {
+        hashes[i] = made[i].hash;
+        prios[i] = made[i].prio;
+        ports[i] = made[i].dport;
     }
-    return best * 1e9;
+    struct load load = { hashes, prios, ports, MADE, (uint32_t)row->shape, 1024, 64, row->queued, 10240, false };
+    void *opened = bench_kernel_open(&load);
+    double begun = seconds();
+    CHECK(bench_kernel_run(opened, row->step, packets, burst) != 0);
+    double taken = seconds() - begun;
+    bench_kernel_close(opened);
+    return taken / (packets / burst * burst) * 1e9;
+}
+
+/* The ways to bring packets and to take them. One at a time, or by so many. */
+static const struct way {
+    const char *name;
+    double (*play)(const struct row *, qtree_device *, uint32_t);
+    uint32_t burst;
+} ways[] = {
+    { "the kernel's code, one at a time", NULL, 1 },
+    { "the kernel's code, by 32", NULL, BATCH },
+    { "one at a time", one_at_a_time, 1 },
+    { "one at a time, from its bytes", from_bytes, 1 },
+    { "by 32, poll_many", in_batches, BATCH },
+    { "by 32, poll_bufs", by_bufs, BATCH },
+    { "by 32 through a ring", by_ring, BATCH },
+    { "by 32 through a ring, offer_many", by_ring_many, BATCH },
+};
+enum { WAYS = sizeof ways / sizeof ways[0], KERNEL_ONE = 0, KERNEL_MANY = 1, MOST_ROUNDS = 1000 };
+
+static int ascending(const void *a, const void *b) {
+    double x = *(const double *)a, y = *(const double *)b;
+    return (x > y) - (x < y);
+}
+
+static double median(double *figures, uint32_t count) {
+    qsort(figures, count, sizeof *figures, ascending);
+    return figures[count / 2];
+}
+
+static bool is_here(const struct way *way) { return way->play != NULL || bench_kernel_open != NULL; }
+
+/* The least and the median of a way's rounds, and the median of what each round is to the kernel's. */
+static void print_way(const struct way *way, const double costs[], const double kernel[], uint32_t rounds) {
+    static double sorted[MOST_ROUNDS], ratios[MOST_ROUNDS];
+    memcpy(sorted, costs, rounds * sizeof *sorted);
+    double middle = median(sorted, rounds);
+    printf("    %-36s %7.1f ns %7.1f ns in the median", way->name, sorted[0], middle);
+    if (way->play != NULL && bench_kernel_open != NULL) {
+        for (uint32_t round = 0; round < rounds; round++) {
+            ratios[round] = costs[round] / kernel[round];
+        }
+        printf(" %6.2f times the kernel's", median(ratios, rounds));
+    }
+    printf("\n");
+}
+
+/* All ways take turns in each round. */
+static void print_row(const struct row *row, uint32_t packets, uint32_t rounds) {
+    static double costs[WAYS][MOST_ROUNDS];
+    make_packets(row);
+    for (uint32_t round = 0; round < rounds; round++) {
+        for (size_t i = 0; i < WAYS; i++) {
+            if (is_here(&ways[i])) {
+                costs[i][round] = ways[i].play == NULL ? by_kernel(row, packets, ways[i].burst) : by_device(ways[i].play, row, packets);
+            }
+        }
+    }
+    printf("%s\n", row->name);
+    for (size_t i = 0; i < WAYS; i++) {
+        if (is_here(&ways[i])) {
+            print_way(&ways[i], costs[i], costs[ways[i].burst == 1 ? KERNEL_ONE : KERNEL_MANY], rounds);
+        }
+    }
+    fflush(stdout);
 }
 
 /* The time to read a header, with a hash or without: the least of the rounds. */
@@ -276,18 +360,18 @@ static void print_two_devices(uint32_t packets, uint32_t rounds) {
 int main(int argc, char **argv) {
     uint32_t packets = argc > 1 ? (uint32_t)strtoul(argv[1], NULL, 10) : 1000000;
     uint32_t rounds = argc > 2 ? (uint32_t)strtoul(argv[2], NULL, 10) : 5;
-    CHECK(packets >= BATCH && rounds >= 1);
+    const char *word = argc > 3 ? argv[3] : "";
+    CHECK(packets >= BATCH && rounds >= 1 && rounds <= MOST_ROUNDS);
     for (size_t i = 0; i < sizeof rows / sizeof rows[0]; i++) {
-        make_packets(&rows[i]);
-        printf("%-36s %7.1f ns one at a time %7.1f ns by %d", rows[i].name, least(one_at_a_time, &rows[i], packets, rounds),
-               least(in_batches, &rows[i], packets, rounds), BATCH);
-        printf(" %7.1f ns by poll_bufs %7.1f ns from its bytes", least(by_bufs, &rows[i], packets, rounds),
-               least(from_bytes, &rows[i], packets, rounds));
-        printf(" %7.1f ns by a ring %7.1f ns by offer_many\n", least(by_ring, &rows[i], packets, rounds),
-               least(by_ring_many, &rows[i], packets, rounds));
+        if (strstr(rows[i].name, word) != NULL) {
+            print_row(&rows[i], packets, rounds);
+        }
     }
-    printf("%-36s %7.1f ns\n", "qtree_read_head", read_heads(true, packets, rounds));
-    printf("%-36s %7.1f ns\n", "qtree_read_fields", read_heads(false, packets, rounds));
+    if (*word != '\0') {
+        return 0;
+    }
+    printf("%-40s %7.1f ns\n", "qtree_read_head", read_heads(true, packets, rounds));
+    printf("%-40s %7.1f ns\n", "qtree_read_fields", read_heads(false, packets, rounds));
     print_two_devices(packets, rounds);
     return 0;
 }
