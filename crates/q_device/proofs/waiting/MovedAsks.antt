@@ -30,7 +30,7 @@ use Rattle.q_invariants.proofs.ask.AskClasses.{peeked_by}
 use Rattle.q_invariants.proofs.ask.AskPrio.{peeked_to, notes_to}
 use Rattle.q_invariants.proofs.ask.DrrService.{IsMetAt, met-asked}
 use Rattle.q_invariants.proofs.class.Exact.{classes-served, exact-length}
-use Rattle.q_tree.specs.ReadyAt.{no_packet, with_bands, paid, of_fifo, of_flows, of_class, outlook}
+use Rattle.q_tree.specs.answers.ReadyAt.{no_packet, with_bands, paid, of_fifo, of_flows, of_class, outlook}
 use Rattle.q_tree.proofs.Foreseeing.{Covers}
 use Rattle.q_tree.proofs.ForeseenAsks.{prio-shown}
 use Rattle.q_fqcodel.proofs.FlowsShow.{take_leaves_none}
