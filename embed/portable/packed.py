@@ -239,7 +239,9 @@ def install_and_remove(folder, prefix, *words):
 
 
 def try_installed(folder, prefix):
-    """The player and the tools that were installed run, and so does the package for Python over the shared library."""
+    """The player and the tools that were installed run, man shows the page of a function, and the package for Python runs over the shared library."""
+    if shutil.which("man") and "qtree_code" not in run("env", "MANPAGER=cat", "man", "-M", f"{prefix}/share/man", "qtree_open"):
+        raise Unreadable("man qtree_open shows another page")
     examples = f"{folder}/examples"
     report = read(f"{examples}/two_of_three_packets.out")
     if run("env", "-i", PATH, f"{prefix}/bin/qtree-play", f"{examples}/two_packets.qtree") != report:
