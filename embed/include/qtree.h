@@ -1,7 +1,9 @@
 /* qtree: a packet scheduler with the behaviour of Linux's tc, as a library.
  *
- * A program opens a device, which is one scheduler, and sets it up with lines of tc. It describes each packet to the
- * device in a qtree_packet, and keeps the packet's bytes itself. These are the calls that a program makes:
+ * A program opens a device, which is one scheduler: a tree of queueing disciplines (qdiscs), which lines of tc set up.
+ * It describes each packet to the device in a qtree_packet, and keeps the packet's bytes itself. A packet that arrives
+ * is queued or lost. A poll takes the packet whose turn it is. Each lost packet is handed out with its cause. These are
+ * the calls that a program makes:
  *
  *     qtree_device device = QTREE_CLOSED;
  *     qtree_settings settings = QTREE_DEFAULTS;
@@ -17,8 +19,9 @@
  *     qtree_close(&device);
  *
  * The comment of each function says what the function does, what it takes, what it returns, and what happens on an
- * error. In the repository, docs/EMBEDDING.md has whole programs, and docs/LANGUAGE.md has the lines of tc. Once the
- * library is installed, this command compiles and links a program:
+ * error. It is the function's manual page, too: man qtree_open. In the repository, docs/EMBEDDING.md has whole
+ * programs, docs/LANGUAGE.md each line, and docs/DISCIPLINES.md what the qdiscs do. Programs are in C99 or later, or in
+ * C++98 or later. Once the library is installed, this command compiles and links a program:
  *
  *     cc program.c $(pkg-config --cflags --libs qtree)
  *
@@ -41,12 +44,12 @@
  *     only one may be used. It is closed before its memory is released. Memory that processes share (MAP_SHARED) does
  *     not serve: what the struct points to is on the heap of the process that opened it.
  *   - Threads. Only one call at a time may use a given qtree_device, qtree_port or qtree_outlet. That includes calls
- *     that take a pointer to a const one. Each of the three may go from one thread to another if the calls are
- *     ordered by a lock, by the start or the join of a thread, or by a sequentially consistent atomic. Devices are
- *     independent of each other, and so are the two ends of a ring: one thread may use the port while another uses
- *     the outlet. A port belongs to one sender and needs no lock. An outlet is used by the thread that uses the
- *     device, or under the lock that guards the device. Functions that take none of these three may be called by
- *     several threads at once, each with memory of its own.
+ *     that take a pointer to a const one. If several threads use it, they make each call under one lock. Each of the
+ *     three may go from one thread to another if the calls are ordered by a lock, by the start or the join of a thread,
+ *     or by a sequentially consistent atomic. Devices are independent of each other, and so are the two ends of a ring:
+ *     one thread may use the port while another uses the outlet. A port belongs to one sender and needs no lock. An
+ *     outlet is used by the thread that uses the device, or under the lock that guards the device. Functions that take
+ *     none of these three may be called by several threads at once, each with memory of its own.
  *   - Signals and fork. No function is called from a signal handler. After a fork, the child uses no device, port or
  *     outlet that was opened before; the child of a program with threads calls no function at all.
  *   - Stack. A thread that calls a function has at least 64 KB of stack left.
@@ -93,6 +96,8 @@
 #ifdef __cplusplus
 extern "C" {
 #endif
+
+/* ---- Versions, codes and types ---- */
 
 /* The version of this header. Within one major number, functions and numbers are only added, and no struct changes. */
 #define QTREE_VERSION_MAJOR 1
@@ -255,6 +260,8 @@ enum {
     QTREE_FAULT_BAD_UTF8 = 6      /* the word is not UTF-8 */
 };
 
+/* ---- Opening and closing ---- */
+
 /* Opens a device with a pfifo at its root, and allocates the memory of its recorder.
  *
  * device    a closed device, as QTREE_CLOSED initializes one
@@ -274,10 +281,16 @@ qtree_code qtree_open(qtree_device *device, const qtree_settings *settings);
  * nothing happens. */
 void qtree_close(qtree_device *device);
 
+/* ---- Commands ---- */
+
 /* Carries out one line of tc that changes the tree. A line adds, changes or deletes a qdisc or a class of a drr, or
- * adds or deletes a filter. qtree has a part of tc's lines: there is no replace, and the only filter is flower. In the
- * repository, docs/LANGUAGE.md has the words of each line, and docs/DISCIPLINES.md the options of each qdisc with their
- * ranges and defaults. Packets of what the line removes are lost, and wait to be reaped.
+ * adds or deletes a filter. qtree has a part of tc's lines: there is no replace, and the only filter is flower,
+ * which unlike Linux's needs neither the word protocol nor ip_proto before a port. In the repository, docs/LANGUAGE.md
+ * has the words of each line, and docs/DISCIPLINES.md the options of each qdisc with their ranges and defaults. Packets
+ * of what the line removes are lost, and wait to be reaped.
+ *
+ * A change of a tbf or a prio says all that an add has to say. A change of another qdisc, or of a class of a drr,
+ * leaves alone what it does not name.
  *
  * line   line_len bytes, with a newline at their end or without one. The name of the device in the line means
  *        nothing.
@@ -293,7 +306,7 @@ void qtree_close(qtree_device *device);
  *   QTREE_OUT_OF_RANGE  the time is out of its range
  *   QTREE_IS_CLOSED     the device is closed
  *   QTREE_MEMORY        an allocation failed
- * The device changes only if QTREE_DONE is returned. qtree_explain writes out what is wrong with a line.
+ * On an error the device stays as it is. qtree_explain writes out what is wrong with a line.
  *
  * For example, these lines limit a link to 20 Mbit/s, and give packets to the UDP port 5060 a third of it while there
  * are any:
@@ -308,7 +321,6 @@ void qtree_close(qtree_device *device);
  *     tc filter add dev wan parent 2: prio 2 flower classid 2:2
  *
  * A drr loses each packet that no filter takes. So the last filter has no keys, and takes all that the others leave.
- * (Unlike Linux's tc, a filter by port needs neither the word protocol nor ip_proto.)
  *
  * These lines change the rate, then the target of the fq_codel, and then delete the tree:
  *
@@ -316,8 +328,7 @@ void qtree_close(qtree_device *device);
  *     tc qdisc change dev wan parent 2:2 fq_codel target 10ms
  *     tc qdisc del dev wan root
  *
- * A change of a tbf or a prio says all that an add has to say. A change of another qdisc, or of a class of a drr,
- * leaves alone what it does not name. */
+ * docs/SETTINGS.md helps to choose a tree and its numbers. */
 qtree_code qtree_command(qtree_device *device, const uint8_t *line, size_t line_len, uint64_t now, qtree_fault *fault);
 
 /* Does what qtree_command does, with a line that ends with a zero byte. Here fault may be null. */
@@ -378,6 +389,8 @@ typedef struct qtree_undone {
 qtree_code qtree_set_up(qtree_device *device, const uint8_t *text, size_t text_len, uint64_t now, qtree_report *report,
                         qtree_undone *undone, size_t room);
 
+/* ---- Headers of packets ---- */
+
 /* Reads the IP header of a packet, and the ports behind it, into a qtree_packet, and hashes its flow.
  *
  * bytes   the first count bytes of the packet, from its IP header on; the whole header and the 4 bytes behind it,
@@ -422,9 +435,10 @@ qtree_code qtree_hash(uint32_t seed, qtree_packet *packet);
  * 0. Otherwise no byte is written. */
 bool qtree_mark_head(uint8_t *bytes, size_t count);
 
-/* A packet arrives at the device, which queues it or loses it. A lost packet is also handed out by qtree_reap: its
- * buffer is released then, and not before. An arrival at a full fq_codel may lose other packets, which then wait to be
- * reaped.
+/* ---- Arrivals ---- */
+
+/* Enqueues a packet: the device queues it or loses it. qtree_reap hands out a lost packet, too: its buffer is released
+ * then, and not before. An arrival at a full fq_codel may lose other packets, which then wait to be reaped.
  *
  * packet  the descriptor; the device copies it
  * now     the time
@@ -439,7 +453,7 @@ bool qtree_mark_head(uint8_t *bytes, size_t count);
  * a loss from an error. */
 qtree_code qtree_arrive(qtree_device *device, const qtree_packet *packet, uint64_t now);
 
-/* A packet arrives whose header the function reads itself: these do what qtree_read_fields_hashed and qtree_arrive do
+/* Enqueue a packet whose header the function reads itself: these do what qtree_read_fields_hashed and qtree_arrive do
  * together, without a qtree_packet. qtree_arrive_frame_seeded computes the hash with a seed, as qtree_read_head does.
  *
  * bytes  the first count bytes of the packet, from its IP header on
@@ -447,6 +461,7 @@ qtree_code qtree_arrive(qtree_device *device, const qtree_packet *packet, uint64
  * buf    the program's own number, which comes back with the packet
  * hash   the hash of the flow; it may be 0 if no fq_codel is in the tree
  * now    the time
+ *
  * The number and the port of the packet are 0.
  *
  * They return what qtree_arrive returns; QTREE_OUT_OF_RANGE is for a len of 0 and for the time. */
@@ -479,7 +494,7 @@ static inline const char *qtree_out_of_range(const qtree_packet *packet, uint64_
     return QTREE_NULL;
 }
 
-/* Several packets arrive in order, all at the same time, each as by qtree_arrive. The first packet that is out of
+/* Enqueues packets in order, all at one time, each as qtree_arrive does. The first packet that is out of
  * range, or for which an allocation fails, does not arrive, and ends the call.
  *
  * packets  count descriptors
@@ -490,13 +505,15 @@ static inline const char *qtree_out_of_range(const qtree_packet *packet, uint64_
  *
  * Returns
  *   QTREE_DONE          all packets arrived
- *   QTREE_OUT_OF_RANGE  a field of the next packet, or the time, is out of its range
- *   QTREE_ROOM          codes_len is less than count, and no packet arrived
- *   QTREE_IS_CLOSED     the device is closed, and no packet arrived
+ *   QTREE_OUT_OF_RANGE  the time, or a field of the next packet, is out of its range
+ *   QTREE_ROOM          codes_len is less than count; no packet arrived
+ *   QTREE_IS_CLOSED     the device is closed; no packet arrived
  *   QTREE_MEMORY        an allocation failed for the next packet
- * On an error the packets from packets[done] on have not arrived, and stay with the program. */
+ * On an error the packets from packets[done] on stay with the program. */
 qtree_code qtree_arrive_many(qtree_device *device, const qtree_packet *packets, size_t count, uint8_t *codes,
                              size_t codes_len, size_t *done, uint64_t now);
+
+/* ---- Polls ---- */
 
 /* Takes the packet whose turn it is. CoDel may lose other packets in a poll, which then wait to be reaped.
  *
@@ -536,18 +553,17 @@ typedef struct qtree_sent {
 qtree_code qtree_poll_buf(qtree_device *device, uint64_t now, qtree_sent *sent);
 qtree_code qtree_poll_bufs(qtree_device *device, uint64_t now, qtree_sent *sent, size_t room, size_t *count);
 
-/* Computes until when a program may sleep: the time before which no poll returns a packet, as long as no packet
- * arrives and no command comes.
+/* Computes until when a program may sleep: the time before which no poll returns a packet, provided that no packet
+ * arrives and no command is carried out.
  *
  * moment  the time, if QTREE_DONE is returned; it is no earlier than the latest time that counted
  *
- * A poll at that time may still return QTREE_LATER, since which packet an fq_codel gives, or which class a drr
- * serves, is not known before it is asked. The next qtree_ready_at then gives a later time.
+ * A poll at that time may still return QTREE_LATER: only a poll finds out which packet an fq_codel gives, or which
+ * class a drr serves. The next qtree_ready_at then gives a later time.
  *
- * Promises in time, as those of qtree_service, qtree_worst and qtree_latest, allow a program to be late by so many
- * nanoseconds. A program asks again after each arrival and each command, and while the time is ahead, the newest one
- * counts. Once it has come, it stays, whatever comes: the program is late by what it lets pass from that time to the
- * time of the poll that returns no packet.
+ * qtree_lateness, qtree_worst and qtree_latest say how late a program may be. The program calls this function again
+ * after each arrival and each command. While the time is ahead, the newest time counts. Once it has come, it stays,
+ * whatever arrives: the program is late by the time from then to the poll that returns no packet.
  *
  * Returns
  *   QTREE_DONE       *moment is that time
@@ -560,22 +576,26 @@ qtree_code qtree_poll_bufs(qtree_device *device, uint64_t now, qtree_sent *sent,
  *         if (qtree_poll(&device, now, &packet) == QTREE_DONE) transmit(packet.buf);
  *     }
  *
- * Then it sleeps until the time again, or until a packet comes in, if qtree_ready_at returned QTREE_DONE. Otherwise
- * it sleeps until a packet comes in. A packet that a sender places in a ring wakes nobody: see qtree_offer. */
+ * Then it sleeps until a packet comes in or, if qtree_ready_at returned QTREE_DONE, until the time again, whichever
+ * is first. A packet that a sender places in a ring wakes nobody: see qtree_offer. docs/EMBEDDING.md has whole event
+ * loops. */
 qtree_code qtree_ready_at(const qtree_device *device, uint64_t *moment);
 
-/* Computes how many packets can be queued in the device at most, now and as long as no command changes it.
+/* Computes the most packets that can be queued in the device, now and as long as no command changes it.
  *
  * packets  the sum of the limits of all queues, and one packet for each tbf, drr and fq_codel, which may hold the
  *          packet that goes next. If a queue's limit was set below what it has queued, what it has queued counts in
- *          place of the limit. A limit in bytes counts as so many packets, since a packet has at least one byte.
- *          UINT64_MAX stands for more.
+ *          place of the limit.
+ *          A limit in bytes counts as so many packets, since a packet has at least one byte. UINT64_MAX stands for
+ *          more.
  *
  * A program needs a buffer for each of these packets, for the packet that arrives, for each place of a ring, for each
- * packet that it has polled and not sent, and for each that was lost and that it has not reaped.
+ * packet that it polled and has not sent, and for each loss that it has not reaped. docs/SETTINGS.md has an example.
  *
  * Returns QTREE_DONE, or QTREE_IS_CLOSED if the device is closed. */
 qtree_code qtree_most_packets(const qtree_device *device, uint64_t *packets);
+
+/* ---- Losses ---- */
 
 /* Hands out the oldest loss that was not handed out yet. A program that does not need its losses reaps them too,
  * since losses that wait keep memory.
@@ -599,39 +619,38 @@ qtree_code qtree_reap(qtree_device *device, qtree_loss *loss);
  *   QTREE_IS_CLOSED  the device is closed, and the count is 0 */
 qtree_code qtree_reap_many(qtree_device *device, qtree_loss *losses, size_t room, size_t *count);
 
+/* ---- Counters ---- */
+
 /* The places of a tree: the device itself, its root, and the classes. */
 enum { QTREE_TOP = 0, QTREE_ROOT = 1, QTREE_CLASS = 2 };
 
-/* Reads the counters of a place. A tbf, a drr or an fq_codel may hold the packet that it sends next. Such a packet is
- * queued there and above, and has been sent by the qdiscs below: the counters of a class of a drr, for example, have a
- * packet as sent that the drr still holds.
+/* Reads the counters of a place. A tbf, drr or fq_codel may hold the packet that it sends next. A held packet is queued
+ * there and above, and sent by the qdiscs below: the class of a drr has a packet as sent that the drr still holds.
  *
- * place         QTREE_TOP for the device itself, QTREE_ROOT for the qdisc at its root, or QTREE_CLASS for the qdisc
- *               in the class major:minor
- * major, minor  the class, 1 to 0xfffe and 1 to 0xffff; they are read only with QTREE_CLASS. In lines of tc both are
- *               hexadecimal: the class 1:10 is 1 and 0x10.
- * row           the counters, if QTREE_DONE is returned
+ * place         QTREE_TOP: the device itself; QTREE_ROOT: its root's qdisc; QTREE_CLASS: the qdisc in the class
+ *               major:minor
+ * major, minor  the class, 1 to 0xfffe and 1 to 0xffff, read only with QTREE_CLASS. In lines of tc both are
+ *               hexadecimal: 1:10 is 1 and 0x10.
+ * row           the counters
  *
  * Returns
  *   QTREE_DONE          *row has the counters
  *   QTREE_NOTHING       there is no such place
- *   QTREE_OUT_OF_RANGE  place, major or minor is out of its range
+ *   QTREE_OUT_OF_RANGE  an argument is out of its range
  *   QTREE_IS_CLOSED     the device is closed */
 qtree_code qtree_stats(const qtree_device *device, uint32_t place, uint16_t major, uint16_t minor, qtree_row *row);
 
-/* Tells since when the oldest packet that is queued in a place has been there. The packets of a place are those that
- * are queued at its qdisc and at all qdiscs below it, including packets that one of these qdiscs holds (see
- * qtree_stats).
+/* Reads when the oldest packet that is queued in a place arrived. The packets of a place are those of its qdisc and of
+ * all qdiscs below it, including packets that these qdiscs hold (see qtree_stats).
  *
  * place, major, minor  as for qtree_stats
- * moment               when that packet arrived, if QTREE_DONE is returned. Its waiting time is the present time less
- *                      this, and no other packet in the place has waited longer. A packet that came by a ring arrived
- *                      when it was taken in, so the time that it spent in the ring does not count.
+ * moment               when that packet arrived. No packet of the place has waited longer. A packet of a ring arrived
+ *                      when it was taken in.
  *
  * Returns
  *   QTREE_DONE          *moment is that time
  *   QTREE_NOTHING       nothing is queued in the place, or there is no such place
- *   QTREE_OUT_OF_RANGE  place, major or minor is out of its range
+ *   QTREE_OUT_OF_RANGE  an argument is out of its range
  *   QTREE_IS_CLOSED     the device is closed
  * The function looks once at each qdisc in the place, and at each flow of an fq_codel. */
 qtree_code qtree_oldest(const qtree_device *device, uint32_t place, uint16_t major, uint16_t minor, uint64_t *moment);
@@ -639,8 +658,10 @@ qtree_code qtree_oldest(const qtree_device *device, uint32_t place, uint16_t maj
 /* Reads the counters of the device itself. Returns QTREE_DONE, or QTREE_IS_CLOSED if the device is closed. */
 qtree_code qtree_totals(const qtree_device *device, qtree_row *row);
 
-/* What a class of a drr is promised while something is queued in it, whatever comes to the other classes. All numbers
- * are rounded against the class.
+/* ---- Promises ---- */
+
+/* What a class of a drr is promised while something is queued in it, for any traffic in the other classes. All numbers
+ * are rounded against the class. docs/SERVICE.md says more.
  *
  * With a tbf at the root: take two polls that return no packet, the second one t nanoseconds after the first. Between
  * them the class sends more than
@@ -654,8 +675,8 @@ qtree_code qtree_totals(const qtree_device *device, qtree_row *row);
  * classes send, less slack.
  *
  * Both hold as long as the qdiscs on the way to the class stay as they are, with all classes and quanta of each drr
- * among them, and no further tbf is added below one at the root. After a change of any of these the program asks again,
- * since the promise may be another one. */
+ * among them, and no further tbf is added below one at the root. After a change of any of these the promise may be
+ * another one. */
 typedef struct qtree_promise {
     uint64_t link;  /* the rate of the tbf at the root, in bits a second */
     uint64_t rate;  /* the class's share of that rate, in bits a second, rounded down at each drr on the way */
@@ -663,18 +684,20 @@ typedef struct qtree_promise {
     uint64_t slack; /* the most bytes that the class can fall short of its share */
 } qtree_promise;
 
-/* Computes what the class in a place is promised.
+/* Computes what the class in a place is promised: a share of the link's rate, or of the bytes that the root sends.
  *
  * place, major, minor  as for qtree_stats
  * promise              the promise, if QTREE_DONE is returned
  *
  * Returns
  *   QTREE_DONE          *promise is what the class is promised
- *   QTREE_NOTHING       nothing is promised, since the place is no class of a drr; something other than drrs stands
- *                       between it and the root, apart from a tbf at the root; that tbf has another tbf below it; or
- *                       its burst has no room for a packet of the mtu and what its rate brings in a nanosecond
+ *   QTREE_NOTHING       nothing is promised: the place is no class of a drr; something other than drrs stands between
+ *                       it and the root, apart from a tbf at the root; that tbf has another tbf below it; or its burst
+ *                       has no room for a packet of the mtu and rate x a nanosecond
  *   QTREE_OUT_OF_RANGE  place, major or minor is out of its range
  *   QTREE_IS_CLOSED     the device is closed
+ *
+ * docs/SERVICE.md has the conditions and examples.
  *
  * For example, with an mtu of 1514, a tbf with rate 20mbit and burst 1640 at the root, and below it a drr 2: whose
  * classes 2:1 and 2:2 have the quanta 3000 and 1500, qtree_service(&device, QTREE_CLASS, 2, 1, &promise) writes the
@@ -687,9 +710,8 @@ qtree_code qtree_service(const qtree_device *device, uint32_t place, uint16_t ma
  *
  * place, major, minor  as for qtree_stats
  * late                 by how many nanoseconds the program may be late, as qtree_ready_at counts it: the longest time
- *                      for which the burst of the tbf at the root has room for a packet of the mtu and what the rate
- *                      brings in that time and a nanosecond. UINT64_MAX if a drr is at the root: then polls may come
- *                      at any time.
+ *                      t for which a packet of the mtu and rate x (t + a nanosecond) fit into the burst of the tbf at
+ *                      the root. UINT64_MAX if a drr is at the root: then polls may come at any time.
  *
  * Returns
  *   QTREE_DONE          *late is that number
@@ -698,17 +720,16 @@ qtree_code qtree_service(const qtree_device *device, uint32_t place, uint16_t ma
  *   QTREE_IS_CLOSED     the device is closed */
 qtree_code qtree_lateness(const qtree_device *device, uint32_t place, uint16_t major, uint16_t minor, uint64_t *late);
 
-/* How long a packet waits at most in a pfifo or bfifo whose packets no other packet overtakes, or in one in a class of
- * a drr, from when it was queued until it has left, whatever comes meanwhile. Until it has left, the device sends no
- * more bytes than the field bytes says, including those of the packet itself.
+/* How long a packet of a pfifo or bfifo waits at most, from when it was queued until it has left, for any traffic
+ * elsewhere. The fifo is one whose packets no other packet overtakes, or one in a class of a drr. Until the packet has
+ * left, the device sends no more bytes than the field bytes says.
  *
- * With a tbf at the root, the packet has left as soon as the program has polled until no packet came at a time that
- * is ns nanoseconds after the packet's arrival, or later. So if the program is never late by more than x nanoseconds,
- * as qtree_ready_at counts it, and x is at most late, the packet has left by ns + x. Without a tbf at the root, ns and
- * late are UINT64_MAX.
+ * With a tbf at the root: once the program has polled until no packet came, ns nanoseconds after the packet's arrival
+ * or later, the packet has left. So if the program is never late by more than x nanoseconds, as qtree_ready_at counts
+ * it, and x is at most late, the packet has left by ns + x. Without a tbf at the root, ns and late are UINT64_MAX.
  *
  * This holds as long as commands take no packet from the qdisc and put none before it, leave a tbf at the root as it
- * is, add no other tbf, and leave the classes of such a drr and their quanta as they are. */
+ * is, add no other tbf, and leave the classes of such a drr and their quanta as they are. docs/SERVICE.md says more. */
 typedef struct qtree_delay {
     uint64_t bytes; /* including those of the packet */
     uint64_t ns;    /* nanoseconds, rounded up */
@@ -721,54 +742,54 @@ typedef struct qtree_delay {
  * delay                the longest wait, if QTREE_DONE is returned
  *
  * The place is the root, a class that is reached by the first bands of prios alone, or a class of a drr at the root; or
- * a tbf is at the root, and the place is such a one below it.
+ * such a place below a tbf at the root. docs/SERVICE.md has the conditions.
  *
  * Returns
  *   QTREE_DONE          *delay is the longest wait
- *   QTREE_NOTHING       nothing is promised, since the place has another qdisc or none; it is reached in another way,
- *                       as by two drrs; a tbf is below the root, and the root is no drr; the burst of a tbf at the root
- *                       is too small, as for qtree_service; or a number would be too large
+ *   QTREE_NOTHING       nothing is promised: the place has another qdisc or none; it is reached in another way, as by
+ *                       two drrs; a tbf is below the root, and the root is no drr; the burst of a tbf at the root is
+ *                       too small, as for qtree_service; or a number would be too large
  *   QTREE_OUT_OF_RANGE  place, major or minor is out of its range
  *   QTREE_IS_CLOSED     the device is closed */
 qtree_code qtree_worst(const qtree_device *device, uint32_t place, uint16_t major, uint16_t minor, qtree_delay *delay);
 
-/* By when a packet has left that is last in a pfifo or bfifo whose packets no other packet overtakes, or in one in a
- * class of a drr, whatever comes meanwhile. Until it has left, the device sends no more bytes than the field bytes
- * says, including those of the packet itself. A qtree_delay comes from the settings alone; this comes from what is
+/* The latest time at which the last packet of a pfifo or bfifo leaves, for any traffic elsewhere. The fifo is one whose
+ * packets no other packet overtakes, or one in a class of a drr. Until the packet has left, the device sends no more
+ * bytes than the field bytes says. A qtree_delay follows from the settings alone; these numbers follow from what is
  * queued, from the turn and the deficits of the drr's classes, and from what is left of the burst of a tbf at the root.
  *
- * With a tbf at the root, let the program never be late by more than x nanoseconds, as qtree_ready_at counts it, where
- * x is at most late. Then the packet has left as soon as the program has polled until no packet came at the time at, or
- * later, and so by at + x. Without a tbf at the root, at and late are UINT64_MAX.
+ * With a tbf at the root: once the program has polled until no packet came, at the time `at` or later, the packet has
+ * left. So if the program is never late by more than x nanoseconds, as qtree_ready_at counts it, and x is at most late,
+ * the packet has left by `at` + x. Without a tbf at the root, `at` and late are UINT64_MAX.
  *
  * This holds as long as commands take no packet from the qdisc and put none before it, leave a tbf at the root as it
- * is, add no other tbf, and leave the classes of such a drr and their quanta as they are. */
+ * is, add no other tbf, and leave the classes of such a drr and their quanta as they are. docs/SERVICE.md says more. */
 typedef struct qtree_departure {
     uint64_t bytes; /* including those of the packet */
     uint64_t at;    /* a time in nanoseconds, rounded up */
     uint64_t late;  /* nanoseconds */
 } qtree_departure;
 
-/* Computes by when a packet has left that is to arrive next in the pfifo or bfifo in a place, so that the program can
- * refuse it first if that is too late; or by when the packet has left that was queued there last.
+/* Computes by when the packet leaves that arrives next in the pfifo or bfifo in a place, so that the program can refuse
+ * it first if that is too late; or by when the packet leaves that was queued there last.
  *
  * place, major, minor  as for qtree_stats
  * len                  the length of the packet that is to arrive, in bytes, as the len of its qtree_packet; 0 for the
  *                      packet that was queued last
- * departure            by when it has left, if QTREE_DONE is returned. The answer counts from the time of the device's
- *                      last event: an arrival, a poll or a command that was carried out. If the packet arrives t
- *                      nanoseconds after that, the time by which it has left is later by at most t.
+ * departure            by when it has left, if QTREE_DONE is returned, counted from the device's last event: an
+ *                      arrival, a poll or a command that was carried out. If the packet arrives t nanoseconds after
+ *                      that event, it leaves later by at most t.
  *
- * The place is one of those for which qtree_worst answers. In a class of a drr, the packet has to be the device's next
- * event: if another packet arrives first, or a poll comes first, other classes may have their turn before it, and the
- * program asks again.
+ * The place is one for which qtree_worst returns QTREE_DONE. In a class of a drr, the packet has to be the device's
+ * next event: after another arrival or poll, other classes may have their turn before it, and the program asks again.
  *
  * To refuse a packet the program has to see it before it arrives: qtree_take_in gives no chance for that.
+ * docs/EMBEDDING.md has a program that refuses packets.
  *
  * Returns
- *   QTREE_DONE          *departure is by when the packet has left if it is queued, since the call does not look at the
- *                       limit. If len is 0 and nothing is queued there, bytes is 0, and at the time of the last event;
- *                       in a class of a drr, they are then for the bytes that may be sent before the class's turn.
+ *   QTREE_DONE          *departure is by when the packet leaves if it is queued: the call does not look at the limit.
+ *                       If len is 0 and nothing is queued there, bytes is 0, and `at` the time of the last event; in a
+ *                       class of a drr, they are then for the bytes that may be sent before the class's turn.
  *   QTREE_NOTHING       nothing is promised, for one of the reasons for which qtree_worst returns this
  *   QTREE_OUT_OF_RANGE  place, major or minor is out of its range
  *   QTREE_IS_CLOSED     the device is closed
@@ -777,12 +798,14 @@ typedef struct qtree_departure {
  * and nothing be left of its burst. Then qtree_latest(&device, QTREE_CLASS, 1, 1, 1000, &departure) writes the bytes
  * 3000, and a time 3,000,000 nanoseconds after the last event.
  *
- * Or let a drr 2: be at the root whose classes 2:1 and 2:2 have the quanta 1000 and 500. Nothing is queued in 2:1, and
- * 2:2 has packets and may send 500 bytes before its next quantum. Then qtree_latest(&device, QTREE_CLASS, 2, 1, 1000,
- * &departure) writes the bytes 1500: those that 2:2 may send first, and the packet's. For a packet of 1001 bytes it
- * writes 2001, since that waits for a second quantum of its class, and 2:2 may send one more, too. */
+ * Or let a drr 2: be at the root whose classes 2:1 and 2:2 have the quanta 1000 and 500. Nothing is queued in 2:1,
+ * and 2:2 has packets and may send 500 bytes before its next quantum. Then qtree_latest(&device, QTREE_CLASS, 2, 1,
+ * 1000, &departure) writes the bytes 1500: 500 that 2:2 may send first, and the packet's. For a packet of 1001 bytes
+ * it writes 2001, since the packet waits for a second quantum of its class, and 2:2 may send one more quantum, too. */
 qtree_code qtree_latest(const qtree_device *device, uint32_t place, uint16_t major, uint16_t minor, uint16_t len,
                         qtree_departure *departure);
+
+/* ---- The tree ---- */
 
 /* Which text qtree_show writes: that of `tc qdisc show`, `tc -s qdisc show`, `tc class show` or `tc filter show`. */
 enum { QTREE_SHOW_QDISCS = 0, QTREE_SHOW_COUNTERS = 1, QTREE_SHOW_CLASSES = 2, QTREE_SHOW_FILTERS = 3 };
@@ -867,6 +890,8 @@ typedef struct qtree_class_view {
  *   QTREE_IS_CLOSED  the device is closed */
 qtree_code qtree_class(const qtree_device *device, size_t index, size_t which, qtree_class_view *view);
 
+/* ---- Rings ---- */
+
 /* Opens both ends of a ring, through which one sender passes packets to a device. A ring belongs to no device: its
  * packets arrive at the device with which qtree_take_in is called.
  *
@@ -881,24 +906,21 @@ qtree_code qtree_class(const qtree_device *device, size_t index, size_t which, q
  *   QTREE_MEMORY        an allocation failed
  * On an error nothing has changed.
  *
- * For example, the sender offers a packet again while the ring is full, and the thread that has the device takes
- * packets in before it polls:
+ * For example, a sender waits for a place, and the device's thread takes packets in before a poll:
  *
  *     while (qtree_offer(&port, &packet) == QTREE_FULL) sched_yield();
  *
  *     qtree_take_in(&device, &outlet, now, 64, &taken); */
 qtree_code qtree_ring_open(qtree_port *port, qtree_outlet *outlet, uint32_t index, size_t places);
 
-/* Places a copy of a packet in the ring. In the copy, port is the index of the port, and number is how many packets
- * the port has placed, including this one. The packet itself stays as it is.
- *
- * So of the sender's own numbers buf alone comes back.
+/* Places a copy of a packet in the ring. In the copy, port is the index of the port, and number is how many packets the
+ * port has placed, including this one. The packet itself stays as it is. So of the sender's own numbers buf alone comes
+ * back.
  *
  * The call takes no lock, allocates nothing and waits for no thread. Another thread may use the outlet meanwhile.
  *
- * The call wakes no thread either. If the thread that has the device sleeps, the sender signals it after the call, for
- * example by an eventfd, and that thread clears the signal before it takes packets in. docs/EMBEDDING.md has a program
- * that does this.
+ * The call wakes no thread either. If the device's thread sleeps, the sender signals it after the call, for example by
+ * an eventfd, and that thread clears the signal before it takes packets in: docs/EMBEDDING.md has such a program.
  *
  * What the sender wrote before the call, such as the packet's bytes, can be read by the thread that takes the packet
  * in, and by each thread that polls or reaps it: the ring publishes a packet by a sequentially consistent atomic, which
@@ -959,6 +981,8 @@ qtree_code qtree_outlet_share(const qtree_outlet *outlet, qtree_count *share);
 void qtree_port_close(qtree_port *port);
 void qtree_outlet_close(qtree_outlet *outlet);
 
+/* ---- Events and replay ---- */
+
 /* Reads how many events there were. The events of a device are the arrivals, the polls and the commands that it
  * accepts. A poll that returns no packet is an event too.
  *
@@ -968,7 +992,7 @@ void qtree_outlet_close(qtree_outlet *outlet);
  * Returns QTREE_DONE, or QTREE_IS_CLOSED if the device is closed. */
 qtree_code qtree_events(const qtree_device *device, uint64_t *events, size_t *recorded);
 
-/* An event. */
+/* An event, as the recorder and the log of the last events have it. */
 enum { QTREE_ARRIVED = 0, QTREE_POLLED = 1, QTREE_COMMANDED = 2 };
 typedef struct qtree_event {
     qtree_packet packet; /* of an arrival; otherwise all 0 */
@@ -1001,12 +1025,12 @@ qtree_code qtree_recorded(const qtree_device *device, size_t index, qtree_event 
  *   QTREE_IS_CLOSED  the device is closed */
 qtree_code qtree_recorded_line(const qtree_device *device, size_t index, uint8_t *text, size_t room, size_t *needed);
 
-/* Writes the script of all recorded events: their lines in order, and lines that set the time, each with a newline
- * behind it.
+/* Writes the script of all recorded events: their lines in order, and lines `at N` that set the time, each with a
+ * newline behind it.
  *
- * With the device's mtu and txqueuelen, `qtree-play` does with this script what the device did. So does `qtree play`
- * if the script has at most 16,777,216 bytes, which is some 240,000 packets. In the script packets are numbered from
- * 1 in the order of their arrivals, with port 0, and their number is their buf.
+ * With the device's mtu and txqueuelen, `qtree-play` does with this script what the device did, and so does `qtree
+ * play` with a script of at most 16,777,216 bytes, some 240,000 packets (docs/EMBEDDING.md). The script numbers packets
+ * from 1 in the order of their arrivals, with port 0, and their number is their buf.
  *
  * text    room bytes for the script; no zero byte ends it
  * needed  the length of the script in bytes
@@ -1021,15 +1045,14 @@ qtree_code qtree_recorded_line(const qtree_device *device, size_t index, uint8_t
  *   QTREE_MEMORY     an allocation failed */
 qtree_code qtree_recorded_script(const qtree_device *device, uint8_t *text, size_t room, size_t *needed);
 
-/* From now on keeps the last events: if all places are taken, the oldest event makes way for a new one. The recorder
- * has only the first events; a program that runs for a long time asks what happened last.
+/* Keeps the last events from now on: if all places are taken, a new event takes the place of the oldest. The recorder
+ * has only the first events; a program that runs for a long time asks what happened last (docs/EMBEDDING.md).
  *
  * places  how many events are kept, 0 to 1000000. With 0 none are kept, which is how a device begins. Each poll takes a
  *         place, also one that returns no packet.
  *
- * The events are those that qtree_events counts, by whichever function, including arrivals of packets that are taken
- * in from rings. The call allocates the memory for them, and no call that notes an event allocates memory for that.
- * Events that were kept because of an earlier call are gone.
+ * The events are those that qtree_events counts, by whichever function, including arrivals from rings. The call
+ * allocates their memory, and no call that notes an event allocates. Events that an earlier call kept are gone.
  *
  * Returns
  *   QTREE_DONE          the events are kept from now on
@@ -1051,6 +1074,8 @@ qtree_code qtree_last_noted(const qtree_device *device, uint64_t *noted, size_t 
  * Return QTREE_DONE, QTREE_NOTHING or QTREE_IS_CLOSED as those do; qtree_last_line also returns QTREE_ROOM. */
 qtree_code qtree_last_event(const qtree_device *device, size_t index, qtree_event *event);
 qtree_code qtree_last_line(const qtree_device *device, size_t index, uint8_t *text, size_t room, size_t *needed);
+
+/* ---- Names and sentences ---- */
 
 /* Return the name of a code (reports write causes and refusals by these names), of a fault of a line, and of a kind
  * of qdisc. The names are static. An unknown number has the name "Unknown" or "unknown". */
@@ -1158,9 +1183,10 @@ enum { QTREE_NAME_CODE = 0, QTREE_NAME_FAULT = 1, QTREE_NAME_KIND = 2 };
 qtree_code qtree_name_of(uint32_t what, uint32_t number, uint8_t *text, size_t room, size_t *needed);
 
 /* Writes why qtree_command did not carry out a line, as `qtree play --explain` does: the line with its number, a mark
- * under the word at which it failed, and a sentence on what to do. Each ends with a newline. If qtree_command
- * returned QTREE_NO_COMMAND, the sentence says what the line is, and which call does what it asks for. The mark is all
- * that says at which word a command is refused: only a line that cannot be read has a qtree_fault.
+ * under the word at which it failed, and a sentence on what to do, each with a newline behind it. If qtree_command
+ * returned QTREE_NO_COMMAND, the sentence says what the line is, and which call does what it asks for. The mark alone
+ * says at which word a command is refused, since only a line that cannot be read has a qtree_fault.
+ * docs/LANGUAGE.md explains the refusals.
  *
  * line    line_len bytes: the line that was passed to qtree_command
  * number  any number; "line N: " with this number is written before the line. For a line that is from no file, 1 does.
@@ -1177,10 +1203,10 @@ qtree_code qtree_name_of(uint32_t what, uint32_t number, uint8_t *text, size_t r
  *                       QTREE_NO_COMMAND and the line is a command or cannot be read
  *   QTREE_MEMORY        an allocation failed
  *
- * The call does not check that the line has this fault, or that its command would be refused so. If the fault is not
- * the one that qtree_command wrote, the text is about the fault that is passed, and its sentence may be wrong. The mark
- * is under the word with the fault's index: under the first word if the index is 0, and behind the line if the index
- * is past its last word. A number that is not one of QTREE_FAULT_.. is no fault. */
+ * The call does not check that the line has this fault, or that its command would be refused so: with another fault
+ * than qtree_command wrote, the sentence may be wrong. The mark is under the word with the fault's index: under the
+ * first word if the index is 0, and behind the line if the index is past its last word. A number that is not one of
+ * QTREE_FAULT_.. is no fault. */
 qtree_code qtree_explain(const uint8_t *line, size_t line_len, uint64_t number, qtree_code code,
                          const qtree_fault *fault, uint8_t *text, size_t room, size_t *needed);
 

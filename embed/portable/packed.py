@@ -32,7 +32,6 @@ COMMANDS = {
     "    make -C embed/c test valgrind fuzz bench    # a minute or two\n": "    make test\n",
     "make -C embed/c CC=musl-gcc": "make CC=musl-gcc",
     "A relative path counts from `embed/c`.": "A relative path counts from the package.",
-    "man -l embed/c/qtree.3": "man -l doc/qtree.3",
     "./qtree --unproved play": "./qtree play",
     "    pip install --no-index --no-build-isolation --target \"$HOME/qtree/python\" embed/python ":
         "    pip install --no-index --no-build-isolation --target \"$HOME/qtree/python\" ./python ",
@@ -128,7 +127,7 @@ def laid_out(kept, root):
     write(f"{root}/openwrt/Makefile", openwrt(release, "skip"))
     write(f"{root}/libqtree.ll", text)
     write(f"{root}/PROVED.md", release.proved(counts, functions, lines))
-    files = {"include": ["embed/include/qtree.h"], "doc": ["embed/c/qtree.3", "embed/c/qtree-play.1"], "go": below("embed/go/*", ("test",))}
+    files = {"include": ["embed/include/qtree.h"], "doc": ["embed/c/qtree-play.1"], "go": below("embed/go/*", ("test",))}
     files["tools"] = [*(f"tools/{it}" for it in ("promise", "import-tc", "capture", "picture")), "docs/pictures/replay.py"]
     files["tools/import_tc"] = below("tools/import_tc/*.py")
     files["python"] = [it for it in below("embed/python/*", ("test",)) if os.path.isfile(f"{TOP}/{it}")]
@@ -139,6 +138,7 @@ def laid_out(kept, root):
     files["examples/tutorial"] = [it for it in below("examples/tutorial/*") if os.path.isfile(f"{TOP}/{it}")]
     for folder, names in files.items():
         copy(names, f"{root}/{folder}")
+    run("embed/manual", f"{root}/doc/man3")
     places = {it: f"{folder}/{os.path.basename(it)}" for folder, names in files.items() for it in names}
     places |= {f"docs/{it}.md": f"doc/{it}.md" for it in PAGES} | {f"{it}.md": f"doc/{it}.md" for it in ("CHANGELOG", "SECURITY")}
     places["examples/README.md"] = "examples/README.md"
@@ -228,7 +228,7 @@ def install_and_remove(folder, prefix, *words):
     # The functions at the header's end are for a test, and have none.
     for it in re.findall(r"(?m)^[a-z].* \**(qtree_\w+)\(", read(f"{folder}/include/qtree.h").partition("/* The rest is for a test")[0]):
         page = f"{prefix}/share/man/man3/{it}.3"
-        if not os.path.exists(page) or read(page) != ".so man3/qtree.3\n":
+        if not os.path.exists(page) or not re.search(rf"^(\.Nm {it}( ,)?$|\.so )", read(page), re.M):
             raise Unreadable(f"there is no manual page of {it}")
     if not {f"{prefix}/{it}" for it in ("include/qtree.h", "lib/libqtree.a", "lib/pkgconfig/qtree.pc")} <= files():
         raise Unreadable("make install installs no header, library or file for pkg-config")
@@ -239,7 +239,9 @@ def install_and_remove(folder, prefix, *words):
 
 
 def try_installed(folder, prefix):
-    """The player and the tools that were installed run, and so does the package for Python over the shared library."""
+    """The player and the tools that were installed run, man shows the page of a function, and the package for Python runs over the shared library."""
+    if shutil.which("man") and "qtree_code" not in run("env", "MANPAGER=cat", "man", "-M", f"{prefix}/share/man", "qtree_open"):
+        raise Unreadable("man qtree_open shows another page")
     examples = f"{folder}/examples"
     report = read(f"{examples}/two_of_three_packets.out")
     if run("env", "-i", PATH, f"{prefix}/bin/qtree-play", f"{examples}/two_packets.qtree") != report:
