@@ -1,0 +1,212 @@
+"""Plants in a copy of the repository what no clause refuses, and says which test tells it."""
+import hashlib
+import os
+import re
+import shutil
+import signal
+import subprocess
+import sys
+import time
+
+from mutation import switched
+from mutation.planted import mutants_in
+
+FOLDER = "tools/mutation/told_by_tests"
+PROGRAM, LIBRARY = "crates/qtree/out/unproved/qtree", "crates/qtree_c/out/unproved/libqtree_c.a"
+SECONDS = 300
+# A suite's command, and which builds it needs.
+SUITES = {
+    "program": (["crates/qtree/tests/run", PROGRAM], (PROGRAM,)),
+    "c": (["make", "-C", "embed/c", "test"], (LIBRARY, PROGRAM)),
+    "rust": (["cargo", "test", "-q", "--manifest-path", "embed/rust/Cargo.toml"], (LIBRARY,)),
+    "go": (["embed/go/test"], (LIBRARY,)),
+    "python": (["embed/python/test"], (LIBRARY,)),
+    "page": (["embed/page/test", PROGRAM], (LIBRARY, PROGRAM)),
+    "wide": (["embed/page/test"], (LIBRARY,)),
+    "wire": (["wire/test"], (LIBRARY,)),
+    "exporter": (["examples/exporter/test"], (LIBRARY,)),
+    "capture": (["examples/capture/test", PROGRAM], (LIBRARY, PROGRAM)),
+    "import": (["examples/import/test", PROGRAM], (PROGRAM,)),
+    "heap": (["embed/portable/try-heap"], ()),
+}
+# Those that are tried where a mutant names none.
+ALL = ("program", "c", "rust")
+BUILDS = {PROGRAM: ["tools/build-unproved"], LIBRARY: ["tools/build-unproved", "qtree_c"]}
+# How the suites name the test that failed.
+FAILED = (r"^(?:FAIL|ERROR): (\w+) \(", r"^test (\S+) .*FAILED", r"^---- (\S+).* stdout ----", r"^--- FAIL: (\w+)", r"^(\w+): FAILED")
+UNREAD = r"^\S+:\d+:\d+: (?:fatal )?error: |^error\[E\d+\]|could not compile|SyntaxError|IndentationError|\[build failed\]|undefined reference"
+
+
+def listed(top):
+    """Each file's name and mutant."""
+    paths = sorted(os.listdir(f"{top}/{FOLDER}"))
+    return [(path.removesuffix(".mutants"), it) for path in paths if path.endswith(".mutants") for it in mutants_in(f"{top}/{FOLDER}/{path}")]
+
+
+def copied(top, room):
+    """Copies what git knows; of an earlier copy only what differs is written, so that what it built stays."""
+    paths = subprocess.run(["git", "ls-files", "-z", "--cached", "--others", "--exclude-standard"], cwd=top, capture_output=True, check=True).stdout
+    for path in paths.decode().split("\0"):
+        here, there = f"{top}/{path}", f"{room}/{path}"
+        if not path or not os.path.isfile(here):
+            continue
+        os.makedirs(os.path.dirname(there), exist_ok=True)
+        if not os.path.isfile(there) or bytes_of(here) != bytes_of(there):
+            shutil.copy2(here, there)
+            os.utime(there)
+
+
+def bytes_of(path):
+    with open(path, "rb") as file:
+        return file.read()
+
+
+class Written:
+    """Files of the copy with other texts, until the `with` ends."""
+
+    def __init__(self, room, texts):
+        self.room, self.texts, self.were = room, texts, {}
+
+    def __enter__(self):
+        for path, text in self.texts.items():
+            there = f"{self.room}/{path}"
+            self.were[there] = switched.read(there) if os.path.exists(there) else None
+            if self.were[there] != text:
+                switched.write(there, text)
+
+    def __exit__(self, *_):
+        for there, text in self.were.items():
+            if text is None:
+                os.remove(there)
+            elif switched.read(there) != text:
+                switched.write(there, text)
+
+
+def built(room, needed):
+    """Builds what is needed where the sources are others than those of the last build."""
+    known = hashlib.sha256()
+    for at, folders, names in sorted(os.walk(f"{room}/crates")):
+        folders[:] = [it for it in folders if it not in ("out", "proofs", "mutants")]
+        for name in sorted(names):
+            if name.endswith(".rt"):
+                known.update(f"{at}/{name}\n".encode() + bytes_of(f"{at}/{name}"))
+    for made in needed:
+        stamp = f"{room}/{made}.switched"
+        if os.path.exists(stamp) and switched.read(stamp) == known.hexdigest():
+            continue
+        status, said = run(room, BUILDS[made], 0, 900)
+        if status:
+            sys.exit(f"mutants: {made} cannot be built with its switches\n{said}")
+        switched.write(stamp, known.hexdigest())
+
+
+def run(room, words, number, seconds=SECONDS):
+    """Runs a command in the copy, where it meets the mutant of this number: its status, None where it takes too long, and what it says."""
+    words = [f"{room}/{words[0]}" if "/" in words[0] else words[0], *(f"{room}/{it}" if it in BUILDS else it for it in words[1:])]
+    env = {**os.environ, switched.VARIABLE: str(number), "LC_ALL": "C.UTF-8"}
+    how = {"stdin": subprocess.DEVNULL, "stdout": subprocess.PIPE, "stderr": subprocess.STDOUT}
+    with subprocess.Popen(["nice", *words], cwd=room, env=env, start_new_session=True, **how) as ran:
+        try:
+            said, _ = ran.communicate(timeout=seconds)
+            status = ran.returncode
+        except subprocess.TimeoutExpired:
+            os.killpg(ran.pid, signal.SIGKILL)
+            said, status = ran.communicate()[0], None
+        except BaseException:
+            os.killpg(ran.pid, signal.SIGKILL)
+            raise
+    return status, said.decode(errors="replace")
+
+
+def teller(said):
+    """Which test failed, by what a suite says."""
+    lines = said.split("\n")
+    for form in FAILED:
+        if named := next((it[1] for it in map(re.compile(form).match, lines) if it), None):
+            return named
+    if any(it.startswith("make: ***") for it in lines):
+        ran = [it.split()[0] for it in lines if re.match(r"(build/|\./|for )", it)]
+        return ran[-1] if ran else lines[-2]
+    return next((it.strip() for it in reversed(lines) if it.strip()), "")
+
+
+def judged(room, mutant, number):
+    """Which suite and test tell a mutant: the result, both, and what was said."""
+    for suite in (mutant.suite,) if mutant.suite else ALL:
+        status, said = run(room, SUITES[suite][0], number)
+        if status is None:
+            return "told", suite, f"it did not end in {SECONDS} s", said
+        if status and re.search(UNREAD, said, re.M):
+            return "NOT READ", suite, next(it for it in said.split("\n") if re.search(UNREAD, it)), said
+        if status:
+            return "told", suite, teller(said), said
+    return "SURVIVES", mutant.suite or " ".join(ALL), "", ""
+
+
+def show(name, mutant, came, suite, test, begun):
+    print(f"{name:12} {mutant.name:50} {came:11} {suite:8} {test[:70]:70} {time.monotonic() - begun:4.0f} s", flush=True)
+
+
+def stand(room, suites):
+    """The suites that do not pass without a mutant."""
+    bad = set()
+    for suite in suites:
+        status, said = run(room, SUITES[suite][0], 0)
+        if status:
+            print(f"mutants: the suite {suite} does not pass as it is, with status {status}: {teller(said)}", file=sys.stderr)
+            bad.add(suite)
+    return bad
+
+
+def tried(found, room):
+    """Tries mutants in a copy; how many are told."""
+    behind, texts, count = {}, {}, 0
+    for number, (name, mutant) in enumerate(found, 1):
+        if switched.is_switched(mutant):
+            switched.numbered(mutant, number)
+            more = mutant.texts(room, texts)
+            if more is None:
+                show(name, mutant, "NOT APPLIED", "", "", time.monotonic())
+                continue
+            texts, behind[number] = more, mutant
+    with Written(room, switched.with_questions(room, texts)):
+        suites = sorted({suite for _, it in found for suite in ((it.suite,) if it.suite else ALL)})
+        built(room, sorted({it for suite in suites for it in SUITES[suite][1]}))
+        bad = stand(room, suites)
+        for number, (name, mutant) in enumerate(found, 1):
+            if mutant.suite in bad or (number not in behind and switched.is_switched(mutant)):
+                continue
+            count += of_one(name, mutant, number, room, number in behind)
+    return count
+
+
+def of_one(name, mutant, number, room, is_behind):
+    """Tries one mutant; whether it is told."""
+    begun, texts = time.monotonic(), {} if is_behind else mutant.texts(room)
+    if texts is None:
+        show(name, mutant, "NOT APPLIED", "", "", begun)
+        return False
+    with Written(room, texts):
+        came, suite, test, said = judged(room, mutant, number)
+    show(name, mutant, came, suite, test, begun)
+    if os.environ.get("QTREE_SAID"):
+        switched.write(f"{os.environ['QTREE_SAID']}/{name}.{mutant.name}", said)
+    return came == "told"
+
+
+def main(top, words, room):
+    """Tries those that are named, as FILE or FILE/MUTANT, and else all; the status."""
+    found = listed(top)
+    for it in words:
+        if not any(it in (name, f"{name}/{mutant.name}") for name, mutant in found):
+            print(f"mutants: {FOLDER} has no {it}", file=sys.stderr)
+            return 2
+    unknown = [mutant.name for _, mutant in found if mutant.suite and mutant.suite not in SUITES]
+    if unknown:
+        print(f"mutants: no such suite: {' '.join(unknown)}", file=sys.stderr)
+        return 2
+    found = [(name, mutant) for name, mutant in found if not words or name in words or f"{name}/{mutant.name}" in words]
+    copied(top, room)
+    count = tried(found, room)
+    print(f"{len(found)} mutants, {count} told by a test, {len(found) - count} not")
+    return 0 if count == len(found) else 1
