@@ -29,6 +29,8 @@ SUITES = {
     "import": (["examples/import/test", PROGRAM], (PROGRAM,)),
     "heap": (["embed/portable/try-heap"], ()),
 }
+# Those that run one test alone where a mutant names it, as all of them take minutes.
+NAMED = ("wire",)
 # Those that are tried where a mutant names none.
 ALL = ("program", "c", "rust")
 BUILDS = {PROGRAM: ["tools/build-unproved"], LIBRARY: ["tools/build-unproved", "qtree_c"]}
@@ -82,22 +84,37 @@ class Written:
                 switched.write(there, text)
 
 
-def built(room, needed):
-    """Builds what is needed where the sources are others than those of the last build."""
-    known = hashlib.sha256()
-    for at, folders, names in sorted(os.walk(f"{room}/crates")):
+def sources(top):
+    """The sources in Rattle, in order."""
+    found = []
+    for at, folders, names in os.walk(f"{top}/crates"):
         folders[:] = [it for it in folders if it not in ("out", "proofs", "mutants")]
-        for name in sorted(names):
-            if name.endswith(".rt"):
-                known.update(f"{at}/{name}\n".encode() + bytes_of(f"{at}/{name}"))
+        found += [f"{at}/{name}" for name in names if name.endswith(".rt")]
+    return sorted(found)
+
+
+def checksum(top):
+    known = hashlib.sha256()
+    for path in sources(top):
+        known.update(path.removeprefix(top).encode() + bytes_of(path))
+    return known.hexdigest()
+
+
+def built(top, room, needed):
+    """Builds what is needed, where neither the copy nor the repository has a build of the same sources."""
+    known, newest = checksum(room), max(map(os.path.getmtime, sources(top)))
     for made in needed:
-        stamp = f"{room}/{made}.switched"
-        if os.path.exists(stamp) and switched.read(stamp) == known.hexdigest():
+        stamp, here = f"{room}/{made}.switched", f"{top}/{made}"
+        if os.path.exists(stamp) and switched.read(stamp) == known:
             continue
-        status, said = run(room, BUILDS[made], 0, 900)
-        if status:
-            sys.exit(f"mutants: {made} cannot be built with its switches\n{said}")
-        switched.write(stamp, known.hexdigest())
+        if os.path.exists(here) and os.path.getmtime(here) > newest and checksum(top) == known:
+            os.makedirs(os.path.dirname(stamp), exist_ok=True)
+            shutil.copytree(os.path.dirname(here), os.path.dirname(stamp), dirs_exist_ok=True)
+        else:
+            status, said = run(room, BUILDS[made], 0, 900)
+            if status:
+                sys.exit(f"mutants: {made} cannot be built with its switches\n{said}")
+        switched.write(stamp, known)
 
 
 def run(room, words, number, seconds=SECONDS):
@@ -133,7 +150,7 @@ def teller(said):
 def judged(room, mutant, number):
     """Which suite and test tell a mutant: the result, both, and what was said."""
     for suite in (mutant.suite,) if mutant.suite else ALL:
-        status, said = run(room, SUITES[suite][0], number)
+        status, said = run(room, [*SUITES[suite][0], *([mutant.test] if suite in NAMED and mutant.test else [])], number)
         if status is None:
             return "told", suite, f"it did not end in {SECONDS} s", said
         if status and re.search(UNREAD, said, re.M):
@@ -158,7 +175,7 @@ def stand(room, suites):
     return bad
 
 
-def tried(found, room):
+def tried(found, top, room):
     """Tries mutants in a copy; how many are told."""
     behind, texts, count = {}, {}, 0
     for number, (name, mutant) in enumerate(found, 1):
@@ -171,7 +188,7 @@ def tried(found, room):
             texts, behind[number] = more, mutant
     with Written(room, switched.with_questions(room, texts)):
         suites = sorted({suite for _, it in found for suite in ((it.suite,) if it.suite else ALL)})
-        built(room, sorted({it for suite in suites for it in SUITES[suite][1]}))
+        built(top, room, sorted({it for suite in suites for it in SUITES[suite][1]}))
         bad = stand(room, suites)
         for number, (name, mutant) in enumerate(found, 1):
             if mutant.suite in bad or (number not in behind and switched.is_switched(mutant)):
@@ -207,6 +224,6 @@ def main(top, words, room):
         return 2
     found = [(name, mutant) for name, mutant in found if not words or name in words or f"{name}/{mutant.name}" in words]
     copied(top, room)
-    count = tried(found, room)
+    count = tried(found, top, room)
     print(f"{len(found)} mutants, {count} told by a test, {len(found) - count} not")
     return 0 if count == len(found) else 1
