@@ -188,7 +188,12 @@ def tried(found, top, room):
             texts, behind[number] = more, mutant
     with Written(room, switched.with_questions(room, texts)):
         suites = sorted({suite for _, it in found for suite in ((it.suite,) if it.suite else ALL)})
-        built(top, room, sorted({it for suite in suites for it in SUITES[suite][1]}))
+        needed = sorted({it for suite in suites for it in SUITES[suite][1]})
+        built(top, room, needed)
+        if behind and LIBRARY in needed:
+            switched.answer_in(f"{room}/{LIBRARY}")
+        if LIBRARY in needed:
+            run(room, ["make", "-s", "-C", "embed/c"], 0)
         bad = stand(room, suites)
         for number, (name, mutant) in enumerate(found, 1):
             if mutant.suite in bad or (number not in behind and switched.is_switched(mutant)):

@@ -3,6 +3,7 @@ import os
 import re
 import shutil
 import subprocess
+import tempfile
 
 # What stands in the text of a mutant for the question whether it is the one that is met.
 SWITCH = "PLANTED"
@@ -92,6 +93,15 @@ def asking(module):
         module = re.sub(rf"(?ms)^define [^\n]*{re.escape(it)}\(.*?^}}\n", "", module)
         module = module.replace(it, "@qtree_planted")
     return f"{module}\ndeclare zeroext i1 @qtree_planted(i32)\n" if symbols else module
+
+
+def answer_in(archive):
+    """Puts what answers the questions into an archive that asks none itself."""
+    with open(archive, "rb") as file:
+        is_there = b"qtree_planted" in file.read()
+    if not is_there:
+        with tempfile.TemporaryDirectory() as room:
+            subprocess.run(["ar", "r", archive, object_of_question(room)], check=True, capture_output=True)
 
 
 def object_of_question(room):
