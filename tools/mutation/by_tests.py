@@ -35,7 +35,14 @@ NAMED = ("wire",)
 ALL = ("program", "c", "rust")
 BUILDS = {PROGRAM: ["tools/build-unproved"], LIBRARY: ["tools/build-unproved", "qtree_c"]}
 # How the suites name the test that failed.
-FAILED = (r"^(?:FAIL|ERROR): (\w+) \(", r"^test (\S+) .*FAILED", r"^---- (\S+).* stdout ----", r"^--- FAIL: (\w+)", r"^(\w+): FAILED")
+FAILED = (
+    r"^(?:FAIL|ERROR): (\w+) \(",
+    r"^---- (\S+).* stdout ----",
+    r"^test (\S+) \.\.\. FAILED",
+    r"^--- FAIL: (\w+)",
+    r"^(\w+): FAILED",
+    r"^SUMMARY: (.*)",
+)
 UNREAD = r"^\S+:\d+:\d+: (?:fatal )?error: |^error\[E\d+\]|could not compile|SyntaxError|IndentationError|\[build failed\]|undefined reference"
 
 
