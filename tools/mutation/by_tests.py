@@ -13,7 +13,8 @@ from mutation.planted import mutants_in
 
 FOLDER = "tools/mutation/told_by_tests"
 PROGRAM, LIBRARY = "crates/qtree/out/unproved/qtree", "crates/qtree_c/out/unproved/libqtree_c.a"
-SECONDS = 300
+# A mutant may make a test wait for ever: so many seconds at least, and so many times what the suite takes without one.
+SECONDS, TIMES = 60, 8
 # A suite's command, and which builds it needs.
 SUITES = {
     "program": (["crates/qtree/tests/run", PROGRAM], (PROGRAM,)),
@@ -24,6 +25,8 @@ SUITES = {
     "page": (["embed/page/test", PROGRAM], (LIBRARY, PROGRAM)),
     "wide": (["embed/page/test"], (LIBRARY,)),
     "wire": (["wire/test"], (LIBRARY,)),
+    # The tests of wire/test that need no card, without the builds of the others.
+    "wire_parts": (["sh", "-c", "make -s -C wire build/head build/parts && cd wire && build/head && build/parts"], (LIBRARY,)),
     "exporter": (["examples/exporter/test"], (LIBRARY,)),
     "capture": (["examples/capture/test", PROGRAM], (LIBRARY, PROGRAM)),
     "import": (["examples/import/test", PROGRAM], (PROGRAM,)),
@@ -118,13 +121,13 @@ def built(top, room, needed):
             os.makedirs(os.path.dirname(stamp), exist_ok=True)
             shutil.copytree(os.path.dirname(here), os.path.dirname(stamp), dirs_exist_ok=True)
         else:
-            status, said = run(room, BUILDS[made], 0, 900)
+            status, said = run(room, BUILDS[made], 0)
             if status:
                 sys.exit(f"mutants: {made} cannot be built with its switches\n{said}")
         switched.write(stamp, known)
 
 
-def run(room, words, number, seconds=SECONDS):
+def run(room, words, number, seconds=900):
     """Runs a command in the copy, where it meets the mutant of this number: its status, None where it takes too long, and what it says."""
     words = [f"{room}/{words[0]}" if "/" in words[0] else words[0], *(f"{room}/{it}" if it in BUILDS else it for it in words[1:])]
     env = {**os.environ, switched.VARIABLE: str(number), "LC_ALL": "C.UTF-8"}
@@ -154,12 +157,13 @@ def teller(said):
     return next((it.strip() for it in reversed(lines) if it.strip()), "")
 
 
-def judged(room, mutant, number):
+def judged(room, mutant, number, longest):
     """Which suite and test tell a mutant: the result, both, and what was said."""
     for suite in (mutant.suite,) if mutant.suite else ALL:
-        status, said = run(room, [*SUITES[suite][0], *([mutant.test] if suite in NAMED and mutant.test else [])], number)
+        words = [*SUITES[suite][0], *([mutant.test] if suite in NAMED and mutant.test else [])]
+        status, said = run(room, words, number, longest[suite])
         if status is None:
-            return "told", suite, f"it did not end in {SECONDS} s", said
+            return "told", suite, f"it did not end in {longest[suite]} s", said
         if status and re.search(UNREAD, said, re.M):
             return "NOT READ", suite, next(it for it in said.split("\n") if re.search(UNREAD, it)), said
         if status:
@@ -172,14 +176,16 @@ def show(name, mutant, came, suite, test, begun):
 
 
 def stand(room, suites):
-    """The suites that do not pass without a mutant."""
-    bad = set()
+    """The suites that pass without a mutant, each with the longest time that it may take with one."""
+    longest = {}
     for suite in suites:
+        begun = time.monotonic()
         status, said = run(room, SUITES[suite][0], 0)
-        if status:
+        longest[suite] = max(SECONDS, int(TIMES * (time.monotonic() - begun)))
+        if status != 0:
+            del longest[suite]
             print(f"mutants: the suite {suite} does not pass as it is, with status {status}: {teller(said)}", file=sys.stderr)
-            bad.add(suite)
-    return bad
+    return longest
 
 
 def tried(found, top, room):
@@ -201,22 +207,22 @@ def tried(found, top, room):
             switched.answer_in(f"{room}/{LIBRARY}")
         if LIBRARY in needed:
             run(room, ["make", "-s", "-C", "embed/c"], 0)
-        bad = stand(room, suites)
+        longest = stand(room, suites)
         for number, (name, mutant) in enumerate(found, 1):
-            if mutant.suite in bad or (number not in behind and switched.is_switched(mutant)):
-                continue
-            count += of_one(name, mutant, number, room, number in behind)
+            wanted = (mutant.suite,) if mutant.suite else ALL
+            if all(it in longest for it in wanted) and (number in behind or not switched.is_switched(mutant)):
+                count += of_one(name, mutant, number, room, longest, number in behind)
     return count
 
 
-def of_one(name, mutant, number, room, is_behind):
+def of_one(name, mutant, number, room, longest, is_behind):
     """Tries one mutant; whether it is told."""
     begun, texts = time.monotonic(), {} if is_behind else mutant.texts(room)
     if texts is None:
         show(name, mutant, "NOT APPLIED", "", "", begun)
         return False
     with Written(room, texts):
-        came, suite, test, said = judged(room, mutant, number)
+        came, suite, test, said = judged(room, mutant, number, longest)
     show(name, mutant, came, suite, test, begun)
     if os.environ.get("QTREE_SAID"):
         switched.write(f"{os.environ['QTREE_SAID']}/{name}.{mutant.name}", said)
