@@ -122,12 +122,12 @@ def built(top, room, needed):
             shutil.copytree(os.path.dirname(here), os.path.dirname(stamp), dirs_exist_ok=True)
         else:
             status, said = run(room, BUILDS[made], 0)
-            if status:
+            if status != 0:
                 sys.exit(f"mutants: {made} cannot be built with its switches\n{said}")
         switched.write(stamp, known)
 
 
-def run(room, words, number, seconds=900):
+def run(room, words, number, seconds=3600):
     """Runs a command in the copy, where it meets the mutant of this number: its status, None where it takes too long, and what it says."""
     words = [f"{room}/{words[0]}" if "/" in words[0] else words[0], *(f"{room}/{it}" if it in BUILDS else it for it in words[1:])]
     env = {**os.environ, switched.VARIABLE: str(number), "LC_ALL": "C.UTF-8"}
