@@ -167,7 +167,7 @@ def judged(room, mutant, number, longest):
         if status and re.search(UNREAD, said, re.M):
             return "NOT READ", suite, next(it for it in said.split("\n") if re.search(UNREAD, it)), said
         if status:
-            return "told", suite, teller(said), said
+            return "told", suite, teller(said) or f"status {status}", said
     return "SURVIVES", mutant.suite or " ".join(ALL), "", ""
 
 

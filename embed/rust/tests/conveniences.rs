@@ -143,6 +143,26 @@ fn sent_packets_that_differ_in_one_field_differ() -> Result<(), Error> {
     Ok(())
 }
 
+/// A burst with room for a byte more than a packet, which the rate brings in a nanosecond, leaves no time for a late poll.
+#[test]
+fn a_departure_may_allow_no_lateness() -> Result<(), Error> {
+    let mut device = Device::open(Settings::default())?;
+    device.command(
+        "tc qdisc add dev wan root handle 1: tbf rate 8gbit burst 1515 limit 100000",
+        0,
+    )?;
+    device.command(
+        "tc qdisc add dev wan parent 1:1 handle 2: pfifo limit 10",
+        0,
+    )?;
+    let latest = device
+        .latest(Place::Class(1, 1), 100)
+        .expect("it is promised");
+    assert_eq!((latest.bytes, latest.late), (100, Some(0)));
+    assert!(latest.at.is_some());
+    Ok(())
+}
+
 #[test]
 fn both_ports_are_replaced() -> Result<(), PacketError> {
     let packet = Packet::builder(100).ports(1, 2).hash(3).build()?;
