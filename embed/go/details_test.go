@@ -121,7 +121,8 @@ func TestPromisesOfAClass(t *testing.T) {
 	if _, err := device.Service(Class(2, 7)); err != ErrNothing {
 		t.Fatal(err)
 	}
-	device = opened(t, "tc qdisc add dev w root handle 1: tbf rate 8mbit burst 2000 latency 1s\ntc qdisc add dev w parent 1:1 handle 2: bfifo limit 3000")
+	device = opened(t, "tc qdisc add dev w root handle 1: tbf rate 8mbit burst 2000 latency 1s\n"+
+		"tc qdisc add dev w parent 1:1 handle 2: bfifo limit 3000")
 	if worst, err := device.Worst(Class(1, 1)); err != nil || worst != (Delay{Bytes: 3000, NS: 3000000, Late: 485999}) {
 		t.Fatalf("%+v %v", worst, err)
 	}

@@ -18,6 +18,7 @@ SECONDS, TIMES = 60, 8
 # A suite's command, and which builds it needs.
 SUITES = {
     "program": (["crates/qtree/tests/run", PROGRAM], (PROGRAM,)),
+    "explained": (["crates/qtree/tests/run", PROGRAM, "test_explanations", "test_sentences"], (PROGRAM,)),
     "c": (["make", "-C", "embed/c", "test"], (LIBRARY, PROGRAM)),
     "rust": (["cargo", "test", "-q", "--manifest-path", "embed/rust/Cargo.toml"], (LIBRARY,)),
     "go": (["embed/go/test"], (LIBRARY,)),

@@ -22,7 +22,14 @@ bool qtree_planted(unsigned which) {{
 }}
 """
 # In Rattle: a call that the module of the unproved build has in place of this body, which nothing equals.
-RATTLE = "//! A switch.\n\n/// Whether the mutant of this number is met.\n#[inline(never)]\npub fn planted(which: u32) -> bool {\n    which == 4000000007\n}\n"
+RATTLE = """//! A switch.
+
+/// Whether the mutant of this number is met.
+#[inline(never)]
+pub fn planted(which: u32) -> bool {
+    which == 4000000007
+}
+"""
 RUST = """
 pub(crate) fn planted(which: u32) -> bool {
     #[allow(unsafe_code)]

@@ -82,7 +82,8 @@ static void bursts(void) {
 
 static void values(void) {
     struct samples samples;
-    CHECK(samples_read(&samples, "# TYPE a counter\na{device=\"left\"} 1\na{device=\"right\",kind=\"x\",le=\"+Inf\"} 2.5\n\nb 3\nb{device=\"left\"} 4"));
+    CHECK(samples_read(&samples, "# TYPE a counter\na{device=\"left\"} 1\na{device=\"right\",kind=\"x\",le=\"+Inf\"} 2.5\n\n"
+                                 "b 3\nb{device=\"left\"} 4"));
     CHECK(samples.count == 3 && samples_value(&samples, "a", "left", "", -1) == 1 && samples_value(&samples, "b", "left", "", -1) == 4);
     CHECK(samples_value(&samples, "a", "right", "kind=\"x\",le=\"+Inf\"", -1) == 2.5);
     CHECK(samples_value(&samples, "a", "right", "", -1) == -1 && samples_value(&samples, "b", "right", "", 7) == 7);
