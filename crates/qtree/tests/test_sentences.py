@@ -130,9 +130,9 @@ class Sentences(ProgramTest):
         self.assertEqual(self.answer("qtree play --explain", LONG).errors.decode(), CUT)
 
     def test_just_200_bytes_are_shown(self):
-        line = f"{ROOT} pfifo {'a' * 167}"
-        got = self.answer("qtree play --explain", line)
-        self.assertEqual((len(line), got.errors.decode().split("\n")[0]), (200, f"line 1: {line}"))
+        for count, shown in ((167, f"{ROOT} pfifo {'a' * 167}"), (168, f"...{ROOT[1:]} pfifo {'a' * 168}")):
+            got = self.answer("qtree play --explain", f"{ROOT} pfifo {'a' * count}")
+            self.assertEqual(got.errors.decode().split("\n")[0], f"line 1: {shown}")
 
     def test_another_device_is_remarked_upon_each_time(self):
         script = f"{ROOT} prio\n" + "".join(f"tc qdisc change dev {it} root prio\n" for it in ("eth1", "eth1", "eth0", "eth2"))
