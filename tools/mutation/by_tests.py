@@ -20,6 +20,7 @@ SUITES = {
     "program": (["crates/qtree/tests/run", PROGRAM], (PROGRAM,)),
     "explained": (["crates/qtree/tests/run", PROGRAM, "test_explanations", "test_sentences"], (PROGRAM,)),
     "c": (["make", "-C", "embed/c", "test"], (LIBRARY, PROGRAM)),
+    "figures": (["sh", "-c", "make -s -C embed/c build/figures && embed/c/build/figures"], (LIBRARY,)),
     "rust": (["cargo", "test", "-q", "--manifest-path", "embed/rust/Cargo.toml"], (LIBRARY,)),
     "go": (["embed/go/test"], (LIBRARY,)),
     "python": (["embed/python/test"], (LIBRARY,)),
@@ -152,15 +153,15 @@ def teller(said):
     for form in FAILED:
         if named := next((it[1] for it in map(re.compile(form).match, lines) if it), None):
             return named
-    if any(it.startswith("make: ***") for it in lines):
-        ran = [it.split()[0] for it in lines if re.match(r"(build/|\./|for )", it)]
-        return ran[-1] if ran else lines[-2]
+    ran = [it.split()[0] for it in lines if re.match(r"(build/|\./|for )", it)]
+    if ran and any(it.startswith("make: ***") for it in lines):
+        return ran[-1]
     return next((it.strip() for it in reversed(lines) if it.strip()), "")
 
 
 def judged(room, mutant, number, longest):
     """Which suite and test tell a mutant: the result, both, and what was said."""
-    for suite in (mutant.suite,) if mutant.suite else ALL:
+    for suite in suites_of(mutant):
         words = [*SUITES[suite][0], *([mutant.test] if suite in NAMED and mutant.test else [])]
         status, said = run(room, words, number, longest[suite])
         if status is None:
@@ -189,36 +190,46 @@ def stand(room, suites):
     return longest
 
 
-def tried(found, top, room):
-    """Tries mutants in a copy; how many are told."""
-    behind, texts, count = {}, {}, 0
-    for number, (name, mutant) in enumerate(found, 1):
+def switched_texts(every, room):
+    """Each mutant that is behind a switch gets its number: by this all of them, and the changed sources of all."""
+    behind, texts = {}, {}
+    for number, (name, mutant) in enumerate(every, 1):
         if switched.is_switched(mutant):
             switched.numbered(mutant, number)
             more = mutant.texts(room, texts)
             if more is None:
                 show(name, mutant, "NOT APPLIED", "", "", time.monotonic())
-                continue
-            texts, behind[number] = more, mutant
-    with Written(room, switched.with_questions(room, texts)):
-        suites = sorted({suite for _, it in found for suite in ((it.suite,) if it.suite else ALL)})
-        needed = sorted({it for suite in suites for it in SUITES[suite][1]})
+            else:
+                texts, behind[mutant] = more, number
+    return behind, switched.with_questions(room, texts)
+
+
+def tried(every, found, top, room):
+    """Tries some of all mutants in a copy; how many are told. All that are behind a switch are there, so that any of them has one build."""
+    suites = sorted({suite for _, it in found for suite in suites_of(it)})
+    needed, count = sorted({it for suite in suites for it in SUITES[suite][1]}), 0
+    behind, texts = switched_texts(every, room) if any(switched.is_switched(it) for _, it in found) else ({}, {})
+    with Written(room, texts):
         built(top, room, needed)
         if behind and LIBRARY in needed:
             switched.answer_in(f"{room}/{LIBRARY}")
         if LIBRARY in needed:
             run(room, ["make", "-s", "-C", "embed/c"], 0)
         longest = stand(room, suites)
-        for number, (name, mutant) in enumerate(found, 1):
-            wanted = (mutant.suite,) if mutant.suite else ALL
-            if all(it in longest for it in wanted) and (number in behind or not switched.is_switched(mutant)):
-                count += of_one(name, mutant, number, room, longest, number in behind)
+        for name, mutant in found:
+            is_tried = mutant in behind or not switched.is_switched(mutant)
+            if is_tried and all(it in longest for it in suites_of(mutant)):
+                count += of_one(name, mutant, behind.get(mutant, 0), room, longest)
     return count
 
 
-def of_one(name, mutant, number, room, longest, is_behind):
-    """Tries one mutant; whether it is told."""
-    begun, texts = time.monotonic(), {} if is_behind else mutant.texts(room)
+def suites_of(mutant):
+    return (mutant.suite,) if mutant.suite else ALL
+
+
+def of_one(name, mutant, number, room, longest):
+    """Tries one mutant, which has a number if it is behind a switch; whether it is told."""
+    begun, texts = time.monotonic(), {} if number else mutant.texts(room)
     if texts is None:
         show(name, mutant, "NOT APPLIED", "", "", begun)
         return False
@@ -232,17 +243,17 @@ def of_one(name, mutant, number, room, longest, is_behind):
 
 def main(top, words, room):
     """Tries those that are named, as FILE or FILE/MUTANT, and else all; the status."""
-    found = listed(top)
+    every = listed(top)
     for it in words:
-        if not any(it in (name, f"{name}/{mutant.name}") for name, mutant in found):
+        if not any(it in (name, f"{name}/{mutant.name}") for name, mutant in every):
             print(f"mutants: {FOLDER} has no {it}", file=sys.stderr)
             return 2
-    unknown = [mutant.name for _, mutant in found if mutant.suite and mutant.suite not in SUITES]
+    unknown = [mutant.name for _, mutant in every if mutant.suite and mutant.suite not in SUITES]
     if unknown:
         print(f"mutants: no such suite: {' '.join(unknown)}", file=sys.stderr)
         return 2
-    found = [(name, mutant) for name, mutant in found if not words or name in words or f"{name}/{mutant.name}" in words]
+    found = [(name, mutant) for name, mutant in every if not words or name in words or f"{name}/{mutant.name}" in words]
     copied(top, room)
-    count = tried(found, top, room)
+    count = tried(every, found, top, room)
     print(f"{len(found)} mutants, {count} told by a test, {len(found) - count} not")
     return 0 if count == len(found) else 1
