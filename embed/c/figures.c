@@ -155,6 +155,25 @@ static void keeps_a_million_events(void) {
     printf("figures: the last %d events may be kept\n", EVENTS);
 }
 
+/* The recorder keeps the first million events, and the other log the last million: one that comes more is not recorded, or takes the place
+ * of the first. */
+static void notes_a_million_events(void) {
+    enum { EVENTS = 1000000 };
+    qtree_sent sent;
+    uint64_t noted;
+    size_t kept;
+    for (int is_last = 0; is_last < 2; is_last++) {
+        open_with(is_last ? 0 : EVENTS);
+        CHECK(!is_last || qtree_keep_last(&device, EVENTS) == QTREE_DONE);
+        for (uint64_t now = 0; now <= EVENTS; now++) {
+            CHECK(qtree_poll_buf(&device, now, &sent) == QTREE_IDLE);
+        }
+        CHECK((is_last ? qtree_last_noted : qtree_events)(&device, &noted, &kept) == QTREE_DONE && noted == EVENTS + 1 && kept == EVENTS);
+        qtree_close(&device);
+    }
+    printf("figures: the first %d events are recorded, and the last %d kept\n", EVENTS, EVENTS);
+}
+
 /* A ring takes the memory of its places, once. */
 static void opens_a_ring(size_t places) {
     qtree_port port = QTREE_CLOSED;
@@ -306,14 +325,17 @@ int main(void) {
     setvbuf(stdout, NULL, _IOLBF, 0);
     fills("tc qdisc add dev wan root pfifo limit 3000000", 2200000, true);
     fills("tc qdisc add dev wan root fq_codel limit 3000000", 2200000, false);
-    fills("tc qdisc add dev wan root bfifo limit 100000000", 300000, true);
-    loses("tc qdisc add dev wan root pfifo limit 1000000", "tc qdisc del dev wan root", 100000);
+    fills("tc qdisc add dev wan root bfifo limit 300000000", 2200000, true);
+    loses("tc qdisc add dev wan root pfifo limit 1000000", "tc qdisc del dev wan root", 700000);
     begins_small("tc qdisc add dev wan root pfifo", 800);
     begins_small("tc qdisc add dev wan root fq_codel", 800);
     keeps_events();
     keeps_a_million_events();
+    notes_a_million_events();
     opens_a_ring(1000);
-    opens_a_ring(65536);
+    for (size_t places = 1; places <= 65536; places *= 2) {
+        opens_a_ring(places);
+    }
     filters_of_256_shapes();
     many_filters_have_an_index();
     calls_for_a_thousand();

@@ -7,10 +7,12 @@ import re
 
 
 class Mutant:
-    """A mutant: its name, the crate above or the function that has to refuse it, if one is named, and its changes in order."""
+    """A mutant: its name, the crate above or the function that has to refuse it, or the suite and the test that have to tell it, if they
+    are named, and its changes in order."""
 
     def __init__(self, name, file, lines):
         self.name, self.above, self.by, self.is_of_gate, self.changes = name, None, None, False, []
+        self.suite, self.test = None, ""
         old = within = None
         for word, rest in lines:
             if word == "file":
@@ -23,6 +25,8 @@ class Mutant:
                 self.by = rest.strip()
             elif word == "gate":
                 self.is_of_gate = True
+            elif word == "tests":
+                self.suite, _, self.test = rest.strip().partition(" ")
             elif word == "old":
                 old = rest
             elif word == "new" and file and old:

@@ -6,6 +6,7 @@
 
 #define MACS "\x02\0\0\0\0\x02\x02\0\0\0\0\x01"
 #define IP4 "\x45\0\0\x1c"
+#define LABEL "\x00\x02\x00\x40"
 #define IP6 "\x60\0\0\0"
 #define CASE(name, at, bytes)                                                                                                              \
     { name, at, (const uint8_t *)(bytes), sizeof(bytes) - 1 }
@@ -35,6 +36,8 @@ static const struct {
     CASE("a PPPoE session that is cut", 0, MACS "\x88\x64\x11\x00\x00\x01\x00\x1e\x00"),
     CASE("one label of MPLS", 18, MACS "\x88\x47\x00\x01\x01\x40" IP4),
     CASE("three labels of MPLS", 26, MACS "\x88\x47\x00\x01\x00\x40\x00\x02\x00\x40\x00\x03\x01\x40" IP6),
+    CASE("eight labels of MPLS", 46, MACS "\x88\x47" LABEL LABEL LABEL LABEL LABEL LABEL LABEL "\x00\x03\x01\x40" IP4),
+    CASE("nine labels of MPLS", 0, MACS "\x88\x47" LABEL LABEL LABEL LABEL LABEL LABEL LABEL LABEL "\x00\x03\x01\x40" IP4),
     CASE("MPLS for many, with IPv6", 18, MACS "\x88\x48\x00\x01\x01\x40" IP6),
     CASE("MPLS with an Ethernet frame in it", 0, MACS "\x88\x47\x00\x01\x01\x40\x00\x00\x00\x00" MACS),
     CASE("labels without an end", 0, MACS "\x88\x47\x00\x01\x00\x40\x00\x02\x00\x40"),

@@ -129,6 +129,49 @@ class TestDevice(unittest.TestCase):
         with Device("tc qdisc add dev w root handle 1: pfifo limit 2") as device:
             self.assertIsNone(device.worst("root").ns)
 
+    def test_a_turn_sends_as_many_as_there_is_room_for(self):
+        with Device("tc qdisc add dev w root handle 1: pfifo limit 5") as device:
+            device.arrive_many(qtree.packets(7, len=100), 0)
+            for sent, lost, again in ((2, 2, 0), (2, 0, 0), (1, 0, None)):
+                turned = device.turn(0, room=2)
+                self.assertEqual((len(turned.sent), len(turned.lost), turned.again), (sent, lost, again))
+
+    def test_packets_have_the_hash_of_their_fields(self):
+        for packet in qtree.packets(3, seed=9, family=4, sport=[1, 2, 3], proto=17):
+            alone = Packet(family=4, sport=int(packet["sport"] if not isinstance(packet, Packet) else packet.sport), proto=17)
+            alone.set_hash(9)
+            self.assertEqual(int(packet["hash"] if not isinstance(packet, Packet) else packet.hash), alone.hash)
+        named = qtree.packets(2, hash=[5, 6])
+        self.assertEqual([int(it["hash"] if not isinstance(it, Packet) else it.hash) for it in named], [5, 6])
+        self.assertEqual([int(it["len"] if not isinstance(it, Packet) else it.len) for it in named], [1500, 1500])
+
+    def test_records_are_equal_in_all_fields(self):
+        self.assertEqual(Packet(len=1, ecn=2), Packet(len=1, ecn=2))
+        self.assertNotEqual(Packet(len=1, ecn=2), Packet(len=1, ecn=1))
+        self.assertNotEqual(qtree.Sent(number=1, len=5), qtree.Sent(number=1, len=6))
+
+    def test_ends_of_ranges(self):
+        with Device("tc qdisc add dev w root handle fffe: drr\ntc class add dev w parent fffe: classid fffe:ffff drr\n", mtu=65535) as device:
+            self.assertEqual(device.counters("fffe:ffff").arrived, (0, 0))
+            for place in ("ffff:1", "1:10000"):
+                with self.assertRaises(ValueError):
+                    device.counters(place)
+        with Device("tc qdisc add dev w root handle 1: pfifo limit 2", mtu=65535) as device:
+            self.assertEqual(device.latest("root", 65535).bytes, 65535)
+            for block in ([256] * 20, [-1] * 20):
+                with self.assertRaises(ValueError):
+                    device.arrive_frames(block, [Frame(count=20, len=20)], 0)
+            self.assertEqual(list(device.arrive_frames([255] * 20, [Frame(count=20, len=20)], 0)), [0])
+
+    def test_what_is_said_of_one_more(self):
+        with Device() as device, self.assertRaises(SetUpError) as raised:
+            device.set_up("pkt\n" * 101)
+        self.assertTrue(str(raised.exception).endswith("and 1 lines more"))
+        self.assertEqual([it.line for it in raised.exception.lines], list(range(1, 101)))
+        with Device() as device, self.assertRaises(QtreeError) as raised:
+            device.arrive_many([Packet(len=1), Packet(len=0)], 0)
+        self.assertTrue(str(raised.exception).endswith("(1 packets arrived before that.)"))
+
     def test_a_recorded_session(self):
         with Device(TBF, recorder=1000) as device:
             device.arrive_many(qtree.packets(300, len=100), 0)

@@ -69,6 +69,12 @@ class TestSimulate(unittest.TestCase):
         last = simulate("", [Packet(len=1)], [qtree.MOMENT_MAX])
         self.assertEqual((int(last.at[0]), int(last.code[0])), (qtree.MOMENT_MAX, qtree.SENT))
 
+    def test_an_end_at_the_beginning_and_an_mtu(self):
+        found = simulate("", [Packet(len=1000)] * 2, [0, 0], rate=8000000, end=0)
+        self.assertEqual(list(found.code), [0, qtree.QUEUED])
+        found = simulate("", [Packet(len=9000), Packet(len=9001)], [0, 0], mtu=9000)
+        self.assertEqual(list(found.code), [0, Cause.TOO_LONG])
+
     def test_bad_input(self):
         with self.assertRaises(QtreeError) as raised:
             simulate("", [Packet(len=1)] * 3, [2, 3, 2])

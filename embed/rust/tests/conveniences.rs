@@ -1,5 +1,5 @@
 //! Many arrivals by one call, frames with a number, causes, and what errors and names read as.
-use qtree::{Cause, Device, Error, Fate, Packet, PacketError, Place, Polled, Settings};
+use qtree::{Cause, Device, Error, Fate, Packet, PacketError, Place, Polled, Sent, Settings};
 use std::collections::HashSet;
 use std::net::{IpAddr, Ipv4Addr};
 
@@ -114,6 +114,61 @@ fn packets_that_differ_in_one_field_differ() -> Result<(), PacketError> {
     for other in others {
         assert_ne!(packet().build()?, other.build()?);
     }
+    Ok(())
+}
+
+/// So are two packets that polls gave for sending.
+#[test]
+fn sent_packets_that_differ_in_one_field_differ() -> Result<(), Error> {
+    let sent = |packet: Packet| -> Result<Sent, Error> {
+        let mut device = Device::open(Settings::default())?;
+        device.arrive(&packet, 0)?;
+        match device.poll_buf(0)? {
+            Polled::Packet(sent) => Ok(sent),
+            _ => panic!("nothing is queued"),
+        }
+    };
+    let packet = || Packet::builder(100).buf(1).number(2, 3).ecn(1);
+    let others = [
+        packet().buf(9),
+        packet().number(9, 3),
+        packet().number(2, 9),
+        packet().ecn(2),
+        Packet::builder(101).buf(1).number(2, 3).ecn(1),
+    ];
+    assert_eq!(sent(packet().build()?)?, sent(packet().build()?)?);
+    for other in others {
+        assert_ne!(sent(packet().build()?)?, sent(other.build()?)?);
+    }
+    Ok(())
+}
+
+/// A burst with room for a byte more than a packet, which the rate brings in a nanosecond, leaves no time for a late poll.
+#[test]
+fn a_departure_may_allow_no_lateness() -> Result<(), Error> {
+    let mut device = Device::open(Settings::default())?;
+    device.command(
+        "tc qdisc add dev wan root handle 1: tbf rate 8gbit burst 1515 limit 100000",
+        0,
+    )?;
+    device.command(
+        "tc qdisc add dev wan parent 1:1 handle 2: pfifo limit 10",
+        0,
+    )?;
+    let latest = device
+        .latest(Place::Class(1, 1), 100)
+        .expect("it is promised");
+    assert_eq!((latest.bytes, latest.late), (100, Some(0)));
+    assert!(latest.at.is_some());
+    Ok(())
+}
+
+#[test]
+fn both_ports_are_replaced() -> Result<(), PacketError> {
+    let packet = Packet::builder(100).ports(1, 2).hash(3).build()?;
+    let other = packet.with_ports(4, 5);
+    assert_eq!((packet.ports(), other.ports()), ((1, 2), (4, 5)));
+    assert_eq!((other.hash(), other.len()), (3, 100));
     Ok(())
 }
 

@@ -193,6 +193,7 @@ fn a_sender_that_panics_closes_its_port() -> Result<(), Error> {
     });
     assert!(sender.join().is_err());
     assert_eq!(drain.open_ports(), 1);
+    assert_eq!(drain.settle(0), Err(Error::OpenPorts));
     drop(ports);
     let settled = drain.settle(0)?;
     assert!(settled.adds_up);
@@ -293,9 +294,11 @@ fn the_longest_rings_settle() -> Result<(), Error> {
     for mut port in ports {
         assert_eq!(port.offer_many(&burst), (PLACES, Ok(())));
     }
+    let gauge = drain.gauge();
     let settled = drain.settle(0)?;
     assert!(settled.adds_up);
     assert_eq!(settled.taken.packets, 2 * PLACES as u64);
+    assert_eq!(gauge.read().arrived, settled.taken);
     assert_eq!(drain.device().totals().queued, settled.placed);
     Ok(())
 }
