@@ -74,6 +74,7 @@ pub mod SendForms
 pub mod SendLemmas
 pub mod RoundsServed
 pub mod ServeLemmas
+pub mod ServingHeads
 pub mod ShapeLemmas
 pub mod SinceLemmas
 pub mod ShowLemmas

@@ -7,6 +7,7 @@ use Rattle.q_tree.proofs.HeldLemmas.{none-kept}
 use Rattle.q_tree.proofs.Peeks.{can-book, can-in, shown-here, told-here}
 use Rattle.q_tree.proofs.Quiet.{shown-nothing}
 use Rattle.q_tree.proofs.SendForms.{sent-queued, one-sent}
+use Rattle.q_tree.proofs.ServingHeads.{quick-in, quick-out}
 use Rattle.q_tree.specs.KeepSteps.{no_sink}
 use Rattle.q_tree.specs.Kept.{Kept}
 use Rattle.q_tree.specs.Seen.{children_seen, discipline_seen}
@@ -18,6 +19,7 @@ give_one-requires c = record {
       can-in c.args.now c.self.inside c.args.self.now c.self.invariant c.self.view_is c.requires.asks
       (omega (arith, c.self.ranges, c.fit.ensures.packets, c.fit.ensures.bytes))
       (omega (arith, c.self.ranges, c.fit.ensures.packets, c.fit.ensures.bytes));
+  quick = quick-in c.self.inside (none-kept c.self.inside.held c.if-is_some.ensures) c.args.self.now c.self.view_is c.requires.quick;
 }
 
 pub book_sent-requires-clause-among : goal.book_sent-requires-clause-among
@@ -74,3 +76,8 @@ pub returns-then-not-give_one-clause-comes : goal.returns-then-not-give_one-clau
 returns-then-not-give_one-clause-comes c can =
     c.if-not-give_one.ensures.comes (subst (λ ns. CanGiveFrom c.args.now ns (discipline_seen c.self.inside.discipline)) (nodes-side (children_seen c.self.inside.discipline))
     (subst (λ (n : Node Kept). CanGiveFrom c.args.now (children n) n.own.discipline) (sym c.self.view_is) can.can))
+
+pub returns-clause-quick : goal.returns-clause-quick
+returns-clause-quick c so =
+    quick-out (record c.self.inside { row = c.book_sent.new.row; discipline = c.give_one.new.self }) (none-kept c.self.inside.held c.if-is_some.ensures)
+    (c.if-not-give_one.ensures.quick refl)

@@ -1,6 +1,7 @@
-use Rattle.std.proofs.Common.{◌∙◌, refl, ap, subst, arith}
+use Rattle.std.proofs.Common.{◌∙◌, refl, sym, ap, subst, arith}
 use Rattle.q_model.specs.Step.{DeviceState, poll}
 use Rattle.q_tree.specs.Bursts.{IsGivenAlone}
+use Rattle.q_tree.specs.GiveSteps.{IsQuick}
 use Rattle.q_tree.specs.Kept.{Kept, kept}
 use Rattle.q_tree.proofs.GivenTree.{given-alone, given-among, given-indexed, given-room, given-tree}
 use Rattle.q_tree.proofs.TreeLemmas.{can-ask-root, top-row}
@@ -9,6 +10,7 @@ use Rattle.q_tree.proofs.tree.Tree.send_next.Goals as goal
 pub give_one-requires : goal.give_one-requires
 give_one-requires c = record {
   asks = can-ask-root c.self.inside c.self.invariant.device c.args.now (omega (arith, ap (λ (d : DeviceState Kept). d.clock) c.self.view_is, c.requires.order)) (omega (arith, c.ns.ensures.in_range, c.ns.ensures.value));
+  quick = subst (λ (d : DeviceState Kept). IsQuick d.tree.root) (sym c.self.view_is) c.requires.quick;
 }
 
 pub book_sent-requires-clause-balanced : goal.book_sent-requires-clause-balanced

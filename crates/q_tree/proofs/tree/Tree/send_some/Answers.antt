@@ -10,4 +10,8 @@ loop-i-preserved g c = (
       (omega (arith, c.loop-i-test.true)) (c.if-not-send_next.ensures.given refl) (c.if-not-send_next.ensures.after refl) c.tell.result c.tell.ensures,
   omega (arith, ap (λ (d : DeviceState Kept). d.clock) (c.if-not-send_next.ensures.after refl)),
   c.if-not-send_next.ensures.other refl,
+  c.if-not-send_next.ensures.quick refl,
 )
+
+pub send_next-requires-clause-quick : goal.send_next-requires-clause-quick
+send_next-requires-clause-quick g c = c.loop-i.invariant.3
