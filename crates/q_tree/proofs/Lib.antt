@@ -32,6 +32,7 @@ pub mod GivenInto
 pub mod GivenMany
 pub mod GivenTree
 pub mod GivingComes
+pub mod GivingMany
 pub mod Foreseeing
 pub mod ForeseenAsks
 pub mod Forms

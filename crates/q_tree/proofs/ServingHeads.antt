@@ -4,12 +4,12 @@ use Rattle.std.specs.Prelude.{Bool, true, false, not, MatchOption, IsSomeAnd, â—
 use Rattle.std.specs.List.{All, AllZip, position}
 use Rattle.std.proofs.lemmas.Bool.{eqb-true, falseâ‰¢true}
 use Rattle.std.proofs.lemmas.List.Quantifiers.{position-Some}
-use Rattle.std.proofs.lemmas.Option.{none-some, same_Some, slice_get-get_or, slice_get-map, slice_get_within}
+use Rattle.std.proofs.lemmas.Option.{same_Some, slice_get-get_or, slice_get-map}
 use Rattle.std.proofs.lemmas.Slice.Zip.{AllZip-left}
 use Rattle.q_packet.specs.Descriptor.{Descriptor}
 use Rattle.q_packet.specs.declared.stamped.Stamped.{Stamped}
 use Rattle.q_codel.specs.declared.limit.Limit.{Limit}
-use Rattle.q_drr.specs.Schedule.{Class, Entry, Schedule, is_active, quantum_of}
+use Rattle.q_drr.specs.Schedule.{Class, Schedule, is_active, quantum_of}
 use Rattle.q_drr.specs.Take.{choice_of}
 use Rattle.q_model.specs.Beneath.{beneath}
 use Rattle.q_model.specs.Lawful.{IsLawfulDiscipline}

@@ -21,6 +21,7 @@ pub mod Holding
 pub mod Index
 pub mod IndexOfFilters
 pub mod IndexSeen
+pub mod GiveMany
 pub mod GiveSteps
 pub mod KeepSteps
 pub mod Kept

@@ -201,7 +201,7 @@ pub(crate) fn book_arrivals(row: &mut Counters, kept: &Totals)
 
 /// Books packets that were queued and are handed out.
 #[inline(always)]
-fn book_sends(row: &mut Counters, sent: &Totals)
+pub(crate) fn book_sends(row: &mut Counters, sent: &Totals)
     requires balanced { IsBalanced row.old }
     requires packets { sent.now.packets ≤ row.old.queued.packets }
     requires bytes { sent.now.bytes ≤ row.old.queued.bytes }

@@ -8,26 +8,28 @@ ghost use Rattle.q_packet.specs.Descriptor.{Descriptor};
 ghost use Rattle.q_model.specs.Ask.{ask_prio, ask_tbf};
 ghost use Rattle.q_model.specs.Node.{Own, Tbf};
 ghost use Rattle.q_model.specs.Pop.{pop};
-ghost use Rattle.q_model.specs.Step.{poll};
 ghost use Rattle.q_model.specs.declared.filter.Filter.{Filter};
 ghost use Rattle.q_tree.specs.AskSteps.{AreAsked, CanAsk, CanAskEach, CanAskIn, answer_of, answers};
-ghost use Rattle.q_tree.specs.Bursts.{IsGivenAlone, IsGivenOut};
+ghost use Rattle.q_tree.specs.Bursts.{IsGivenOut};
 ghost use Rattle.q_tree.specs.DisciplineChanges.{IsUnchanged};
-ghost use Rattle.q_tree.specs.GiveSteps.{CanGive, CanGiveFrom, CanServeHeads, CanSpendHead, HasFifoClasses, HasFirstHead, IsFreeFifo, IsGivenOne, IsIdleIn, IsNoFifo, IsQuick, IsQuickIn, alone};
+ghost use Rattle.q_tree.specs.GiveMany.{AreGivenAlong, AreGivenIn, CanGiveEach};
+ghost use Rattle.q_tree.specs.GiveSteps.{CanGive, CanGiveFrom, CanServeHeads, CanSpendHead, HasFifoClasses, HasFirstHead, IsFreeFifo, IsIdleIn, IsNoFifo, IsQuick, IsQuickIn, alone};
 ghost use Rattle.q_tree.specs.KeepSteps.{no_sink};
-ghost use Rattle.q_tree.specs.Kept.{kept};
 ghost use Rattle.q_tree.specs.Meeting.{HasServed};
 ghost use Rattle.q_tree.specs.PopSteps.{HasHead};
 ghost use Rattle.q_tree.specs.Seen.{children_seen, discipline_seen};
 ghost use Rattle.q_tree.specs.SendSteps.{AreSent, IsSentIn};
 
-use crate::booking::book_sent;
+use crate::booking::NOTHING;
+use crate::bursts::book_sends;
 use crate::disciplines::drr::{settle, turn_class};
+use crate::keep::totals;
 use crate::node::{Discipline, Node};
 use crate::tree::Tree;
 use q_bucket::Bucket;
 use q_codel::Told;
 use q_drr::{Active, Round, Turn};
+use q_model::Totals;
 use q_packet::{KeptPacket, Moment, SOME_KEPT};
 
 impl Tree {
@@ -43,64 +45,42 @@ impl Tree {
         ensures below { result < length places.old → CanGive now self.new.tree.root → ⊥ }
         ensures idle { result < length places.old → IsIdleIn self.new.tree.root.own.discipline }
     {
-        let mut packet = SOME_KEPT;
-        for i in 0..places.len() {
-            if !self.send_next(now, &mut packet) {
-                return i;
-            }
-            places[i] = T::tell(&packet);
-        }
-        places.len()
-    }
-
-    // Sends one of them.
-    #[inline(always)]
-    fn send_next(&mut self, now: Moment, out: &mut KeptPacket) -> bool
-        requires order { self.old.clock ≤ now }
-        requires quick { IsQuick self.old.tree.root }
-        ensures given { result ≡ true → IsGivenAlone kept now out.new self.old }
-        ensures after { result ≡ true → self.new ≡ (poll kept now self.old).device }
-        ensures other { result ≡ true → IsNoFifo self.new.tree.root.own.discipline }
-        ensures quick { result ≡ true → IsQuick self.new.tree.root }
-        ensures same { result ≡ false → self.new ≡ self.old }
-        ensures comes { CanGive now self.old.tree.root → result ≡ true }
-        ensures idle { result ≡ false → IsIdleIn self.old.tree.root.own.discipline }
-    {
         // A time is at most 2^62 nanoseconds.
         let _ = now.ns();
         self.top.fit();
-        if !self.root.give_one(now, out) {
-            return false;
+        let sent = self.root.give_some(now, places);
+        if sent.packets == 0 {
+            return 0;
         }
-        book_sent(&mut self.top, out);
+        book_sends(&mut self.top, &sent);
         self.clock = now;
-        true
+        sent.packets as usize
     }
 }
 
 impl Node {
-    /// Gives its packet into `out` where nobody has to be asked but fifos. Where it returns `false`, nothing has changed.
-    #[inline(always)]
-    pub(crate) fn give_one(&mut self, now: Moment, out: &mut KeptPacket) -> bool
+    // Gives packets of a node that is no fifo, and counts them together.
+    fn give_some<T: Told>(&mut self, now: Moment, places: &mut [T]) -> Totals
         requires asks { CanAsk now self.old }
+        requires other { IsNoFifo self.old.own.discipline }
         requires quick { IsQuick self.old }
-        ensures given { result ≡ true → IsGivenOne now out.new self.old self.new }
-        ensures other { result ≡ true → IsNoFifo self.new.own.discipline }
-        ensures quick { result ≡ true → IsQuick self.new }
-        ensures same { result ≡ false → self.new ≡ self.old }
-        ensures comes { CanGive now self.old → result ≡ true }
-        ensures idle { result ≡ false → IsIdleIn self.old.own.discipline }
-        ensures none { result ≡ false → out.new ≡ out.old }
+        ensures most { result.packets ≤ length places.old }
+        ensures given { AreGivenAlong T.told now result places.old places.new self.old self.new }
+        ensures none { result.packets ≡ 0 → self.new ≡ self.old }
+        ensures other { IsNoFifo self.new.own.discipline }
+        ensures below { result.packets < length places.old → CanGive now self.new → ⊥ }
+        ensures idle { result.packets < length places.old → IsIdleIn self.new.own.discipline }
     {
         self.row.fit();
         if self.held.is_some() {
-            return false;
+            return NOTHING;
         }
-        if !self.discipline.give_one(now, out) {
-            return false;
+        let sent = give_each(&mut self.discipline, now, places);
+        if sent.packets == 0 {
+            return sent;
         }
-        book_sent(&mut self.row, out);
-        true
+        book_sends(&mut self.row, &sent);
+        sent
     }
 
     /// Returns whether the node is a drr that holds nothing, and all of whose classes are fifos. It is asked before a burst of departures: more
@@ -202,6 +182,28 @@ fn give_from_bands(bands: &mut [Node], now: Moment, out: &mut KeptPacket) -> boo
         return true;
     }
     false
+}
+
+// Gives packets of a discipline whose node holds none. Returns how many, and their bytes.
+fn give_each<T: Told>(discipline: &mut Discipline, now: Moment, places: &mut [T]) -> Totals
+    requires ready { CanGiveEach now discipline.old }
+    ensures most { result.packets ≤ length places.old }
+    ensures given { AreGivenIn T.told now result places.old places.new discipline.old discipline.new }
+    ensures other { IsNoFifo (discipline_seen discipline.old) → IsNoFifo (discipline_seen discipline.new) }
+    ensures quick { IsQuickIn None (children_seen discipline.new) (discipline_seen discipline.new) }
+    ensures below { result.packets < length places.old → CanGiveFrom now (children_seen discipline.new) (discipline_seen discipline.new) → ⊥ }
+    ensures idle { result.packets < length places.old → IsIdleIn (discipline_seen discipline.new) }
+{
+    let mut packet = SOME_KEPT;
+    let mut bytes = 0;
+    for i in 0..places.len() {
+        if !discipline.give_one(now, &mut packet) {
+            return totals(i, bytes);
+        }
+        bytes += u64::from(packet.stored.len);
+        places[i] = T::tell(&packet);
+    }
+    totals(places.len(), bytes)
 }
 
 // Returns whether each node is a fifo that holds nothing.
