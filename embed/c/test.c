@@ -338,6 +338,34 @@ static void bursts(void) {
     qtree_close(&device);
 }
 
+/* Two classes of a drr, of quanta of 1000 and 500 bytes, by one call: a class whose deficit does not cover its packet is granted its quantum and goes
+ * to the end (tc-drr(8)). A class that is an fq_codel gives in the same order. */
+static void bursts_of_a_drr(void) {
+    static const uint32_t wanted[] = { 1, 1, 2, 1, 2, 2 };
+    for (int other = 0; other < 2; other++) {
+        qtree_device device = QTREE_CLOSED;
+        qtree_packet packets[6], given[8];
+        uint8_t codes[6];
+        size_t count = 7;
+        CHECK(qtree_open(&device, &(qtree_settings){ 1000, 0, 1514 }) == QTREE_DONE);
+        CHECK(tc(&device, "tc qdisc add dev a root handle 1: drr") == QTREE_DONE);
+        CHECK(tc(&device, "tc class add dev a parent 1: classid 1:1 drr quantum 1000") == QTREE_DONE);
+        CHECK(tc(&device, "tc class add dev a parent 1: classid 1:2 drr quantum 500") == QTREE_DONE);
+        CHECK(tc(&device, "tc filter add dev a parent 1: prio 1 flower dst_port 1 classid 1:1") == QTREE_DONE);
+        CHECK(tc(&device, "tc filter add dev a parent 1: prio 1 flower dst_port 2 classid 1:2") == QTREE_DONE);
+        CHECK(!other || tc(&device, "tc qdisc add dev a parent 1:2 handle 2: fq_codel") == QTREE_DONE);
+        for (uint32_t i = 0; i < 6; i++) {
+            packets[i] = (qtree_packet){ .len = 1000, .buf = 1 + i % 2, .dport = (uint16_t)(1 + i % 2) };
+        }
+        CHECK(qtree_arrive_many(&device, packets, 6, codes, 6, &count, 0) == QTREE_DONE && count == 6);
+        CHECK(qtree_poll_many(&device, 0, given, 8, &count) == QTREE_IDLE && count == 6);
+        for (uint32_t i = 0; i < 6; i++) {
+            CHECK(codes[i] == 0 && given[i].buf == wanted[i]);
+        }
+        qtree_close(&device);
+    }
+}
+
 static size_t same(const uint8_t *text, size_t len, const char *wanted) {
     return len == strlen(wanted) && memcmp(text, wanted, len) == 0;
 }
@@ -598,6 +626,7 @@ int main(void) {
     explained();
     recorders();
     bursts();
+    bursts_of_a_drr();
     sizes();
     marks();
     frames();

@@ -1,3 +1,5 @@
+pub mod GivingMany
+pub mod ServingHeads
 pub mod TreeLemmas
 pub use Rattle.q_tree.proofs.answers.Foreseeing
 pub use Rattle.q_tree.proofs.answers.ForeseenAsks

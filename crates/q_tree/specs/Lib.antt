@@ -1,4 +1,5 @@
 pub mod Bursts
+pub mod GiveMany
 pub mod Kept
 pub mod Laws
 pub mod NodeCode

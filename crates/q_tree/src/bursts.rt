@@ -9,7 +9,7 @@ ghost use Rattle.q_model.specs.Conserved.{IsBalanced};
 ghost use Rattle.q_model.specs.Node as spec;
 ghost use Rattle.q_tree.specs.arrival.KeepSteps.{CanBeKeptBelow};
 ghost use Rattle.q_tree.specs.Bursts.{AreKept, IsGivenOut, arrived_each, room_at, with_arrivals, with_queued, with_sends, with_taken};
-ghost use Rattle.q_tree.specs.departure.GiveSteps.{CanGive, IsNoFifo};
+ghost use Rattle.q_tree.specs.departure.GiveSteps.{CanGive, HasFifoClasses, IsIdleIn, IsNoFifo, IsQuick};
 ghost use Rattle.q_tree.specs.departure.PopSteps.{HasHead};
 ghost use Rattle.q_tree.specs.Kept.{kept};
 
@@ -64,7 +64,8 @@ impl Tree {
     /// packet is written into the places. Returns how many packets were sent. Allocates nothing.
     ///
     /// `now` is not before the latest time that the tree was given. A fifo at the root gives all that it has. A prio or a tbf at the root gives as
-    /// long as nobody has to be asked but fifos, and another qdisc gives nothing. [`Tree::send`] is for what follows.
+    /// long as nobody has to be asked but fifos. A drr gives all that it has where its classes are fifos, and no more than there are places, or
+    /// packets queued. Another qdisc gives nothing. [`Tree::send`] is for what follows.
     #[inline(always)]
     pub fn send_burst<T: Told>(&mut self, now: Moment, places: &mut [T]) -> usize
         requires order { self.old.clock ≤ now }
@@ -72,11 +73,12 @@ impl Tree {
         ensures most { result ≤ length places.old }
         ensures next { result < length places.old → HasHead self.new.tree.root → ⊥ }
         ensures below { result < length places.old → IsNoFifo self.old.tree.root.own.discipline → CanGive now self.new.tree.root → ⊥ }
+        ensures classes { result < length places.old → HasFifoClasses (length places.old) self.old.tree.root → IsIdleIn self.new.tree.root.own.discipline }
     {
         // A time is at most 2^62 nanoseconds.
         let _ = now.ns();
         if !self.root.is_fifo() {
-            if !self.root.is_a_prio_or_tbf() {
+            if !self.root.is_a_prio_or_tbf() && !self.root.has_fifo_classes(places.len()) {
                 return 0;
             }
             return self.send_some(now, places);
@@ -119,6 +121,7 @@ impl Node {
     // Whether the node is a prio or a tbf.
     #[inline(always)]
     fn is_a_prio_or_tbf(&self) -> bool
+        ensures means { result ≡ true → IsQuick self.now }
         ensures others { result ≡ false → (now : ℕ) → CanGive now self.now → ⊥ }
     {
         match &self.discipline {
@@ -198,7 +201,7 @@ pub(crate) fn book_arrivals(row: &mut Counters, kept: &Totals)
 
 /// Books packets that were queued and are handed out.
 #[inline(always)]
-fn book_sends(row: &mut Counters, sent: &Totals)
+pub(crate) fn book_sends(row: &mut Counters, sent: &Totals)
     requires balanced { IsBalanced row.old }
     requires packets { sent.now.packets ≤ row.old.queued.packets }
     requires bytes { sent.now.bytes ≤ row.old.queued.bytes }

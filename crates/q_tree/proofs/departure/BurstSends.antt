@@ -136,7 +136,7 @@ module _ (now : ℕ) (n : Node Kept) (free : n.own.held ≡ None) (childless : n
 abbrev one : ℕ → Descriptor → Inside → Inside
 one now p a = record a { clock = now; top = with_sends (totals_in (p ∷ [])) a.top; root = with_taken (p ∷ []) a.root }
 
-row-one : (r : Row) (p : Descriptor) → with_sends (totals_in (p ∷ [])) r ≡ with_sent p r
+pub row-one : (r : Row) (p : Descriptor) → with_sends (totals_in (p ∷ [])) r ≡ with_sent p r
 row-one r p = λ i. record r { sent = one-total r.sent p i; queued = minus r.queued (sym (one-of p) i) }
   where
     one-of : (p : Descriptor) → with_packet no_totals p ≡ totals_in (p ∷ [])
@@ -224,10 +224,10 @@ taken-both p ps n =
     d (spec.Drr s) = refl
     d (spec.FqCodel s) = refl
 
-less-both : (t : Totals) (ps qs : List Descriptor) → minus (minus t (totals_in ps)) (totals_in qs) ≡ minus t (totals_in (ps ++ qs))
+pub less-both : (t : Totals) (ps qs : List Descriptor) → minus (minus t (totals_in ps)) (totals_in qs) ≡ minus t (totals_in (ps ++ qs))
 less-both t ps qs = ap₂ (λ (n b : ℕ). record { packets = n; bytes = b }) (omega (arith, length-append ps qs)) (omega (arith, sum_by-append (λ (p : Descriptor). p.len) ps qs))
 
-none-less : (t : Totals) → minus t (totals_in []) ≡ t
+pub none-less : (t : Totals) → minus t (totals_in []) ≡ t
 none-less t = ap₂ (λ (n b : ℕ). record { packets = n; bytes = b }) (omega arith) (omega arith)
 
 went-at-once : (now : ℕ) (ps : List Descriptor) (a : Inside) → a.clock ≡ now → went now ps a ≡ record a { top = with_sends (totals_in ps) a.top; root = with_taken ps a.root }

@@ -20,7 +20,7 @@ set-behind : {A : Type 0} (xs ys : List A) (x y : A) → set (xs ++ x ∷ ys) (l
 set-behind [] ys x y = refl
 set-behind (z ∷ xs) ys x y = ap (λ zs. z ∷ zs) (set-behind xs ys x y)
 
-told-then : {A : Type 0} (told : Descriptor → A) (count : ℕ) (ps : List Descriptor) (p : Descriptor) (before : List A) → length ps ≡ count → count < length before
+pub told-then : {A : Type 0} (told : Descriptor → A) (count : ℕ) (ps : List Descriptor) (p : Descriptor) (before : List A) → length ps ≡ count → count < length before
     → set (map told ps ++ drop count before) count (told p) ≡ map told (ps ++ p ∷ []) ++ drop (count + 1) before
 told-then told count ps p before counted within =
     let x = get_or before count (told p) in

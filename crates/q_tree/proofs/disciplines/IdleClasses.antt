@@ -37,14 +37,18 @@ nobody-at s r gone same = by (front_of s) refl (ap is_some (sym gone) ∙ same)
 module _ {now : ℕ} {first s : Schedule} {ns ms : List (Node Kept)} {unasked : ℕ} {so_far : Shown} {sink sink2 : SinkState}
     (can : CanServe now first ns) (h : AreClassesAsked now first s ns ms unasked so_far sink sink2) (law : drr.IsLawful s) (r : Option ℕ)
     (gone : r ≡ None) (same : is_some r ≡ is_some (front_of s)) where
-  nobody : s.active ≡ []
+  pub nobody : s.active ≡ []
   nobody = empty_front s (nobody-at s r gone same)
 
-  idle : (first.active ≡ []) × (choice_of (heads_of now first ns) first ≡ None) × (h.turns ≡ 0)
+  pub idle : (first.active ≡ []) × (choice_of (heads_of now first ns) first ≡ None) × (h.turns ≡ 0)
   idle = serving_nobody (heads_of now first ns) first s h.turns h.serving nobody
 
-  no-turn : prepared (heads_of now first ns) first ≡ s
+  pub no-turn : prepared (heads_of now first ns) first ≡ s
   no-turn = sym h.serving.ready ∙ prepared_empty (heads_of now first ns) s law nobody
+
+  -- and the schedule is as it was
+  pub idle-schedule_same : s ≡ first
+  idle-schedule_same = sym no-turn ∙ prepared_empty (heads_of now first ns) first can.schedule idle.0
 
   idle-answer : (own : Own) → ask_drr own (answers now ns) first ≡ gives_nothing own (answers now ns) (service_of first (answers now ns))
   idle-answer own =

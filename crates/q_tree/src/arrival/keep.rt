@@ -179,7 +179,7 @@ fn keep_each(
 
 // So many packets, and their bytes.
 #[inline(always)]
-fn totals(count: usize, bytes: u64) -> Totals
+pub(crate) fn totals(count: usize, bytes: u64) -> Totals
     ensures { result ≡ record { packets = count; bytes = bytes } }
 {
     Totals {

@@ -234,7 +234,7 @@ fn peek_class<S: Sink>(
 // Gives the class in front its turn, whose packet has `len` bytes. Once each class was asked, rounds in which every class is granted are
 // given at once.
 #[inline(always)]
-fn turn_class(active: &mut Active, round: &mut Round, len: u16, is_unasked: bool) -> Turn
+pub(crate) fn turn_class(active: &mut Active, round: &mut Round, len: u16, is_unasked: bool) -> Turn
     requires front { 0 < length active.old.active }
     requires in_range { len ≤ active.old.max_len }
     requires round { is_unasked ≡ false → CanGo len round.old active.old }

@@ -10,6 +10,7 @@ use Rattle.q_tree.specs.declared.node.Discipline.TheVariants as code
 use Rattle.q_tree.proofs.departure.Peeks.{asked-in, items-are}
 use Rattle.q_tree.proofs.departure.SendForms.{asked-sent-in, sent-in, prio-left}
 use Rattle.q_tree.proofs.node.Discipline.give_one.Goals as goal
+use Rattle.q_tree.proofs.ServingHeads.{serve-heads}
 
 pub returns-in-Prio-clause-given : goal.returns-in-Prio-clause-given
 returns-in-Prio-clause-given c = λ so handle filters.
@@ -33,3 +34,25 @@ returns-in-Tbf-clause-given c = λ so handle filters.
     (spec.Tbf c.in-Tbf.bucket c.in-Tbf.limit) (spec.Tbf c.give_from_child.new.bucket c.in-Tbf.limit) (c.deref_mut-in-Tbf.result.now ∷ [])
     (c.give_from_child.new.child ∷ []) (alone c.give_from_child.new.out)
     (ap discipline_seen c.in-Tbf.is) kids refl refl (sym (ap places_seen c.in-Tbf.is)) (c.give_from_child.ensures.bucket so own c.in-Tbf.limit refl) (c.give_from_child.ensures.given so own c.in-Tbf.limit))
+
+pub give_from_classes-requires : goal.give_from_classes-requires
+give_from_classes-requires c = record {
+  serves =
+      serve-heads c.args.now c.args.self.now c.in-Drr.active c.deref_mut-in-Drr.result.now c.requires.asks (ap discipline_seen c.in-Drr.is)
+      (c.deref_mut-in-Drr.ensures.value ∙ sym (ap children_seen c.in-Drr.is)) c.requires.quick;
+}
+
+pub returns-in-Drr-clause-given : goal.returns-in-Drr-clause-given
+returns-in-Drr-clause-given c = λ so handle filters.
+    let own = own_of handle filters (spec.Drr c.in-Drr.active) in
+    let kids = sym (c.deref_mut-in-Drr.ensures.value ∙ sym (ap children_seen c.in-Drr.is)) in
+    let served = c.give_from_classes.ensures.given so own in
+    let after = code.Drr c.give_from_classes.new.active (with_items c.in-Drr.classes c.give_from_classes.new.classes) in
+    asked-sent-in c.args.now handle filters c.args.self.now after (alone c.give_from_classes.new.out)
+    (subst CanHold (sym (ap discipline_seen c.in-Drr.is)) tt)
+    (asked-in c.args.now handle filters c.args.self.now after
+    (spec.Drr c.in-Drr.active) (spec.Drr c.give_from_classes.new.active) c.deref_mut-in-Drr.result.now c.give_from_classes.new.classes
+    (alone c.give_from_classes.new.out) (ap discipline_seen c.in-Drr.is) kids refl
+    (items-are c.in-Drr.classes.items c.give_from_classes.new.classes c.in-Drr.classes.len (sym c.in-Drr.classes.ok.0)
+    (served.asked.long ∙ ap (λ xs. length xs) c.deref_mut-in-Drr.ensures.value))
+    (sym (ap places_seen c.in-Drr.is)) served.schedule served.asked)

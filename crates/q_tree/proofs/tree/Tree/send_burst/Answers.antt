@@ -83,6 +83,6 @@ returns-clause-given g c =
       polled = (burst g d).after ∙ ap₂ (λ (k : ℕ) (x : DeviceState Kept). polled_each kept c.args.now k x) (counted g d) c.self.view_is;
     }
 
-pub returns-then-not-is_a_prio_or_tbf-clause-below : goal.returns-then-not-is_a_prio_or_tbf-clause-below
-returns-then-not-is_a_prio_or_tbf-clause-below g c some other can =
+pub returns-then-not-has_fifo_classes-clause-below : goal.returns-then-not-has_fifo_classes-clause-below
+returns-then-not-has_fifo_classes-clause-below g c some other can =
     c.if-not-is_a_prio_or_tbf.ensures.others refl c.args.now (subst (λ (d : DeviceState Kept). CanGive c.args.now d.tree.root) (sym c.self.view_is) can)
