@@ -6,7 +6,7 @@ use Rattle.q_model.specs.declared.kind.Kind.TheVariants.{Pfifo}
 use Rattle.q_model.specs.declared.place.Place.TheVariants.{Root}
 use Rattle.q_model.specs.Tally.{no_totals}
 use Rattle.q_model.specs.declared.event.Event.{Event}
-use Rattle.q_worked_examples.proofs.Script.{run, seen, packet, arrives, polls, add_root, ok, kept, lost, sent, idle, loss, pb}
+use Rattle.q_worked_examples.proofs.scripts.Script.{run, seen, packet, arrives, polls, add_root, ok, kept, lost, sent, idle, loss, pb}
 
 -- a pfifo of two packets, at which three arrive
 two_of_three : List Event

@@ -12,7 +12,7 @@ use Rattle.q_model.specs.declared.tbf_limit.TbfLimit.TheVariants as tbf_limit
 use Rattle.q_words.specs.declared.line_fault.LineFault.TheVariants as fault
 use Rattle.q_line.specs.Drafts.{default_priomap}
 use Rattle.q_line.specs.declared.line.Line.TheVariants as line
-use Rattle.q_worked_examples.proofs.LineTable.{Row, AreRead, at_root, class_id, filter, no_fq_codel_options, no_keys, one_byte, one_filter, prio}
+use Rattle.q_worked_examples.proofs.lines.LineTable.{Row, AreRead, at_root, class_id, filter, no_fq_codel_options, no_keys, one_byte, one_filter, prio}
 use Rattle.q_worked_examples.proofs.SharedRules.{line_rules}
 
 -- limits of a pfifo in packets, of a bfifo in bytes

@@ -2,8 +2,8 @@
 use Rattle.std.specs.Prelude.{◌≡◌, [], ◌∷◌, Some, refl}
 use Rattle.q_model.specs.Node.{Drr}
 use Rattle.q_model.specs.declared.kind.Kind.TheVariants as kind
+use Rattle.q_worked_examples.proofs.scripts.Script.{run, add_root}
 use Rattle.q_worked_examples.proofs.SharedRules.{shared_rules}
-use Rattle.q_worked_examples.proofs.Script.{run, add_root}
 
 -- a drr counts with packets up to the mtu
 made_drr : (run (add_root (Some 1) kind.Drr ∷ [])).device.tree.root.own.discipline ≡

@@ -2,7 +2,7 @@
 -- The rules are those of docs/LANGUAGE.md and docs/DISCIPLINES.md.
 use Rattle.std.proofs.Common.{[], ◌∷◌, ◌++◌, refl}
 use Rattle.std.specs.Prelude.{codes, replicate}
-use Rattle.q_worked_examples.specs.Reports.{reports}
+use Rattle.q_worked_examples.specs.reports.Reports.{reports}
 use Rattle.q_worked_examples.proofs.SharedRules.{report_rules}
 
 empty_script :

@@ -12,8 +12,8 @@ use Rattle.q_model.specs.Tally.{no_totals, totals}
 use Rattle.q_model.specs.TreeState.{stats}
 use Rattle.q_model.specs.declared.event.Event.{Event}
 use Rattle.q_model.specs.declared.refusal.Refusal.TheVariants.{NoParent, Exists, NoQdisc, HandleTaken, NoClass, CannotChange, TooDeep, NoFilter}
+use Rattle.q_worked_examples.proofs.scripts.Script.{run, seen, class, packet, arrives, polls, tc, add_root, add_in, add_class, add_filter, no_keys, no_options, ok, not_done, kept, lost, sent, idle, later, loss, pb, in_class, prio}
 use Rattle.q_worked_examples.proofs.SharedRules.{shared_rules}
-use Rattle.q_worked_examples.proofs.Script.{run, seen, class, packet, arrives, polls, tc, add_root, add_in, add_class, add_filter, no_keys, no_options, ok, not_done, kept, lost, sent, idle, later, loss, pb, in_class, prio}
 
 -- a drr with one class, an fq_codel in it, and a filter that takes every packet
 abbrev drr_over_fq_codel : FqOptions → List Event

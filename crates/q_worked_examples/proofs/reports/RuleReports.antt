@@ -2,7 +2,7 @@
 -- Each report follows from the rules in docs/LANGUAGE.md.
 use Rattle.std.proofs.Common.{[], ◌∷◌, ◌++◌, refl}
 use Rattle.std.specs.Prelude.{codes, replicate}
-use Rattle.q_worked_examples.specs.Reports.{reports, reports_with}
+use Rattle.q_worked_examples.specs.reports.Reports.{reports, reports_with}
 use Rattle.q_worked_examples.proofs.SharedRules.{report_rules}
 
 reap_twice :

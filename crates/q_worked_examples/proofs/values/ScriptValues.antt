@@ -5,7 +5,7 @@ use Rattle.std.specs.Prelude.{codes}
 use Rattle.std.specs.Fmt.{digits}
 use Rattle.std.specs.Str.{is_utf8, chars}
 use Rattle.q_script.specs.Script.{newline, lines_of}
-use Rattle.q_worked_examples.specs.Reports.{reports, reports_with}
+use Rattle.q_worked_examples.specs.reports.Reports.{reports, reports_with}
 use Rattle.q_worked_examples.proofs.SharedRules.{report_rules}
 
 ended_line : lines_of (codes "poll" ++ newline) ≡ codes "poll" ∷ []

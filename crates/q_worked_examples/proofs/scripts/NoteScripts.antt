@@ -10,8 +10,8 @@ use Rattle.q_model.specs.declared.kind.Kind.TheVariants.{Drr, Tbf, FqCodel}
 use Rattle.q_model.specs.declared.tbf_limit.TbfLimit.TheVariants as limit
 use Rattle.q_model.specs.Tally.{Note, Arrived, Sent, Lost, Marked, Granted, Spent, FlowGranted, FlowGave, history}
 use Rattle.q_model.specs.Replay.{replay}
+use Rattle.q_worked_examples.proofs.scripts.Script.{settings, packet, hashed, from_port, arrives, polls, add_root, add_in, add_class, filter_port, prio, no_options}
 use Rattle.q_worked_examples.proofs.SharedRules.{shared_rules}
-use Rattle.q_worked_examples.proofs.Script.{settings, packet, hashed, from_port, arrives, polls, add_root, add_in, add_class, filter_port, prio, no_options}
 
 noted : List Event → List Note
 noted events = (replay history settings events).device.tree.root.memory

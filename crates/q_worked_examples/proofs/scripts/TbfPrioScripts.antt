@@ -10,7 +10,7 @@ use Rattle.q_model.specs.declared.place.Place.TheVariants.{Top, Root}
 use Rattle.q_model.specs.Tally.{no_totals}
 use Rattle.q_model.specs.declared.event.Event.{Event}
 use Rattle.q_model.specs.declared.refusal.Refusal.TheVariants.{SmallBurst}
-use Rattle.q_worked_examples.proofs.Script.{run, seen, packet, with_prio, arrives, polls, tc, add_root, add_in, ok, not_done, kept, lost, sent, idle, later, loss, pb, in_class, prio}
+use Rattle.q_worked_examples.proofs.scripts.Script.{run, seen, packet, with_prio, arrives, polls, tc, add_root, add_in, ok, not_done, kept, lost, sent, idle, later, loss, pb, in_class, prio}
 
 -- 8000 bits a second are a byte in 1000000 ns: the second packet of 1000 bytes goes at 500000000 ns, and not before
 tokens : List Event

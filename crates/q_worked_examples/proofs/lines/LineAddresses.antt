@@ -7,7 +7,7 @@ use Rattle.q_model.specs.declared.ip_version.IpVersion.TheVariants.{V4, V6}
 use Rattle.q_model.specs.declared.protocol.Protocol.TheVariants.{Ip, Ipv6}
 use Rattle.q_words.specs.declared.line_fault.LineFault.TheVariants as fault
 use Rattle.q_line.specs.declared.line.Line.TheVariants as line
-use Rattle.q_worked_examples.proofs.LineTable.{Row, AreRead, filter, no_keys, one_byte, one_filter, prio}
+use Rattle.q_worked_examples.proofs.lines.LineTable.{Row, AreRead, filter, no_keys, one_byte, one_filter, prio}
 use Rattle.q_worked_examples.proofs.SharedRules.{line_rules}
 
 -- eight groups; `::` at each place, and where it may not stand

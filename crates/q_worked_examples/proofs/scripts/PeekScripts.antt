@@ -10,8 +10,8 @@ use Rattle.q_model.specs.declared.row.Row.{Row}
 use Rattle.q_model.specs.Tally.{Counts, no_totals, totals}
 use Rattle.q_model.specs.TreeState.{TreeState, given, peek_packet, take_packet, stats}
 use Rattle.q_model.specs.Views.{node, class_of, filter_of}
+use Rattle.q_worked_examples.proofs.scripts.Script.{run, class, in_class, from_port, packet, arrives, polls, add_root, add_class, filter_port, no_options, pb}
 use Rattle.q_worked_examples.proofs.SharedRules.{shared_rules}
-use Rattle.q_worked_examples.proofs.Script.{run, class, in_class, from_port, packet, arrives, polls, add_root, add_class, filter_port, no_options, pb}
 
 -- a drr with a packet in its one class
 tree : TreeState Counts

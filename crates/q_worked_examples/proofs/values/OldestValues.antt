@@ -9,8 +9,8 @@ use Rattle.q_model.specs.declared.tbf_limit.TbfLimit.TheVariants.{Bytes}
 use Rattle.q_model.specs.Oldest.{oldest_at}
 use Rattle.q_model.specs.Tally.{Counts, totals}
 use Rattle.q_model.specs.TreeState.{TreeState, peek_packet}
+use Rattle.q_worked_examples.proofs.scripts.Script.{run, in_class, packet, hashed, with_prio, from_port, arrives, polls, prio, add_root, add_in, add_class, filter_port, no_options}
 use Rattle.q_worked_examples.proofs.SharedRules.{shared_rules}
-use Rattle.q_worked_examples.proofs.Script.{run, in_class, packet, hashed, with_prio, from_port, arrives, polls, prio, add_root, add_in, add_class, filter_port, no_options}
 
 tree : List Event → TreeState Counts
 tree events = (run events).device.tree

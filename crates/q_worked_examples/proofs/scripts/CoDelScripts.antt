@@ -8,8 +8,8 @@ use Rattle.q_model.specs.declared.kind.Kind.TheVariants.{FqCodel}
 use Rattle.q_model.specs.Options.{FqOptions}
 use Rattle.q_model.specs.declared.event.Event.{Event}
 use Rattle.q_model.specs.declared.reply.Reply.{Reply}
+use Rattle.q_worked_examples.proofs.scripts.Script.{run, seen, packet, arrives, polls, add_root, no_options, ok, kept, sent, loss}
 use Rattle.q_worked_examples.proofs.SharedRules.{shared_rules}
-use Rattle.q_worked_examples.proofs.Script.{run, seen, packet, arrives, polls, add_root, no_options, ok, kept, sent, loss}
 
 abbrev quick : FqOptions
 quick = record no_options { flows = Some 2; target = Some 50; interval = Some 1000 }

@@ -2,7 +2,7 @@
 -- The scripts are those of examples/, with fewer flows.
 use Rattle.std.proofs.Common.{[], ◌∷◌, ◌++◌, refl}
 use Rattle.std.specs.Prelude.{codes, replicate}
-use Rattle.q_worked_examples.specs.Reports.{reports}
+use Rattle.q_worked_examples.specs.reports.Reports.{reports}
 use Rattle.q_worked_examples.proofs.SharedRules.{report_rules}
 
 new_flow_passes_to_old :

@@ -11,8 +11,8 @@ use Rattle.q_model.specs.declared.kind.Kind.TheVariants.{FqCodel, Drr}
 use Rattle.q_model.specs.Replay.{Replay, replay_from, nothing_yet}
 use Rattle.q_model.specs.Stretches.{bytes_sent, grants_to, flow_grants_to, bytes_given, ClassAt, class_in, FqAt, fq_in}
 use Rattle.q_model.specs.Tally.{Note, history}
+use Rattle.q_worked_examples.proofs.scripts.Script.{settings, from_port, hashed, arrives, polls, tc, class, add_root, add_class, filter_port, no_options}
 use Rattle.q_worked_examples.proofs.SharedRules.{shared_rules}
-use Rattle.q_worked_examples.proofs.Script.{settings, from_port, hashed, arrives, polls, tc, class, add_root, add_class, filter_port, no_options}
 
 pub record ClassCount : Type 0 where
   pub quantum : ℕ

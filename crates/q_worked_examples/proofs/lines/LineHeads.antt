@@ -10,7 +10,7 @@ use Rattle.q_model.specs.declared.protocol.Protocol.TheVariants.{Ipv6}
 use Rattle.q_words.specs.declared.line_fault.LineFault.TheVariants as fault
 use Rattle.q_line.specs.declared.line.Line.TheVariants as line
 use Rattle.q_line.specs.declared.object.Object.TheVariants as object
-use Rattle.q_worked_examples.proofs.LineTable.{Row, AreRead, at_root, class_id, filter, one_filter, prio}
+use Rattle.q_worked_examples.proofs.lines.LineTable.{Row, AreRead, at_root, class_id, filter, one_filter, prio}
 use Rattle.q_worked_examples.proofs.SharedRules.{line_rules}
 
 -- a name of 15 bytes; handles and classes, in hexadecimal

@@ -7,8 +7,8 @@ use Rattle.q_model.specs.declared.kind.Kind.TheVariants.{FqCodel}
 use Rattle.q_model.specs.Replay.{replay}
 use Rattle.q_model.specs.Stretches.{bytes_given, flow_grants_to, FqAt, fq_in}
 use Rattle.q_model.specs.Tally.{history}
+use Rattle.q_worked_examples.proofs.scripts.Script.{settings, hashed, arrives, polls, add_root, no_options}
 use Rattle.q_worked_examples.proofs.SharedRules.{shared_rules}
-use Rattle.q_worked_examples.proofs.Script.{settings, hashed, arrives, polls, add_root, no_options}
 
 -- the grants to flow 0, which stays backlogged, and the bytes that flow 1 gave
 pub record Beside : Type 0 where

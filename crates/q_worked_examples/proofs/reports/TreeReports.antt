@@ -2,7 +2,7 @@
 -- The rules are those of docs/DISCIPLINES.md.
 use Rattle.std.proofs.Common.{[], ◌∷◌, refl}
 use Rattle.std.specs.Prelude.{codes}
-use Rattle.q_worked_examples.specs.Reports.{settings, reports_on, reports}
+use Rattle.q_worked_examples.specs.reports.Reports.{settings, reports_on, reports}
 use Rattle.q_worked_examples.proofs.SharedRules.{report_rules}
 
 -- a tbf that waits has peeked its child, which has dequeued the packet and holds it; a second peek changes nothing

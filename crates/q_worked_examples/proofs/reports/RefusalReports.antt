@@ -2,7 +2,7 @@
 -- The orders are those of docs/LANGUAGE.md.
 use Rattle.std.proofs.Common.{[], ◌∷◌, refl}
 use Rattle.std.specs.Prelude.{codes}
-use Rattle.q_worked_examples.specs.Reports.{reports}
+use Rattle.q_worked_examples.specs.reports.Reports.{reports}
 use Rattle.q_worked_examples.proofs.SharedRules.{report_rules}
 
 -- over a prio with a tbf and a pfifo
