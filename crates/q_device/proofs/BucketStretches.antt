@@ -8,9 +8,9 @@ use Rattle.q_model.specs.Tally.{Note, history}
 use Rattle.q_model.specs.Settings.{DeviceSettings, IsInRange}
 use Rattle.q_model.specs.Step.{DeviceState, step}
 use Rattle.q_model.specs.Stretches.{TbfAt, tbf_in, IsTbf}
-use Rattle.q_invariants.proofs.Replays.{IsKept}
 use Rattle.q_invariants.proofs.Along.{moves}
-use Rattle.q_invariants.proofs.BucketMoves.{TbfMoves, step-moves, more-moves, no-moves}
+use Rattle.q_invariants.proofs.bucket.BucketMoves.{TbfMoves, step-moves, more-moves, no-moves}
+use Rattle.q_invariants.proofs.Replays.{IsKept}
 use Rattle.q_device.specs.Sharing.{device_after, BucketsAreBounded}
 
 module _ (major rate burst : ℕ) where

@@ -15,7 +15,7 @@ use Rattle.q_model.specs.Step.{DeviceState, answered, step}
 use Rattle.q_model.specs.Tally.{Note, history}
 use Rattle.q_model.specs.TreeState.{plan}
 use Rattle.q_invariants.proofs.Along.{replay-twice}
-use Rattle.q_invariants.proofs.EditLater.{root-later}
+use Rattle.q_invariants.proofs.edit.EditLater.{root-later}
 use Rattle.q_invariants.proofs.Kept.{IsLawfulRoot}
 use Rattle.q_invariants.proofs.Replays.{IsKept, not-before, not-after, step-kept, replay-kept}
 use Rattle.q_tree.specs.MostPackets.{most_packets}

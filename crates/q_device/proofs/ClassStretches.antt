@@ -22,11 +22,11 @@ use Rattle.q_model.specs.TreeState.{plan}
 use Rattle.q_model.specs.Settings.{DeviceSettings, IsInRange}
 use Rattle.q_model.specs.Step.{DeviceState, answered, step}
 use Rattle.q_model.specs.Stretches.{bytes_sent, grants_to, ClassAt, class_in, IsBackloggedClass, Throughout}
-use Rattle.q_invariants.proofs.Replays.{IsKept, replay-kept}
 use Rattle.q_invariants.proofs.Along.{moves}
-use Rattle.q_invariants.proofs.TakeTurns.{one_if}
-use Rattle.q_invariants.proofs.ClassChildren.{child-has}
-use Rattle.q_invariants.proofs.ClassMoves.{class-node, drr-lawful, ClassMoves, class-moves, more-class-moves, no-class-moves, PairMoves, same-noted, pair-moves, more-pair-moves, no-pair-moves, deficit-bounded, class-short, class-wakes}
+use Rattle.q_invariants.proofs.class.ClassChildren.{child-has}
+use Rattle.q_invariants.proofs.class.ClassMoves.{class-node, drr-lawful, ClassMoves, class-moves, more-class-moves, no-class-moves, PairMoves, same-noted, pair-moves, more-pair-moves, no-pair-moves, deficit-bounded, class-short, class-wakes}
+use Rattle.q_invariants.proofs.class.TakeTurns.{one_if}
+use Rattle.q_invariants.proofs.Replays.{IsKept, replay-kept}
 use Rattle.q_device.proofs.ReplayLemmas.{replay_from-append}
 use Rattle.q_device.specs.Sharing.{device_after, length_shown, GrantsComeWhereShort, ClassesSendTheirShares, ClassesWakeWithAQuantum, DeficitsAreBounded, ClassesShareByQuanta}
 

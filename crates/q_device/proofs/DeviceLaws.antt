@@ -15,7 +15,7 @@ use Rattle.q_model.specs.Node.{Forest, none, more, Node, children, nodes_in}
 use Rattle.q_model.specs.Settings.{IsInRange}
 use Rattle.q_model.specs.Tally.{Counts, totals}
 use Rattle.q_model.specs.TreeState.{TreeState, stats}
-use Rattle.q_invariants.proofs.Members.{All-front, All-back}
+use Rattle.q_invariants.proofs.tree.Members.{All-front, All-back}
 use Rattle.q_device.specs.DeviceLaws.{IsReplayOfRecorded, IsLawfulDevice, TellsItsLosses}
 use Rattle.q_device.specs.DeviceSeen.{DeviceSeen}
 use Rattle.q_device.specs.Replayed.{IsReplayOf}

@@ -10,11 +10,11 @@ use Rattle.q_model.specs.Replay.{Replay, nothing_yet}
 use Rattle.q_model.specs.Settings.{DeviceSettings, IsInRange}
 use Rattle.q_model.specs.Step.{DeviceState, step}
 use Rattle.q_model.specs.Stretches.{flow_grants_to, FqAt, fq_in, IsBackloggedFlow}
-use Rattle.q_invariants.proofs.Replays.{IsKept, replay-kept}
 use Rattle.q_invariants.proofs.Along.{moves}
-use Rattle.q_invariants.proofs.FlowMoves.{FlowMoves, flow-moves, more-flow-moves, no-flow-moves, backlogged-credits}
-use Rattle.q_invariants.proofs.FlowBegins.{flow-begins}
-use Rattle.q_invariants.proofs.FlowPairs.{FlowPairMoves, flow-pair-moves, more-flow-pair-moves, no-flow-pair-moves}
+use Rattle.q_invariants.proofs.flow.FlowBegins.{flow-begins}
+use Rattle.q_invariants.proofs.flow.FlowMoves.{FlowMoves, flow-moves, more-flow-moves, no-flow-moves, backlogged-credits}
+use Rattle.q_invariants.proofs.flow.FlowPairs.{FlowPairMoves, flow-pair-moves, more-flow-pair-moves, no-flow-pair-moves}
+use Rattle.q_invariants.proofs.Replays.{IsKept, replay-kept}
 use Rattle.q_device.proofs.ClassStretches.{at-start}
 use Rattle.q_device.proofs.ReplayLemmas.{replay_from-append}
 use Rattle.q_fqcodel.proofs.OrderLemmas.{one_if}

@@ -15,7 +15,7 @@ use Rattle.q_model.specs.Step.{DeviceState, step}
 use Rattle.q_model.specs.Tally.{Counts, counts_in, history, totals}
 use Rattle.q_model.specs.TreeState.{asked}
 use Rattle.q_model.proofs.ShrinkLemmas.{shape-with_memory}
-use Rattle.q_invariants.proofs.Asks.{ask-quiet}
+use Rattle.q_invariants.proofs.ask.Asks.{ask-quiet}
 use Rattle.q_invariants.proofs.Replays.{replay-kept}
 use Rattle.q_invariants.proofs.Sound.{kept-totals}
 use Rattle.q_device.specs.Counters.{arrived_after, sent_by}

@@ -6,8 +6,8 @@ use Rattle.std.proofs.lemmas.Option.{none-some}
 use Rattle.q_packet.specs.Descriptor.{Descriptor}
 use Rattle.q_bucket.specs.Level.{TokenBucket, IsInRange, allows}
 use Rattle.q_model.specs.Ask.{Asked, befores}
-use Rattle.q_invariants.proofs.AskPrio.{peeked_to}
-use Rattle.q_invariants.proofs.SecondPrio.{ready, ready-here, ready-later}
+use Rattle.q_invariants.proofs.again.SecondPrio.{ready, ready-here, ready-later}
+use Rattle.q_invariants.proofs.ask.AskPrio.{peeked_to}
 use Rattle.q_tree.specs.ReadyAt.{no_packet, at_hand, shaped, with_band, with_bands, outlook}
 use Rattle.q_tree.proofs.Foreseeing.{Covers, lets-go}
 use Rattle.q_tree.proofs.ForeseenAsks.{or_else, first_of}

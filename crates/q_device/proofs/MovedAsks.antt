@@ -24,12 +24,12 @@ use Rattle.q_model.specs.Node.{Discipline, Fifo, Prio, Tbf, Drr, FqCodel, Own}
 use Rattle.q_model.specs.Route.{class_at}
 use Rattle.q_model.specs.Tally.{Note}
 use Rattle.q_model.specs.Work.{worked}
-use Rattle.q_invariants.proofs.AskClasses.{peeked_by}
-use Rattle.q_invariants.proofs.AskPrio.{peeked_to, notes_to}
-use Rattle.q_invariants.proofs.DrrService.{IsMetAt, met-asked}
-use Rattle.q_invariants.proofs.Exact.{classes-served, exact-length}
-use Rattle.q_invariants.proofs.SecondPeek.{node}
-use Rattle.q_invariants.proofs.SecondPrio.{ready}
+use Rattle.q_invariants.proofs.again.SecondPeek.{node}
+use Rattle.q_invariants.proofs.again.SecondPrio.{ready}
+use Rattle.q_invariants.proofs.ask.AskClasses.{peeked_by}
+use Rattle.q_invariants.proofs.ask.AskPrio.{peeked_to, notes_to}
+use Rattle.q_invariants.proofs.ask.DrrService.{IsMetAt, met-asked}
+use Rattle.q_invariants.proofs.class.Exact.{classes-served, exact-length}
 use Rattle.q_tree.specs.ReadyAt.{no_packet, with_bands, paid, of_fifo, of_flows, of_class, outlook}
 use Rattle.q_tree.proofs.Foreseeing.{Covers}
 use Rattle.q_tree.proofs.ForeseenAsks.{prio-shown}

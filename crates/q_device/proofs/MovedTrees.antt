@@ -6,7 +6,7 @@ use Rattle.q_model.specs.Node.{Own, Forest, none, more, Shape, each, shape}
 use Rattle.q_model.specs.Tally.{Tally}
 use Rattle.q_model.specs.TreeState.{TreeState, given, take_packet}
 use Rattle.q_model.specs.Lawful.{IsLawfulOwn}
-use Rattle.q_invariants.proofs.Asks.{beneath-befores}
+use Rattle.q_invariants.proofs.ask.Asks.{beneath-befores}
 use Rattle.q_invariants.proofs.Kept.{AllLawful, IsLawfulRoot}
 use Rattle.q_tree.specs.ReadyAt.{outlook_own, outlook}
 use Rattle.q_device.proofs.Moved.{Moves, AreMoved}

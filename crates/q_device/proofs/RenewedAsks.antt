@@ -25,11 +25,11 @@ use Rattle.q_model.specs.Node.{Discipline, Fifo, Prio, Tbf, Drr, FqCodel, Own}
 use Rattle.q_model.specs.Route.{class_at}
 use Rattle.q_model.specs.Tally.{Note}
 use Rattle.q_model.specs.Work.{Worked, worked}
-use Rattle.q_invariants.proofs.AskClasses.{peeked_by}
-use Rattle.q_invariants.proofs.AskPrio.{peeked_to, notes_to}
-use Rattle.q_invariants.proofs.Exact.{exact-length}
-use Rattle.q_invariants.proofs.Forests.{each-side}
-use Rattle.q_invariants.proofs.SecondPeek.{node}
+use Rattle.q_invariants.proofs.again.SecondPeek.{node}
+use Rattle.q_invariants.proofs.ask.AskClasses.{peeked_by}
+use Rattle.q_invariants.proofs.ask.AskPrio.{peeked_to, notes_to}
+use Rattle.q_invariants.proofs.class.Exact.{exact-length}
+use Rattle.q_invariants.proofs.tree.Forests.{each-side}
 use Rattle.q_tree.specs.ReadyAt.{no_packet, at_best, shaped, with_bands, paid, of_fifo, of_flows, of_class, outlook_own, outlook}
 use Rattle.q_tree.proofs.FlowCounts.{one, packets-all}
 use Rattle.q_tree.proofs.Foreseeing.{Foresees, Covers}

@@ -9,12 +9,12 @@ use Rattle.q_model.specs.TreeState.{TreeState, given, take_packet}
 use Rattle.q_model.specs.Work.{Worked, booked}
 use Rattle.q_model.specs.Lawful.{IsLawfulOwn}
 use Rattle.q_model.proofs.ShrinkLemmas.{each-each_memory}
-use Rattle.q_invariants.proofs.Answer.{IsAnswer}
-use Rattle.q_invariants.proofs.AskClasses.{empty-peeked}
-use Rattle.q_invariants.proofs.Asks.{before-is, before-root, beneath-befores, ask-answers}
+use Rattle.q_invariants.proofs.again.SecondPeeks.{asked-shape, told}
+use Rattle.q_invariants.proofs.ask.Answer.{IsAnswer}
+use Rattle.q_invariants.proofs.ask.AskClasses.{empty-peeked}
+use Rattle.q_invariants.proofs.ask.Asks.{before-is, before-root, beneath-befores, ask-answers}
 use Rattle.q_invariants.proofs.Kept.{AllLawful, IsLawfulRoot}
-use Rattle.q_invariants.proofs.SecondPeeks.{asked-shape, told}
-use Rattle.q_invariants.proofs.Told.{root-booked}
+use Rattle.q_invariants.proofs.sums.Told.{root-booked}
 use Rattle.q_tree.specs.ReadyAt.{outlook_own, outlook}
 use Rattle.q_tree.proofs.Foreseeing.{Foresees}
 use Rattle.q_tree.proofs.ForeseenAsks.{foreseen}

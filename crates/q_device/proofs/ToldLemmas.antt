@@ -26,11 +26,11 @@ use Rattle.q_model.specs.Step.{DeviceState, Step, loss_in, losses_in, polled_of,
 use Rattle.q_model.specs.Tally.{Note, Arrived, Sent, history}
 use Rattle.q_model.specs.TreeState.{put_on, put_work, asked, take_packet, plan}
 use Rattle.q_model.specs.Work.{losses_of}
-use Rattle.q_invariants.proofs.Weights.{IsQuiet, weigh-count}
-use Rattle.q_invariants.proofs.Shuffled.{weigh-arrivals, weigh-sent}
-use Rattle.q_invariants.proofs.Told.{noted-history}
-use Rattle.q_invariants.proofs.Asks.{ask-quiet}
+use Rattle.q_invariants.proofs.ask.Asks.{ask-quiet}
 use Rattle.q_invariants.proofs.Replays.{IsKept, not-after, step-kept, new-kept-device}
+use Rattle.q_invariants.proofs.sums.Shuffled.{weigh-arrivals, weigh-sent}
+use Rattle.q_invariants.proofs.sums.Told.{noted-history}
+use Rattle.q_invariants.proofs.sums.Weights.{IsQuiet, weigh-count}
 use Rattle.q_device.specs.Laws.{brought, given_in, TellsAll}
 
 -- notes of losses and marks alone

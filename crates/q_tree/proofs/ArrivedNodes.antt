@@ -16,10 +16,10 @@ use Rattle.q_model.specs.Node.{Node, Shape, shape, side_by_side}
 use Rattle.q_model.specs.Put.{put_along}
 use Rattle.q_model.specs.Route.{Route, route}
 use Rattle.q_model.specs.Tally.{Note}
-use Rattle.q_invariants.proofs.Forests.{nodes-side, each-side, lawful-with_memory}
 use Rattle.q_invariants.proofs.Kept.{IsLawfulRoot}
-use Rattle.q_invariants.proofs.Members.{All-at}
-use Rattle.q_invariants.proofs.Quiet.{child-lawful}
+use Rattle.q_invariants.proofs.tree.Forests.{nodes-side, each-side, lawful-with_memory}
+use Rattle.q_invariants.proofs.tree.Members.{All-at}
+use Rattle.q_invariants.proofs.tree.Quiet.{child-lawful}
 use Rattle.q_tree.specs.Arrivals.{CanPut, HasPlace, HasPlaceIn, IsLostOf, with_arrival}
 use Rattle.q_tree.specs.ArriveSteps.{CanCome, CanComeIn, HasCome, HasComeIn, HasPlaceOn, IsPlaced, IsPlacedIn, IsPutOn, rises_along, way_in}
 use Rattle.q_tree.specs.AskSteps.{IsToldOf, packets_within}

@@ -18,11 +18,11 @@ use Rattle.q_model.specs.Node.{Own, Node, shape, side_by_side, each, each_memory
 use Rattle.q_model.specs.Quanta.{flow_notes}
 use Rattle.q_model.specs.Tally.{Note, Spent, noted, totals}
 use Rattle.q_model.specs.Work.{booked}
-use Rattle.q_invariants.proofs.Answer.{IsSilent, silent-nil}
-use Rattle.q_invariants.proofs.AskTbf.{spent-note}
-use Rattle.q_invariants.proofs.DrrService.{notes-silent}
-use Rattle.q_invariants.proofs.FlowNotes.{flow-silent}
-use Rattle.q_invariants.proofs.Weights.{IsQuiet}
+use Rattle.q_invariants.proofs.ask.Answer.{IsSilent, silent-nil}
+use Rattle.q_invariants.proofs.ask.AskTbf.{spent-note}
+use Rattle.q_invariants.proofs.ask.DrrService.{notes-silent}
+use Rattle.q_invariants.proofs.flow.FlowNotes.{flow-silent}
+use Rattle.q_invariants.proofs.sums.Weights.{IsQuiet}
 use Rattle.q_tree.specs.AskSteps.{IsAskedIn, answers, answer_of, own_of, held_in, with_shown}
 use Rattle.q_tree.specs.Kept.{Kept, kept}
 use Rattle.q_tree.specs.Seen.{seen, discipline_seen, children_seen, places_seen}

@@ -7,7 +7,7 @@ use Rattle.q_packet.specs.Descriptor.{Descriptor}
 use Rattle.q_model.specs.Node.{Node, side_by_side, each}
 use Rattle.q_model.specs.Node as spec
 use Rattle.q_model.specs.Pop.{Popping, first_ready, pop, pop_own}
-use Rattle.q_invariants.proofs.Forests.{each-side}
+use Rattle.q_invariants.proofs.tree.Forests.{each-side}
 use Rattle.q_model.specs.Pop.{first_shown}
 use Rattle.q_tree.specs.Kept.{Kept}
 use Rattle.q_tree.specs.Seen.{seen, discipline_seen, children_seen}

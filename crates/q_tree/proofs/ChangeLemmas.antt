@@ -29,16 +29,16 @@ use Rattle.q_model.specs.QdiscCommands.{at_target, bands_check, leaf_of_tbf, reb
 use Rattle.q_model.specs.Ranges.{IsCommand}
 use Rattle.q_model.specs.Refusals.{Check, done_unless, most_nodes, refuse}
 use Rattle.q_model.specs.TreeState.{plan}
-use Rattle.q_invariants.proofs.EditChildren.{any-append, gone_is, gone_past, kept_above, kept_from, kept_there, kids, kids-append, kids_all, kids_kept, kids_new, new_keeps}
-use Rattle.q_invariants.proofs.EditMade.{new_leaf}
-use Rattle.q_invariants.proofs.EditSizes.{counts, sized-within}
-use Rattle.q_invariants.proofs.EditSuits.{beneath-children, children-shape, done_is, length-shape, node_at-shape}
-use Rattle.q_invariants.proofs.Forests.{lawful-with_memory}
-use Rattle.q_invariants.proofs.Joined.{joined}
+use Rattle.q_invariants.proofs.edit.EditChildren.{any-append, gone_is, gone_past, kept_above, kept_from, kept_there, kids, kids-append, kids_all, kids_kept, kids_new, new_keeps}
+use Rattle.q_invariants.proofs.edit.EditMade.{new_leaf}
+use Rattle.q_invariants.proofs.edit.EditSuits.{beneath-children, children-shape, done_is, length-shape, node_at-shape}
 use Rattle.q_invariants.proofs.Kept.{IsLawfulRoot}
-use Rattle.q_invariants.proofs.MadeSizes.{count-shape}
-use Rattle.q_invariants.proofs.SizeChecks.{numbers}
-use Rattle.q_invariants.proofs.SizedChanges.{change_sized, length-below, node-lawful, nodes_rebanded, plan-qdisc_change}
+use Rattle.q_invariants.proofs.sizes.EditSizes.{counts, sized-within}
+use Rattle.q_invariants.proofs.sizes.MadeSizes.{count-shape}
+use Rattle.q_invariants.proofs.sizes.SizeChecks.{numbers}
+use Rattle.q_invariants.proofs.sizes.SizedChanges.{change_sized, length-below, node-lawful, nodes_rebanded, plan-qdisc_change}
+use Rattle.q_invariants.proofs.sums.Joined.{joined}
+use Rattle.q_invariants.proofs.tree.Forests.{lawful-with_memory}
 use Rattle.q_tree.specs.Changing.{IsChange, IsRemade, is_new, bfifo_answer, drr_same, fq_codel_answer, leaves_answer, nodes_from, pfifo_answer, tbf_answer}
 use Rattle.q_tree.specs.Commands.{IsBounded, IsPlannedFor, IsRefused, takes_none}
 use Rattle.q_tree.specs.Finding.{reached}

@@ -4,7 +4,7 @@ use Rattle.std.specs.Prelude.{is_some, slice_get, slice_index_or}
 use Rattle.q_drr.specs.Schedule.{Schedule, has_class, place_of}
 use Rattle.q_model.specs.Node as spec
 use Rattle.q_model.specs.Node.{Node}
-use Rattle.q_invariants.proofs.EditClasses.{class_known, member_at}
+use Rattle.q_invariants.proofs.edit.EditClasses.{class_known, member_at}
 use Rattle.q_tree.specs.Kept.{Kept}
 use Rattle.q_tree.specs.DisciplineChanges.{class_child}
 use Rattle.q_tree.proofs.Puts.{same-child}

@@ -6,8 +6,8 @@ use Rattle.std.proofs.lemmas.List.{drop_more, drop_all}
 use Rattle.std.proofs.lemmas.List.Sums.{sum_by-cons}
 use Rattle.q_model.specs.Find.{count_nodes}
 use Rattle.q_model.specs.Node.{Node, children}
-use Rattle.q_invariants.proofs.EditSizes.{nodes_own}
-use Rattle.q_invariants.proofs.Forests.{each-nodes}
+use Rattle.q_invariants.proofs.sizes.EditSizes.{nodes_own}
+use Rattle.q_invariants.proofs.tree.Forests.{each-nodes}
 use Rattle.q_tree.specs.Kept.{Kept}
 
 -- the nodes from this place on, with those beneath them

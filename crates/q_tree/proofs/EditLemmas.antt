@@ -21,14 +21,14 @@ use Rattle.q_model.specs.Node.{Node, children, each, side_by_side}
 use Rattle.q_model.specs.Step.{losses_in}
 use Rattle.q_model.specs.Tally.{Counts, no_totals, noted, with_packet}
 use Rattle.q_model.specs.Work.{losses_of, settled_in}
-use Rattle.q_invariants.proofs.Answer.{one}
-use Rattle.q_invariants.proofs.Counted.{bytes}
-use Rattle.q_invariants.proofs.DrrSettled.{settled-packets}
-use Rattle.q_invariants.proofs.EditNew.{held-le-beneath}
-use Rattle.q_invariants.proofs.Forests.{each-at, each-nodes, each-set, each-side, nodes-side}
-use Rattle.q_invariants.proofs.Joined.{joined, weigh-joined-set, weigh-beneath, weigh-held}
-use Rattle.q_invariants.proofs.Members.{All-at}
-use Rattle.q_invariants.proofs.Weights.{weigh, weigh-count, weigh-nil}
+use Rattle.q_invariants.proofs.ask.Answer.{one}
+use Rattle.q_invariants.proofs.edit.EditNew.{held-le-beneath}
+use Rattle.q_invariants.proofs.put.DrrSettled.{settled-packets}
+use Rattle.q_invariants.proofs.sums.Counted.{bytes}
+use Rattle.q_invariants.proofs.sums.Joined.{joined, weigh-joined-set, weigh-beneath, weigh-held}
+use Rattle.q_invariants.proofs.sums.Weights.{weigh, weigh-count, weigh-nil}
+use Rattle.q_invariants.proofs.tree.Forests.{each-at, each-nodes, each-set, each-side, nodes-side}
+use Rattle.q_invariants.proofs.tree.Members.{All-at}
 use Rattle.q_tree.specs.Arrivals.{plus}
 use Rattle.q_tree.specs.Editing.{effect, changed_by, removed, removed_at, notes_of, edited_by, with_dropped, CanDrop, IsReady, IsEditedBeneath}
 use Rattle.q_tree.specs.Kept.{Kept, kept}

@@ -9,7 +9,7 @@ use Rattle.q_model.specs.Find.{class_in, class_place}
 use Rattle.q_model.specs.Node as spec
 use Rattle.q_model.specs.Node.{Node, children, each}
 use Rattle.q_model.specs.Route.{class_at}
-use Rattle.q_invariants.proofs.Forests.{nodes-side}
+use Rattle.q_invariants.proofs.tree.Forests.{nodes-side}
 use Rattle.q_tree.specs.Kept.{Kept}
 use Rattle.q_tree.specs.Seen.{seen, children_seen}
 use Rattle.q_tree.specs.declared.node.Discipline.TheVariants.{Prio, Drr}

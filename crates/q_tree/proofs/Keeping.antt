@@ -13,7 +13,7 @@ use Rattle.q_model.specs.Node.{Node, shape, side_by_side}
 use Rattle.q_model.specs.Put.{put_along}
 use Rattle.q_model.specs.Route.{Route, route, way, ends, refused, through}
 use Rattle.q_model.specs.Work.{settled_in}
-use Rattle.q_invariants.proofs.Forests.{nodes-side}
+use Rattle.q_invariants.proofs.tree.Forests.{nodes-side}
 use Rattle.q_tree.specs.Ahead.{ways}
 use Rattle.q_tree.specs.Arrivals.{HasPlace, HasPlaceIn, with_arrival}
 use Rattle.q_tree.specs.ArriveSteps.{CanCome, CanKeep, CanKeepIn, HasCome, HasPlaceOn, nothing_lost, rises_along, way_in}

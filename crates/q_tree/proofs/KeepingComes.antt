@@ -8,7 +8,7 @@ use Rattle.q_model.specs.Find.{node_at}
 use Rattle.q_model.specs.Node as spec
 use Rattle.q_model.specs.Node.{Node}
 use Rattle.q_model.specs.Route.{Route, route, through, way}
-use Rattle.q_invariants.proofs.Forests.{nodes-side}
+use Rattle.q_invariants.proofs.tree.Forests.{nodes-side}
 use Rattle.q_tree.specs.Ahead.{ways}
 use Rattle.q_tree.specs.ArriveSteps.{way_in}
 use Rattle.q_tree.specs.AskSteps.{own_of}

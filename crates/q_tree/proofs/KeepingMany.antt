@@ -14,11 +14,11 @@ use Rattle.q_model.specs.Route.{Route, route, device_route}
 use Rattle.q_model.specs.Step.{DeviceState, arrive, fate_of}
 use Rattle.q_model.specs.TreeState.{put_on}
 use Rattle.q_model.specs.Work.{booked}
-use Rattle.q_invariants.proofs.Forests.{lawful-with_memory}
 use Rattle.q_invariants.proofs.Kept.{IsLawfulRoot}
+use Rattle.q_invariants.proofs.tree.Forests.{lawful-with_memory}
 use Rattle.q_model.specs.Lawful.{IsLawfulOwn}
-use Rattle.q_invariants.proofs.Puts.{along-put}
-use Rattle.q_invariants.proofs.Told.{IsRootTold, booked-lawful, each-booked, root-memory}
+use Rattle.q_invariants.proofs.put.Puts.{along-put}
+use Rattle.q_invariants.proofs.sums.Told.{IsRootTold, booked-lawful, each-booked, root-memory}
 use Rattle.q_tree.specs.Arrivals.{CanCount, HasPlace, with_arrival}
 use Rattle.q_tree.specs.ArriveSteps.{CanCome, HasComeBelow, nothing_lost}
 use Rattle.q_tree.specs.AskSteps.{IsToldOf}

@@ -12,9 +12,9 @@ use Rattle.q_model.specs.Make.{Device, made}
 use Rattle.q_model.specs.Node.{Forest, Node, Own, Shape, blank, children, side_by_side}
 use Rattle.q_model.specs.Ranges.{IsKind}
 use Rattle.q_model.specs.Tally.{history, no_counts, no_totals}
-use Rattle.q_invariants.proofs.EditMade.{new_made}
-use Rattle.q_invariants.proofs.EditNew.{IsNew, new_beneath}
-use Rattle.q_invariants.proofs.Forests.{side-nodes}
+use Rattle.q_invariants.proofs.edit.EditMade.{new_made}
+use Rattle.q_invariants.proofs.edit.EditNew.{IsNew, new_beneath}
+use Rattle.q_invariants.proofs.tree.Forests.{side-nodes}
 use Rattle.q_tree.specs.CountersSeen.{no_row}
 use Rattle.q_tree.specs.Kept.{Kept, kept}
 use Rattle.q_tree.specs.Making.{AreNew, IsNewDiscipline, IsNewNode}

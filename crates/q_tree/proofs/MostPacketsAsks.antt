@@ -23,9 +23,9 @@ use Rattle.q_model.specs.Grants.{asked_entries}
 use Rattle.q_model.specs.Quanta.{flow_notes}
 use Rattle.q_model.specs.Work.{Worked, worked, losses_of, settled_class}
 use Rattle.q_model.specs.Ask.{Asked, befores, Showing, showing, holding, Dequeue, dequeued, spends, waits, ask_fifo, ask_child, ask_tbf, ask_prio, is_among, head_of, Service, service_of, place_met, gives_nothing, class_gives, class_serves, ask_drr, marks_of, ask_fq_codel, ask_own, ask, since_shown}
-use Rattle.q_invariants.proofs.AskClasses.{peeked_by}
-use Rattle.q_invariants.proofs.AskPrio.{peeked_to, taken_at, notes_to, packet_at}
-use Rattle.q_invariants.proofs.Forests.{each-side}
+use Rattle.q_invariants.proofs.ask.AskClasses.{peeked_by}
+use Rattle.q_invariants.proofs.ask.AskPrio.{peeked_to, taken_at, notes_to, packet_at}
+use Rattle.q_invariants.proofs.tree.Forests.{each-side}
 use Rattle.q_tree.specs.MostPackets.{most_under, most_queued, most_held, most_own, most_packets}
 use Rattle.q_tree.proofs.MostPacketsQueues.{fifo-take-least, fq-take-least}
 use Rattle.q_model.specs.Since.{since_of}

@@ -10,8 +10,8 @@ use Rattle.q_fqcodel.specs.FqState.{all_packets}
 use Rattle.q_model.specs.Beneath.{packets_in, beneath_own, beneath}
 use Rattle.q_model.specs.Lawful.{CanHold, IsLawfulOwn}
 use Rattle.q_model.specs.Node.{Discipline, Fifo, Prio, Tbf, Drr, FqCodel, Own, Forest, none, more, Node, children, each}
-use Rattle.q_invariants.proofs.Forests.{each-nodes}
 use Rattle.q_invariants.proofs.Kept.{AllLawful, IsLawfulRoot}
+use Rattle.q_invariants.proofs.tree.Forests.{each-nodes}
 use Rattle.q_tree.specs.Kept.{Kept}
 use Rattle.q_tree.specs.MostPackets.{most_queued, most_held, most_own, most_packets}
 use Rattle.q_tree.proofs.FlowCounts.{count-sum, packets-all}

@@ -18,10 +18,10 @@ use Rattle.q_fqcodel.specs.Laws.{HasBytes}
 use Rattle.q_fqcodel.specs.Put.{flow_of, after_put}
 use Rattle.q_fqcodel.proofs.LawLemmas.{all_packets-cons}
 use Rattle.q_invariants.proofs.Kept.{IsLawfulRoot}
-use Rattle.q_invariants.proofs.Lengths.{HasLength}
-use Rattle.q_invariants.proofs.Members.{All-front, All-back}
-use Rattle.q_invariants.proofs.Quiet.{child-lawful}
-use Rattle.q_invariants.proofs.Ways.{route-goes}
+use Rattle.q_invariants.proofs.sums.Lengths.{HasLength}
+use Rattle.q_invariants.proofs.tree.Members.{All-front, All-back}
+use Rattle.q_invariants.proofs.tree.Quiet.{child-lawful}
+use Rattle.q_invariants.proofs.tree.Ways.{route-goes}
 use Rattle.q_model.specs.Beneath.{packets_of, packets_in, beneath_own, is_empty}
 use Rattle.q_model.specs.Lawful.{IsLawfulDiscipline, IsLawfulFqCodel, IsLawfulOwn}
 use Rattle.q_model.specs.Node.{Discipline, Fifo, Prio, Tbf, Drr, FqCodel, Own, Forest, none, more, Shape, nodes_in, children, each}

@@ -20,7 +20,7 @@ use Rattle.q_fqcodel.specs.Take.{selected, after_sending}
 use Rattle.q_fqcodel.proofs.FatLemmas.{fat_some, fattest_most}
 use Rattle.q_fqcodel.proofs.LawLemmas.{packets_of-appended, take_keeps_all}
 use Rattle.q_fqcodel.proofs.PutLemmas.{packets_of-shortened, cut_none, cut_some, shed_within, shed_positive}
-use Rattle.q_invariants.proofs.AskFqCodel.{All-adjust, take-settings}
+use Rattle.q_invariants.proofs.ask.AskFqCodel.{All-adjust, take-settings}
 use Rattle.q_tree.specs.MostPackets.{most_under}
 use Rattle.q_tree.proofs.FlowCounts.{one, packets-all}
 

@@ -10,13 +10,13 @@ use Rattle.q_model.specs.Tally.{Tally}
 use Rattle.q_model.specs.TreeState.{TreeState, put_on, put, peek_packet, take_packet}
 use Rattle.q_model.specs.Work.{Worked, quiet, booked}
 use Rattle.q_model.proofs.ShrinkLemmas.{each-each_memory}
-use Rattle.q_invariants.proofs.Answer.{IsAnswer}
-use Rattle.q_invariants.proofs.Asks.{before-root, ask-answers}
-use Rattle.q_invariants.proofs.Forests.{lawful-with_memory}
+use Rattle.q_invariants.proofs.ask.Answer.{IsAnswer}
+use Rattle.q_invariants.proofs.ask.Asks.{before-root, ask-answers}
 use Rattle.q_invariants.proofs.Kept.{IsLawfulRoot}
-use Rattle.q_invariants.proofs.Puts.{along-put}
-use Rattle.q_invariants.proofs.Quiet.{one-quiet}
-use Rattle.q_invariants.proofs.Told.{IsRootTold, root-memory, root-booked}
+use Rattle.q_invariants.proofs.put.Puts.{along-put}
+use Rattle.q_invariants.proofs.sums.Told.{IsRootTold, root-memory, root-booked}
+use Rattle.q_invariants.proofs.tree.Forests.{lawful-with_memory}
+use Rattle.q_invariants.proofs.tree.Quiet.{one-quiet}
 use Rattle.q_tree.specs.MostPackets.{most_own, most_packets}
 use Rattle.q_tree.proofs.MostPacketsAsks.{asks-less}
 use Rattle.q_tree.proofs.MostPacketsPuts.{most-quiet, along-least}

@@ -7,7 +7,7 @@ use Rattle.q_model.specs.declared.place.Place.{Place}
 use Rattle.q_model.specs.declared.place.Place.TheVariants as place
 use Rattle.q_model.specs.Node.{Node, children}
 use Rattle.q_model.specs.Views.{places_below}
-use Rattle.q_invariants.proofs.Forests.{side-nodes}
+use Rattle.q_invariants.proofs.tree.Forests.{side-nodes}
 use Rattle.q_tree.specs.Kept.{Kept}
 use Rattle.q_tree.specs.Nodes.{behind, children_from}
 use Rattle.q_tree.specs.Showing.{standing_in}

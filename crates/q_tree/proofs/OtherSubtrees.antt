@@ -13,7 +13,7 @@ use Rattle.q_model.specs.Put.{put_along, put_here, put_beneath}
 use Rattle.q_model.specs.Tally.{Note}
 use Rattle.q_model.specs.TreeState.{put_on}
 use Rattle.q_model.specs.Work.{Worked, quiet, each_booked, booked}
-use Rattle.q_invariants.proofs.Forests.{nodes-side, side-nodes}
+use Rattle.q_invariants.proofs.tree.Forests.{nodes-side, side-nodes}
 use Rattle.q_tree.specs.Kept.{Kept, kept}
 use Rattle.q_tree.specs.Laws.{EditLeavesOtherSubtrees, PutKeepsPlaces, PutLeavesOtherSubtrees}
 use Rattle.q_tree.specs.Places.{places_at, places_under}

@@ -11,7 +11,7 @@ use Rattle.q_drr.proofs.LookupLemmas.{deficit_here}
 use Rattle.q_drr.proofs.TakeLemmas.{Front, front_is}
 use Rattle.q_model.specs.Node.{Discipline, Node, side_by_side, each}
 use Rattle.q_model.specs.Route.{class_at}
-use Rattle.q_invariants.proofs.Forests.{each-side}
+use Rattle.q_invariants.proofs.tree.Forests.{each-side}
 use Rattle.q_tree.specs.Kept.{Kept}
 use Rattle.q_tree.specs.ReadyAt.{at_hand, no_packet, with_band, with_bands, paid, of_class, outlook_in, outlook_own, outlook}
 use Rattle.q_tree.specs.Seen.{seen, discipline_seen, children_seen}

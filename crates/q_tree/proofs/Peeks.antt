@@ -22,11 +22,11 @@ use Rattle.q_model.specs.Node.{Node, Own, shape, side_by_side, each}
 use Rattle.q_model.specs.Pop.{Popping, pop, pop_own}
 use Rattle.q_model.specs.Tally.{counts_in, no_totals}
 use Rattle.q_model.specs.Work.{booked, each_booked}
-use Rattle.q_invariants.proofs.Exact.{exact-length}
-use Rattle.q_invariants.proofs.Forests.{each-side, AreLawful}
+use Rattle.q_invariants.proofs.ask.Pops.{ask-popped, booked-then}
+use Rattle.q_invariants.proofs.class.Exact.{exact-length}
 use Rattle.q_invariants.proofs.Kept.{AllLawful}
-use Rattle.q_invariants.proofs.Pops.{ask-popped, booked-then}
-use Rattle.q_invariants.proofs.Told.{root-booked}
+use Rattle.q_invariants.proofs.sums.Told.{root-booked}
+use Rattle.q_invariants.proofs.tree.Forests.{each-side, AreLawful}
 use Rattle.q_tree.specs.AskSteps.{CanAsk, CanAskEach, CanServe, CanAskIn, CanShow, IsShown, IsPeeked, AreAsked, IsToldOf, IsAskedIn, answers, answer_of, own_of, held_in, packets_within, with_shown}
 use Rattle.q_tree.specs.Kept.{Kept, kept}
 use Rattle.q_tree.specs.Meeting.{IsAllowed, IsWaiting}
@@ -38,7 +38,7 @@ use Rattle.q_tree.specs.Shown.{Shown}
 use Rattle.q_tree.specs.declared.signals.Signals.{Signals}
 use Rattle.q_tree.proofs.AskForms.{ask-holding, ask-none, peeked-is}
 use Rattle.q_tree.proofs.RowsOf.{IsRowOf, row-of, kept-of, can-show, row-shown}
-use Rattle.q_invariants.proofs.Weights.{IsQuiet}
+use Rattle.q_invariants.proofs.sums.Weights.{IsQuiet}
 use Rattle.q_tree.proofs.PopLemmas.{set-within}
 use Rattle.q_tree.proofs.Asking.{asked-told, asked-weighs, all-before, side-all}
 use Rattle.q_tree.specs.Holding.{packet_held, held_with}

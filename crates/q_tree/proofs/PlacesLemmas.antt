@@ -13,7 +13,7 @@ use Rattle.q_model.specs.Node as spec
 use Rattle.q_model.specs.Node.{Node, Forest, children, side_by_side, each, each_memory}
 use Rattle.q_model.specs.Tally.{Counts}
 use Rattle.q_model.proofs.ShrinkLemmas.{child-with_memory, each-each_memory}
-use Rattle.q_invariants.proofs.Forests.{nodes-side, each-side}
+use Rattle.q_invariants.proofs.tree.Forests.{nodes-side, each-side}
 use Rattle.q_tree.specs.Arrivals.{HasPlace, HasPlaceIn}
 use Rattle.q_tree.specs.Kept.{Kept}
 use Rattle.q_tree.specs.Places.{unplaced, places_at, places_under, Leads, HasPlaceAt}

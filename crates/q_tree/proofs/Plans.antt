@@ -10,8 +10,8 @@ use Rattle.std.proofs.lemmas.Option.{same_Some}
 use Rattle.q_codel.specs.Losses.{IsTold, SinkState}
 use Rattle.q_codel.proofs.SinkLemmas.{told_nothing}
 use Rattle.q_packet.specs.declared.cause.Cause.TheVariants.{Purged}
-use Rattle.q_invariants.proofs.Answer.{one}
-use Rattle.q_invariants.proofs.Weights.{weigh-count}
+use Rattle.q_invariants.proofs.ask.Answer.{one}
+use Rattle.q_invariants.proofs.sums.Weights.{weigh-count}
 use Rattle.q_tree.specs.Purging.{purged}
 use Rattle.q_tree.proofs.EditLemmas.{edited-loses, told-purged}
 use Rattle.q_model.specs.declared.command.Command.{Command}
@@ -31,10 +31,10 @@ use Rattle.q_model.specs.Tally.{Note, Tally, noted, totals}
 use Rattle.q_model.specs.Ranges.{IsCommand}
 use Rattle.q_model.specs.TreeState.{plan, with_edit}
 use Rattle.q_model.specs.Work.{losses_of}
-use Rattle.q_invariants.proofs.EditChildren.{gone_is, gone_none, kept_there, kids, kids_all}
-use Rattle.q_invariants.proofs.EditSuits.{done_is, length-shape, node_at-shape}
-use Rattle.q_invariants.proofs.Forests.{side-nodes}
-use Rattle.q_invariants.proofs.MadeSizes.{count-shape, depth-shape}
+use Rattle.q_invariants.proofs.edit.EditChildren.{gone_is, gone_none, kept_there, kids, kids_all}
+use Rattle.q_invariants.proofs.edit.EditSuits.{done_is, length-shape, node_at-shape}
+use Rattle.q_invariants.proofs.sizes.MadeSizes.{count-shape, depth-shape}
+use Rattle.q_invariants.proofs.tree.Forests.{side-nodes}
 use Rattle.q_tree.specs.Commands.{IsAnswered, IsBounded, IsDone, IsPlanned, IsPlannedFor, IsPlanOf, IsRefused, device_edited, told}
 use Rattle.q_tree.specs.Editing.{IsReady, LosesNothing, TakesMemory, edited_by, effect, removed, removed_at}
 use Rattle.q_tree.specs.DisciplineChanges.{KeepsAll, children_after, discipline_after, lost_with}

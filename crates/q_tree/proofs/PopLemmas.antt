@@ -16,9 +16,9 @@ use Rattle.q_model.specs.Node.{Own, Node, Forest, more, none, side_by_side, each
 use Rattle.q_model.specs.Pop.{Popping, as_they_are, first_ready, first_shown, popped_at, pop_discipline, pop_own, pop}
 use Rattle.q_model.specs.Tally.{Tally, Note, Sent, noted, totals}
 use Rattle.q_model.specs.Work.{Worked, worked, booked, each_booked}
-use Rattle.q_invariants.proofs.Forests.{each-side}
-use Rattle.q_invariants.proofs.Members.{All-at}
-use Rattle.q_invariants.proofs.Pops.{pop-before}
+use Rattle.q_invariants.proofs.ask.Pops.{pop-before}
+use Rattle.q_invariants.proofs.tree.Forests.{each-side}
+use Rattle.q_invariants.proofs.tree.Members.{All-at}
 use Rattle.q_tree.specs.AskSteps.{own_of}
 use Rattle.q_tree.specs.Kept.{Kept, kept}
 use Rattle.q_tree.specs.PopSteps.{ArePopped, IsPoppedIn, popping_of, with_sent}

@@ -13,7 +13,7 @@ use Rattle.q_fqcodel.specs.FqState.{Flow, all_packets, packets_of}
 use Rattle.q_model.specs.Beneath.{beneath, beneath_own, packets_in}
 use Rattle.q_model.specs.Beneath.{packets_of as bare}
 use Rattle.q_model.specs.Node.{Node, side_by_side}
-use Rattle.q_invariants.proofs.Forests.{each-side}
+use Rattle.q_invariants.proofs.tree.Forests.{each-side}
 use Rattle.q_tree.specs.Kept.{Kept}
 use Rattle.q_tree.specs.NodeCode.{forest_size, node_size}
 use Rattle.q_tree.specs.Purging.{purged}

@@ -13,7 +13,7 @@ use Rattle.q_model.specs.Find.{depth, greatest}
 use Rattle.q_model.specs.Node as spec
 use Rattle.q_model.specs.Node.{Node, Own, side_by_side}
 use Rattle.q_model.specs.Route.{Route, route, way, through, refused, class_at}
-use Rattle.q_invariants.proofs.Forests.{each-side}
+use Rattle.q_invariants.proofs.tree.Forests.{each-side}
 use Rattle.q_tree.specs.Ahead.{ahead, ways, depths}
 use Rattle.q_tree.specs.ArriveSteps.{way_in}
 use Rattle.q_tree.specs.AskSteps.{own_of}

@@ -11,13 +11,13 @@ use Rattle.q_model.specs.Pop.{pop}
 use Rattle.q_model.specs.Tally.{Note, counts_in}
 use Rattle.q_model.specs.Work.{Worked, booked}
 use Rattle.q_model.proofs.ShrinkLemmas.{each-each_memory}
-use Rattle.q_invariants.proofs.Answer.{one}
-use Rattle.q_invariants.proofs.Counted.{bytes}
-use Rattle.q_invariants.proofs.EditNew.{held-le-beneath}
-use Rattle.q_invariants.proofs.PopGives.{pop-gives, pop-told}
-use Rattle.q_invariants.proofs.Pops.{pop-before}
-use Rattle.q_invariants.proofs.Told.{root-booked}
-use Rattle.q_invariants.proofs.Weights.{weigh, weigh-count, weigh-nil, weigh-one}
+use Rattle.q_invariants.proofs.ask.Answer.{one}
+use Rattle.q_invariants.proofs.ask.PopGives.{pop-gives, pop-told}
+use Rattle.q_invariants.proofs.ask.Pops.{pop-before}
+use Rattle.q_invariants.proofs.edit.EditNew.{held-le-beneath}
+use Rattle.q_invariants.proofs.sums.Counted.{bytes}
+use Rattle.q_invariants.proofs.sums.Told.{root-booked}
+use Rattle.q_invariants.proofs.sums.Weights.{weigh, weigh-count, weigh-nil, weigh-one}
 use Rattle.q_tree.specs.AskSteps.{CanShow, with_shown}
 use Rattle.q_tree.specs.Kept.{Kept, kept}
 use Rattle.q_tree.specs.PopSteps.{IsAmong, with_sent}

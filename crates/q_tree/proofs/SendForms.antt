@@ -24,11 +24,11 @@ use Rattle.q_model.specs.Pop.{pop}
 use Rattle.q_model.specs.Quanta.{flow_notes}
 use Rattle.q_model.specs.Tally.{Note, Sent, Spent, counted, counts_in, no_totals, noted, totals}
 use Rattle.q_model.specs.Work.{Worked, booked, each_booked}
-use Rattle.q_invariants.proofs.Answer.{IsSilent, silent-nil}
-use Rattle.q_invariants.proofs.AskTbf.{spent-note}
-use Rattle.q_invariants.proofs.DrrService.{notes-silent}
-use Rattle.q_invariants.proofs.FlowNotes.{flow-silent}
-use Rattle.q_invariants.proofs.Weights.{IsQuiet}
+use Rattle.q_invariants.proofs.ask.Answer.{IsSilent, silent-nil}
+use Rattle.q_invariants.proofs.ask.AskTbf.{spent-note}
+use Rattle.q_invariants.proofs.ask.DrrService.{notes-silent}
+use Rattle.q_invariants.proofs.flow.FlowNotes.{flow-silent}
+use Rattle.q_invariants.proofs.sums.Weights.{IsQuiet}
 use Rattle.q_tree.specs.AskSteps.{CanAsk, CanShow, IsShown, IsAskedIn, answers, answer_of, own_of, held_in, with_shown}
 use Rattle.q_tree.specs.Kept.{Kept, kept}
 use Rattle.q_tree.specs.PopSteps.{IsAmong, with_sent}

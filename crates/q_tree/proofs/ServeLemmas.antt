@@ -28,10 +28,10 @@ use Rattle.q_model.specs.Route.{class_at}
 use Rattle.q_model.specs.Tally.{Note, counts_in}
 use Rattle.q_model.specs.Work.{Worked, booked, each_booked, settled_class}
 use Rattle.q_model.proofs.ClassesAsked.{asked-now, asked-all, nobody-asked, next-asked, before-asked, was-asked, rises_of, next-rises, head-is, class-known}
-use Rattle.q_invariants.proofs.DrrService.{shown-short}
-use Rattle.q_invariants.proofs.Exact.{active-brought_up}
-use Rattle.q_invariants.proofs.Members.{All-at}
-use Rattle.q_invariants.proofs.Told.{root-booked}
+use Rattle.q_invariants.proofs.ask.DrrService.{shown-short}
+use Rattle.q_invariants.proofs.class.Exact.{active-brought_up}
+use Rattle.q_invariants.proofs.sums.Told.{root-booked}
+use Rattle.q_invariants.proofs.tree.Members.{All-at}
 use Rattle.q_tree.specs.AskSteps.{CanAsk, CanAskOnce, CanServe, AreAsked, IsAskedOnce, IsGivenBy, IsToldOf, answers}
 use Rattle.q_tree.specs.Kept.{Kept, kept}
 use Rattle.q_tree.specs.Meeting as meeting

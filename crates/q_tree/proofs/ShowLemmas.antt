@@ -23,9 +23,9 @@ use Rattle.q_model.specs.TreeState.{TreeState}
 use Rattle.q_model.specs.declared.node_view.NodeView.{NodeView}
 use Rattle.q_model.specs.Numbers.{IsMinor}
 use Rattle.q_model.specs.Views.{class_ids, class_kind, minors, node, node_view, places_below, qdisc_view, views, views_in}
-use Rattle.q_invariants.proofs.Forests.{each-nodes, each-side, nodes-side, side-nodes}
-use Rattle.q_invariants.proofs.Members.{All-at, passes-at}
-use Rattle.q_invariants.proofs.Quiet.{child-lawful}
+use Rattle.q_invariants.proofs.tree.Forests.{each-nodes, each-side, nodes-side, side-nodes}
+use Rattle.q_invariants.proofs.tree.Members.{All-at, passes-at}
+use Rattle.q_invariants.proofs.tree.Quiet.{child-lawful}
 use Rattle.q_tree.specs.Ahead.{depths}
 use Rattle.q_tree.specs.Kept.{Kept, kept}
 use Rattle.q_tree.specs.NodeCode.{forest_size, node_size}

@@ -16,7 +16,7 @@ use Rattle.q_fqcodel.specs.Take.{head_sent, packet_sent, sender, sent_from}
 use Rattle.q_tree.specs.Kept.{Kept}
 use Rattle.q_tree.proofs.TakeCounts.{packet_of}
 use Rattle.std.proofs.lemmas.Bool.{false≢true}
-use Rattle.q_invariants.proofs.Forests.{each-side}
+use Rattle.q_invariants.proofs.tree.Forests.{each-side}
 use Rattle.q_tree.specs.Holding.{packet_held, since_held}
 use Rattle.q_tree.specs.Seen.{seen, discipline_seen, children_seen}
 use Rattle.q_tree.specs.declared.node.Node.TheInside.{Inside}

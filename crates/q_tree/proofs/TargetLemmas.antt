@@ -13,10 +13,10 @@ use Rattle.q_model.specs.Find.{Address, addresses_own, class_in, class_path, cla
 use Rattle.q_model.specs.Node.{Node, Shape, shape}
 use Rattle.q_model.specs.QdiscCommands.{at_target, explicit_at, handle_at, target}
 use Rattle.q_model.specs.Refusals.{is_so}
-use Rattle.q_invariants.proofs.EditSizes.{depth-node, sized-within}
-use Rattle.q_invariants.proofs.EditSuits.{length-shape, node_at-shape}
-use Rattle.q_invariants.proofs.Edits.{found_in_shape}
-use Rattle.q_invariants.proofs.MadeSizes.{depth-shape}
+use Rattle.q_invariants.proofs.edit.Edits.{found_in_shape}
+use Rattle.q_invariants.proofs.edit.EditSuits.{length-shape, node_at-shape}
+use Rattle.q_invariants.proofs.sizes.EditSizes.{depth-node, sized-within}
+use Rattle.q_invariants.proofs.sizes.MadeSizes.{depth-shape}
 use Rattle.q_tree.specs.Finding.{reached}
 use Rattle.q_tree.specs.Kept.{Kept}
 

@@ -8,10 +8,10 @@ use Rattle.q_model.specs.Tally.{Counts, counts_in, history, noted, totals}
 use Rattle.q_model.specs.TreeState.{TreeState, plan, with_edit}
 use Rattle.q_model.proofs.ShrinkLemmas.{totals_for_history}
 use Rattle.q_model.proofs.ShrinkSteps.{with_edit-stands}
-use Rattle.q_invariants.proofs.Answer.{one}
-use Rattle.q_invariants.proofs.Counted.{bytes}
-use Rattle.q_invariants.proofs.Edits.{edit-keeps}
-use Rattle.q_invariants.proofs.Weights.{weigh-count}
+use Rattle.q_invariants.proofs.ask.Answer.{one}
+use Rattle.q_invariants.proofs.edit.Edits.{edit-keeps}
+use Rattle.q_invariants.proofs.sums.Counted.{bytes}
+use Rattle.q_invariants.proofs.sums.Weights.{weigh-count}
 use Rattle.q_tree.specs.Commands.{IsPlanned, device_edited}
 use Rattle.q_tree.specs.Editing.{CanDrop, edited_by, notes_of, removed_at, with_dropped}
 use Rattle.q_tree.specs.Kept.{Kept, kept}

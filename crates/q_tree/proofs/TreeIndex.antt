@@ -16,11 +16,11 @@ use Rattle.q_model.specs.Tally.{Counts, counts_in}
 use Rattle.q_model.specs.TreeState.{TreeState, put_on}
 use Rattle.q_model.specs.Work.{Worked, booked}
 use Rattle.q_model.proofs.ShrinkLemmas.{each-each_memory}
-use Rattle.q_invariants.proofs.Asks.{addresses-look, before-root}
-use Rattle.q_invariants.proofs.EditHandles.{AreApart}
-use Rattle.q_invariants.proofs.EditSizes.{nodes_own}
-use Rattle.q_invariants.proofs.Forests.{each-nodes, nodes-side}
-use Rattle.q_invariants.proofs.Told.{IsRootTold, root-booked, root-memory, root-told}
+use Rattle.q_invariants.proofs.ask.Asks.{addresses-look, before-root}
+use Rattle.q_invariants.proofs.edit.EditHandles.{AreApart}
+use Rattle.q_invariants.proofs.sizes.EditSizes.{nodes_own}
+use Rattle.q_invariants.proofs.sums.Told.{IsRootTold, root-booked, root-memory, root-told}
+use Rattle.q_invariants.proofs.tree.Forests.{each-nodes, nodes-side}
 use Rattle.q_tree.specs.Arrivals.{CanPut}
 use Rattle.q_tree.specs.AskSteps.{CanAsk}
 use Rattle.q_tree.specs.Editing.{adds_nodes, edited_by, effect}

@@ -18,12 +18,12 @@ use Rattle.q_model.specs.TreeState.{TreeState, put, put_on, loss_on, own_loss, w
 use Rattle.q_model.specs.Work.{Work, quiet, booked}
 use Rattle.q_model.proofs.ShrinkLemmas.{totals_for_history, each-each_memory}
 use Rattle.q_model.proofs.ShrinkSteps.{put-stands}
-use Rattle.q_invariants.proofs.Answer.{one}
-use Rattle.q_invariants.proofs.Counted.{bytes}
+use Rattle.q_invariants.proofs.ask.Answer.{one}
 use Rattle.q_invariants.proofs.Kept.{IsKeptTree}
-use Rattle.q_invariants.proofs.Puts.{put-kept}
-use Rattle.q_invariants.proofs.Ways.{route-goes}
-use Rattle.q_invariants.proofs.Weights.{arrived-nil, arrived-cons, sent-nil, sent-cons, lost-nil, lost-cons, marked-nil, marked-cons}
+use Rattle.q_invariants.proofs.put.Puts.{put-kept}
+use Rattle.q_invariants.proofs.sums.Counted.{bytes}
+use Rattle.q_invariants.proofs.sums.Weights.{arrived-nil, arrived-cons, sent-nil, sent-cons, lost-nil, lost-cons, marked-nil, marked-cons}
+use Rattle.q_invariants.proofs.tree.Ways.{route-goes}
 use Rattle.q_tree.specs.Arrivals.{CanPut, HasPlace, IsOutcome, IsLostOf, with_arrival}
 use Rattle.q_tree.specs.Kept.{Kept, kept}
 use Rattle.q_tree.specs.Places.{unplaced, places_at}

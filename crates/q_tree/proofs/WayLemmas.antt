@@ -9,9 +9,9 @@ use Rattle.q_drr.specs.Schedule.{Class, has_class, name_at, quantum_of}
 use Rattle.q_drr.proofs.DifferLemmas.{ClassesDiffer}
 use Rattle.q_drr.proofs.LookupLemmas.{quantum_here, quantum_behind}
 use Rattle.q_model.specs.Node.{Own, Node, children, each}
-use Rattle.q_invariants.proofs.ClassSums.{position-here, position-there}
-use Rattle.q_invariants.proofs.Forests.{each-nodes}
-use Rattle.q_invariants.proofs.Members.{passes-at}
+use Rattle.q_invariants.proofs.class.ClassSums.{position-here, position-there}
+use Rattle.q_invariants.proofs.tree.Forests.{each-nodes}
+use Rattle.q_invariants.proofs.tree.Members.{passes-at}
 use Rattle.q_tree.specs.Kept.{Kept}
 use Rattle.q_tree.specs.Ways.{has_tbf, is_tbf}
 

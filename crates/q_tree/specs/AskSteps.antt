@@ -18,8 +18,8 @@ use Rattle.q_model.specs.Tally.{Note, counts_in, no_totals}
 use Rattle.q_model.specs.Work.{booked, each_booked, settled_class}
 use Rattle.q_drr.specs.Schedule as drr
 use Rattle.q_drr.specs.Schedule.{Schedule}
-use Rattle.q_invariants.proofs.Forests.{AreLawful}
 use Rattle.q_invariants.proofs.Kept.{IsLawfulRoot}
+use Rattle.q_invariants.proofs.tree.Forests.{AreLawful}
 use Rattle.q_tree.specs.Arrivals.{plus, minus}
 use Rattle.q_tree.specs.Kept.{Kept, kept}
 use Rattle.q_tree.specs.PutSteps.{packets_beneath}

@@ -24,9 +24,9 @@ use Rattle.q_model.specs.Put.{put_here, put_beneath, put_along}
 use Rattle.q_model.specs.Route.{Route, ends, refused, way, route}
 use Rattle.q_model.specs.Work.{Worked, quiet, settled_in}
 use Rattle.q_invariants.proofs.Kept.{IsLawfulRoot}
-use Rattle.q_invariants.proofs.Members.{All-front}
-use Rattle.q_invariants.proofs.Quiet.{child-lawful}
-use Rattle.q_invariants.proofs.Ways.{IsOn, route-goes}
+use Rattle.q_invariants.proofs.tree.Members.{All-front}
+use Rattle.q_invariants.proofs.tree.Quiet.{child-lawful}
+use Rattle.q_invariants.proofs.tree.Ways.{IsOn, route-goes}
 use Rattle.q_tree.specs.Lanes.{is_prio, limit_of, limit_along}
 use Rattle.q_device.specs.Worst.{most_bytes}
 use Rattle.q_laws.specs.line.Line.{line_in, line_own, line, bytes_in}

@@ -18,9 +18,9 @@ use Rattle.q_model.specs.Route.{Route}
 use Rattle.q_model.specs.Tally.{Note, history}
 use Rattle.q_model.specs.TreeState.{put_on}
 use Rattle.q_model.specs.Work.{Worked, booked, each_booked, settled_in}
-use Rattle.q_invariants.proofs.DrrSettled.{class-settled}
-use Rattle.q_invariants.proofs.PutStages.{IsPutOf, along-related, quiet-related}
-use Rattle.q_invariants.proofs.Related.{AllRelated, IsRelated, forget}
+use Rattle.q_invariants.proofs.put.DrrSettled.{class-settled}
+use Rattle.q_invariants.proofs.put.PutStages.{IsPutOf, along-related, quiet-related}
+use Rattle.q_invariants.proofs.tree.Related.{AllRelated, IsRelated, forget}
 use Rattle.q_tree.specs.declared.ways.Link.{Link}
 use Rattle.q_tree.specs.Lanes.{is_prio, lane_below, lane_from, lane_to, level_of, limit_along, limit_of}
 use Rattle.q_tree.specs.Turns.{limit_in, turn_on, turn_to}

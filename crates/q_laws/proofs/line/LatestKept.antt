@@ -24,9 +24,9 @@ use Rattle.q_model.specs.Step.{DeviceState, step}
 use Rattle.q_model.specs.Stretches.{TbfAt, Throughout}
 use Rattle.q_model.specs.Tally.{Note, history}
 use Rattle.q_model.specs.TreeState.{stats}
-use Rattle.q_invariants.proofs.Members.{All-front}
-use Rattle.q_invariants.proofs.Quiet.{child-lawful}
 use Rattle.q_invariants.proofs.Replays.{IsKept, replay-kept}
+use Rattle.q_invariants.proofs.tree.Members.{All-front}
+use Rattle.q_invariants.proofs.tree.Quiet.{child-lawful}
 use Rattle.q_tree.specs.declared.lanes.Lane.{Lane}
 use Rattle.q_tree.specs.declared.ways.Link.{Link}
 use Rattle.q_tree.specs.Lanes.{lane_from, lane_to, level_of, limit_along}

@@ -20,9 +20,9 @@ use Rattle.q_model.specs.Step.{DeviceState, step}
 use Rattle.q_model.specs.Stretches.{length_held, TbfAt, Throughout}
 use Rattle.q_model.specs.Tally.{Note, history}
 use Rattle.q_model.proofs.ShrinkLemmas.{each-each_memory}
-use Rattle.q_invariants.proofs.Forests.{each-nodes}
-use Rattle.q_invariants.proofs.Members.{All-front}
 use Rattle.q_invariants.proofs.Replays.{replay-kept}
+use Rattle.q_invariants.proofs.tree.Forests.{each-nodes}
+use Rattle.q_invariants.proofs.tree.Members.{All-front}
 use Rattle.q_device.specs.Sharing.{device_after}
 use Rattle.q_device.proofs.ClassStretches.{at-start}
 use Rattle.q_laws.specs.line.Line.{line_in, line_own, line, line_below_root, bytes_in, KeepLine, IsLink, LinesLeaveInTime, LimitsAreDelays}

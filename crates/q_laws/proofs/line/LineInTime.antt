@@ -21,20 +21,20 @@ use Rattle.q_model.specs.Tally.{Note, history}
 use Rattle.q_model.specs.Work.{Worked, booked}
 use Rattle.q_model.proofs.ShrinkLemmas.{each-each_memory}
 use Rattle.q_invariants.proofs.Along.{counted}
-use Rattle.q_invariants.proofs.Answer.{IsAnswer}
-use Rattle.q_invariants.proofs.Asks.{before-root, ask-answers}
-use Rattle.q_invariants.proofs.AskStages.{IsStageOf}
-use Rattle.q_invariants.proofs.BucketMoves.{tbf-node}
-use Rattle.q_invariants.proofs.EditLater.{root-later}
-use Rattle.q_invariants.proofs.Forests.{each-nodes, lawful-with_memory}
+use Rattle.q_invariants.proofs.ask.Answer.{IsAnswer}
+use Rattle.q_invariants.proofs.ask.Asks.{before-root, ask-answers}
+use Rattle.q_invariants.proofs.ask.AskStages.{IsStageOf}
+use Rattle.q_invariants.proofs.bucket.BucketMoves.{tbf-node}
+use Rattle.q_invariants.proofs.edit.EditLater.{root-later}
 use Rattle.q_invariants.proofs.Kept.{IsLawfulRoot}
-use Rattle.q_invariants.proofs.NoteSums.{AreRisen}
-use Rattle.q_invariants.proofs.PutKinds.{put-stage}
-use Rattle.q_invariants.proofs.Related.{forget}
+use Rattle.q_invariants.proofs.put.PutKinds.{put-stage}
 use Rattle.q_invariants.proofs.Replays.{IsKept, not-before, not-after}
-use Rattle.q_invariants.proofs.Risen.{all-rise}
-use Rattle.q_invariants.proofs.StepNodes.{Becomes, becomes, taken-stage}
-use Rattle.q_invariants.proofs.Told.{IsRootTold, noted-history, root-memory, root-booked}
+use Rattle.q_invariants.proofs.sums.NoteSums.{AreRisen}
+use Rattle.q_invariants.proofs.sums.Risen.{all-rise}
+use Rattle.q_invariants.proofs.sums.Told.{IsRootTold, noted-history, root-memory, root-booked}
+use Rattle.q_invariants.proofs.tree.Forests.{each-nodes, lawful-with_memory}
+use Rattle.q_invariants.proofs.tree.Related.{forget}
+use Rattle.q_invariants.proofs.tree.StepNodes.{Becomes, becomes, taken-stage}
 use Rattle.q_device.specs.Sharing.{device_after}
 use Rattle.q_laws.specs.line.Line.{line_in, line_own, line, line_at_root, line_below_root, bytes_in, BeginsWith, KeepLine, IsLink}
 use Rattle.q_laws.specs.rate.Delay.{paid_so_far}

@@ -21,20 +21,20 @@ use Rattle.q_model.specs.Step.{DeviceState, step}
 use Rattle.q_model.specs.Stretches.{sent_by, granted_by, bytes_sent, grants_to, length_held, ClassAt, class_in, qdisc}
 use Rattle.q_model.specs.Tally.{Granted, Note, history}
 use Rattle.q_model.specs.Work.{Worked, booked}
-use Rattle.q_invariants.proofs.AskStages.{IsAskOf, IsStageOf, asked-related}
-use Rattle.q_invariants.proofs.ClassAsks.{AsWas, DrrStage, Gave, Nothing, Served, own-stage}
-use Rattle.q_invariants.proofs.ClassChildren.{child_for, child-at, child-set, here-is, place_in, there-is}
-use Rattle.q_invariants.proofs.ClassLooks.{BookedChild, answer-for, booked-child}
-use Rattle.q_invariants.proofs.ClassMoves.{class-node, drr-lawful}
-use Rattle.q_invariants.proofs.EditLater.{root-later}
-use Rattle.q_invariants.proofs.Forests.{lawful-with_memory, nodes-side}
+use Rattle.q_invariants.proofs.ask.AskStages.{IsAskOf, IsStageOf, asked-related}
+use Rattle.q_invariants.proofs.ask.SentStages.{ask-gives}
+use Rattle.q_invariants.proofs.class.ClassAsks.{AsWas, DrrStage, Gave, Nothing, Served, own-stage}
+use Rattle.q_invariants.proofs.class.ClassChildren.{child_for, child-at, child-set, here-is, place_in, there-is}
+use Rattle.q_invariants.proofs.class.ClassLooks.{BookedChild, answer-for, booked-child}
+use Rattle.q_invariants.proofs.class.ClassMoves.{class-node, drr-lawful}
+use Rattle.q_invariants.proofs.class.TakeTurns.{absent-noted}
+use Rattle.q_invariants.proofs.edit.EditLater.{root-later}
 use Rattle.q_invariants.proofs.Kept.{IsLawfulRoot}
 use Rattle.q_invariants.proofs.Replays.{IsKept, step-kept}
-use Rattle.q_invariants.proofs.SentStages.{ask-gives}
-use Rattle.q_invariants.proofs.StepNodes.{Becomes, IsAsked, becomes, clock-rises}
-use Rattle.q_invariants.proofs.TakeTurns.{absent-noted}
-use Rattle.q_invariants.proofs.Told.{noted-history}
-use Rattle.q_invariants.proofs.Within.{found, lawful-of}
+use Rattle.q_invariants.proofs.sums.Told.{noted-history}
+use Rattle.q_invariants.proofs.tree.Forests.{lawful-with_memory, nodes-side}
+use Rattle.q_invariants.proofs.tree.StepNodes.{Becomes, IsAsked, becomes, clock-rises}
+use Rattle.q_invariants.proofs.tree.Within.{found, lawful-of}
 use Rattle.q_laws.specs.share.Service.{HasClasses}
 use Rattle.q_laws.specs.turn.Turn.{shown_by}
 use Rattle.q_laws.proofs.share.LeastShare.{DrrNode, drr-node}

@@ -13,9 +13,9 @@ use Rattle.q_model.specs.Settings.{DeviceSettings, IsInRange}
 use Rattle.q_model.specs.Step.{DeviceState}
 use Rattle.q_model.specs.Stretches.{length_held, qdisc, Throughout}
 use Rattle.q_model.specs.Tally.{Note}
-use Rattle.q_invariants.proofs.Members.{All-front}
 use Rattle.q_invariants.proofs.Replays.{IsKept, replay-kept}
-use Rattle.q_invariants.proofs.Within.{IsOf}
+use Rattle.q_invariants.proofs.tree.Members.{All-front}
+use Rattle.q_invariants.proofs.tree.Within.{IsOf}
 use Rattle.q_tree.specs.declared.ways.Link.{Link}
 use Rattle.q_tree.specs.declared.ways.Share.{Share}
 use Rattle.q_tree.specs.Ways.{DrrClass, drrs_on, share_of}

@@ -19,8 +19,8 @@ use Rattle.q_model.specs.Step.{DeviceState, step}
 use Rattle.q_model.specs.Stretches.{sent_by, bytes_sent, grants_to, length_held, ClassAt, class_in, qdisc, IsBackloggedClass, Throughout}
 use Rattle.q_model.specs.Tally.{Note, history}
 use Rattle.q_invariants.proofs.Along.{counted}
-use Rattle.q_invariants.proofs.Members.{All-front}
 use Rattle.q_invariants.proofs.Replays.{IsKept, replay-kept}
+use Rattle.q_invariants.proofs.tree.Members.{All-front}
 use Rattle.q_device.specs.Sharing.{device_after}
 use Rattle.q_device.specs.Worst.{most_of_turn}
 use Rattle.q_laws.specs.nested.NestedTurn.{reached_by, share_at}

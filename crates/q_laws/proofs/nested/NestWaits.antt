@@ -23,15 +23,15 @@ use Rattle.q_model.specs.Step.{DeviceState, step}
 use Rattle.q_model.specs.Stretches.{sent_by, bytes_sent, length_held, ClassAt, class_in, qdisc}
 use Rattle.q_model.specs.Tally.{Note, history}
 use Rattle.q_model.specs.Work.{Worked}
-use Rattle.q_invariants.proofs.AskStages.{IsAskOf}
-use Rattle.q_invariants.proofs.ClassChildren.{child_for, child-at, child-set, place_in}
-use Rattle.q_invariants.proofs.ClassLooks.{BookedChild, LookedAt, before-at, gives-for, looked-at}
-use Rattle.q_invariants.proofs.Forests.{nodes-side}
+use Rattle.q_invariants.proofs.ask.AskStages.{IsAskOf}
+use Rattle.q_invariants.proofs.ask.SentStages.{ask-gives}
+use Rattle.q_invariants.proofs.class.ClassChildren.{child_for, child-at, child-set, place_in}
+use Rattle.q_invariants.proofs.class.ClassLooks.{BookedChild, LookedAt, before-at, gives-for, looked-at}
 use Rattle.q_invariants.proofs.Replays.{IsKept, step-kept}
-use Rattle.q_invariants.proofs.SentStages.{ask-gives}
-use Rattle.q_invariants.proofs.StepNodes.{IsAsked, becomes}
-use Rattle.q_invariants.proofs.Told.{noted-history}
-use Rattle.q_invariants.proofs.Within.{found, lawful-of}
+use Rattle.q_invariants.proofs.sums.Told.{noted-history}
+use Rattle.q_invariants.proofs.tree.Forests.{nodes-side}
+use Rattle.q_invariants.proofs.tree.StepNodes.{IsAsked, becomes}
+use Rattle.q_invariants.proofs.tree.Within.{found, lawful-of}
 use Rattle.q_laws.specs.share.Service.{given_so_far, HasClasses}
 use Rattle.q_laws.specs.turn.FifoTurn.{KeepsFifo}
 use Rattle.q_laws.specs.turn.TurnWorst.{IsWaiting, held_at}

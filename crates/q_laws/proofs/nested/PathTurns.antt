@@ -16,9 +16,9 @@ use Rattle.q_model.specs.Step.{DeviceState, step}
 use Rattle.q_model.specs.Stretches.{bytes_sent, length_held, qdisc, Throughout}
 use Rattle.q_model.specs.Tally.{Note, history}
 use Rattle.q_invariants.proofs.Along.{replay-twice}
-use Rattle.q_invariants.proofs.ClassChildren.{child-at, place_in}
-use Rattle.q_invariants.proofs.Members.{All-front}
+use Rattle.q_invariants.proofs.class.ClassChildren.{child-at, place_in}
 use Rattle.q_invariants.proofs.Replays.{IsKept, replay-kept}
+use Rattle.q_invariants.proofs.tree.Members.{All-front}
 use Rattle.q_device.specs.Sharing.{device_after}
 use Rattle.q_device.proofs.ClassStretches.{at-start}
 use Rattle.q_device.proofs.ReplayLemmas.{replay_from-append}

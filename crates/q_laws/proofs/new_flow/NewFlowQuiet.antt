@@ -16,9 +16,9 @@ use Rattle.q_model.specs.Quanta.{flow_gave}
 use Rattle.q_model.specs.Step.{DeviceState, step}
 use Rattle.q_model.specs.Stretches.{given_by, bytes_given, reach, FqAt, fq_in}
 use Rattle.q_model.specs.Tally.{Note, history}
-use Rattle.q_invariants.proofs.FlowJoins.{before, step-waits}
-use Rattle.q_invariants.proofs.FlowMoves.{fq-node, fq-lawful, sent_has_length, fq-step}
-use Rattle.q_invariants.proofs.FlowSteps.{Changes}
+use Rattle.q_invariants.proofs.flow.FlowJoins.{before, step-waits}
+use Rattle.q_invariants.proofs.flow.FlowMoves.{fq-node, fq-lawful, sent_has_length, fq-step}
+use Rattle.q_invariants.proofs.flow.FlowSteps.{Changes}
 use Rattle.q_invariants.proofs.Replays.{IsKept}
 
 -- ---- credits that are none

@@ -17,11 +17,11 @@ use Rattle.q_model.specs.Replay.{Replay, nothing_yet}
 use Rattle.q_model.specs.Settings.{DeviceSettings, IsInRange}
 use Rattle.q_model.specs.Step.{DeviceState, step}
 use Rattle.q_model.specs.Stretches.{given_by, bytes_given, FqAt, fq_in, Throughout}
-use Rattle.q_invariants.proofs.Replays.{IsKept, replay-kept}
 use Rattle.q_invariants.proofs.Along.{moves}
-use Rattle.q_invariants.proofs.FlowBegins.{flow-begins}
-use Rattle.q_invariants.proofs.FlowJoins.{FlowWaits, no-flow-waits, more-flow-waits, flow-waits, flow-joins}
-use Rattle.q_invariants.proofs.FlowMoves.{fq-node, fq-lawful}
+use Rattle.q_invariants.proofs.flow.FlowBegins.{flow-begins}
+use Rattle.q_invariants.proofs.flow.FlowJoins.{FlowWaits, no-flow-waits, more-flow-waits, flow-waits, flow-joins}
+use Rattle.q_invariants.proofs.flow.FlowMoves.{fq-node, fq-lawful}
+use Rattle.q_invariants.proofs.Replays.{IsKept, replay-kept}
 use Rattle.q_device.specs.Sharing.{device_after}
 use Rattle.q_device.proofs.ClassStretches.{at-start, mtu-stays, same-rest}
 use Rattle.q_device.proofs.ReplayLemmas.{replay_from-append}

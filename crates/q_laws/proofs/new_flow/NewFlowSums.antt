@@ -15,8 +15,8 @@ use Rattle.q_fqcodel.proofs.QuantaLemmas.{lt_test, le_test}
 use Rattle.q_model.specs.Settings.{DeviceSettings, IsInRange}
 use Rattle.q_model.specs.Stretches.{given_by, bytes_given, reach}
 use Rattle.q_model.specs.Tally.{Note, Arrived, Sent, Lost, Marked, Granted, Spent, FlowGranted, FlowGave}
-use Rattle.q_invariants.proofs.FlowMoves.{fq-node, fq-lawful}
-use Rattle.q_invariants.proofs.FlowVisits.{cases-credits}
+use Rattle.q_invariants.proofs.flow.FlowMoves.{fq-node, fq-lawful}
+use Rattle.q_invariants.proofs.flow.FlowVisits.{cases-credits}
 use Rattle.q_invariants.proofs.Replays.{replay-kept}
 use Rattle.q_device.specs.Sharing.{device_after}
 use Rattle.q_laws.specs.new_flow.NewFlow.{given_by_any, all_given, reach_before, reaches, NewFlowsGoBefore}

@@ -26,10 +26,10 @@ use Rattle.q_model.specs.QdiscCommands.{qdisc_add_checks, new_qdisc, target, ret
 use Rattle.q_model.specs.ClassCommands.{of_schedule, class_add_checks, class_change_checks, with_class, class_added, with_new_quantum, class_changed}
 use Rattle.q_model.specs.FilterCommands.{with_filters, filter_add_checks, filter_added, has_prio, filter_del_checks, filters_removed}
 use Rattle.q_model.specs.TreeState.{edit_of}
-use Rattle.q_invariants.proofs.EditClassPlans.{deleted_class}
-use Rattle.q_invariants.proofs.EditNodes.{same_edit, AtNode, AtSchedule, node_there, drr_there, schedule_there}
-use Rattle.q_invariants.proofs.EditSuits.{refused_not_done, done_is}
-use Rattle.q_invariants.proofs.Within.{Within, IsOf, child-within, within-set}
+use Rattle.q_invariants.proofs.edit.EditClassPlans.{deleted_class}
+use Rattle.q_invariants.proofs.edit.EditNodes.{same_edit, AtNode, AtSchedule, node_there, drr_there, schedule_there}
+use Rattle.q_invariants.proofs.edit.EditSuits.{refused_not_done, done_is}
+use Rattle.q_invariants.proofs.tree.Within.{Within, IsOf, child-within, within-set}
 use Rattle.q_laws.specs.new_flow.Rest.{IsAtRest, FlowRests}
 use Rattle.q_laws.proofs.new_flow.RestNodes.{Rests, AllRest, settled-rests}
 use Rattle.q_laws.proofs.new_flow.RestSteps.{retuned-rests}

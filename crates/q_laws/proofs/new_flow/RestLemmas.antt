@@ -20,7 +20,7 @@ use Rattle.q_fqcodel.specs.Selection.{Lists, chosen, turned, first_ready, moved,
 use Rattle.q_fqcodel.specs.Take.{selected, flow_after, front, paid, sent_from, after_sending}
 use Rattle.q_fqcodel.proofs.QuantaLemmas.{flow-given, stay_kept, stay_dropped, leave_kept, leave_dropped}
 use Rattle.q_fqcodel.proofs.SentLemmas.{flow-paid, front_is, front_none, after_none, after_sending_written, lists_written}
-use Rattle.q_invariants.proofs.FlowSteps.{lists_of}
+use Rattle.q_invariants.proofs.flow.FlowSteps.{lists_of}
 use Rattle.q_laws.specs.new_flow.Rest.{IsAtRest, FlowRests, IsSparing}
 
 -- ---- CoDel at rest

@@ -27,8 +27,8 @@ use Rattle.q_model.specs.Settings.{DeviceSettings, IsInRange}
 use Rattle.q_model.specs.Step.{DeviceState, step}
 use Rattle.q_model.specs.Stretches.{given_by, bytes_given, FqAt, fq_in}
 use Rattle.q_invariants.proofs.Along.{moves}
-use Rattle.q_invariants.proofs.FlowMoves.{sent_has_length}
-use Rattle.q_invariants.proofs.FlowSteps.{lists_of}
+use Rattle.q_invariants.proofs.flow.FlowMoves.{sent_has_length}
+use Rattle.q_invariants.proofs.flow.FlowSteps.{lists_of}
 use Rattle.q_invariants.proofs.Replays.{IsKept, replay-kept}
 use Rattle.q_device.specs.Sharing.{device_after}
 use Rattle.q_device.proofs.ReplayLemmas.{replay_from-append}

@@ -15,12 +15,12 @@ use Rattle.q_model.specs.Node.{Discipline, Fifo, Prio, Tbf, Drr, FqCodel, Own, N
 use Rattle.q_model.specs.Work.{Worked, settled_in, booked}
 use Rattle.q_model.specs.Put.{queued_in}
 use Rattle.q_model.specs.Ask.{Asked, holding, dequeued, service_of, spends, waits, ask_child, ask_tbf, place_met, gives_nothing, class_gives, class_serves, ask_drr, ask_discipline, ask_own, ask}
-use Rattle.q_invariants.proofs.AskStages.{IsStageOf, IsAskOf}
-use Rattle.q_invariants.proofs.FlowSteps.{lists_of}
-use Rattle.q_invariants.proofs.PutKinds.{put-stage}
-use Rattle.q_invariants.proofs.PutStages.{IsPutOf}
-use Rattle.q_invariants.proofs.Related.{IsRelated, comes-of}
-use Rattle.q_invariants.proofs.Within.{IsOf, HasHandle}
+use Rattle.q_invariants.proofs.ask.AskStages.{IsStageOf, IsAskOf}
+use Rattle.q_invariants.proofs.flow.FlowSteps.{lists_of}
+use Rattle.q_invariants.proofs.put.PutKinds.{put-stage}
+use Rattle.q_invariants.proofs.put.PutStages.{IsPutOf}
+use Rattle.q_invariants.proofs.tree.Related.{IsRelated, comes-of}
+use Rattle.q_invariants.proofs.tree.Within.{IsOf, HasHandle}
 use Rattle.q_laws.specs.new_flow.Rest.{FlowRests}
 use Rattle.q_laws.proofs.new_flow.RestLemmas.{In, put-listed, selected-keeps, sent-rests, take-rests}
 use Rattle.q_laws.proofs.new_flow.RestSteps.{put-rests}

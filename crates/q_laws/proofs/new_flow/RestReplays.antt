@@ -24,19 +24,19 @@ use Rattle.q_model.specs.Stretches.{FqAt, fq_in}
 use Rattle.q_model.specs.Tally.{Note, history}
 use Rattle.q_model.specs.TreeState.{put_on, plan}
 use Rattle.q_model.specs.Work.{booked, quiet}
-use Rattle.q_invariants.proofs.AskStages.{HasSoMany, so-many, IsAskOf, asked-related}
-use Rattle.q_invariants.proofs.EditFormPlans.{command-form}
-use Rattle.q_invariants.proofs.EditForms.{FormOf}
-use Rattle.q_invariants.proofs.EditLater.{root-later}
-use Rattle.q_invariants.proofs.Edits.{plan_checked}
-use Rattle.q_invariants.proofs.FlowMoves.{fq-node}
-use Rattle.q_invariants.proofs.FlowSteps.{lists_of}
-use Rattle.q_invariants.proofs.Forests.{lawful-with_memory, each-nodes}
+use Rattle.q_invariants.proofs.ask.AskStages.{HasSoMany, so-many, IsAskOf, asked-related}
+use Rattle.q_invariants.proofs.edit.EditFormPlans.{command-form}
+use Rattle.q_invariants.proofs.edit.EditForms.{FormOf}
+use Rattle.q_invariants.proofs.edit.EditLater.{root-later}
+use Rattle.q_invariants.proofs.edit.Edits.{plan_checked}
+use Rattle.q_invariants.proofs.flow.FlowMoves.{fq-node}
+use Rattle.q_invariants.proofs.flow.FlowSteps.{lists_of}
 use Rattle.q_invariants.proofs.Kept.{IsLawfulRoot}
-use Rattle.q_invariants.proofs.PutStages.{IsPutOf, quiet-related, along-related}
+use Rattle.q_invariants.proofs.put.PutStages.{IsPutOf, quiet-related, along-related}
 use Rattle.q_invariants.proofs.Replays.{IsKept, not-before, step-kept, new-kept-device}
-use Rattle.q_invariants.proofs.StepNodes.{taken-stage}
-use Rattle.q_invariants.proofs.Within.{IsOf, found, lawful-of}
+use Rattle.q_invariants.proofs.tree.Forests.{lawful-with_memory, each-nodes}
+use Rattle.q_invariants.proofs.tree.StepNodes.{taken-stage}
+use Rattle.q_invariants.proofs.tree.Within.{IsOf, found, lawful-of}
 use Rattle.q_device.specs.Sharing.{device_after}
 use Rattle.q_laws.specs.new_flow.Rest.{FlowRests}
 use Rattle.q_laws.proofs.new_flow.RestEdits.{RestsBy, leaf-rests, command-rests, edited-rests}

@@ -25,18 +25,18 @@ use Rattle.q_model.specs.Ask.{Asked, holding, ask_fq_codel, ask_discipline, ask_
 use Rattle.q_model.specs.Edit.{edited_at}
 use Rattle.q_model.specs.Step.{DeviceState, step}
 use Rattle.q_model.specs.Stretches.{given_by, bytes_given, FqAt, fq_in}
-use Rattle.q_invariants.proofs.NoteSums.{AreRisen, sum-risen, past-given}
-use Rattle.q_invariants.proofs.Told.{noted-history}
-use Rattle.q_invariants.proofs.Risen.{AllRise, all-rise, discipline-rises}
-use Rattle.q_invariants.proofs.SentStages.{sum-each}
-use Rattle.q_invariants.proofs.AskStages.{IsStageOf}
-use Rattle.q_invariants.proofs.PutKinds.{put-stage}
-use Rattle.q_invariants.proofs.EditForms.{IsForm}
-use Rattle.q_invariants.proofs.EditComes.{IsAbove}
-use Rattle.q_invariants.proofs.StepNodes.{IsAsked, IsPut, IsRemadeSo, IsEdited, Becomes, becomes}
-use Rattle.q_invariants.proofs.FlowMoves.{fq-node}
-use Rattle.q_invariants.proofs.FlowSteps.{same-state}
+use Rattle.q_invariants.proofs.ask.AskStages.{IsStageOf}
+use Rattle.q_invariants.proofs.ask.SentStages.{sum-each}
+use Rattle.q_invariants.proofs.edit.EditComes.{IsAbove}
+use Rattle.q_invariants.proofs.edit.EditForms.{IsForm}
+use Rattle.q_invariants.proofs.flow.FlowMoves.{fq-node}
+use Rattle.q_invariants.proofs.flow.FlowSteps.{same-state}
+use Rattle.q_invariants.proofs.put.PutKinds.{put-stage}
 use Rattle.q_invariants.proofs.Replays.{IsKept}
+use Rattle.q_invariants.proofs.sums.NoteSums.{AreRisen, sum-risen, past-given}
+use Rattle.q_invariants.proofs.sums.Risen.{AllRise, all-rise, discipline-rises}
+use Rattle.q_invariants.proofs.sums.Told.{noted-history}
+use Rattle.q_invariants.proofs.tree.StepNodes.{IsAsked, IsPut, IsRemadeSo, IsEdited, Becomes, becomes}
 use Rattle.q_laws.specs.new_flow.Rest.{IsAtRest, FlowRests}
 use Rattle.q_laws.proofs.new_flow.RestLemmas.{rests-adjust}
 

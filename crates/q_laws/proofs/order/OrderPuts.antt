@@ -23,13 +23,13 @@ use Rattle.q_model.specs.Node.{Discipline, Fifo, Prio, Tbf, Drr, FqCodel, Own, F
 use Rattle.q_model.specs.Beneath.{packets_of, packets_in, beneath_own, beneath, is_empty}
 use Rattle.q_model.specs.Work.{Worked, Work, worked, quiet, settled_class, settled_in, settled}
 use Rattle.q_model.specs.Put.{lost_in, put_here, put_beneath, put_along}
-use Rattle.q_invariants.proofs.Answer.{beneath-worked}
-use Rattle.q_invariants.proofs.DrrSettled.{class-settled, settled-packets}
-use Rattle.q_invariants.proofs.Forests.{each-at}
+use Rattle.q_invariants.proofs.ask.Answer.{beneath-worked}
 use Rattle.q_invariants.proofs.Kept.{IsLawfulRoot}
-use Rattle.q_invariants.proofs.Quiet.{quiets, waiting-quiet, beneath-quiets, child-lawful}
-use Rattle.q_invariants.proofs.Shuffled.{key-is}
-use Rattle.q_invariants.proofs.Ways.{CanQueue, nil-cons, way-ends, route-goes}
+use Rattle.q_invariants.proofs.put.DrrSettled.{class-settled, settled-packets}
+use Rattle.q_invariants.proofs.sums.Shuffled.{key-is}
+use Rattle.q_invariants.proofs.tree.Forests.{each-at}
+use Rattle.q_invariants.proofs.tree.Quiet.{quiets, waiting-quiet, beneath-quiets, child-lawful}
+use Rattle.q_invariants.proofs.tree.Ways.{CanQueue, nil-cons, way-ends, route-goes}
 use Rattle.q_laws.specs.order.Order.{same_key, is_alike, flow_among, IsPartOf}
 use Rattle.q_laws.proofs.order.OrderFlows.{alike-none, less-after, flow_queues, all-flat, put-joins, put-settings}
 use Rattle.q_laws.proofs.order.OrderParts.{flat, IsLess, less-append, OnlyAt, AreLess, less-flat, less-only, skip-rest, less-set, only-set, flat-set}

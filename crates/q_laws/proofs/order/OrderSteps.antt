@@ -23,15 +23,15 @@ use Rattle.q_model.specs.Tally.{Note, history}
 use Rattle.q_model.specs.TreeState.{put_on, plan}
 use Rattle.q_model.specs.Work.{Worked, quiet, booked}
 use Rattle.q_model.proofs.ShrinkLemmas.{each-each_memory}
-use Rattle.q_invariants.proofs.Answer.{IsAnswer}
-use Rattle.q_invariants.proofs.Asks.{before-root, ask-answers}
-use Rattle.q_invariants.proofs.EditLater.{root-later}
-use Rattle.q_invariants.proofs.Forests.{lawful-with_memory}
+use Rattle.q_invariants.proofs.ask.Answer.{IsAnswer}
+use Rattle.q_invariants.proofs.ask.Asks.{before-root, ask-answers}
+use Rattle.q_invariants.proofs.edit.EditLater.{root-later}
 use Rattle.q_invariants.proofs.Kept.{IsLawfulRoot}
-use Rattle.q_invariants.proofs.Puts.{along-put}
-use Rattle.q_invariants.proofs.Quiet.{beneath-quiet, one-quiet}
+use Rattle.q_invariants.proofs.put.Puts.{along-put}
 use Rattle.q_invariants.proofs.Replays.{IsKept, not-before, not-after, step-kept, replay-kept}
-use Rattle.q_invariants.proofs.Told.{IsRootTold, root-memory, root-booked}
+use Rattle.q_invariants.proofs.sums.Told.{IsRootTold, root-memory, root-booked}
+use Rattle.q_invariants.proofs.tree.Forests.{lawful-with_memory}
+use Rattle.q_invariants.proofs.tree.Quiet.{beneath-quiet, one-quiet}
 use Rattle.q_device.specs.Laws.{brought, given_in}
 use Rattle.q_device.specs.Sharing.{device_after}
 use Rattle.q_laws.specs.order.Order.{flow_among, IsPartOf, answers, is_done, NoCommandIsDone, FlowsKeepOrder}

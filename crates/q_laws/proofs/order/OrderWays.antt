@@ -11,8 +11,8 @@ use Rattle.q_model.specs.Node.{Discipline, Fifo, Prio, Tbf, Drr, FqCodel, Own, F
 use Rattle.q_model.specs.Beneath.{packets_in, beneath_own, beneath}
 use Rattle.q_model.specs.Work.{Worked, worked, quiet, each_booked, booked}
 use Rattle.q_model.proofs.ShrinkLemmas.{each-each_memory}
-use Rattle.q_invariants.proofs.Forests.{each-side}
-use Rattle.q_invariants.proofs.Told.{AllTold, IsRootTold, each-booked}
+use Rattle.q_invariants.proofs.sums.Told.{AllTold, IsRootTold, each-booked}
+use Rattle.q_invariants.proofs.tree.Forests.{each-side}
 use Rattle.q_laws.specs.order.Order.{flow_among}
 use Rattle.q_laws.proofs.order.OrderFlows.{flow_queues, all-flat}
 use Rattle.q_laws.proofs.order.OrderParts.{flat, none-front, none-rest, OnlyAt, none-only, AreLess, less-flat, less-none, less-only}

@@ -23,11 +23,11 @@ use Rattle.q_model.specs.Tally.{Note, Sent, Spent, history}
 use Rattle.q_model.specs.TreeState.{plan}
 use Rattle.q_model.specs.Work.{Worked, booked}
 use Rattle.q_invariants.proofs.Along.{counted}
-use Rattle.q_invariants.proofs.NoteSums.{AreRisen, sum-risen, past-spent}
 use Rattle.q_invariants.proofs.Replays.{IsKept}
-use Rattle.q_invariants.proofs.Risen.{AllRise, all-rise}
-use Rattle.q_invariants.proofs.StepNodes.{Becomes, becomes}
-use Rattle.q_invariants.proofs.Told.{noted-history}
+use Rattle.q_invariants.proofs.sums.NoteSums.{AreRisen, sum-risen, past-spent}
+use Rattle.q_invariants.proofs.sums.Risen.{AllRise, all-rise}
+use Rattle.q_invariants.proofs.sums.Told.{noted-history}
+use Rattle.q_invariants.proofs.tree.StepNodes.{Becomes, becomes}
 use Rattle.q_device.specs.Laws.{given_in}
 use Rattle.q_device.specs.Sharing.{device_after}
 use Rattle.q_laws.specs.line.Line.{IsLink, KeepLine, bytes_in, line_at_root, line_below_root, BeginsWith}

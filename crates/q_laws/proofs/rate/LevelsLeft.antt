@@ -17,16 +17,16 @@ use Rattle.q_model.specs.Step.{DeviceState, step}
 use Rattle.q_model.specs.Stretches.{bytes_spent, TbfAt, tbf_in}
 use Rattle.q_model.specs.Tally.{Note, history}
 use Rattle.q_model.specs.Work.{Worked, losses_of, settled_in}
-use Rattle.q_invariants.proofs.AskStages.{IsStageOf}
-use Rattle.q_invariants.proofs.BucketMoves.{same-bucket, tbf-node}
-use Rattle.q_invariants.proofs.BucketSteps.{IsTbfStage, tbf-stage, holding-stage}
-use Rattle.q_invariants.proofs.EditComes.{IsAbove}
-use Rattle.q_invariants.proofs.EditForms.{IsForm}
-use Rattle.q_invariants.proofs.PutKinds.{put-stage}
+use Rattle.q_invariants.proofs.ask.AskStages.{IsStageOf}
+use Rattle.q_invariants.proofs.bucket.BucketMoves.{same-bucket, tbf-node}
+use Rattle.q_invariants.proofs.bucket.BucketSteps.{IsTbfStage, tbf-stage, holding-stage}
+use Rattle.q_invariants.proofs.edit.EditComes.{IsAbove}
+use Rattle.q_invariants.proofs.edit.EditForms.{IsForm}
+use Rattle.q_invariants.proofs.put.PutKinds.{put-stage}
 use Rattle.q_invariants.proofs.Replays.{IsKept}
-use Rattle.q_invariants.proofs.Risen.{AllRise, all-rise}
-use Rattle.q_invariants.proofs.StepNodes.{IsAsked, IsPut, IsRemadeSo, IsEdited, Becomes, becomes}
-use Rattle.q_invariants.proofs.Told.{noted-history}
+use Rattle.q_invariants.proofs.sums.Risen.{AllRise, all-rise}
+use Rattle.q_invariants.proofs.sums.Told.{noted-history}
+use Rattle.q_invariants.proofs.tree.StepNodes.{IsAsked, IsPut, IsRemadeSo, IsEdited, Becomes, becomes}
 use Rattle.q_device.proofs.ClassStretches.{same-rest}
 
 -- a bucket of the same burst that has so much at least, but for what was paid

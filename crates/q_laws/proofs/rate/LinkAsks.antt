@@ -11,9 +11,9 @@ use Rattle.q_model.specs.Node.{Discipline, Tbf, Drr, Own, side_by_side}
 use Rattle.q_model.specs.Work.{Worked}
 use Rattle.q_model.specs.Ask.{Asked, holding, Dequeue, dequeued, waits, spends, ask_tbf, service_of, place_met, gives_nothing, class_gives, class_serves, ask_discipline, ask_own, since_shown}
 use Rattle.q_model.specs.Stretches.{spent_by, bytes_spent, length_held}
-use Rattle.q_invariants.proofs.AskStages.{IsStageOf}
-use Rattle.q_invariants.proofs.BucketSteps.{given-bytes}
-use Rattle.q_invariants.proofs.NoteSums.{AreRisen, sum-risen, past-spent}
+use Rattle.q_invariants.proofs.ask.AskStages.{IsStageOf}
+use Rattle.q_invariants.proofs.bucket.BucketSteps.{given-bytes}
+use Rattle.q_invariants.proofs.sums.NoteSums.{AreRisen, sum-risen, past-spent}
 
 -- a node as it is left, of which so many bytes were taken
 abbrev pub Leaves : Asked → Worked → ℕ → Type 0

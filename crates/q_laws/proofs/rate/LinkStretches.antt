@@ -22,17 +22,17 @@ use Rattle.q_model.specs.Stretches.{bytes_spent, length_held, has_major, qdisc, 
 use Rattle.q_model.specs.Tally.{Note, history}
 use Rattle.q_model.specs.TreeState.{given}
 use Rattle.q_model.proofs.ShrinkLemmas.{each-each_memory, is_empty-with_memory}
+use Rattle.q_invariants.proofs.again.SecondPeeks.{asked-shape, kept-shape}
 use Rattle.q_invariants.proofs.Along.{counted}
-use Rattle.q_invariants.proofs.Answer.{AreAnswers, waiting}
-use Rattle.q_invariants.proofs.Asks.{beneath-befores, forest-answers}
-use Rattle.q_invariants.proofs.BucketMoves.{tbf-node, tbf-lawful, tbf-step}
-use Rattle.q_invariants.proofs.BucketSteps.{IsUncutAt, IsPaid}
-use Rattle.q_invariants.proofs.DrrService.{shown-short}
-use Rattle.q_invariants.proofs.Forests.{each-nodes}
+use Rattle.q_invariants.proofs.ask.Answer.{AreAnswers, waiting}
+use Rattle.q_invariants.proofs.ask.Asks.{beneath-befores, forest-answers}
+use Rattle.q_invariants.proofs.ask.DrrService.{shown-short}
+use Rattle.q_invariants.proofs.bucket.BucketMoves.{tbf-node, tbf-lawful, tbf-step}
+use Rattle.q_invariants.proofs.bucket.BucketSteps.{IsUncutAt, IsPaid}
 use Rattle.q_invariants.proofs.Kept.{IsLawfulRoot}
 use Rattle.q_invariants.proofs.Replays.{IsKept, step-kept, replay-kept}
-use Rattle.q_invariants.proofs.SecondPeeks.{asked-shape, kept-shape}
-use Rattle.q_invariants.proofs.StepNodes.{clock-rises}
+use Rattle.q_invariants.proofs.tree.Forests.{each-nodes}
+use Rattle.q_invariants.proofs.tree.StepNodes.{clock-rises}
 use Rattle.q_tree.proofs.Foreseeing.{through}
 use Rattle.q_tree.proofs.ForeseenAsks.{tbf-shown}
 use Rattle.q_tree.specs.ReadyAt.{ready_at}

@@ -5,7 +5,7 @@ use Rattle.std.proofs.lemmas.Bool.{ltb-false}
 use Rattle.q_model.specs.declared.event.Event.{Event}
 use Rattle.q_model.specs.Step.{DeviceState, step}
 use Rattle.q_model.specs.Tally.{Note, history}
-use Rattle.q_invariants.proofs.StepNodes.{clock-rises}
+use Rattle.q_invariants.proofs.tree.StepNodes.{clock-rises}
 use Rattle.q_tree.specs.ReadyAt.{ready_at}
 use Rattle.q_laws.specs.rate.Rate.{due_in, IsDrainedFrom, IsNeverLate, NeverLateIsDrained}
 

@@ -20,11 +20,11 @@ use Rattle.q_model.specs.Stretches.{spent_by, bytes_spent, TbfAt, tbf_in, Throug
 use Rattle.q_model.specs.Tally.{Note, history}
 use Rattle.q_model.specs.TreeState.{given}
 use Rattle.q_invariants.proofs.Along.{counted}
-use Rattle.q_invariants.proofs.BucketMoves.{tbf-node, tbf-lawful, tbf-step}
-use Rattle.q_invariants.proofs.BucketSteps.{IsUncutAt}
+use Rattle.q_invariants.proofs.bucket.BucketMoves.{tbf-node, tbf-lawful, tbf-step}
+use Rattle.q_invariants.proofs.bucket.BucketSteps.{IsUncutAt}
 use Rattle.q_invariants.proofs.Replays.{IsKept, step-kept, replay-kept}
-use Rattle.q_invariants.proofs.StepNodes.{clock-rises}
-use Rattle.q_invariants.proofs.Within.{found, lawful-of}
+use Rattle.q_invariants.proofs.tree.StepNodes.{clock-rises}
+use Rattle.q_invariants.proofs.tree.Within.{found, lawful-of}
 use Rattle.q_tree.specs.ReadyAt.{ready_at}
 use Rattle.q_device.specs.Sharing.{device_after}
 use Rattle.q_device.proofs.ClassStretches.{at-start, mtu-stays}

@@ -21,9 +21,9 @@ use Rattle.q_model.specs.Step.{DeviceState, polled_of, step}
 use Rattle.q_model.specs.Stretches.{length_held}
 use Rattle.q_model.specs.Tally.{Note, history}
 use Rattle.q_model.specs.Work.{Worked, booked, each_booked}
-use Rattle.q_invariants.proofs.BucketMoves.{tbf-node}
-use Rattle.q_invariants.proofs.Related.{forget}
+use Rattle.q_invariants.proofs.bucket.BucketMoves.{tbf-node}
 use Rattle.q_invariants.proofs.Replays.{IsKept, step-kept, replay-kept, not-before}
+use Rattle.q_invariants.proofs.tree.Related.{forget}
 use Rattle.q_device.specs.Sharing.{device_after}
 use Rattle.q_device.proofs.ClassStretches.{at-start, at-end}
 use Rattle.q_device.proofs.ReplayLemmas.{replay_from-append}

@@ -13,8 +13,8 @@ use Rattle.q_model.specs.Step.{DeviceState, step}
 use Rattle.q_model.specs.Stretches.{spent_by, bytes_spent, TbfAt, tbf_in, IsTbf}
 use Rattle.q_model.specs.Tally.{Note, history}
 use Rattle.q_invariants.proofs.Along.{counted}
-use Rattle.q_invariants.proofs.BucketMoves.{tbf-step}
-use Rattle.q_invariants.proofs.BucketSteps.{IsUncutAt}
+use Rattle.q_invariants.proofs.bucket.BucketMoves.{tbf-step}
+use Rattle.q_invariants.proofs.bucket.BucketSteps.{IsUncutAt}
 use Rattle.q_invariants.proofs.Replays.{IsKept}
 use Rattle.q_laws.specs.rate.Rate.{IsUncut, IsNowhereCut, RateIsSpent}
 

@@ -24,21 +24,21 @@ use Rattle.q_model.specs.Step.{DeviceState, step}
 use Rattle.q_model.specs.Stretches.{sent_by, bytes_sent, grants_to, qdisc, ClassAt, class_in}
 use Rattle.q_model.specs.Tally.{Note, history}
 use Rattle.q_model.specs.Work.{Worked, losses_of, settled_class, settled_in}
-use Rattle.q_invariants.proofs.AgainstTurns.{left_before, left-at-most, left-behind}
 use Rattle.q_invariants.proofs.Along.{moves}
-use Rattle.q_invariants.proofs.ClassAsks.{AsWas, Nothing, Gave, Served, own-stage}
-use Rattle.q_invariants.proofs.ClassLooks.{active-of}
-use Rattle.q_invariants.proofs.ClassMoves.{class-node, drr-lawful, backlogged-active, drr-step}
-use Rattle.q_invariants.proofs.ClassSteps.{Stays, same-schedule}
-use Rattle.q_invariants.proofs.ClassTakes.{heads}
-use Rattle.q_invariants.proofs.EditComes.{IsAbove}
-use Rattle.q_invariants.proofs.EditForms.{ClassEdit, Stay, Retuned_one, Added_one, Removed_one, Does, IsForm}
-use Rattle.q_invariants.proofs.Exact.{active-served}
-use Rattle.q_invariants.proofs.PutKinds.{put-stage}
+use Rattle.q_invariants.proofs.class.AgainstTurns.{left_before, left-at-most, left-behind}
+use Rattle.q_invariants.proofs.class.ClassAsks.{AsWas, Nothing, Gave, Served, own-stage}
+use Rattle.q_invariants.proofs.class.ClassLooks.{active-of}
+use Rattle.q_invariants.proofs.class.ClassMoves.{class-node, drr-lawful, backlogged-active, drr-step}
+use Rattle.q_invariants.proofs.class.ClassSteps.{Stays, same-schedule}
+use Rattle.q_invariants.proofs.class.ClassTakes.{heads}
+use Rattle.q_invariants.proofs.class.Exact.{active-served}
+use Rattle.q_invariants.proofs.class.SameTurns.{absent-behind, same-all, same-fewer, same-settled, same-quantum}
+use Rattle.q_invariants.proofs.class.TakeTurns.{one_if}
+use Rattle.q_invariants.proofs.edit.EditComes.{IsAbove}
+use Rattle.q_invariants.proofs.edit.EditForms.{ClassEdit, Stay, Retuned_one, Added_one, Removed_one, Does, IsForm}
+use Rattle.q_invariants.proofs.put.PutKinds.{put-stage}
 use Rattle.q_invariants.proofs.Replays.{IsKept, step-kept, replay-kept}
-use Rattle.q_invariants.proofs.SameTurns.{absent-behind, same-all, same-fewer, same-settled, same-quantum}
-use Rattle.q_invariants.proofs.StepNodes.{IsAsked, IsPut, IsRemadeSo, IsEdited, Becomes, becomes}
-use Rattle.q_invariants.proofs.TakeTurns.{one_if}
+use Rattle.q_invariants.proofs.tree.StepNodes.{IsAsked, IsPut, IsRemadeSo, IsEdited, Becomes, becomes}
 use Rattle.q_device.specs.Sharing.{device_after}
 use Rattle.q_laws.specs.share.Calm.{IsCalm, ClassesAreCalm}
 use Rattle.q_laws.specs.share.Service.{IsClass}

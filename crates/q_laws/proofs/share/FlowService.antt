@@ -17,13 +17,13 @@ use Rattle.q_model.specs.Replay.{Replay, nothing_yet}
 use Rattle.q_model.specs.Settings.{DeviceSettings, IsInRange}
 use Rattle.q_model.specs.Step.{DeviceState, step}
 use Rattle.q_model.specs.Stretches.{flow_granted_by, given_by, flow_grants_to, bytes_given, reach, FqAt, fq_in, IsBackloggedFlow, Throughout}
-use Rattle.q_invariants.proofs.Replays.{IsKept, replay-kept}
 use Rattle.q_invariants.proofs.Along.{moves}
-use Rattle.q_invariants.proofs.FlowLists.{listed-credits}
-use Rattle.q_invariants.proofs.FlowMoves.{fq-node, fq-lawful}
-use Rattle.q_invariants.proofs.FlowReach.{in_lists, reach_in, lists-new, lists-none, lists-bound, reach-listed, reach-none}
-use Rattle.q_invariants.proofs.FlowAgainst.{FlowAgainst, FlowBounded, no-flow-against, flow-against, flow-bounded, more-flow-against}
-use Rattle.q_invariants.proofs.FlowSteps.{lists_of}
+use Rattle.q_invariants.proofs.flow.FlowAgainst.{FlowAgainst, FlowBounded, no-flow-against, flow-against, flow-bounded, more-flow-against}
+use Rattle.q_invariants.proofs.flow.FlowLists.{listed-credits}
+use Rattle.q_invariants.proofs.flow.FlowMoves.{fq-node, fq-lawful}
+use Rattle.q_invariants.proofs.flow.FlowReach.{in_lists, reach_in, lists-new, lists-none, lists-bound, reach-listed, reach-none}
+use Rattle.q_invariants.proofs.flow.FlowSteps.{lists_of}
+use Rattle.q_invariants.proofs.Replays.{IsKept, replay-kept}
 use Rattle.q_device.specs.Sharing.{device_after}
 use Rattle.q_device.proofs.ClassStretches.{at-start, mtu-stays}
 use Rattle.q_device.proofs.ReplayLemmas.{replay_from-append}

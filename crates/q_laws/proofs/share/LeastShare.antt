@@ -18,11 +18,11 @@ use Rattle.q_model.specs.Beneath.{beneath}
 use Rattle.q_model.specs.Settings.{DeviceSettings, IsInRange}
 use Rattle.q_model.specs.Step.{DeviceState}
 use Rattle.q_model.specs.Stretches.{qdisc, class_of, class_in, IsBackloggedClass, Throughout}
-use Rattle.q_invariants.proofs.Exact.{exact-length}
-use Rattle.q_invariants.proofs.Members.{All-front}
+use Rattle.q_invariants.proofs.class.ClassChildren.{child_for, child-at, child-has, here-is, there-is}
+use Rattle.q_invariants.proofs.class.ClassMoves.{class-node, drr-lawful}
+use Rattle.q_invariants.proofs.class.Exact.{exact-length}
 use Rattle.q_invariants.proofs.Replays.{IsKept, replay-kept}
-use Rattle.q_invariants.proofs.ClassChildren.{child_for, child-at, child-has, here-is, there-is}
-use Rattle.q_invariants.proofs.ClassMoves.{class-node, drr-lawful}
+use Rattle.q_invariants.proofs.tree.Members.{All-front}
 use Rattle.q_device.specs.Sharing.{device_after}
 use Rattle.q_device.proofs.ClassStretches.{at-start, at-end}
 use Rattle.q_laws.specs.share.Service.{class_sent, IsClass, classes_of, HasClasses, quanta_of, all_sent, ClassesGetTheirParts}

@@ -9,7 +9,7 @@ use Rattle.q_model.specs.declared.event.Event.{Event}
 use Rattle.q_model.specs.Events.{IsEvent}
 use Rattle.q_model.specs.Settings.{DeviceSettings, IsInRange}
 use Rattle.q_model.specs.Stretches.{grants_to, ClassAt, class_in, IsBackloggedClass, Throughout}
-use Rattle.q_invariants.proofs.ClassMoves.{class-node, same-drr}
+use Rattle.q_invariants.proofs.class.ClassMoves.{class-node, same-drr}
 use Rattle.q_device.specs.Sharing.{device_after}
 use Rattle.q_device.proofs.ClassStretches.{at-start, deficits-bounded}
 use Rattle.q_laws.specs.share.Calm.{IsCalm}

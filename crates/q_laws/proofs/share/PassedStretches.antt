@@ -20,24 +20,24 @@ use Rattle.q_model.specs.Step.{DeviceState, step}
 use Rattle.q_model.specs.Stretches.{sent_by, spent_by, granted_by, bytes_sent, bytes_spent, grants_to, length_held, qdisc, ClassAt, class_in, TbfAt, tbf_in}
 use Rattle.q_model.specs.Tally.{Note, history}
 use Rattle.q_model.specs.Work.{Worked, booked, each_booked, losses_of}
-use Rattle.q_invariants.proofs.AskStages.{IsStageOf, IsAskOf, asked-related}
-use Rattle.q_invariants.proofs.BucketMoves.{tbf-node}
-use Rattle.q_invariants.proofs.ClassChildren.{place_in, child_for, child-at, child-has, child-set}
-use Rattle.q_invariants.proofs.ClassLooks.{gives-for, booked-child}
-use Rattle.q_invariants.proofs.ClassMoves.{class-node}
-use Rattle.q_invariants.proofs.EditLater.{root-later}
-use Rattle.q_invariants.proofs.Forests.{lawful-with_memory, nodes-side, side-nodes}
+use Rattle.q_invariants.proofs.ask.AskStages.{IsStageOf, IsAskOf, asked-related}
+use Rattle.q_invariants.proofs.ask.SentStages.{Gives, ask-gives}
+use Rattle.q_invariants.proofs.bucket.BucketMoves.{tbf-node}
+use Rattle.q_invariants.proofs.class.ClassChildren.{place_in, child_for, child-at, child-has, child-set}
+use Rattle.q_invariants.proofs.class.ClassLooks.{gives-for, booked-child}
+use Rattle.q_invariants.proofs.class.ClassMoves.{class-node}
+use Rattle.q_invariants.proofs.edit.EditComes.{IsAbove}
+use Rattle.q_invariants.proofs.edit.EditLater.{root-later}
 use Rattle.q_invariants.proofs.Kept.{IsLawfulRoot}
-use Rattle.q_invariants.proofs.NoteSums.{AreRisen, sum-risen, risen-losses, past-sent, past-spent, past-granted}
-use Rattle.q_invariants.proofs.PutKinds.{put-stage}
-use Rattle.q_invariants.proofs.Related.{forget}
+use Rattle.q_invariants.proofs.put.PutKinds.{put-stage}
 use Rattle.q_invariants.proofs.Replays.{IsKept, step-kept}
-use Rattle.q_invariants.proofs.Risen.{all-rise}
-use Rattle.q_invariants.proofs.SentStages.{Gives, ask-gives}
-use Rattle.q_invariants.proofs.StepNodes.{IsAsked, IsPut, IsRemadeSo, IsEdited, Becomes, becomes, clock-rises}
-use Rattle.q_invariants.proofs.EditComes.{IsAbove}
-use Rattle.q_invariants.proofs.Told.{noted-history}
-use Rattle.q_invariants.proofs.Within.{found, lawful-of}
+use Rattle.q_invariants.proofs.sums.NoteSums.{AreRisen, sum-risen, risen-losses, past-sent, past-spent, past-granted}
+use Rattle.q_invariants.proofs.sums.Risen.{all-rise}
+use Rattle.q_invariants.proofs.sums.Told.{noted-history}
+use Rattle.q_invariants.proofs.tree.Forests.{lawful-with_memory, nodes-side, side-nodes}
+use Rattle.q_invariants.proofs.tree.Related.{forget}
+use Rattle.q_invariants.proofs.tree.StepNodes.{IsAsked, IsPut, IsRemadeSo, IsEdited, Becomes, becomes, clock-rises}
+use Rattle.q_invariants.proofs.tree.Within.{found, lawful-of}
 use Rattle.q_laws.specs.share.InTime.{IsLinkOver}
 use Rattle.q_laws.specs.share.Service.{given_so_far, class_sent, IsClass, classes_of, HasClasses, all_sent}
 use Rattle.q_laws.proofs.rate.LinkAsks.{Leaves, TakesOf, root-takes, GaveAt, drr-takes}

@@ -19,9 +19,9 @@ use Rattle.q_model.specs.Settings.{DeviceSettings, IsInRange}
 use Rattle.q_model.specs.Step.{DeviceState}
 use Rattle.q_model.specs.Stretches.{tbf_of}
 use Rattle.q_model.specs.Tally.{Note}
-use Rattle.q_invariants.proofs.Forests.{each-nodes}
 use Rattle.q_invariants.proofs.Replays.{IsKept}
-use Rattle.q_invariants.proofs.Within.{IsOf}
+use Rattle.q_invariants.proofs.tree.Forests.{each-nodes}
+use Rattle.q_invariants.proofs.tree.Within.{IsOf}
 use Rattle.q_tree.specs.declared.ways.Link.{Link}
 use Rattle.q_tree.specs.declared.ways.Share.{Share}
 use Rattle.q_tree.specs.Ways.{DrrClass, Way, drrs_on, has_tbf, is_tbf, share_of, way_below, way_from, way_to}

@@ -18,11 +18,11 @@ use Rattle.q_model.specs.Node.{Discipline, Fifo, Prio, Tbf, Drr, FqCodel, Own, F
 use Rattle.q_model.specs.Step.{DeviceState}
 use Rattle.q_model.specs.Stretches.{has_major, qdisc, ClassAt, class_of, class_in, IsBackloggedClass}
 use Rattle.q_model.specs.Tally.{Note}
-use Rattle.q_invariants.proofs.ClassMoves.{drr-lawful}
-use Rattle.q_invariants.proofs.EditHandles.{once-apart}
-use Rattle.q_invariants.proofs.Members.{All-at}
+use Rattle.q_invariants.proofs.class.ClassMoves.{drr-lawful}
+use Rattle.q_invariants.proofs.edit.EditHandles.{once-apart}
 use Rattle.q_invariants.proofs.Replays.{IsKept}
-use Rattle.q_invariants.proofs.Within.{Within, IsOf, HasHandle, found, same-node}
+use Rattle.q_invariants.proofs.tree.Members.{All-at}
+use Rattle.q_invariants.proofs.tree.Within.{Within, IsOf, HasHandle, found, same-node}
 use Rattle.q_tree.proofs.WayLemmas.{is-at}
 use Rattle.q_tree.specs.Ways.{DrrClass, class_of_drr, drr_class, drrs_on, share_of}
 use Rattle.q_laws.specs.share.Delivered.{IsPart, level_of, levels_of}

@@ -15,10 +15,10 @@ use Rattle.q_model.specs.Tally.{Note, history}
 use Rattle.q_model.specs.Settings.{DeviceSettings, IsInRange}
 use Rattle.q_model.specs.Step.{DeviceState, step}
 use Rattle.q_model.specs.Stretches.{sent_by, bytes_sent, granted_by, grants_to, ClassAt, class_in, IsBackloggedClass}
-use Rattle.q_invariants.proofs.Replays.{IsKept}
 use Rattle.q_invariants.proofs.Along.{counted}
-use Rattle.q_invariants.proofs.AgainstTurns.{left_before, left-at-most, left-behind}
-use Rattle.q_invariants.proofs.ClassMoves.{class-node, class-moves, same-drr, against-moves}
+use Rattle.q_invariants.proofs.class.AgainstTurns.{left_before, left-at-most, left-behind}
+use Rattle.q_invariants.proofs.class.ClassMoves.{class-node, class-moves, same-drr, against-moves}
+use Rattle.q_invariants.proofs.Replays.{IsKept}
 use Rattle.q_device.specs.Sharing.{device_after}
 use Rattle.q_device.proofs.ClassStretches.{at-start, at-end, same-rest, deficits-bounded}
 use Rattle.q_laws.specs.share.Service.{given_so_far, class_sent, IsClass, ClassAgainstAny}

@@ -21,10 +21,10 @@ use Rattle.q_model.specs.Step.{DeviceState}
 use Rattle.q_model.specs.Stretches.{bytes_spent, length_held, qdisc, TbfAt, IsBackloggedClass, Throughout}
 use Rattle.q_model.specs.Tally.{Note}
 use Rattle.q_invariants.proofs.Along.{counted}
-use Rattle.q_invariants.proofs.ClassChildren.{child-has}
-use Rattle.q_invariants.proofs.ClassMoves.{class-node, drr-lawful}
+use Rattle.q_invariants.proofs.class.ClassChildren.{child-has}
+use Rattle.q_invariants.proofs.class.ClassMoves.{class-node, drr-lawful}
 use Rattle.q_invariants.proofs.Replays.{IsKept, replay-kept}
-use Rattle.q_invariants.proofs.Within.{found, lawful-of}
+use Rattle.q_invariants.proofs.tree.Within.{found, lawful-of}
 use Rattle.q_device.specs.Promise.{lacks_of_bytes}
 use Rattle.q_device.specs.Sharing.{device_after}
 use Rattle.q_device.proofs.ClassStretches.{at-start, at-end, mtu-stays, same-rest}

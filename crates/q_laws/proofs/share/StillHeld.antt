@@ -19,19 +19,19 @@ use Rattle.q_model.specs.Stretches.{sent_by, bytes_sent, granted_by, grants_to, 
 use Rattle.q_model.specs.Tally.{Note, history}
 use Rattle.q_model.specs.Work.{Worked}
 use Rattle.q_invariants.proofs.Along.{counted}
-use Rattle.q_invariants.proofs.AskStages.{IsStageOf}
-use Rattle.q_invariants.proofs.Asks.{forest-answers}
-use Rattle.q_invariants.proofs.ClassChildren.{child-at}
-use Rattle.q_invariants.proofs.ClassLooks.{answer-for}
-use Rattle.q_invariants.proofs.ClassMoves.{ClassNode, class-node, class-moves, class-short}
-use Rattle.q_invariants.proofs.DrrService.{heads-fit}
-use Rattle.q_invariants.proofs.EditLater.{root-later}
-use Rattle.q_invariants.proofs.Forests.{lawful-with_memory}
+use Rattle.q_invariants.proofs.ask.Asks.{forest-answers}
+use Rattle.q_invariants.proofs.ask.AskStages.{IsStageOf}
+use Rattle.q_invariants.proofs.ask.DrrService.{heads-fit}
+use Rattle.q_invariants.proofs.class.ClassChildren.{child-at}
+use Rattle.q_invariants.proofs.class.ClassLooks.{answer-for}
+use Rattle.q_invariants.proofs.class.ClassMoves.{ClassNode, class-node, class-moves, class-short}
+use Rattle.q_invariants.proofs.edit.EditLater.{root-later}
 use Rattle.q_invariants.proofs.Kept.{IsLawfulRoot}
 use Rattle.q_invariants.proofs.Replays.{IsKept, step-kept}
-use Rattle.q_invariants.proofs.StepNodes.{IsAsked, Becomes, becomes, clock-rises}
-use Rattle.q_invariants.proofs.Told.{noted-history}
-use Rattle.q_invariants.proofs.Within.{found, lawful-of}
+use Rattle.q_invariants.proofs.sums.Told.{noted-history}
+use Rattle.q_invariants.proofs.tree.Forests.{lawful-with_memory}
+use Rattle.q_invariants.proofs.tree.StepNodes.{IsAsked, Becomes, becomes, clock-rises}
+use Rattle.q_invariants.proofs.tree.Within.{found, lawful-of}
 use Rattle.q_device.specs.Sharing.{device_after}
 use Rattle.q_device.proofs.ClassStretches.{at-start, mtu-stays, same-rest, deficits-bounded}
 use Rattle.q_laws.specs.share.Handed.{held_by, still_held}

@@ -17,7 +17,7 @@ use Rattle.q_model.specs.Settings.{DeviceSettings, IsInRange}
 use Rattle.q_model.specs.Step.{DeviceState}
 use Rattle.q_model.specs.Stretches.{ClassAt, class_in, IsBackloggedClass}
 use Rattle.q_model.specs.Tally.{Note}
-use Rattle.q_invariants.proofs.ClassMoves.{class-node}
+use Rattle.q_invariants.proofs.class.ClassMoves.{class-node}
 use Rattle.q_invariants.proofs.Replays.{replay-kept}
 use Rattle.q_tree.specs.Ways.{share_among}
 use Rattle.q_device.specs.Sharing.{device_after}

@@ -28,22 +28,22 @@ use Rattle.q_model.specs.Stretches.{sent_by, bytes_sent, length_held, ClassAt, c
 use Rattle.q_model.specs.Tally.{Note, history}
 use Rattle.q_model.specs.Work.{Worked, booked}
 use Rattle.q_invariants.proofs.Along.{counted, replay-twice}
-use Rattle.q_invariants.proofs.AskStages.{IsAskOf, IsStageOf, asked-related}
-use Rattle.q_invariants.proofs.ClassChildren.{child_for, child-at, place_in}
-use Rattle.q_invariants.proofs.ClassLooks.{booked-child}
-use Rattle.q_invariants.proofs.ClassMoves.{class-node}
-use Rattle.q_invariants.proofs.EditLater.{root-later}
-use Rattle.q_invariants.proofs.Forests.{lawful-with_memory}
-use Rattle.q_invariants.proofs.Members.{All-front}
-use Rattle.q_invariants.proofs.NoteSums.{past-sent}
-use Rattle.q_invariants.proofs.PutKinds.{put-stage}
-use Rattle.q_invariants.proofs.PutStages.{IsPutOf, along-related, quiet-related}
-use Rattle.q_invariants.proofs.Related.{IsRelated, forget}
+use Rattle.q_invariants.proofs.ask.AskStages.{IsAskOf, IsStageOf, asked-related}
+use Rattle.q_invariants.proofs.ask.SentStages.{ask-gives}
+use Rattle.q_invariants.proofs.class.ClassChildren.{child_for, child-at, place_in}
+use Rattle.q_invariants.proofs.class.ClassLooks.{booked-child}
+use Rattle.q_invariants.proofs.class.ClassMoves.{class-node}
+use Rattle.q_invariants.proofs.edit.EditLater.{root-later}
+use Rattle.q_invariants.proofs.put.PutKinds.{put-stage}
+use Rattle.q_invariants.proofs.put.PutStages.{IsPutOf, along-related, quiet-related}
 use Rattle.q_invariants.proofs.Replays.{IsKept, step-kept}
-use Rattle.q_invariants.proofs.SentStages.{ask-gives}
-use Rattle.q_invariants.proofs.StepNodes.{Becomes, IsAsked, IsPut, becomes, clock-rises}
-use Rattle.q_invariants.proofs.Told.{noted-history}
-use Rattle.q_invariants.proofs.Within.{IsOf, found, lawful-of}
+use Rattle.q_invariants.proofs.sums.NoteSums.{past-sent}
+use Rattle.q_invariants.proofs.sums.Told.{noted-history}
+use Rattle.q_invariants.proofs.tree.Forests.{lawful-with_memory}
+use Rattle.q_invariants.proofs.tree.Members.{All-front}
+use Rattle.q_invariants.proofs.tree.Related.{IsRelated, forget}
+use Rattle.q_invariants.proofs.tree.StepNodes.{Becomes, IsAsked, IsPut, becomes, clock-rises}
+use Rattle.q_invariants.proofs.tree.Within.{IsOf, found, lawful-of}
 use Rattle.q_tree.specs.Lanes.{limit_of}
 use Rattle.q_tree.specs.declared.ways.Share.{Share}
 use Rattle.q_tree.specs.Ways.{share_among}

@@ -20,9 +20,9 @@ use Rattle.q_model.specs.Step.{DeviceState, step}
 use Rattle.q_model.specs.Stretches.{length_held, ClassAt, class_in, qdisc, IsBackloggedClass, TbfAt, Throughout}
 use Rattle.q_model.specs.Tally.{Note, history}
 use Rattle.q_model.specs.TreeState.{given}
-use Rattle.q_invariants.proofs.ClassMoves.{backlogged-active, class-node}
+use Rattle.q_invariants.proofs.class.ClassMoves.{backlogged-active, class-node}
 use Rattle.q_invariants.proofs.Replays.{IsKept, replay-kept}
-use Rattle.q_invariants.proofs.Within.{IsOf, lawful-of}
+use Rattle.q_invariants.proofs.tree.Within.{IsOf, lawful-of}
 use Rattle.q_tree.specs.declared.ways.Link.{Link}
 use Rattle.q_tree.specs.Lanes.{level_of, limit_of}
 use Rattle.q_tree.specs.Ways.{DrrClass, way_from}

@@ -20,8 +20,8 @@ use Rattle.q_model.specs.Settings.{DeviceSettings, IsInRange}
 use Rattle.q_model.specs.Step.{DeviceState}
 use Rattle.q_model.specs.Stretches.{ClassAt, class_in, qdisc, IsBackloggedClass, Throughout}
 use Rattle.q_model.specs.Tally.{Note}
-use Rattle.q_invariants.proofs.ClassChildren.{child-has}
-use Rattle.q_invariants.proofs.ClassMoves.{ClassNode, class-node, drr-lawful, same-drr}
+use Rattle.q_invariants.proofs.class.ClassChildren.{child-has}
+use Rattle.q_invariants.proofs.class.ClassMoves.{ClassNode, class-node, drr-lawful, same-drr}
 use Rattle.q_invariants.proofs.Replays.{IsKept, replay-kept}
 use Rattle.q_tree.specs.Ways.{share_among}
 use Rattle.q_device.specs.Sharing.{device_after}

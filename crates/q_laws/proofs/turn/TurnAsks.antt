@@ -20,18 +20,18 @@ use Rattle.q_model.specs.Step.{DeviceState}
 use Rattle.q_model.specs.Stretches.{sent_by, bytes_sent, length_held, ClassAt, class_in, qdisc}
 use Rattle.q_model.specs.Tally.{Note, history}
 use Rattle.q_model.specs.Work.{Worked, booked, settled_class}
-use Rattle.q_invariants.proofs.AskStages.{IsAskOf, IsStageOf, asked-related}
-use Rattle.q_invariants.proofs.ClassChildren.{child_for, child-at, child-set, place_in}
-use Rattle.q_invariants.proofs.ClassLooks.{answer-for, booked-child, gives-for, looked-at}
-use Rattle.q_invariants.proofs.ClassMoves.{class-node}
-use Rattle.q_invariants.proofs.DrrSettled.{class-settled}
-use Rattle.q_invariants.proofs.EditLater.{root-later}
-use Rattle.q_invariants.proofs.Exact.{classes-served}
-use Rattle.q_invariants.proofs.Forests.{lawful-with_memory, nodes-side}
+use Rattle.q_invariants.proofs.ask.AskStages.{IsAskOf, IsStageOf, asked-related}
+use Rattle.q_invariants.proofs.class.ClassChildren.{child_for, child-at, child-set, place_in}
+use Rattle.q_invariants.proofs.class.ClassLooks.{answer-for, booked-child, gives-for, looked-at}
+use Rattle.q_invariants.proofs.class.ClassMoves.{class-node}
+use Rattle.q_invariants.proofs.class.Exact.{classes-served}
+use Rattle.q_invariants.proofs.edit.EditLater.{root-later}
 use Rattle.q_invariants.proofs.Kept.{IsLawfulRoot}
+use Rattle.q_invariants.proofs.put.DrrSettled.{class-settled}
 use Rattle.q_invariants.proofs.Replays.{IsKept}
-use Rattle.q_invariants.proofs.Told.{noted-history}
-use Rattle.q_invariants.proofs.Within.{found, lawful-of}
+use Rattle.q_invariants.proofs.sums.Told.{noted-history}
+use Rattle.q_invariants.proofs.tree.Forests.{lawful-with_memory, nodes-side}
+use Rattle.q_invariants.proofs.tree.Within.{found, lawful-of}
 use Rattle.q_tree.specs.Lanes.{limit_of}
 use Rattle.q_laws.specs.share.Service.{HasClasses}
 use Rattle.q_laws.specs.turn.Turn.{shown_by}

@@ -19,11 +19,11 @@ use Rattle.q_model.specs.Step.{DeviceState, step}
 use Rattle.q_model.specs.Stretches.{bytes_sent, length_held, ClassAt, class_in, qdisc, Throughout}
 use Rattle.q_model.specs.Tally.{Note, history}
 use Rattle.q_model.specs.Work.{Worked, booked}
-use Rattle.q_invariants.proofs.ClassChildren.{child-at, place_in}
-use Rattle.q_invariants.proofs.Members.{All-front}
+use Rattle.q_invariants.proofs.ask.SentStages.{ask-gives}
+use Rattle.q_invariants.proofs.class.ClassChildren.{child-at, place_in}
 use Rattle.q_invariants.proofs.Replays.{IsKept, not-before, replay-kept, step-kept}
-use Rattle.q_invariants.proofs.SentStages.{ask-gives}
-use Rattle.q_invariants.proofs.StepNodes.{clock-rises}
+use Rattle.q_invariants.proofs.tree.Members.{All-front}
+use Rattle.q_invariants.proofs.tree.StepNodes.{clock-rises}
 use Rattle.q_tree.specs.declared.ways.Link.{Link}
 use Rattle.q_tree.specs.Ways.{share_among}
 use Rattle.q_device.specs.Sharing.{device_after}

@@ -20,8 +20,8 @@ use Rattle.q_model.specs.Step.{DeviceState, step}
 use Rattle.q_model.specs.Stretches.{bytes_sent, length_held, qdisc, TbfAt, Throughout}
 use Rattle.q_model.specs.Tally.{Note, history}
 use Rattle.q_model.specs.TreeState.{given}
-use Rattle.q_invariants.proofs.Members.{All-front}
 use Rattle.q_invariants.proofs.Replays.{IsKept, replay-kept}
+use Rattle.q_invariants.proofs.tree.Members.{All-front}
 use Rattle.q_tree.specs.declared.ways.Link.{Link}
 use Rattle.q_tree.specs.Turns.{turn_to}
 use Rattle.q_tree.specs.Ways.{DrrClass, drrs_on, share_of, way_to}

@@ -23,14 +23,14 @@ use Rattle.q_model.specs.Tally.{Note, history}
 use Rattle.q_model.specs.TreeState.{given, plan}
 use Rattle.q_model.specs.Work.{Worked, booked, each_booked}
 use Rattle.q_invariants.proofs.Along.{counted}
-use Rattle.q_invariants.proofs.AskStages.{IsStageOf}
-use Rattle.q_invariants.proofs.NoteSums.{AreRisen}
-use Rattle.q_invariants.proofs.Related.{forget}
+use Rattle.q_invariants.proofs.ask.AskStages.{IsStageOf}
+use Rattle.q_invariants.proofs.ask.SentStages.{Gives, ask-gives}
 use Rattle.q_invariants.proofs.Replays.{IsKept}
-use Rattle.q_invariants.proofs.Risen.{all-rise}
-use Rattle.q_invariants.proofs.SentStages.{Gives, ask-gives}
-use Rattle.q_invariants.proofs.StepNodes.{Becomes, IsAsked, becomes}
-use Rattle.q_invariants.proofs.Told.{noted-history}
+use Rattle.q_invariants.proofs.sums.NoteSums.{AreRisen}
+use Rattle.q_invariants.proofs.sums.Risen.{all-rise}
+use Rattle.q_invariants.proofs.sums.Told.{noted-history}
+use Rattle.q_invariants.proofs.tree.Related.{forget}
+use Rattle.q_invariants.proofs.tree.StepNodes.{Becomes, IsAsked, becomes}
 use Rattle.q_tree.specs.declared.ways.Link.{Link}
 use Rattle.q_device.specs.Laws.{given_in}
 use Rattle.q_device.specs.Sharing.{device_after}

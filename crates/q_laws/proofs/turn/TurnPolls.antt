@@ -10,15 +10,15 @@ use Rattle.q_model.specs.Step.{DeviceState, step}
 use Rattle.q_model.specs.Stretches.{ClassAt, class_in, qdisc}
 use Rattle.q_model.specs.Tally.{Note, history}
 use Rattle.q_model.specs.Work.{Worked, booked, each_booked}
-use Rattle.q_invariants.proofs.AskStages.{IsAskOf, asked-related}
-use Rattle.q_invariants.proofs.ClassChildren.{child-at, child-has, place_in}
-use Rattle.q_invariants.proofs.ClassLooks.{booked-child}
-use Rattle.q_invariants.proofs.EditLater.{root-later}
-use Rattle.q_invariants.proofs.Forests.{lawful-with_memory}
+use Rattle.q_invariants.proofs.ask.AskStages.{IsAskOf, asked-related}
+use Rattle.q_invariants.proofs.class.ClassChildren.{child-at, child-has, place_in}
+use Rattle.q_invariants.proofs.class.ClassLooks.{booked-child}
+use Rattle.q_invariants.proofs.edit.EditLater.{root-later}
 use Rattle.q_invariants.proofs.Kept.{IsLawfulRoot}
-use Rattle.q_invariants.proofs.Related.{forget}
 use Rattle.q_invariants.proofs.Replays.{IsKept, not-before, step-kept}
-use Rattle.q_invariants.proofs.Within.{IsOf, found, lawful-of}
+use Rattle.q_invariants.proofs.tree.Forests.{lawful-with_memory}
+use Rattle.q_invariants.proofs.tree.Related.{forget}
+use Rattle.q_invariants.proofs.tree.Within.{IsOf, found, lawful-of}
 use Rattle.q_tree.specs.declared.ways.Link.{Link}
 use Rattle.q_tree.specs.Lanes.{limit_of}
 use Rattle.q_laws.specs.line.Line.{IsLink}

@@ -20,9 +20,9 @@ use Rattle.q_model.specs.Step.{DeviceState, step}
 use Rattle.q_model.specs.Stretches.{sent_by, bytes_sent, granted_by, grants_to, length_held, ClassAt, class_in, IsBackloggedClass, Throughout}
 use Rattle.q_model.specs.Tally.{Note, history}
 use Rattle.q_invariants.proofs.Along.{counted}
-use Rattle.q_invariants.proofs.ClassMoves.{class-moves, class-short}
+use Rattle.q_invariants.proofs.class.ClassMoves.{class-moves, class-short}
 use Rattle.q_invariants.proofs.Replays.{IsKept, step-kept}
-use Rattle.q_invariants.proofs.StepNodes.{clock-rises}
+use Rattle.q_invariants.proofs.tree.StepNodes.{clock-rises}
 use Rattle.q_device.specs.Sharing.{device_after}
 use Rattle.q_laws.specs.share.Service.{given_so_far, class_sent}
 use Rattle.q_laws.specs.turn.Turn.{IsClassLeft, StaysLeft, shown_by}

@@ -17,7 +17,7 @@ use Rattle.q_model.specs.Settings.{DeviceSettings, IsInRange}
 use Rattle.q_model.specs.Step.{DeviceState}
 use Rattle.q_model.specs.Tally.{Note}
 use Rattle.q_model.specs.Stretches.{ClassAt, class_in, grants_to, IsBackloggedClass, Throughout}
-use Rattle.q_invariants.proofs.ClassMoves.{drr-lawful}
+use Rattle.q_invariants.proofs.class.ClassMoves.{drr-lawful}
 use Rattle.q_invariants.proofs.Replays.{replay-kept}
 use Rattle.q_device.specs.Sharing.{device_after}
 use Rattle.q_device.proofs.ClassStretches.{at-start}

@@ -18,12 +18,12 @@ use Rattle.q_model.specs.Stretches.{sent_by, bytes_sent, length_held, ClassAt, c
 use Rattle.q_model.specs.Tally.{Note, history}
 use Rattle.q_model.specs.Work.{Worked, booked}
 use Rattle.q_invariants.proofs.Along.{counted}
-use Rattle.q_invariants.proofs.AskStages.{IsStageOf}
-use Rattle.q_invariants.proofs.ClassChildren.{child_for}
+use Rattle.q_invariants.proofs.ask.AskStages.{IsStageOf}
+use Rattle.q_invariants.proofs.ask.SentStages.{Gives, ask-gives}
+use Rattle.q_invariants.proofs.class.ClassChildren.{child_for}
 use Rattle.q_invariants.proofs.Replays.{IsKept, step-kept}
-use Rattle.q_invariants.proofs.SentStages.{Gives, ask-gives}
-use Rattle.q_invariants.proofs.StepNodes.{Becomes, becomes, clock-rises}
-use Rattle.q_invariants.proofs.Told.{noted-history}
+use Rattle.q_invariants.proofs.sums.Told.{noted-history}
+use Rattle.q_invariants.proofs.tree.StepNodes.{Becomes, becomes, clock-rises}
 use Rattle.q_device.specs.Sharing.{device_after}
 use Rattle.q_device.proofs.ReplayLemmas.{replay_from-append}
 use Rattle.q_laws.specs.share.Service.{given_so_far, class_sent, HasClasses, all_sent}

@@ -24,13 +24,13 @@ use Rattle.q_model.specs.Grants.{asked_entries}
 use Rattle.q_model.specs.Lawful.{IsLawfulOwn, IsLawfulDrr}
 use Rattle.q_model.specs.Node.{Discipline, Fifo, Prio, Tbf, Drr, FqCodel, Own}
 use Rattle.q_model.specs.Route.{class_at}
-use Rattle.q_invariants.proofs.Answer.{IsAnswer, AreAnswers, waiting, beneath-worked}
-use Rattle.q_invariants.proofs.AskFqCodel.{fq_codel-answers}
-use Rattle.q_invariants.proofs.DrrService.{IsMetAt, met-asked, heads-fit}
-use Rattle.q_invariants.proofs.EditClasses.{class_known}
-use Rattle.q_invariants.proofs.EditClassPlans.{position_of}
-use Rattle.q_invariants.proofs.Exact.{AreExact, active-served, classes-served, exact-length}
-use Rattle.q_invariants.proofs.Weights.{weigh-count}
+use Rattle.q_invariants.proofs.ask.Answer.{IsAnswer, AreAnswers, waiting, beneath-worked}
+use Rattle.q_invariants.proofs.ask.AskFqCodel.{fq_codel-answers}
+use Rattle.q_invariants.proofs.ask.DrrService.{IsMetAt, met-asked, heads-fit}
+use Rattle.q_invariants.proofs.class.Exact.{AreExact, active-served, classes-served, exact-length}
+use Rattle.q_invariants.proofs.edit.EditClasses.{class_known}
+use Rattle.q_invariants.proofs.edit.EditClassPlans.{position_of}
+use Rattle.q_invariants.proofs.sums.Weights.{weigh-count}
 use Rattle.q_tree.specs.Ways.{is_tbf}
 use Rattle.q_tree.proofs.FlowCounts.{count-sum, packets-all}
 use Rattle.q_tree.proofs.ForeseenAsks.{first_of, or_else, prio-shown}

@@ -3,7 +3,7 @@ use Rattle.std.specs.Prelude.{sum_by}
 use Rattle.std.proofs.lemmas.Option.{slice_get_within}
 use Rattle.q_drr.specs.Schedule.{Class, quantum_of}
 use Rattle.q_drr.proofs.DifferLemmas.{differ_from_pairs}
-use Rattle.q_invariants.proofs.Members.{All-at}
+use Rattle.q_invariants.proofs.tree.Members.{All-at}
 use Rattle.q_tree.specs.Ways.{share_among}
 use Rattle.q_tree.proofs.WayLemmas.{IsAt, IsNamed, is-at, is-named, named-has}
 use Rattle.q_tree.proofs.ways.share_in.Goals as goal

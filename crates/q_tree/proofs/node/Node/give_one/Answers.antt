@@ -1,6 +1,6 @@
 use Rattle.std.proofs.Common.{◌≡◌, refl, sym, subst, arith, None, rules}
 use Rattle.q_model.specs.Node.{Node, children}
-use Rattle.q_invariants.proofs.Forests.{nodes-side}
+use Rattle.q_invariants.proofs.tree.Forests.{nodes-side}
 use Rattle.q_tree.specs.GiveSteps.{CanGiveFrom, alone}
 use Rattle.q_tree.specs.Holding.{packet_held}
 use Rattle.q_tree.proofs.HeldLemmas.{none-kept}

@@ -9,7 +9,7 @@ use Rattle.q_model.specs.Node as spec
 use Rattle.q_model.specs.Node.{Own, Forest, each, each_memory}
 use Rattle.q_model.specs.declared.row.Row.{Row}
 use Rattle.q_model.specs.Tally.{Counts}
-use Rattle.q_invariants.proofs.EditSizes.{nodes_own}
+use Rattle.q_invariants.proofs.sizes.EditSizes.{nodes_own}
 use Rattle.q_tree.specs.Kept.{Kept}
 use Rattle.q_tree.specs.Seen.{IsCountedWithin}
 use Rattle.q_tree.proofs.Rows.{counts_in_row}

@@ -11,7 +11,7 @@ use Rattle.q_tree.specs.declared.commands.discipline_change.DisciplineChange.The
 use Rattle.q_tree.proofs.ChangeLemmas.{HasRoom, bands-made, bands-passed, bands-refused, more-made, plans_of, rebanded-is}
 use Rattle.q_tree.proofs.Plans.{err-passed, refused-plan}
 use Rattle.q_tree.specs.Planning.{device_of, root_of}
-use Rattle.q_invariants.proofs.MadeSizes.{count-shape}
+use Rattle.q_invariants.proofs.sizes.MadeSizes.{count-shape}
 use Rattle.q_tree.proofs.commands.planner.Planner.bands.Goals as goal
 
 pub returns-in_err-more : goal.returns-in_err-more

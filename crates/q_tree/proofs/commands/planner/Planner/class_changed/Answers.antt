@@ -8,7 +8,7 @@ use Rattle.q_tree.specs.Commands.{takes_none}
 use Rattle.q_tree.proofs.TargetLemmas.{reached-at, target-none, target-some}
 use Rattle.q_model.specs.ClassCommands.{class_change_checks, class_changed, of_schedule, with_new_quantum}
 use Rattle.q_model.specs.QdiscCommands.{retuned}
-use Rattle.q_invariants.proofs.SizedPlans.{plan-class_change}
+use Rattle.q_invariants.proofs.sizes.SizedPlans.{plan-class_change}
 use Rattle.q_tree.specs.DisciplineChanges.{requantum, rescheduled}
 use Rattle.q_tree.specs.declared.commands.edit.Edit.TheVariants.{DisciplineChange}
 use Rattle.q_tree.specs.declared.commands.discipline_change.DisciplineChange.TheVariants.{SetQuantum}

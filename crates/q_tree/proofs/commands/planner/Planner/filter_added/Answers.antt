@@ -8,7 +8,7 @@ use Rattle.q_tree.specs.Commands.{takes_memory}
 use Rattle.q_tree.proofs.TargetLemmas.{reached-at, target-none, target-some}
 use Rattle.q_model.specs.Filters.{with_filter}
 use Rattle.q_model.specs.FilterCommands.{filter_add_checks, filter_added, with_filters}
-use Rattle.q_invariants.proofs.SizedPlans.{plan-filter_add}
+use Rattle.q_invariants.proofs.sizes.SizedPlans.{plan-filter_add}
 use Rattle.q_tree.specs.declared.commands.edit.Edit.TheVariants.{AddFilter}
 use Rattle.q_tree.proofs.Plans.{all-passed, bounded-by, err-passed, few, own-planned, refused-plan, same-refusal, shallow}
 use Rattle.q_tree.specs.Planning.{IsPlanBy, device_of, root_of}

@@ -10,7 +10,7 @@ use Rattle.std.specs.Prelude.{◌==◌, not}
 use Rattle.std.specs.List.{filter}
 use Rattle.q_model.specs.declared.filter.Filter.{Filter}
 use Rattle.q_model.specs.FilterCommands.{filter_del_checks, filters_removed, with_filters}
-use Rattle.q_invariants.proofs.SizedPlans.{plan-filter_del}
+use Rattle.q_invariants.proofs.sizes.SizedPlans.{plan-filter_del}
 use Rattle.q_tree.specs.declared.commands.edit.Edit.TheVariants.{RemoveFilters}
 use Rattle.q_tree.proofs.Plans.{all-passed, bounded-by, err-passed, few, own-planned, refused-plan, same-refusal, shallow}
 use Rattle.q_tree.specs.Planning.{IsPlanBy, device_of, root_of}

@@ -10,8 +10,8 @@ use Rattle.q_model.specs.QdiscCommands.{new_qdisc, place_checks}
 use Rattle.q_model.specs.Refusals.{done_unless}
 use Rattle.q_model.specs.TreeState.{plan}
 use Rattle.q_model.specs.Edit as model
-use Rattle.q_invariants.proofs.EditMade.{new_made}
-use Rattle.q_invariants.proofs.EditSuits.{done_is}
+use Rattle.q_invariants.proofs.edit.EditMade.{new_made}
+use Rattle.q_invariants.proofs.edit.EditSuits.{done_is}
 use Rattle.q_tree.specs.Commands.{IsRefused}
 use Rattle.q_tree.specs.Grafting.{graft_checks}
 use Rattle.q_tree.specs.Making.{IsNewNode, NeedsMemory}

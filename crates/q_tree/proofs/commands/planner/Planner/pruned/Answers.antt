@@ -7,7 +7,7 @@ use Rattle.q_model.specs.Make.{Device}
 use Rattle.q_model.specs.Node.{shape}
 use Rattle.q_model.specs.QdiscCommands.{leaf_at, target}
 use Rattle.q_model.specs.TreeState.{plan}
-use Rattle.q_invariants.proofs.SizedPlans.{plan-qdisc_del}
+use Rattle.q_invariants.proofs.sizes.SizedPlans.{plan-qdisc_del}
 use Rattle.q_tree.specs.Commands.{takes_none}
 use Rattle.q_tree.specs.Making.{IsNewNode}
 use Rattle.q_tree.specs.declared.commands.edit.Edit.TheVariants.{Graft}
