@@ -5,10 +5,10 @@ use Rattle.std.proofs.lemmas.List.Elements.{All-weaker}
 use Rattle.q_packet.specs.Stored.{IsStored}
 use Rattle.q_packet.specs.declared.stored_packet.StoredPacket.{StoredPacket}
 use Rattle.q_model.specs.Step.{counts_at}
-use Rattle.q_device.specs.Answers.{fate_number}
-use Rattle.q_device.specs.Bursts as bursts
-use Rattle.q_device.specs.Bursts.{arrival, arrived_by, fate_in}
-use Rattle.q_device.specs.DeviceSeen.{DeviceSeen}
+use Rattle.q_device.specs.device.Answers.{fate_number}
+use Rattle.q_device.specs.device.Bursts as bursts
+use Rattle.q_device.specs.device.Bursts.{arrival, arrived_by, fate_in}
+use Rattle.q_device.specs.device.DeviceSeen.{DeviceSeen}
 use Rattle.q_device.specs.Events.{after_event, reply_to}
 use Rattle.q_device.specs.declared.bursts.Stopped.TheVariants.{Memory, OutOfRange}
 use Rattle.qtree_c.specs.Folds.{IsArrivals, fates_by}

@@ -1,6 +1,6 @@
 -- A command that was done, or refused.
 use Rattle.std.proofs.Common.{◌≡◌, ℕ, Ok, ap, arith, refl, sym}
-use Rattle.q_device.specs.DeviceSeen.{DeviceSeen, IsRefusal, IsRefusedAt}
+use Rattle.q_device.specs.device.DeviceSeen.{DeviceSeen, IsRefusal, IsRefusedAt}
 use Rattle.q_model.specs.Refusal.{refusal_number}
 use Rattle.q_model.specs.declared.command.Command.{Command}
 use Rattle.q_model.specs.declared.event.Event.TheVariants as event

@@ -1,10 +1,10 @@
 -- What is noted in the ring beside a device, where there is one, of calls that make several events.
 use Rattle.std.proofs.Common.{◌≡◌, ◌∙◌, ℕ, zero, suc, ◌+◌, ◌≤◌, List, [], ◌∷◌, ◌++◌, map, refl, sym, ap, arith}
 use Rattle.std.specs.Prelude.{Option, replicate}
-use Rattle.q_device.specs.Bursts.{arrived_by}
-use Rattle.q_device.specs.DeviceSeen.{DeviceSeen, as_counted}
+use Rattle.q_device.specs.device.Bursts.{arrived_by}
+use Rattle.q_device.specs.device.DeviceSeen.{DeviceSeen, as_counted}
 use Rattle.q_device.specs.Events.{with_memory}
-use Rattle.q_device.specs.LastNoted.{LastNoted, all_noted, with_noted}
+use Rattle.q_device.specs.log.LastNoted.{LastNoted, all_noted, with_noted}
 use Rattle.q_model.specs.Step.{counts_at}
 use Rattle.q_model.specs.declared.event.Event.{Event}
 use Rattle.q_model.specs.declared.event.Event.TheVariants.{Arrive, Poll}

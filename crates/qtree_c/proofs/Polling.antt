@@ -8,11 +8,11 @@ use Rattle.q_model.specs.declared.polled.Polled.{Polled}
 use Rattle.q_model.specs.declared.polled.Polled.TheVariants as polled
 use Rattle.q_device.specs.declared.given.Given.{Given}
 use Rattle.q_device.specs.declared.given.Given.TheVariants as given
-use Rattle.q_device.specs.Bursts as bursts
-use Rattle.q_device.specs.Bursts.{given_as, polled_as}
-use Rattle.q_device.specs.DeviceSeen.{DeviceSeen}
+use Rattle.q_device.specs.device.Bursts as bursts
+use Rattle.q_device.specs.device.Bursts.{given_as, polled_as}
+use Rattle.q_device.specs.device.DeviceSeen.{DeviceSeen}
+use Rattle.q_device.specs.device.Polls.{after_poll, and_then, given_at, given_by, or_last, polled_by}
 use Rattle.q_device.specs.Events.{after_event, reply_to}
-use Rattle.q_device.specs.Polls.{after_poll, and_then, given_at, given_by, or_last, polled_by}
 use Rattle.q_device.proofs.Polling.{idle-gives_none, later-gives_none}
 use Rattle.qtree_c.specs.Codes.{polled_number, reply_number}
 use Rattle.qtree_c.specs.Folds.{IsPolls, answer_by}

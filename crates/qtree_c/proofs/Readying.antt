@@ -1,7 +1,7 @@
 -- A moment before which no poll gives a packet.
 use Rattle.std.proofs.Common.{◌≡◌, ℕ, ◌<◌, ◌≤◌, Some, None, ap, refl, sym}
 use Rattle.std.specs.Prelude.{unwrap_or}
-use Rattle.q_device.specs.DeviceSeen.{DeviceSeen}
+use Rattle.q_device.specs.device.DeviceSeen.{DeviceSeen}
 use Rattle.q_model.specs.TreeState.{given}
 use Rattle.q_tree.specs.ReadyAt.{ready_at}
 use Rattle.qtree_c.specs.Calls.{found_number}

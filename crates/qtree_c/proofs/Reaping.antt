@@ -2,7 +2,7 @@
 use Rattle.std.proofs.Common.{◌≡◌, ℕ, suc, ◌+◌, ◌<◌, ◌≤◌, List, [], ◌∷◌, ◌++◌, refl, sym, ap, ap₂, subst, ◌∙◌, arith, Some, None}
 use Rattle.std.specs.Prelude.{drop, length, map, set, slice_get, take}
 use Rattle.q_codel.specs.declared.loss.Loss.{Loss}
-use Rattle.q_device.specs.DeviceSeen.{DeviceSeen, reaped}
+use Rattle.q_device.specs.device.DeviceSeen.{DeviceSeen, reaped}
 use Rattle.qtree_c.specs.Folds.{IsReaps}
 use Rattle.qtree_c.specs.Structs.{loss_of}
 use Rattle.qtree_c.specs.declared.c_loss.CLoss.{CLoss}

@@ -4,7 +4,7 @@ use Rattle.std.specs.Prelude.{Bool, true, false, is_some, Option, Some, None, â—
 use Rattle.std.proofs.lemmas.Bool.{falseâ‰¢true}
 use mathlib.Core.Logic.{inl, inr}
 use Rattle.q_model.specs.declared.refusal.Refusal.{Refusal}
-use Rattle.q_device.specs.DeviceSeen.{DeviceSeen}
+use Rattle.q_device.specs.device.DeviceSeen.{DeviceSeen}
 use Rattle.q_setup.specs.declared.report.Report.{Report}
 use Rattle.q_setup.specs.SetUp.{IsSetUp}
 use Rattle.q_setup.specs.Tried.{Tried}

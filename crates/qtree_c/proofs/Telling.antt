@@ -1,7 +1,7 @@
 -- Nodes and classes of a device's tree, as C is told of them.
 use Rattle.std.proofs.Common.{◌≡◌, ◌∙◌, ℕ, List, Option, Some, None, ap, ap₂, refl, sym}
 use Rattle.std.specs.Prelude.{option_and_then, option_map, slice_get}
-use Rattle.q_device.specs.DeviceSeen.{DeviceSeen}
+use Rattle.q_device.specs.device.DeviceSeen.{DeviceSeen}
 use Rattle.q_model.specs.Conserved.{every_node}
 use Rattle.q_model.specs.Node.{Node}
 use Rattle.q_model.specs.Tally.{Counts, totals}

@@ -1,7 +1,7 @@
 -- How many packets a device can hold, as it is reported to C.
 -- The number is that of q_tree's specs/MostPackets.antt.
 use Rattle.std.specs.Prelude.{◌≡◌, ℕ, ◌-◌, ◌^◌, min}
-use Rattle.q_device.specs.DeviceSeen.{DeviceSeen}
+use Rattle.q_device.specs.device.DeviceSeen.{DeviceSeen}
 use Rattle.q_tree.specs.MostPackets.{most_packets}
 
 -- an open device always answers

@@ -9,11 +9,11 @@ use Rattle.q_model.specs.declared.place.Place.{Place}
 use Rattle.q_model.specs.declared.row.Row.{Row}
 use Rattle.q_model.specs.Tally.{totals}
 use Rattle.q_model.specs.TreeState.{stats}
-use Rattle.q_device.specs.DeviceSeen.{DeviceSeen, HasRoomFor, reaped}
+use Rattle.q_device.specs.device.DeviceSeen.{DeviceSeen, HasRoomFor, reaped}
+use Rattle.q_device.specs.device.Polls.{after_poll, given_at}
 use Rattle.q_device.specs.Events.{after_event, reply_to, with_memory}
-use Rattle.q_device.specs.Polls.{after_poll, given_at}
 use Rattle.qtree_c.specs.Codes.{reply_number}
-use Rattle.q_device.specs.Room.{KeepsPlaces}
+use Rattle.q_device.specs.device.Room.{KeepsPlaces}
 use Rattle.qtree_c.specs.Structs.{IsPacket, event_of, loss_of, row_of, told_or}
 use Rattle.q_packet.specs.Stored.{descriptor}
 use Rattle.qtree_c.specs.declared.c_event.CEvent.{CEvent}

@@ -6,7 +6,7 @@ use Rattle.q_model.specs.declared.polled.Polled.{Polled}
 use Rattle.q_model.specs.declared.polled.Polled.TheVariants as polled
 use Rattle.q_model.specs.declared.reply.Reply.{Reply}
 use Rattle.q_model.specs.declared.reply.Reply.TheVariants as reply
-use Rattle.q_device.specs.Answers.{fate_number}
+use Rattle.q_device.specs.device.Answers.{fate_number}
 
 abbrev pub polled_number : Polled → ℕ
 polled_number (polled.Packet p) = 0

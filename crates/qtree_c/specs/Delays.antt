@@ -1,9 +1,9 @@
 -- How long a packet of a fifo waits at most, as it is reported to C.
--- The numbers are those of q_device's specs/Worst.antt; that the greatest number stands for no time is this project's own.
+-- The numbers are those of q_device's specs/promises/Worst.antt; that the greatest number stands for no time is this project's own.
 use Rattle.std.specs.Prelude.{◌≡◌, ℕ, ◌-◌, ◌^◌, Option, Some, None, unwrap_or}
-use Rattle.q_device.specs.DeviceSeen.{DeviceSeen}
-use Rattle.q_device.specs.Worst.{worst_of}
-use Rattle.q_device.specs.declared.worst.Worst.{Worst}
+use Rattle.q_device.specs.device.DeviceSeen.{DeviceSeen}
+use Rattle.q_device.specs.promises.Worst.{worst_of}
+use Rattle.q_device.specs.declared.promises.worst.Worst.{Worst}
 use Rattle.q_model.specs.declared.place.Place.{Place}
 use Rattle.qtree_c.specs.Calls.{found_number}
 use Rattle.qtree_c.specs.declared.c_delay.CDelay.{CDelay}

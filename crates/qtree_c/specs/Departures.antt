@@ -1,9 +1,9 @@
 -- By when the last packet of a fifo has left, as it is reported to C.
--- The numbers are those of q_device's specs/Latest.antt; that the greatest number stands for no time is this project's own.
+-- The numbers are those of q_device's specs/promises/Latest.antt; that the greatest number stands for no time is this project's own.
 use Rattle.std.specs.Prelude.{◌≡◌, ℕ, ◌-◌, ◌^◌, Option, Some, None, unwrap_or}
-use Rattle.q_device.specs.DeviceSeen.{DeviceSeen}
-use Rattle.q_device.specs.Latest.{latest_of}
-use Rattle.q_device.specs.declared.latest.Latest.{Latest}
+use Rattle.q_device.specs.device.DeviceSeen.{DeviceSeen}
+use Rattle.q_device.specs.promises.Latest.{latest_of}
+use Rattle.q_device.specs.declared.promises.latest.Latest.{Latest}
 use Rattle.q_model.specs.declared.place.Place.{Place}
 use Rattle.q_model.specs.Tally.{totals}
 use Rattle.qtree_c.specs.Calls.{found_number}

@@ -2,7 +2,7 @@
 -- The rings are q_ports', and the numbers this project's own.
 use Rattle.std.specs.Prelude.{◌≡◌, ◌≢◌, ◌⊎◌, ℕ, ◌+◌, ◌≤◌, ◌<◌, ◌^◌, List, [], All, length, map, slice_index_or, take, Option, Some, None}
 use Rattle.std.specs.List.{fold}
-use Rattle.q_device.specs.DeviceSeen.{DeviceSeen}
+use Rattle.q_device.specs.device.DeviceSeen.{DeviceSeen}
 use Rattle.q_model.specs.Beneath.{totals_in}
 use Rattle.q_ports.specs.Offered.{MayBeFull}
 use Rattle.q_ports.specs.Placed.{PortSeen, bytes_in, placing, port_seen, ring_length}

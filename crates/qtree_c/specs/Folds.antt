@@ -3,12 +3,12 @@
 use Rattle.std.specs.Prelude.{◌≡◌, ◌≢◌, ℕ, zero, suc, ◌+◌, ◌<◌, ◌≤◌, List, [], ◌∷◌, ◌++◌, All, map, take, drop, length, slice_index_or}
 use Rattle.q_model.specs.declared.event.Event.TheVariants.{Poll}
 use Rattle.q_packet.specs.Descriptor.{Descriptor}
-use Rattle.q_device.specs.Bursts.{StopsAtNext, arrival, arrived_by}
-use Rattle.q_device.specs.DeviceSeen.{DeviceSeen}
+use Rattle.q_device.specs.device.Bursts.{StopsAtNext, arrival, arrived_by}
+use Rattle.q_device.specs.device.DeviceSeen.{DeviceSeen}
+use Rattle.q_device.specs.device.Polls.{after_poll, given_at, given_by, or_last, polled_by}
 use Rattle.q_device.specs.Events.{after_event, reply_to, with_memory}
-use Rattle.q_device.specs.Polls.{after_poll, given_at, given_by, or_last, polled_by}
 use Rattle.qtree_c.specs.Codes.{reply_number}
-use Rattle.q_device.specs.Room.{KeepsPlaces}
+use Rattle.q_device.specs.device.Room.{KeepsPlaces}
 use Rattle.qtree_c.specs.Structs.{IsPacket, loss_of, zero_packet}
 use Rattle.qtree_c.specs.declared.c_loss.CLoss.{CLoss}
 use Rattle.q_packet.specs.declared.stored_packet.StoredPacket.{StoredPacket}

@@ -3,7 +3,7 @@
 use Rattle.std.specs.Prelude.{◌≡◌, ℕ, ◌<◌, ◌≤◌, ◌^◌}
 use Rattle.q_packet.specs.declared.stored_packet.StoredPacket.{StoredPacket}
 use Rattle.qtree_c.specs.Calls.{Calls, IsArrival}
-use Rattle.q_device.specs.Bursts.{arrival as arrival_of}
+use Rattle.q_device.specs.device.Bursts.{arrival as arrival_of}
 use Rattle.qtree_c.specs.Noting.{one_event, Notes}
 use Rattle.qtree_c.specs.declared.held_device.HeldDevice.{HeldDevice}
 

@@ -1,8 +1,8 @@
 -- How late polls may be while a class's promise holds, as it is reported to C.
--- The number is that of q_device's specs/Promise.antt; that the greatest number stands for no bound is this project's own.
+-- The number is that of q_device's specs/promises/Promise.antt; that the greatest number stands for no bound is this project's own.
 use Rattle.std.specs.Prelude.{◌≡◌, ℕ, ◌-◌, ◌^◌, Option, Some, None, unwrap_or}
-use Rattle.q_device.specs.DeviceSeen.{DeviceSeen}
-use Rattle.q_device.specs.Promise.{Promise, promise_of}
+use Rattle.q_device.specs.device.DeviceSeen.{DeviceSeen}
+use Rattle.q_device.specs.promises.Promise.{Promise, promise_of}
 use Rattle.q_model.specs.declared.place.Place.{Place}
 use Rattle.qtree_c.specs.Calls.{found_number}
 

@@ -1,7 +1,7 @@
 -- What a line of tc does to an open device, and what C is answered.
 -- The lines are those of the script language; what a command does is in q_model's specs/Step.antt.
 use Rattle.std.specs.Prelude.{◌≡◌, ◌≢◌, ℕ, Result, Ok, Err}
-use Rattle.q_device.specs.DeviceSeen.{DeviceSeen, IsRefusal, IsRefusedAt}
+use Rattle.q_device.specs.device.DeviceSeen.{DeviceSeen, IsRefusal, IsRefusedAt}
 use Rattle.q_line.specs.declared.line.Line.{Line}
 use Rattle.q_line.specs.declared.line.Line.TheVariants as line
 use Rattle.q_model.specs.Refusal.{refusal_number}

@@ -1,7 +1,7 @@
 -- The nodes and classes of a tree, as they are reported to C.
 -- Nodes, classes and their order are those of tc's show lines, and the numbers of kinds and places this project's own.
 use Rattle.std.specs.Prelude.{◌≡◌, ℕ, List, [], ◌∷◌, if◌then◌else◌, Option, Some, None, unwrap_or}
-use Rattle.q_device.specs.DeviceSeen.{DeviceSeen}
+use Rattle.q_device.specs.device.DeviceSeen.{DeviceSeen}
 use Rattle.q_fqcodel.specs.FqState.{FqSettings}
 use Rattle.q_model.specs.Tally.{totals}
 use Rattle.q_model.specs.Views.{class_of, node}

@@ -1,8 +1,8 @@
 -- What the calls from C note in the ring of the last events that is beside a device, and what they report of it.
 -- The ring is q_device's (LastNoted.antt); the calls are this project's own.
 use Rattle.std.specs.Prelude.{◌≡◌, ℕ, ◌+◌, ◌==◌, if◌then◌else◌, List, [], ◌∷◌, length, map, replicate, slice_get, Result, Ok, Err, Option, Some, None}
-use Rattle.q_device.specs.DeviceSeen.{DeviceSeen, as_counted}
-use Rattle.q_device.specs.LastNoted.{LastNoted, all_noted}
+use Rattle.q_device.specs.device.DeviceSeen.{DeviceSeen, as_counted}
+use Rattle.q_device.specs.log.LastNoted.{LastNoted, all_noted}
 use Rattle.q_line.specs.declared.line.Line.{Line}
 use Rattle.q_line.specs.declared.line.Line.TheVariants as line
 use Rattle.q_model.specs.declared.event.Event.{Event}

@@ -1,7 +1,7 @@
 -- Since when packets wait in a place, as it is reported to C.
 -- The time is that of q_model's specs/Oldest.antt, and the numbers this project's own.
 use Rattle.std.specs.Prelude.{◌≡◌, ℕ, unwrap_or}
-use Rattle.q_device.specs.DeviceSeen.{DeviceSeen}
+use Rattle.q_device.specs.device.DeviceSeen.{DeviceSeen}
 use Rattle.q_model.specs.declared.place.Place.{Place}
 use Rattle.q_model.specs.Oldest.{oldest_at}
 use Rattle.qtree_c.specs.Calls.{found_number}

@@ -1,8 +1,8 @@
 -- What a class is promised, as it is reported to C.
--- The numbers are those of q_device's specs/Promise.antt, and their layout this project's own.
+-- The numbers are those of q_device's specs/promises/Promise.antt, and their layout this project's own.
 use Rattle.std.specs.Prelude.{◌≡◌, ℕ, Option, Some, None, option_map, unwrap_or}
-use Rattle.q_device.specs.DeviceSeen.{DeviceSeen}
-use Rattle.q_device.specs.Promise.{Promise, part_of, promise_of}
+use Rattle.q_device.specs.device.DeviceSeen.{DeviceSeen}
+use Rattle.q_device.specs.promises.Promise.{Promise, part_of, promise_of}
 use Rattle.q_model.specs.declared.place.Place.{Place}
 use Rattle.qtree_c.specs.Calls.{found_number}
 use Rattle.qtree_c.specs.declared.c_promise.CPromise.{CPromise}

@@ -1,7 +1,7 @@
 -- The lines of recorded events, and the script of all of them, in memory that C lends.
 -- The texts are q_spelling's, and how they are lent this project's own.
 use Rattle.std.specs.Prelude.{◌≡◌, ◌≢◌, ℕ, ◌<◌, ◌≤◌, ◌++◌, List, drop, length, slice_get, Option, Some, None}
-use Rattle.q_device.specs.DeviceSeen.{DeviceSeen}
+use Rattle.q_device.specs.device.DeviceSeen.{DeviceSeen}
 use Rattle.q_model.specs.declared.event.Event.{Event}
 use Rattle.q_spelling.specs.Events.{event_text, script_text}
 

@@ -1,8 +1,8 @@
 -- What a file of tc lines does to an open device, and what C is told of it.
 -- What is done is q_setup's (SetUp.antt, Done.antt); how it is told is this project's own.
 use Rattle.std.specs.Prelude.{◌≡◌, ◌≢◌, ℕ, ◌<◌, List, [], ◌++◌, drop, length, map, take, Option, None}
-use Rattle.q_device.specs.DeviceSeen.{DeviceSeen}
-use Rattle.q_device.specs.LastNoted.{LastNoted}
+use Rattle.q_device.specs.device.DeviceSeen.{DeviceSeen}
+use Rattle.q_device.specs.log.LastNoted.{LastNoted}
 use Rattle.q_model.specs.Refusal.{refusal_number}
 use Rattle.q_model.specs.declared.command.Command.{Command}
 use Rattle.q_model.specs.declared.event.Event.{Event}

@@ -2,7 +2,7 @@
 -- The texts are those of the show lines of tc, and the numbers of what is shown this project's own.
 use Rattle.std.specs.Prelude.{◌≡◌, ◌≢◌, ℕ, ◌<◌, ◌≤◌, ◌==◌, ◌++◌, true, false, List, drop, if◌then◌else◌, length}
 use Rattle.std.specs.List.{flat_map}
-use Rattle.q_device.specs.DeviceSeen.{DeviceSeen}
+use Rattle.q_device.specs.device.DeviceSeen.{DeviceSeen}
 use Rattle.q_model.specs.Tally.{Counts, totals}
 use Rattle.q_model.specs.TreeState.{TreeState}
 use Rattle.q_model.specs.Views.{class_views, filter_views, views}

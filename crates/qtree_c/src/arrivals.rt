@@ -1,12 +1,12 @@
 //! Packets arrive.
 ghost use Rattle.std.specs.Prelude.{◌≡◌, ◌≢◌, ◌≤◌, ◌<◌, ◌^◌, length, map, take};
+ghost use Rattle.q_device.specs.device.DeviceSeen.{HasRoomFor};
 ghost use Rattle.q_device.specs.DeviceLaws.{HasItsMemory};
-ghost use Rattle.q_device.specs.DeviceSeen.{HasRoomFor};
 ghost use Rattle.q_model.specs.Step.{counts_at};
-ghost use Rattle.q_device.specs.Room.{StaysButForPlaces};
+ghost use Rattle.q_device.specs.device.Room.{StaysButForPlaces};
 ghost use Rattle.qtree_c.specs.Calls.{Calls, IsArrival};
-ghost use Rattle.q_device.specs.Answers.{fate_number};
-ghost use Rattle.q_device.specs.Bursts.{arrival};
+ghost use Rattle.q_device.specs.device.Answers.{fate_number};
+ghost use Rattle.q_device.specs.device.Bursts.{arrival};
 ghost use Rattle.qtree_c.specs.Folds.{IsArrivals};
 ghost use Rattle.qtree_c.specs.Structs.{IsPacket};
 ghost use Rattle.qtree_c.specs.Noting.{arrival_events, noting, one_event, Notes};

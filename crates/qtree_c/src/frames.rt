@@ -4,7 +4,7 @@ ghost use Rattle.q_packet.specs.Head.{head};
 ghost use Rattle.q_packet.specs.Key.{key_bytes};
 ghost use Rattle.q_packet.specs.OneAtATime.{one_at_a_time};
 ghost use Rattle.qtree_c.specs.Calls.{IsArrival};
-ghost use Rattle.q_device.specs.Bursts.{arrival};
+ghost use Rattle.q_device.specs.device.Bursts.{arrival};
 ghost use Rattle.qtree_c.specs.Frames.{IsFrameArrival};
 ghost use Rattle.qtree_c.specs.Noting.{noting, one_event};
 ghost use Rattle.qtree_c.specs.Structs.{framed};

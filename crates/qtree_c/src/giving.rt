@@ -2,8 +2,8 @@
 ghost use Rattle.std.specs.Prelude.{◌≡◌, ◌≤◌, Some, None, OnErr, OnOk, IfErr, option_map};
 ghost use Rattle.q_model.specs.declared.event.Event.TheVariants as event;
 ghost use Rattle.q_model.specs.Step.{counts_at};
+ghost use Rattle.q_device.specs.device.Polls.{after_poll, given_at};
 ghost use Rattle.q_device.specs.Events.{reply_to};
-ghost use Rattle.q_device.specs.Polls.{after_poll, given_at};
 ghost use Rattle.qtree_c.specs.Calls.{IsPoll};
 ghost use Rattle.qtree_c.specs.Codes.{reply_number};
 ghost use Rattle.qtree_c.specs.Folds.{IsPolls};

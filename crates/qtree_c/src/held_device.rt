@@ -1,9 +1,9 @@
 //! A boxed device as C holds it, with the ring of its last events.
 ghost use Rattle.std.specs.Prelude.{◌≡◌, Option, Some, None, IsSome};
-ghost use Rattle.q_device.specs.DeviceSeen.{DeviceSeen};
-ghost use Rattle.q_device.specs.LastNoted.{LastNoted};
+ghost use Rattle.q_device.specs.device.DeviceSeen.{DeviceSeen};
+ghost use Rattle.q_device.specs.log.LastNoted.{LastNoted};
 ghost use Rattle.q_device.specs.contracts.Device.{the_row as device_row};
-ghost use Rattle.q_device.specs.contracts.last_events.LastEvents.{the_row as last_row};
+ghost use Rattle.q_device.specs.contracts.log.last_events.LastEvents.{the_row as last_row};
 ghost use Rattle.qtree_c.specs.contracts.opened.Opened.{the_row as opened_row};
 ghost use Rattle.qtree_c.specs.Holding.{held_code, held_owns, opened_of};
 

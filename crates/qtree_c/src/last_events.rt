@@ -1,6 +1,6 @@
 //! The ring of the last events beside a device.
 ghost use Rattle.std.specs.Prelude.{◌≡◌, ◌≢◌, ◌≤◌, ◌<◌, ◌==◌, if◌then◌else◌, IfOk, IsOk, Some, None, IsSome};
-ghost use Rattle.q_device.specs.LastNoted.{none_noted};
+ghost use Rattle.q_device.specs.log.LastNoted.{none_noted};
 ghost use Rattle.qtree_c.specs.Noting.{IsCountOfLast, IsLastEvent, IsLastLine, Tells};
 
 use crate::c_device::CDevice;

@@ -1,6 +1,6 @@
 //! How late polls may be while a class's promise holds.
 ghost use Rattle.std.specs.Prelude.{◌≡◌, ◌≢◌};
-ghost use Rattle.q_device.specs.Promise.{promise_seen};
+ghost use Rattle.q_device.specs.promises.Promise.{promise_seen};
 ghost use Rattle.qtree_c.specs.Calls.{Calls};
 ghost use Rattle.qtree_c.specs.Lateness.{lateness_of, IsLateness};
 ghost use Rattle.qtree_c.specs.Structs.{place_of, IsPlaceOf};

@@ -2,7 +2,7 @@
 //!
 //! Most devices have none: so an event is made out of the way, as it is where the recorder keeps one.
 ghost use Rattle.std.specs.Prelude.{◌≡◌, ◌+◌, ◌∷◌, [], All, map, replicate};
-ghost use Rattle.q_device.specs.LastNoted.{all_noted, with_noted};
+ghost use Rattle.q_device.specs.log.LastNoted.{all_noted, with_noted};
 ghost use Rattle.q_model.specs.declared.event.Event.TheVariants as event;
 ghost use Rattle.q_packet.specs.Stored.{descriptor, IsStored};
 ghost use Rattle.qtree_c.specs.Noting.{noting};

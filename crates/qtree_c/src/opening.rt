@@ -1,6 +1,6 @@
 //! A device is opened and closed.
 ghost use Rattle.std.specs.Prelude.{◌≡◌, ◌≢◌, None, IsSome, IfSome};
-ghost use Rattle.q_device.specs.DeviceSeen.{opened};
+ghost use Rattle.q_device.specs.device.DeviceSeen.{opened};
 ghost use Rattle.q_model.specs.Settings.{IsInRange};
 ghost use Rattle.qtree_c.specs.Structs.{settings_of};
 

@@ -1,8 +1,8 @@
 //! What is reported to C of a packet that the device gives.
 ghost use Rattle.std.specs.Prelude.{◌≡◌, unwrap_or};
+ghost use Rattle.q_device.specs.device.Giving.{polled_in};
+ghost use Rattle.q_device.specs.device.Polls.{after_poll, given_at};
 ghost use Rattle.q_device.specs.Events.{reply_to};
-ghost use Rattle.q_device.specs.Giving.{polled_in};
-ghost use Rattle.q_device.specs.Polls.{after_poll, given_at};
 ghost use Rattle.q_model.specs.Step.{counts_at};
 ghost use Rattle.q_model.specs.declared.event.Event.TheVariants as event;
 ghost use Rattle.q_model.specs.declared.reply.Reply.TheVariants as reply;

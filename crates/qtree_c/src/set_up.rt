@@ -1,6 +1,6 @@
 //! A device is set up by a whole file of tc lines, also while it runs.
 ghost use Rattle.std.specs.Prelude.{◌≡◌, ◌≢◌, ◌≤◌, ◌<◌, ◌^◌, ◌++◌, [], drop, length, map, take, Some, None, true, is_some};
-ghost use Rattle.q_device.specs.LastNoted.{all_noted};
+ghost use Rattle.q_device.specs.log.LastNoted.{all_noted};
 ghost use Rattle.qtree_c.specs.Calls.{Calls};
 ghost use Rattle.qtree_c.specs.Noting.{noting};
 ghost use Rattle.qtree_c.specs.SettingUp.{IsSettingUp, commands_at, no_report, told_undone};

@@ -1,15 +1,15 @@
 //! The events of a device, in the words of this crate's contracts. Each is noted in the ring of the last events, where there is one.
 ghost use Rattle.std.specs.Prelude.{◌≡◌, IfErr, IfOk, IsOk, Ok, OnOk, OnErr, unwrap_or};
+ghost use Rattle.q_device.specs.device.DeviceSeen.{HasRoomFor, IsRefusal, IsRefusedAt};
+ghost use Rattle.q_device.specs.device.Giving.{polled_in};
 ghost use Rattle.q_device.specs.DeviceLaws.{HasItsMemory};
-ghost use Rattle.q_device.specs.DeviceSeen.{HasRoomFor, IsRefusal, IsRefusedAt};
-ghost use Rattle.q_device.specs.Giving.{polled_in};
-ghost use Rattle.q_device.specs.LastNoted.{with_noted};
+ghost use Rattle.q_device.specs.log.LastNoted.{with_noted};
 ghost use Rattle.q_model.specs.declared.event.Event.TheVariants as event;
 ghost use Rattle.q_model.specs.declared.reply.Reply.TheVariants as reply;
-ghost use Rattle.q_device.specs.Room.{KeepsPlaces, StaysButForPlaces};
+ghost use Rattle.q_device.specs.device.Room.{KeepsPlaces, StaysButForPlaces};
 ghost use Rattle.q_tree.specs.Commanding.{MayTakeMemory};
+ghost use Rattle.q_device.specs.device.Polls.{after_poll, given_at};
 ghost use Rattle.q_device.specs.Events.{after_event, reply_to, with_memory};
-ghost use Rattle.q_device.specs.Polls.{after_poll, given_at};
 ghost use Rattle.q_packet.specs.Descriptor.{Descriptor};
 ghost use Rattle.q_packet.specs.Stored.{descriptor, IsStored};
 ghost use Rattle.qtree_c.specs.Structs.{told_or};

@@ -8,14 +8,14 @@ ghost use Rattle.q_tree.specs.Bursts.{room_at};
 ghost use Rattle.q_tree.specs.GiveSteps.{CanGive, IsNoFifo};
 ghost use Rattle.q_tree.specs.KeepSteps.{CanBeKeptBelow};
 ghost use Rattle.q_tree.specs.PopSteps.{HasHead};
-ghost use Rattle.q_device.specs.Bursts.{IsPolledFirst, arrived_by, budget_at, fates_by};
-ghost use Rattle.q_device.specs.DeviceSeen.{longest};
+ghost use Rattle.q_device.specs.device.Bursts.{IsPolledFirst, arrived_by, budget_at, fates_by};
+ghost use Rattle.q_device.specs.device.DeviceSeen.{longest};
+ghost use Rattle.q_device.specs.device.Room.{KeepsPlaces};
 ghost use Rattle.q_device.specs.Events.{with_memory};
-ghost use Rattle.q_device.specs.Room.{KeepsPlaces};
 
 use super::{budget, later, moment_range};
 use crate::device::Device;
-use crate::recording::has_room;
+use crate::log::recording::has_room;
 use q_codel::{Losses, Told};
 use q_model::{Event, Settings};
 use q_packet::{Moment, StoredPacket};

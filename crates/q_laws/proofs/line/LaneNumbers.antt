@@ -8,9 +8,9 @@ use Rattle.q_tree.specs.declared.lanes.Lane.{Lane}
 use Rattle.q_tree.specs.declared.turns.Turn.{Turn}
 use Rattle.q_tree.specs.declared.ways.Link.{Link}
 use Rattle.q_tree.specs.declared.ways.Share.{Share}
-use Rattle.q_device.specs.declared.worst.Worst.{Worst}
-use Rattle.q_device.specs.Promise.{has_room, late_on}
-use Rattle.q_device.specs.Worst.{bytes_in_turn, most_bytes, time_of, worst_in_turn, worst_of_bytes, worst_on}
+use Rattle.q_device.specs.declared.promises.worst.Worst.{Worst}
+use Rattle.q_device.specs.promises.Promise.{has_room, late_on}
+use Rattle.q_device.specs.promises.Worst.{bytes_in_turn, most_bytes, time_of, worst_in_turn, worst_of_bytes, worst_on}
 
 -- below a tbf at the root
 pub record WorstIs (mtu bytes : ℕ) (link : Link) (w : Worst) : Type 0 where

@@ -30,9 +30,9 @@ use Rattle.q_tree.specs.Lanes.{lane_to, level_of}
 use Rattle.q_tree.specs.TurnNow.{bytes_before}
 use Rattle.q_tree.specs.Turns.{limit_in, turn_on, turn_to}
 use Rattle.q_tree.specs.Ways.{DrrClass, Way, share_of, shares_of, way_to}
-use Rattle.q_device.specs.declared.latest.Latest.{Latest}
-use Rattle.q_device.specs.Latest.{counted_level, latest_at_turn, latest_in_turn, latest_of, latest_of_bytes, latest_on, paid_at}
-use Rattle.q_device.specs.Promise.{late_on}
+use Rattle.q_device.specs.declared.promises.latest.Latest.{Latest}
+use Rattle.q_device.specs.promises.Latest.{counted_level, latest_at_turn, latest_in_turn, latest_of, latest_of_bytes, latest_on, paid_at}
+use Rattle.q_device.specs.promises.Promise.{late_on}
 use Rattle.q_device.specs.Sharing.{device_after}
 use Rattle.q_laws.specs.line.Latest.{IsToldBy, LatestIsToldBefore, LatestRisesNoFaster}
 use Rattle.q_laws.specs.line.Line.{bytes_in, line_at_root}

@@ -23,9 +23,9 @@ use Rattle.q_tree.specs.declared.lanes.Lane.{Lane}
 use Rattle.q_tree.specs.declared.ways.Link.{Link}
 use Rattle.q_tree.specs.Lanes.{lane_below, lane_from, lane_to, level_of, limit_along}
 use Rattle.q_tree.specs.Ways.{has_tbf}
-use Rattle.q_device.specs.declared.latest.Latest.{Latest}
-use Rattle.q_device.specs.Latest.{counted_level, latest_on, paid_at}
-use Rattle.q_device.specs.Promise.{late_on}
+use Rattle.q_device.specs.declared.promises.latest.Latest.{Latest}
+use Rattle.q_device.specs.promises.Latest.{counted_level, latest_on, paid_at}
+use Rattle.q_device.specs.promises.Promise.{late_on}
 use Rattle.q_device.specs.Sharing.{device_after}
 use Rattle.q_laws.specs.line.Latest.{IsToldBy, LatestStandsAsItFills, at_best}
 use Rattle.q_laws.specs.line.Line.{bytes_in, line_at_root}

@@ -31,10 +31,10 @@ use Rattle.q_tree.specs.declared.lanes.Lane.{Lane}
 use Rattle.q_tree.specs.declared.ways.Link.{Link}
 use Rattle.q_tree.specs.Lanes.{lane_from, lane_to, level_of, limit_along}
 use Rattle.q_tree.specs.Turns.{turn_to}
-use Rattle.q_device.specs.declared.latest.Latest.{Latest}
-use Rattle.q_device.specs.Latest.{counted_level, latest_at, latest_at_turn, latest_of, latest_of_bytes, latest_on, paid_at}
+use Rattle.q_device.specs.declared.promises.latest.Latest.{Latest}
 use Rattle.q_device.specs.Laws.{given_in}
-use Rattle.q_device.specs.Promise.{has_room, late_on}
+use Rattle.q_device.specs.promises.Latest.{counted_level, latest_at, latest_at_turn, latest_of, latest_of_bytes, latest_on, paid_at}
+use Rattle.q_device.specs.promises.Promise.{has_room, late_on}
 use Rattle.q_device.specs.Sharing.{device_after}
 use Rattle.q_device.proofs.ClassStretches.{at-start}
 use Rattle.q_laws.specs.line.Latest.{LatestIsEnough, LatestIsInTime}

@@ -20,8 +20,8 @@ use Rattle.q_tree.specs.declared.ways.Link.{Link}
 use Rattle.q_tree.specs.declared.ways.Share.{Share}
 use Rattle.q_tree.specs.Ways.{DrrClass, drrs_on, share_of}
 use Rattle.q_device.specs.Laws.{given_in}
+use Rattle.q_device.specs.promises.Worst.{most_held}
 use Rattle.q_device.specs.Sharing.{device_after}
-use Rattle.q_device.specs.Worst.{most_held}
 use Rattle.q_device.proofs.ClassStretches.{at-start}
 use Rattle.q_laws.specs.line.Line.{bytes_in}
 use Rattle.q_laws.specs.nested.NestedTurn.{IsNestedTurn, IsPath, NestedTurnIsEnough, most_of_turns, share_at}

@@ -21,8 +21,8 @@ use Rattle.q_invariants.proofs.Replays.{IsKept, replay-kept}
 use Rattle.q_invariants.proofs.tree.Members.{All-front}
 use Rattle.q_tree.specs.declared.ways.Link.{Link}
 use Rattle.q_tree.specs.Ways.{share_of}
+use Rattle.q_device.specs.promises.Worst.{time_of}
 use Rattle.q_device.specs.Sharing.{device_after}
-use Rattle.q_device.specs.Worst.{time_of}
 use Rattle.q_device.proofs.ClassStretches.{at-start}
 use Rattle.q_laws.specs.nested.NestedTurn.{IsPath, KeepsBelow, NestedTurnIsInTime, StaysOn, bytes_below, most_of_turns, reached_by, share_at}
 use Rattle.q_laws.specs.rate.Delay.{IsLeft, latest, level_counted}

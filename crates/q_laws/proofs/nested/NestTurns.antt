@@ -21,8 +21,8 @@ use Rattle.q_model.specs.Tally.{Note, history}
 use Rattle.q_invariants.proofs.Along.{counted}
 use Rattle.q_invariants.proofs.Replays.{IsKept, replay-kept}
 use Rattle.q_invariants.proofs.tree.Members.{All-front}
+use Rattle.q_device.specs.promises.Worst.{most_of_turn}
 use Rattle.q_device.specs.Sharing.{device_after}
-use Rattle.q_device.specs.Worst.{most_of_turn}
 use Rattle.q_laws.specs.nested.NestedTurn.{reached_by, share_at}
 use Rattle.q_laws.specs.share.InTime.{IsBeneath, Level}
 use Rattle.q_laws.specs.share.Service.{given_so_far, class_sent, HasClasses, IsClass, all_sent}

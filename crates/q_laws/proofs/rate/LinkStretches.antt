@@ -38,7 +38,7 @@ use Rattle.q_tree.proofs.ForeseenAsks.{tbf-shown}
 use Rattle.q_tree.specs.ReadyAt.{ready_at}
 use Rattle.q_device.specs.Sharing.{device_after}
 use Rattle.q_device.proofs.ClassStretches.{at-start, at-end, mtu-stays}
-use Rattle.q_device.proofs.RenewedTrees.{sees}
+use Rattle.q_device.proofs.waiting.RenewedTrees.{sees}
 use Rattle.q_laws.specs.rate.Delay.{next_below}
 use Rattle.q_laws.specs.rate.Rate.{IsNowhereCut, IsBackloggedLink, due_in, IsDrained, IsDrainedFrom, IsPolledOut, HasRoom, SpendsWhatComes, RateIsDelivered}
 use Rattle.q_laws.proofs.rate.RateStretches.{rate-is-spent}

@@ -5,7 +5,7 @@ use Rattle.q_drr.specs.Waiting.{bytes_of_turn}
 use Rattle.q_tree.specs.declared.ways.Share.{Share}
 use Rattle.q_laws.specs.share.Calm.{most_of_calm_turn}
 use Rattle.q_laws.specs.share.Handed.{lacks_handed}
-use Rattle.q_device.specs.Worst.{most_of_turn}
+use Rattle.q_device.specs.promises.Worst.{most_of_turn}
 
 share : ℕ → ℕ → ℕ → Share
 share quantum quanta classes = record { quantum = quantum; quanta = quanta; classes = classes }

@@ -12,7 +12,7 @@ use Rattle.q_model.specs.Settings.{DeviceSettings, IsInRange}
 use Rattle.q_model.specs.Step.{DeviceState}
 use Rattle.q_model.specs.Stretches.{length_held, qdisc, IsBackloggedClass}
 use Rattle.q_model.specs.Tally.{Note}
-use Rattle.q_device.specs.Promise.{lacks_of_bytes}
+use Rattle.q_device.specs.promises.Promise.{lacks_of_bytes}
 use Rattle.q_device.specs.Sharing.{device_after}
 use Rattle.q_device.proofs.ClassStretches.{at-start, at-end}
 use Rattle.q_laws.specs.rate.Delay.{next_below}

@@ -25,7 +25,7 @@ use Rattle.q_invariants.proofs.class.ClassChildren.{child-has}
 use Rattle.q_invariants.proofs.class.ClassMoves.{class-node, drr-lawful}
 use Rattle.q_invariants.proofs.Replays.{IsKept, replay-kept}
 use Rattle.q_invariants.proofs.tree.Within.{found, lawful-of}
-use Rattle.q_device.specs.Promise.{lacks_of_bytes}
+use Rattle.q_device.specs.promises.Promise.{lacks_of_bytes}
 use Rattle.q_device.specs.Sharing.{device_after}
 use Rattle.q_device.proofs.ClassStretches.{at-start, at-end, mtu-stays, same-rest}
 use Rattle.q_laws.specs.rate.Delay.{next_below}

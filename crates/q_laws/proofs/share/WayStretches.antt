@@ -15,7 +15,7 @@ use Rattle.q_model.specs.Stretches.{sent_by, bytes_sent, length_held, qdisc, IsB
 use Rattle.q_model.specs.Tally.{Note, history}
 use Rattle.q_invariants.proofs.Along.{counted}
 use Rattle.q_invariants.proofs.Replays.{IsKept}
-use Rattle.q_device.specs.Promise.{lacks_of_bytes}
+use Rattle.q_device.specs.promises.Promise.{lacks_of_bytes}
 use Rattle.q_device.specs.Sharing.{device_after}
 use Rattle.q_device.proofs.ClassStretches.{at-start, at-end}
 use Rattle.q_laws.specs.share.InTime.{Level, IsBeneath, IsWay, last_level, quanta_on, sums_on, lacks_on, sent_at, SharesMultiply}

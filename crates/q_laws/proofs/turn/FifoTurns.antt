@@ -47,8 +47,8 @@ use Rattle.q_invariants.proofs.tree.Within.{IsOf, found, lawful-of}
 use Rattle.q_tree.specs.Lanes.{limit_of}
 use Rattle.q_tree.specs.declared.ways.Share.{Share}
 use Rattle.q_tree.specs.Ways.{share_among}
+use Rattle.q_device.specs.promises.Worst.{most_of_turn}
 use Rattle.q_device.specs.Sharing.{device_after}
-use Rattle.q_device.specs.Worst.{most_of_turn}
 use Rattle.q_device.proofs.ClassStretches.{at-start}
 use Rattle.q_laws.specs.line.Line.{bytes_in, line_in, line_own, line, BeginsWith}
 use Rattle.q_laws.specs.share.Service.{all_sent, given_so_far, HasClasses}

@@ -13,7 +13,7 @@ use Rattle.q_tree.specs.declared.ways.Link.{Link}
 use Rattle.q_tree.specs.Lanes.{level_of}
 use Rattle.q_tree.specs.TurnNow.{bytes_before}
 use Rattle.q_tree.specs.Ways.{DrrClass, Way, drrs_on, has_tbf, way_below, way_from, way_to}
-use Rattle.q_device.specs.Latest.{latest_on}
+use Rattle.q_device.specs.promises.Latest.{latest_on}
 use Rattle.q_device.specs.Sharing.{device_after}
 use Rattle.q_laws.specs.line.Latest.{IsToldBy, at_best}
 use Rattle.q_laws.specs.turn.TurnLatest.{LatestTurnStandsAsItFills}

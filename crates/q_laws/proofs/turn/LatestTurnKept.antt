@@ -26,10 +26,10 @@ use Rattle.q_invariants.proofs.tree.Within.{IsOf, lawful-of}
 use Rattle.q_tree.specs.declared.ways.Link.{Link}
 use Rattle.q_tree.specs.Lanes.{level_of, limit_of}
 use Rattle.q_tree.specs.Ways.{DrrClass, way_from}
-use Rattle.q_device.specs.declared.latest.Latest.{Latest}
-use Rattle.q_device.specs.Latest.{counted_level, latest_at, latest_of_bytes, latest_on, paid_at}
+use Rattle.q_device.specs.declared.promises.latest.Latest.{Latest}
 use Rattle.q_device.specs.Laws.{given_in}
-use Rattle.q_device.specs.Promise.{late_on}
+use Rattle.q_device.specs.promises.Latest.{counted_level, latest_at, latest_of_bytes, latest_on, paid_at}
+use Rattle.q_device.specs.promises.Promise.{late_on}
 use Rattle.q_device.specs.Sharing.{device_after}
 use Rattle.q_device.proofs.ClassStretches.{at-start}
 use Rattle.q_laws.specs.line.Line.{bytes_in, line}
@@ -41,7 +41,7 @@ use Rattle.q_laws.specs.turn.FifoTurn.{class_line}
 use Rattle.q_laws.specs.turn.Turn.{shown_by}
 use Rattle.q_laws.specs.turn.TurnLatest.{LatestTurnIsEnough, LatestTurnIsInTime}
 use Rattle.q_tree.specs.TurnNow.{bytes_along, bytes_before, bytes_in_drr}
-use Rattle.q_device.specs.Latest.{latest_in_turn}
+use Rattle.q_device.specs.promises.Latest.{latest_in_turn}
 use Rattle.q_drr.specs.Waiting.{turn_now}
 use Rattle.q_laws.specs.turn.TurnWorst.{IsTurn, LeadsTo, id_of}
 use Rattle.q_laws.proofs.line.LaneLines.{lane-line}

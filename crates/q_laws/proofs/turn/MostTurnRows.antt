@@ -1,7 +1,7 @@
 -- The most bytes of a turn, computed from the definition for worked classes.
 use Rattle.std.proofs.Common.{◌≡◌, ℕ, refl}
 use Rattle.q_tree.specs.declared.ways.Share.{Share}
-use Rattle.q_device.specs.Worst.{most_of_turn}
+use Rattle.q_device.specs.promises.Worst.{most_of_turn}
 
 share : ℕ → ℕ → ℕ → Share
 share quantum quanta classes = record { quantum = quantum; quanta = quanta; classes = classes }

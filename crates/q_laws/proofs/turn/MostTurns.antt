@@ -24,8 +24,8 @@ use Rattle.q_invariants.proofs.class.ClassChildren.{child-has}
 use Rattle.q_invariants.proofs.class.ClassMoves.{ClassNode, class-node, drr-lawful, same-drr}
 use Rattle.q_invariants.proofs.Replays.{IsKept, replay-kept}
 use Rattle.q_tree.specs.Ways.{share_among}
+use Rattle.q_device.specs.promises.Worst.{most_of_turn}
 use Rattle.q_device.specs.Sharing.{device_after}
-use Rattle.q_device.specs.Worst.{most_of_turn}
 use Rattle.q_device.proofs.ClassStretches.{at-start, deficits-bounded}
 use Rattle.q_laws.specs.share.Service.{all_sent, class_sent, classes_of, HasClasses, quanta_of}
 use Rattle.q_laws.specs.turn.MostOfTurn.{ClassesWaitAtMost, TurnsAreBounded, share_in}

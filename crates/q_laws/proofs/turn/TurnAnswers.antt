@@ -17,8 +17,8 @@ use Rattle.q_tree.specs.declared.ways.Link.{Link}
 use Rattle.q_tree.specs.Lanes.{is_prio, lane_below, lane_from, lane_to, limit_along}
 use Rattle.q_tree.specs.Turns.{limit_in, turn_on, turn_to}
 use Rattle.q_tree.specs.Ways.{DrrClass, Way, class_of_drr, drr_class, drrs_on, has_tbf, shares_of, way_below, way_from, way_to}
+use Rattle.q_device.specs.promises.Worst.{worst_in_turn, worst_on}
 use Rattle.q_device.specs.Sharing.{device_after}
-use Rattle.q_device.specs.Worst.{worst_in_turn, worst_on}
 use Rattle.q_laws.specs.turn.TurnWorst.{TurnIsAnswered}
 
 -- no line goes on below what is no prio

@@ -26,8 +26,8 @@ use Rattle.q_invariants.proofs.tree.Members.{All-front}
 use Rattle.q_invariants.proofs.tree.StepNodes.{clock-rises}
 use Rattle.q_tree.specs.declared.ways.Link.{Link}
 use Rattle.q_tree.specs.Ways.{share_among}
+use Rattle.q_device.specs.promises.Worst.{most_of_turn}
 use Rattle.q_device.specs.Sharing.{device_after}
-use Rattle.q_device.specs.Worst.{most_of_turn}
 use Rattle.q_device.proofs.ClassStretches.{at-start}
 use Rattle.q_laws.specs.line.Line.{bytes_in}
 use Rattle.q_laws.specs.share.Service.{given_so_far, HasClasses, all_sent}

@@ -26,9 +26,9 @@ use Rattle.q_tree.specs.declared.ways.Link.{Link}
 use Rattle.q_tree.specs.Turns.{turn_to}
 use Rattle.q_tree.specs.Ways.{DrrClass, drrs_on, share_of, way_to}
 use Rattle.q_device.specs.Laws.{given_in}
-use Rattle.q_device.specs.Promise.{late_on}
+use Rattle.q_device.specs.promises.Promise.{late_on}
+use Rattle.q_device.specs.promises.Worst.{bytes_in_turn, most_bytes, most_of_turn, time_of}
 use Rattle.q_device.specs.Sharing.{device_after}
-use Rattle.q_device.specs.Worst.{bytes_in_turn, most_bytes, most_of_turn, time_of}
 use Rattle.q_device.proofs.ClassStretches.{at-start}
 use Rattle.q_laws.specs.line.Line.{bytes_in}
 use Rattle.q_laws.specs.line.Worst.{with_arrival}

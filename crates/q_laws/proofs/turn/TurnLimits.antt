@@ -37,8 +37,8 @@ use Rattle.q_tree.specs.declared.ways.Share.{Share}
 use Rattle.q_tree.specs.Lanes.{limit_of}
 use Rattle.q_tree.specs.Turns.{limit_in, turn_on, turn_to}
 use Rattle.q_tree.specs.Ways.{DrrClass, Way, drr_class, drrs_on, has_tbf, shares_of, way_below, way_from, way_to}
+use Rattle.q_device.specs.promises.Worst.{most_bytes}
 use Rattle.q_device.specs.Sharing.{device_after}
-use Rattle.q_device.specs.Worst.{most_bytes}
 use Rattle.q_device.proofs.ClassStretches.{mtu-stays}
 use Rattle.q_laws.specs.line.Line.{bytes_in, line, line_own}
 use Rattle.q_laws.specs.turn.FifoTurn.{class_line}

@@ -34,7 +34,7 @@ use Rattle.q_invariants.proofs.sums.Weights.{weigh-count}
 use Rattle.q_tree.specs.Ways.{is_tbf}
 use Rattle.q_tree.proofs.FlowCounts.{count-sum, packets-all}
 use Rattle.q_tree.proofs.ForeseenAsks.{first_of, or_else, prio-shown}
-use Rattle.q_device.proofs.SilentDrrs.{hides, list-left, place-front}
+use Rattle.q_device.proofs.waiting.SilentDrrs.{hides, list-left, place-front}
 use Rattle.q_fqcodel.proofs.FlowsShow.{take_leaves_none}
 
 -- a node that shows nothing only where nothing is queued

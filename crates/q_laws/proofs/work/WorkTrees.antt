@@ -44,8 +44,8 @@ use Rattle.q_invariants.proofs.tree.Within.{found, lawful-of}
 use Rattle.q_tree.specs.Ways.{is_tbf}
 use Rattle.q_tree.proofs.ForeseenAsks.{or_else, first_of, prio-shown}
 use Rattle.q_device.specs.Sharing.{device_after}
-use Rattle.q_device.proofs.RenewedTrees.{take-empty}
 use Rattle.q_device.proofs.ReplayLemmas.{replay_from-append}
+use Rattle.q_device.proofs.waiting.RenewedTrees.{take-empty}
 use Rattle.q_laws.specs.work.Work.{HasNoTbf, IsNeverHeldBack, WorkIsConserved, GivesInOrder, BandsAreStrict}
 use Rattle.q_laws.proofs.work.WorkAsks.{Rests, AreRests, own-rests}
 

@@ -1,5 +1,5 @@
 -- That what a device answers of the packet that was queued last in a fifo is true of it, over every interval of every replay, and that what it
--- answers of a packet that is to come next is what it answers of it once it has come: q_device's specs/Latest.antt has the numbers. tc-pfifo(8),
+-- answers of a packet that is to come next is what it answers of it once it has come: q_device's specs/promises/Latest.antt has the numbers. tc-pfifo(8),
 -- tc-bfifo(8) and tc-tbf(8).
 use Rattle.std.specs.Prelude.{◌≡◌, ℕ, ◌+◌, ◌-◌, ◌*◌, ◌^◌, ◌<◌, ◌≤◌, max, List, [], ◌∷◌, ◌++◌, All, Option, Some}
 use Rattle.std.specs.List.{filter_map}
@@ -17,10 +17,10 @@ use Rattle.q_model.specs.Tally.{history}
 use Rattle.q_tree.specs.declared.lanes.Lane.{Lane}
 use Rattle.q_tree.specs.declared.ways.Link.{Link}
 use Rattle.q_tree.specs.Lanes.{lane_to}
-use Rattle.q_device.specs.declared.latest.Latest.{Latest}
-use Rattle.q_device.specs.Latest.{latest_of, paid_at}
+use Rattle.q_device.specs.declared.promises.latest.Latest.{Latest}
 use Rattle.q_device.specs.Laws.{given_in}
-use Rattle.q_device.specs.Promise.{late_on}
+use Rattle.q_device.specs.promises.Latest.{latest_of, paid_at}
+use Rattle.q_device.specs.promises.Promise.{late_on}
 use Rattle.q_device.specs.Sharing.{device_after}
 use Rattle.q_laws.specs.line.Line.{BeginsWith, IsAlone, IsLink, KeepLine, bytes_in, line_at_root}
 use Rattle.q_laws.specs.line.Worst.{IsKeptAt, with_arrival}

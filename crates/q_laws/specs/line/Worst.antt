@@ -1,5 +1,5 @@
 -- That what a device answers of the worst delay of a fifo is true of each packet that the fifo keeps, over every interval of every replay:
--- q_device's specs/Worst.antt has the numbers. tc-pfifo(8), tc-bfifo(8) and tc-tbf(8); that a queue which is never longer than its limit
+-- q_device's specs/promises/Worst.antt has the numbers. tc-pfifo(8), tc-bfifo(8) and tc-tbf(8); that a queue which is never longer than its limit
 -- and is served at a rate bounds a delay is known from network calculus (J.-Y. Le Boudec and P. Thiran, "Network Calculus" (2001), section 1.4).
 use Rattle.std.specs.Prelude.{◌≡◌, ℕ, ◌+◌, ◌<◌, ◌≤◌, List, [], ◌∷◌, ◌++◌, All, Some}
 use Rattle.std.specs.List.{filter_map}
@@ -20,10 +20,10 @@ use Rattle.q_model.specs.Tally.{Note, history}
 use Rattle.q_tree.specs.declared.lanes.Lane.{Lane}
 use Rattle.q_tree.specs.declared.ways.Link.{Link}
 use Rattle.q_tree.specs.Lanes.{lane_to}
-use Rattle.q_device.specs.declared.worst.Worst.{Worst}
+use Rattle.q_device.specs.declared.promises.worst.Worst.{Worst}
 use Rattle.q_device.specs.Laws.{given_in}
+use Rattle.q_device.specs.promises.Worst.{most_bytes, worst_on}
 use Rattle.q_device.specs.Sharing.{device_after}
-use Rattle.q_device.specs.Worst.{most_bytes, worst_on}
 use Rattle.q_laws.specs.line.Line.{BeginsWith, IsAlone, IsLink, KeepLine, bytes_in, line_at_root}
 use Rattle.q_laws.specs.order.Order.{answers}
 use Rattle.q_laws.specs.rate.Delay.{PaysInTime}

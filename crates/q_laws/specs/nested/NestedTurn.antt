@@ -18,8 +18,8 @@ use Rattle.q_tree.specs.declared.ways.Link.{Link}
 use Rattle.q_tree.specs.declared.ways.Share.{Share}
 use Rattle.q_tree.specs.Ways.{DrrClass, share_among, share_of, way_to}
 use Rattle.q_device.specs.Laws.{given_in}
+use Rattle.q_device.specs.promises.Worst.{most_held, most_of_turn, time_of}
 use Rattle.q_device.specs.Sharing.{device_after}
-use Rattle.q_device.specs.Worst.{most_held, most_of_turn, time_of}
 use Rattle.q_laws.specs.line.Line.{bytes_in}
 use Rattle.q_laws.specs.order.Order.{answers}
 use Rattle.q_laws.specs.rate.Delay.{PaysInTime}

@@ -1,4 +1,4 @@
--- That what a class of a drr is promised is what it gets, over every interval of every replay: q_device's specs/Promise.antt has the
+-- That what a class of a drr is promised is what it gets, over every interval of every replay: q_device's specs/promises/Promise.antt has the
 -- numbers, which are those of specs/share/InTime.antt, rounded against the class. tc-tbf(8) and tc-drr(8).
 use Rattle.std.specs.Prelude.{◌≡◌, ℕ, ◌+◌, ◌-◌, ◌*◌, ◌^◌, ◌<◌, ◌≤◌, List, ◌∷◌, ◌++◌, map, length, All, Option, Some, None, IfSome}
 use Rattle.q_bucket.specs.Level.{units_in_byte}
@@ -11,7 +11,7 @@ use Rattle.q_model.specs.Tally.{Note}
 use Rattle.q_tree.specs.declared.ways.Link.{Link}
 use Rattle.q_tree.specs.declared.ways.Share.{Share}
 use Rattle.q_tree.specs.Ways.{DrrClass, share_of, shares_of, way_to}
-use Rattle.q_device.specs.Promise.{Promise, lack_of_link, part_of, promise_on}
+use Rattle.q_device.specs.promises.Promise.{Promise, lack_of_link, part_of, promise_on}
 use Rattle.q_device.specs.Sharing.{device_after}
 use Rattle.q_laws.specs.rate.Rate.{HasRoom, IsDrained, IsPolledOut}
 use Rattle.q_laws.specs.share.InTime.{Level, last_level, quanta_on, sums_on, lacks_on, sent_at}

@@ -14,7 +14,7 @@ use Rattle.q_model.specs.Settings.{DeviceSettings}
 use Rattle.q_model.specs.Step.{DeviceState, step}
 use Rattle.q_model.specs.Stretches.{length_held, qdisc, IsBackloggedClass, Throughout}
 use Rattle.q_model.specs.Tally.{Note, history}
-use Rattle.q_device.specs.Promise.{lacks_of_bytes}
+use Rattle.q_device.specs.promises.Promise.{lacks_of_bytes}
 use Rattle.q_device.specs.Sharing.{device_after}
 use Rattle.q_laws.specs.rate.Rate.{IsDrained, IsPolledOut, HasRoom}
 use Rattle.q_laws.specs.share.InTime.{IsLinkOver, GetsItsRate}

@@ -11,7 +11,7 @@ use Rattle.q_model.specs.Settings.{DeviceSettings}
 use Rattle.q_model.specs.Step.{DeviceState}
 use Rattle.q_model.specs.Stretches.{qdisc, ClassAt, class_in, IsBackloggedClass, Throughout}
 use Rattle.q_model.specs.Tally.{Note}
-use Rattle.q_device.specs.Promise.{lacks_of_bytes}
+use Rattle.q_device.specs.promises.Promise.{lacks_of_bytes}
 use Rattle.q_device.specs.Sharing.{device_after}
 use Rattle.q_laws.specs.rate.Rate.{IsBackloggedLink, IsDrained, IsPolledOut, HasRoom}
 use Rattle.q_laws.specs.share.Service.{HasClasses, quanta_of, class_sent}

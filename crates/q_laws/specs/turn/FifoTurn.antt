@@ -15,8 +15,8 @@ use Rattle.q_model.specs.Stretches.{ClassAt, class_in, Throughout}
 use Rattle.q_model.specs.Tally.{Note, history}
 use Rattle.q_tree.specs.Lanes.{limit_of}
 use Rattle.q_tree.specs.Ways.{share_among}
+use Rattle.q_device.specs.promises.Worst.{most_of_turn}
 use Rattle.q_device.specs.Sharing.{device_after}
-use Rattle.q_device.specs.Worst.{most_of_turn}
 use Rattle.q_laws.specs.line.Line.{bytes_in, line, BeginsWith}
 use Rattle.q_laws.specs.share.Service.{given_so_far, HasClasses, all_sent}
 use Rattle.q_laws.specs.turn.Turn.{shown_by}

@@ -1,4 +1,4 @@
--- What q_device's specs/Worst.antt has as the most that the classes of a drr send before a packet of one of them is enough, whatever state the
+-- What q_device's specs/promises/Worst.antt has as the most that the classes of a drr send before a packet of one of them is enough, whatever state the
 -- drr is in: a deficit is below a quantum and the mtu together (M. Shreedhar and G. Varghese, "Efficient Fair Queuing Using Deficit
 -- Round-Robin" (1995)), and it is what `bytes_of_turn` comes to where each of the others has the greatest.
 use Rattle.std.specs.Prelude.{◌≡◌, ℕ, ◌+◌, ◌^◌, ◌≤◌, List, ◌++◌, All, Some}
@@ -10,8 +10,8 @@ use Rattle.q_model.specs.Settings.{DeviceSettings}
 use Rattle.q_model.specs.Stretches.{ClassAt, class_in, IsBackloggedClass, Throughout}
 use Rattle.q_tree.specs.declared.ways.Share.{Share}
 use Rattle.q_tree.specs.Ways.{share_among}
+use Rattle.q_device.specs.promises.Worst.{most_of_turn}
 use Rattle.q_device.specs.Sharing.{device_after}
-use Rattle.q_device.specs.Worst.{most_of_turn}
 use Rattle.q_laws.specs.share.Service.{HasClasses, all_sent}
 use Rattle.q_laws.specs.turn.Turn.{StaysLeft, shown_by}
 

@@ -1,5 +1,5 @@
 -- That what a device answers of the packet that was queued last in the fifo of a class of a drr is true of it, from the state of the moment, over
--- every interval of every replay: q_device's specs/Latest.antt has the numbers. tc-drr(8), tc-pfifo(8), tc-bfifo(8) and tc-tbf(8).
+-- every interval of every replay: q_device's specs/promises/Latest.antt has the numbers. tc-drr(8), tc-pfifo(8), tc-bfifo(8) and tc-tbf(8).
 use Rattle.std.specs.Prelude.{◌≡◌, ℕ, ◌+◌, ◌^◌, ◌≤◌, max, List, [], ◌∷◌, ◌++◌, All, Option, Some}
 use Rattle.std.specs.List.{filter_map}
 use Rattle.q_packet.specs.Descriptor.{Descriptor}
@@ -17,7 +17,7 @@ use Rattle.q_tree.specs.declared.turns.Turn.{Turn}
 use Rattle.q_tree.specs.declared.ways.Link.{Link}
 use Rattle.q_tree.specs.Turns.{turn_to}
 use Rattle.q_tree.specs.Ways.{DrrClass}
-use Rattle.q_device.specs.declared.latest.Latest.{Latest}
+use Rattle.q_device.specs.declared.promises.latest.Latest.{Latest}
 use Rattle.q_device.specs.Laws.{given_in}
 use Rattle.q_device.specs.Sharing.{device_after}
 use Rattle.q_laws.specs.line.Latest.{IsToldBy, at_best}
@@ -26,7 +26,7 @@ use Rattle.q_laws.specs.order.Order.{answers}
 use Rattle.q_laws.specs.rate.Delay.{PaysInTime}
 use Rattle.q_laws.specs.rate.Rate.{IsDrained}
 use Rattle.q_laws.specs.turn.FifoTurn.{KeepFifo}
-use Rattle.q_device.specs.Latest.{latest_in_turn, latest_of}
+use Rattle.q_device.specs.promises.Latest.{latest_in_turn, latest_of}
 use Rattle.q_laws.specs.line.Worst.{IsKeptAt, with_arrival}
 use Rattle.q_laws.specs.turn.TurnWorst.{IsTurn, IsWaiting, id_of}
 

@@ -1,5 +1,5 @@
 -- That what a device answers of the worst delay of a class of a drr is true of each packet that the class's fifo keeps, over every interval of
--- every replay: q_device's specs/Worst.antt has the numbers. tc-drr(8), tc-pfifo(8), tc-bfifo(8) and tc-tbf(8); that a queue which is never longer
+-- every replay: q_device's specs/promises/Worst.antt has the numbers. tc-drr(8), tc-pfifo(8), tc-bfifo(8) and tc-tbf(8); that a queue which is never longer
 -- than its limit and has its share of a rate bounds a delay is known from network calculus (J.-Y. Le Boudec and P. Thiran, "Network Calculus"
 -- (2001), section 1.4).
 use Rattle.std.specs.Prelude.{◌≡◌, ℕ, ◌+◌, ◌^◌, ◌≤◌, ◌⊎◌, List, [], ◌∷◌, ◌++◌, All, Option, Some, option_and_then}
@@ -21,10 +21,10 @@ use Rattle.q_tree.specs.declared.turns.Turn.{Turn}
 use Rattle.q_tree.specs.declared.ways.Link.{Link}
 use Rattle.q_tree.specs.Turns.{turn_to}
 use Rattle.q_tree.specs.Ways.{DrrClass, share_of, way_to}
-use Rattle.q_device.specs.declared.worst.Worst.{Worst}
+use Rattle.q_device.specs.declared.promises.worst.Worst.{Worst}
 use Rattle.q_device.specs.Laws.{given_in}
+use Rattle.q_device.specs.promises.Worst.{most_bytes, worst_in_turn, worst_of}
 use Rattle.q_device.specs.Sharing.{device_after}
-use Rattle.q_device.specs.Worst.{most_bytes, worst_in_turn, worst_of}
 use Rattle.q_laws.specs.line.Line.{bytes_in}
 use Rattle.q_laws.specs.line.Worst.{EndsWithin, IsKeptAt, with_arrival}
 use Rattle.q_laws.specs.order.Order.{answers}

@@ -1,7 +1,7 @@
 use Rattle.std.proofs.Common.{◌∙◌, None, Some, Option, ap, subst}
 use Rattle.std.specs.Prelude.{take}
-use Rattle.q_device.specs.Answers.{fate_number}
-use Rattle.q_device.specs.Bursts as bursts
+use Rattle.q_device.specs.device.Answers.{fate_number}
+use Rattle.q_device.specs.device.Bursts as bursts
 use Rattle.q_device.specs.declared.bursts.Stopped.{Stopped}
 use Rattle.q_device.specs.declared.bursts.Stopped.TheVariants.{Memory, OutOfRange}
 use Rattle.qtree_c.proofs.Arriving.{all-arrived, bad-next, no_room-next}

@@ -1,5 +1,5 @@
 use Rattle.std.proofs.Common.{◌∙◌, ap, ℕ}
-use Rattle.q_device.specs.LastNoted.{with_noted}
+use Rattle.q_device.specs.log.LastNoted.{with_noted}
 use Rattle.q_model.specs.declared.event.Event.TheVariants.{Poll}
 use Rattle.qtree_c.proofs.NotingLemmas.{poll-more}
 use Rattle.qtree_c.proofs.noting.keep_polls_to_none.Goals as goal

@@ -1,5 +1,5 @@
 use Rattle.std.proofs.Common.{◌≡◌, drop}
-use Rattle.q_device.specs.LastNoted.{all_noted}
+use Rattle.q_device.specs.log.LastNoted.{all_noted}
 use Rattle.qtree_c.specs.SettingUp.{commands_at}
 use Rattle.qtree_c.proofs.set_up.note_each.Given as goal
 

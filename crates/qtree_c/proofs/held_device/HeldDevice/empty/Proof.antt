@@ -15,8 +15,8 @@ use denote.Triple.Walked.{Stays, walk_of}
 use Rattle.std.proofs.raw_atomic.Walks.{proved_at, leaves}
 use Rattle.std.specs.declared.option.Option.{Option}
 use Rattle.std.specs.declared.option.Option.TheVariants.{None}
-use Rattle.q_device.specs.DeviceSeen.{DeviceSeen}
-use Rattle.q_device.specs.LastNoted.{LastNoted}
+use Rattle.q_device.specs.device.DeviceSeen.{DeviceSeen}
+use Rattle.q_device.specs.log.LastNoted.{LastNoted}
 use Rattle.qtree_c.specs.contracts.opened.Opened.{the_row as R}
 use Rattle.qtree_c.proofs.HeldSteps.{single, held_none}
 use Rattle.qtree_c.specs.contracts.held_device.HeldDevice.empty.{ended, clauses}

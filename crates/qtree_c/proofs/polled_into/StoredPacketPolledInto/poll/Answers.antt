@@ -10,12 +10,12 @@ use Rattle.q_model.specs.declared.reply.Reply.{Reply}
 use Rattle.q_model.specs.declared.reply.Reply.TheVariants.{Polled}
 use Rattle.q_device.specs.declared.given.Given.{Given}
 use Rattle.q_device.specs.declared.given.Given.TheVariants as given
-use Rattle.q_device.specs.Giving.{polled_in}
+use Rattle.q_device.specs.device.DeviceSeen.{DeviceSeen, Memory, polled_memory, with_event}
+use Rattle.q_device.specs.device.Giving.{polled_in}
 use Rattle.q_device.specs.Laws.{given_in}
-use Rattle.q_device.specs.DeviceSeen.{DeviceSeen, Memory, polled_memory, with_event}
 use Rattle.q_model.specs.declared.event.Event.TheVariants.{Poll}
+use Rattle.q_device.specs.device.Polls.{after_poll}
 use Rattle.q_device.specs.Events.{after_event, reply_to, with_memory}
-use Rattle.q_device.specs.Polls.{after_poll}
 use Rattle.qtree_c.proofs.polled_into.StoredPacketPolledInto.poll.Goals as goal
 
 pub returns-clause-polled : goal.returns-clause-polled
