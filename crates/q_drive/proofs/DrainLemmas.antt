@@ -13,7 +13,7 @@ use Rattle.q_device.specs.device.DeviceSeen.{DeviceSeen, Memory, polled_memory, 
 use Rattle.q_device.specs.DeviceLaws.{TellsItsLosses}
 use Rattle.q_device.specs.Waiting.{ReadyPassesEmptyPolls, ready}
 use Rattle.q_device.proofs.CountLemmas.{noted-rises}
-use Rattle.q_tree.specs.ReadyAt.{is_before}
+use Rattle.q_tree.specs.answers.ReadyAt.{is_before}
 use Rattle.q_drive.specs.Drained.{IsPolledWhenReady, polled, polls_left}
 
 -- what a poll leaves, with its memory

@@ -7,7 +7,7 @@ use Rattle.q_model.specs.declared.event.Event.TheVariants as event
 use Rattle.q_model.specs.declared.refusal.Refusal.{Refusal}
 use Rattle.q_model.specs.declared.refusal.Refusal.TheVariants.{NoParent, Exists, NoQdisc, HandleTaken, NotClassful, NoClass, Busy, CannotChange, TooDeep, TooMany, SmallBurst, NoFilter, Memory}
 use Rattle.q_model.specs.declared.reply.Reply.TheVariants as reply
-use Rattle.q_tree.specs.Commanding.{MayTakeMemory}
+use Rattle.q_tree.specs.commands.Commanding.{MayTakeMemory}
 use Rattle.q_device.specs.Events.{after_event, reply_to, with_memory}
 use Rattle.qtree_c.specs.Codes.{reply_number}
 use Rattle.qtree_c.specs.Lines.{IsCommand}

@@ -3,7 +3,7 @@ use Rattle.std.proofs.Common.{◌≡◌, ℕ, ◌<◌, ◌≤◌, Some, None, ap
 use Rattle.std.specs.Prelude.{unwrap_or}
 use Rattle.q_device.specs.device.DeviceSeen.{DeviceSeen}
 use Rattle.q_model.specs.TreeState.{given}
-use Rattle.q_tree.specs.ReadyAt.{ready_at}
+use Rattle.q_tree.specs.answers.ReadyAt.{ready_at}
 use Rattle.qtree_c.specs.Calls.{found_number}
 use Rattle.qtree_c.specs.Readiness.{IsReady}
 

@@ -12,10 +12,10 @@ use Rattle.q_model.specs.declared.node_view.NodeView.{NodeView}
 use Rattle.q_script_semantics.proofs.ShownLemmas.{views-seen}
 use Rattle.q_session.proofs.ShownNodes.{classes-counted, node-at}
 use Rattle.q_session.specs.Shown.{counted}
-use Rattle.q_tree.specs.Flows.{flows_of, listed_flows}
+use Rattle.q_tree.specs.answers.Flows.{flows_of, listed_flows}
 use Rattle.q_tree.specs.Kept.{Kept, kept}
 use Rattle.q_tree.specs.TreeSeen.{tree_numbers}
-use Rattle.q_tree.specs.declared.listed_flows.ListedFlows.{ListedFlows}
+use Rattle.q_tree.specs.declared.answers.listed_flows.ListedFlows.{ListedFlows}
 use Rattle.qtree_c.specs.Calls.{found_number}
 use Rattle.qtree_c.specs.Nodes.{IsClass, IsNode, class_or, node_of, node_or, told_of}
 use Rattle.qtree_c.specs.declared.c_class_view.CClassView.{CClassView}

@@ -1,8 +1,8 @@
 -- How many packets a device can hold, as it is reported to C.
--- The number is that of q_tree's specs/MostPackets.antt.
+-- The number is that of q_tree's specs/answers/MostPackets.antt.
 use Rattle.std.specs.Prelude.{◌≡◌, ℕ, ◌-◌, ◌^◌, min}
 use Rattle.q_device.specs.device.DeviceSeen.{DeviceSeen}
-use Rattle.q_tree.specs.MostPackets.{most_packets}
+use Rattle.q_tree.specs.answers.MostPackets.{most_packets}
 
 -- an open device always answers
 pub record IsMost (code after : ℕ) (d n : DeviceSeen) : Type 0 where

@@ -8,7 +8,7 @@ use Rattle.q_model.specs.Refusal.{refusal_number}
 use Rattle.q_model.specs.declared.command.Command.{Command}
 use Rattle.q_model.specs.declared.event.Event.TheVariants as event
 use Rattle.q_model.specs.declared.refusal.Refusal.{Refusal}
-use Rattle.q_tree.specs.Commanding.{MayTakeMemory}
+use Rattle.q_tree.specs.commands.Commanding.{MayTakeMemory}
 use Rattle.q_words.specs.FaultText.{fault_number, fault_word}
 use Rattle.q_words.specs.declared.line_fault.LineFault.{LineFault}
 use Rattle.q_device.specs.Events.{after_event, reply_to, with_memory}

@@ -14,8 +14,8 @@ use Rattle.q_model.specs.declared.place.Place.{Place}
 use Rattle.q_model.specs.declared.place.Place.TheVariants as place
 use Rattle.q_model.specs.declared.qdisc_view.QdiscView.{QdiscView}
 use Rattle.q_model.specs.declared.qdisc_view.QdiscView.TheVariants as qdisc
-use Rattle.q_tree.specs.Flows.{flows_of}
-use Rattle.q_tree.specs.declared.listed_flows.ListedFlows.{ListedFlows}
+use Rattle.q_tree.specs.answers.Flows.{flows_of}
+use Rattle.q_tree.specs.declared.answers.listed_flows.ListedFlows.{ListedFlows}
 use Rattle.qtree_c.specs.Calls.{found_number}
 use Rattle.qtree_c.specs.Structs.{row_of}
 use Rattle.qtree_c.specs.declared.c_class_view.CClassView.{CClassView}

@@ -1,9 +1,9 @@
 -- When a device next gives a packet, as it is reported to C.
--- The time is that of q_tree's specs/ReadyAt.antt, and the numbers this project's own.
+-- The time is that of q_tree's specs/answers/ReadyAt.antt, and the numbers this project's own.
 use Rattle.std.specs.Prelude.{◌≡◌, ◌≢◌, ℕ, ◌<◌, ◌≤◌, ◌^◌, None, unwrap_or}
 use Rattle.q_device.specs.device.DeviceSeen.{DeviceSeen}
 use Rattle.q_model.specs.TreeState.{given}
-use Rattle.q_tree.specs.ReadyAt.{ready_at}
+use Rattle.q_tree.specs.answers.ReadyAt.{ready_at}
 use Rattle.qtree_c.specs.Calls.{found_number}
 
 -- The time before which no poll gives a packet (0); or no poll ever will, as things are (32), and the time stays.

@@ -1,6 +1,6 @@
 ghost use Rattle.std.specs.Prelude.{◌≡◌, All};
 ghost use Rattle.q_device.specs.promises.Promise.{promise_seen};
-ghost use Rattle.q_tree.specs.Ways.{IsShare};
+ghost use Rattle.q_tree.specs.answers.Ways.{IsShare};
 ghost use Rattle.qtree_c.specs.Promised.{told_of};
 
 use q_device::Service;

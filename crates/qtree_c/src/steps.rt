@@ -7,7 +7,7 @@ ghost use Rattle.q_device.specs.log.LastNoted.{with_noted};
 ghost use Rattle.q_model.specs.declared.event.Event.TheVariants as event;
 ghost use Rattle.q_model.specs.declared.reply.Reply.TheVariants as reply;
 ghost use Rattle.q_device.specs.device.Room.{KeepsPlaces, StaysButForPlaces};
-ghost use Rattle.q_tree.specs.Commanding.{MayTakeMemory};
+ghost use Rattle.q_tree.specs.commands.Commanding.{MayTakeMemory};
 ghost use Rattle.q_device.specs.device.Polls.{after_poll, given_at};
 ghost use Rattle.q_device.specs.Events.{after_event, reply_to, with_memory};
 ghost use Rattle.q_packet.specs.Descriptor.{Descriptor};

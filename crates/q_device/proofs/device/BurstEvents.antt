@@ -23,9 +23,9 @@ use Rattle.q_model.specs.Step.{arrive, poll, polled_of, step}
 use Rattle.q_model.specs.Tally.{totals}
 use Rattle.q_model.specs.TreeState.{take_packet}
 use Rattle.q_model.proofs.PacketFields.{packet-fields}
+use Rattle.q_tree.specs.arrival.Places.{places_at}
 use Rattle.q_tree.specs.Bursts.{AreGiven, AreKept, IsGivenAlone, IsKeptAlone, arrived_each, polled_each}
 use Rattle.q_tree.specs.Kept.{kept}
-use Rattle.q_tree.specs.Places.{places_at}
 use Rattle.q_tree.specs.TreeSeen.{numbers}
 use Rattle.q_tree.proofs.OtherSubtrees.{put-root-places}
 use Rattle.q_device.specs.declared.device.Device.TheInside.{Inside}

@@ -17,9 +17,9 @@ use Rattle.q_model.specs.Step.{DeviceState, Step, answered, losses_in, step}
 use Rattle.q_model.specs.Tally.{Counts, totals}
 use Rattle.q_model.specs.TreeState.{TreeState, given, noted_by_put, noted_by_take, plan, put, take_packet}
 use Rattle.q_model.proofs.ShrinkLemmas.{each-each_memory, shape-with_memory}
+use Rattle.q_tree.specs.commands.Commanding.{MayTakeMemory, WantsMemory}
+use Rattle.q_tree.specs.commands.Commands.{IsDone, IsRefused, plan_of, told}
 use Rattle.q_tree.specs.Kept.{Kept, kept}
-use Rattle.q_tree.specs.Commanding.{MayTakeMemory, WantsMemory}
-use Rattle.q_tree.specs.Commands.{IsDone, IsRefused, plan_of, told}
 use Rattle.q_tree.specs.TreeSeen.{numbers, tree_numbers}
 use Rattle.q_tree.proofs.Plans.{done-numbers}
 use Rattle.q_tree.proofs.TreeLemmas.{stands}

@@ -19,9 +19,9 @@ use Rattle.q_model.specs.Step.{DeviceState, counts_at, new_device, step}
 use Rattle.q_model.specs.Tally.{Counts, totals}
 use Rattle.q_model.specs.TreeState.{given}
 use Rattle.q_invariants.proofs.Replays.{not-after}
-use Rattle.q_tree.specs.Arrivals.{CanCount}
+use Rattle.q_tree.specs.arrival.Arrivals.{CanCount}
 use Rattle.q_tree.specs.Kept.{Kept}
-use Rattle.q_tree.specs.RouteSeen.{RouteSeen, route_seen}
+use Rattle.q_tree.specs.route.RouteSeen.{RouteSeen, route_seen}
 use Rattle.q_tree.specs.TreeSeen.{CanArrive, numbers}
 use Rattle.q_device.specs.declared.device.Device.TheInside.{Inside}
 use Rattle.q_device.specs.Counters.{arrived_after, sent_by}

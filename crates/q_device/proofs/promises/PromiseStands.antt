@@ -11,9 +11,9 @@ use Rattle.q_model.specs.Node.{Discipline, Fifo, Prio, Tbf, Drr, FqCodel, Own, N
 use Rattle.q_model.specs.Tally.{Counts, totals}
 use Rattle.q_model.proofs.ShrinkLemmas.{child-with_memory, each-each_memory}
 use Rattle.q_tree.specs.Kept.{Kept, kept}
-use Rattle.q_tree.specs.declared.ways.Link.{Link}
-use Rattle.q_tree.specs.declared.ways.Share.{Share}
-use Rattle.q_tree.specs.Ways.{DrrClass, Way, drr_class, drrs_on, has_tbf, is_tbf, shares_of, way_below, way_from, way_to}
+use Rattle.q_tree.specs.declared.answers.ways.Link.{Link}
+use Rattle.q_tree.specs.declared.answers.ways.Share.{Share}
+use Rattle.q_tree.specs.answers.Ways.{DrrClass, Way, drr_class, drrs_on, has_tbf, is_tbf, shares_of, way_below, way_from, way_to}
 use Rattle.q_device.specs.promises.Promise.{Promise, promise_of, promise_on}
 use Rattle.q_device.proofs.device.StatsStands.{class-stands}
 

@@ -11,8 +11,8 @@ use Rattle.q_model.specs.Tally.{Counts, totals}
 use Rattle.q_model.proofs.ShrinkLemmas.{child-with_memory, each-each_memory}
 use Rattle.q_drr.specs.Schedule.{Class}
 use Rattle.q_drr.specs.Waiting.{turn_now}
+use Rattle.q_tree.specs.answers.TurnNow.{bytes_along, bytes_before, bytes_in_drr}
 use Rattle.q_tree.specs.Kept.{Kept, kept}
-use Rattle.q_tree.specs.TurnNow.{bytes_along, bytes_before, bytes_in_drr}
 use Rattle.q_device.proofs.device.StatsStands.{class-stands}
 use Rattle.q_device.proofs.promises.PromiseStands.{counted}
 

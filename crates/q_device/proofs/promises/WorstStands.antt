@@ -10,10 +10,10 @@ use Rattle.q_model.specs.Node.{Discipline, Fifo, Prio, Tbf, Drr, FqCodel, Node, 
 use Rattle.q_model.specs.Tally.{Counts, totals}
 use Rattle.q_model.proofs.ShrinkLemmas.{child-with_memory}
 use Rattle.q_tree.specs.Kept.{Kept, kept}
-use Rattle.q_tree.specs.declared.ways.Link.{Link}
-use Rattle.q_tree.specs.Lanes.{is_prio, lane_below, lane_from, lane_to, limit_along, limit_of}
-use Rattle.q_tree.specs.Turns.{limit_in, turn_on, turn_to}
-use Rattle.q_tree.specs.Ways.{Way, shares_of}
+use Rattle.q_tree.specs.declared.answers.ways.Link.{Link}
+use Rattle.q_tree.specs.answers.Lanes.{is_prio, lane_below, lane_from, lane_to, limit_along, limit_of}
+use Rattle.q_tree.specs.answers.Turns.{limit_in, turn_on, turn_to}
+use Rattle.q_tree.specs.answers.Ways.{Way, shares_of}
 use Rattle.q_device.proofs.device.StatsStands.{class-stands, node_at-stands}
 use Rattle.q_device.proofs.promises.PromiseStands.{counted, tbf-stands, way-stands}
 

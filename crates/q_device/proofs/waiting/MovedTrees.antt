@@ -8,7 +8,7 @@ use Rattle.q_model.specs.TreeState.{TreeState, given, take_packet}
 use Rattle.q_model.specs.Lawful.{IsLawfulOwn}
 use Rattle.q_invariants.proofs.ask.Asks.{beneath-befores}
 use Rattle.q_invariants.proofs.Kept.{AllLawful, IsLawfulRoot}
-use Rattle.q_tree.specs.ReadyAt.{outlook_own, outlook}
+use Rattle.q_tree.specs.answers.ReadyAt.{outlook_own, outlook}
 use Rattle.q_device.proofs.waiting.Moved.{Moves, AreMoved}
 use Rattle.q_device.proofs.waiting.MovedAsks.{asked-moves}
 use Rattle.q_device.proofs.waiting.RenewedTrees.{own-renewed, forest-renewed, left}

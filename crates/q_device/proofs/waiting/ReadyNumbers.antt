@@ -5,9 +5,9 @@ use Rattle.q_model.specs.Beneath.{beneath, beneath_own}
 use Rattle.q_model.specs.Node.{Shape}
 use Rattle.q_model.specs.TreeState.{TreeState, given}
 use Rattle.q_model.proofs.ShrinkLemmas.{each-each_memory, shape-with_memory}
+use Rattle.q_tree.specs.answers.MostPackets.{most_own, most_packets}
+use Rattle.q_tree.specs.answers.ReadyAt.{outlook_own, ready_at, is_sure, is_before}
 use Rattle.q_tree.specs.Kept.{Kept}
-use Rattle.q_tree.specs.MostPackets.{most_own, most_packets}
-use Rattle.q_tree.specs.ReadyAt.{outlook_own, ready_at, is_sure, is_before}
 use Rattle.q_tree.specs.TreeSeen.{tree_numbers}
 
 pub given-numbers : (t : ℕ) (s : TreeState Kept) → given t (tree_numbers s) ≡ given t s

@@ -13,8 +13,8 @@ use Rattle.q_model.specs.Settings.{DeviceSettings}
 use Rattle.q_model.specs.Step.{DeviceState}
 use Rattle.q_model.specs.Tally.{Counts}
 use Rattle.q_tree.specs.Kept.{Kept}
-use Rattle.q_tree.specs.NodeCode.{own_code, counts_code, node_code_by}
 use Rattle.q_tree.specs.NodeCode as tree
+use Rattle.q_tree.specs.NodeCode.{own_code, counts_code, node_code_by}
 use Rattle.q_device.specs.device.DeviceSeen.{DeviceSeen, Memory}
 
 -- a device of the model with totals

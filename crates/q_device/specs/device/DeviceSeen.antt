@@ -15,11 +15,11 @@ use Rattle.q_model.specs.Settings.{DeviceSettings}
 use Rattle.q_model.specs.Step.{DeviceState, new_device, counts_at, step}
 use Rattle.q_model.specs.Tally.{Counts, totals}
 use Rattle.q_model.specs.TreeState.{take_packet}
-use Rattle.q_tree.specs.Commanding.{WantsMemory}
-use Rattle.q_tree.specs.Commands.{IsDone, IsRefused, plan_of}
+use Rattle.q_tree.specs.arrival.Places.{places_at}
+use Rattle.q_tree.specs.commands.Commanding.{WantsMemory}
+use Rattle.q_tree.specs.commands.Commands.{IsDone, IsRefused, plan_of}
 use Rattle.q_tree.specs.Kept.{Kept, kept}
-use Rattle.q_tree.specs.Places.{places_at}
-use Rattle.q_tree.specs.RouteSeen.{route_seen}
+use Rattle.q_tree.specs.route.RouteSeen.{route_seen}
 use Rattle.q_tree.specs.TreeSeen.{CanArrive}
 
 -- The memory of a device, which no rule reads: its tree as the code has it, whose queues have places, and the places of its

@@ -12,12 +12,12 @@ use Rattle.q_model.specs.declared.row.Row.{Row}
 use Rattle.q_model.specs.Step.{DeviceState}
 use Rattle.q_model.specs.Tally.{Tally}
 use Rattle.q_model.specs.TreeState.{stats}
-use Rattle.q_tree.specs.declared.lanes.Lane.{Lane}
-use Rattle.q_tree.specs.declared.turns.Turn.{Turn}
-use Rattle.q_tree.specs.declared.ways.Link.{Link}
-use Rattle.q_tree.specs.Lanes.{lane_to, level_of}
-use Rattle.q_tree.specs.TurnNow.{bytes_before}
-use Rattle.q_tree.specs.Turns.{turn_to}
+use Rattle.q_tree.specs.declared.answers.lanes.Lane.{Lane}
+use Rattle.q_tree.specs.declared.answers.turns.Turn.{Turn}
+use Rattle.q_tree.specs.declared.answers.ways.Link.{Link}
+use Rattle.q_tree.specs.answers.Lanes.{lane_to, level_of}
+use Rattle.q_tree.specs.answers.TurnNow.{bytes_before}
+use Rattle.q_tree.specs.answers.Turns.{turn_to}
 use Rattle.q_device.specs.declared.promises.latest.Latest.{Latest}
 use Rattle.q_device.specs.promises.Promise.{has_room, late_on}
 

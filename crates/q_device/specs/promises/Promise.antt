@@ -6,9 +6,9 @@ use Rattle.q_bucket.specs.Level.{units_in_byte}
 use Rattle.q_model.specs.declared.place.Place.{Place}
 use Rattle.q_model.specs.declared.place.Place.TheVariants as place
 use Rattle.q_model.specs.Node.{Node}
-use Rattle.q_tree.specs.declared.ways.Link.{Link}
-use Rattle.q_tree.specs.declared.ways.Share.{Share}
-use Rattle.q_tree.specs.Ways.{shares_of, way_to}
+use Rattle.q_tree.specs.declared.answers.ways.Link.{Link}
+use Rattle.q_tree.specs.declared.answers.ways.Share.{Share}
+use Rattle.q_tree.specs.answers.Ways.{shares_of, way_to}
 use Rattle.q_device.specs.declared.promises.service.Service.{Service}
 
 -- The rate of the tbf at the root, in bits a second, if there is one; the classes on the path, from the root down, in numbers; the bytes

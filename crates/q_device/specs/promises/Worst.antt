@@ -9,12 +9,12 @@ use Rattle.q_codel.specs.declared.limit.Limit.TheVariants.{Packets, Bytes}
 use Rattle.q_bucket.specs.Level.{units_in_byte}
 use Rattle.q_model.specs.declared.place.Place.{Place}
 use Rattle.q_model.specs.Node.{Node}
-use Rattle.q_tree.specs.declared.lanes.Lane.{Lane}
-use Rattle.q_tree.specs.declared.turns.Turn.{Turn}
-use Rattle.q_tree.specs.declared.ways.Link.{Link}
-use Rattle.q_tree.specs.declared.ways.Share.{Share}
-use Rattle.q_tree.specs.Lanes.{lane_to}
-use Rattle.q_tree.specs.Turns.{turn_to}
+use Rattle.q_tree.specs.declared.answers.lanes.Lane.{Lane}
+use Rattle.q_tree.specs.declared.answers.turns.Turn.{Turn}
+use Rattle.q_tree.specs.declared.answers.ways.Link.{Link}
+use Rattle.q_tree.specs.declared.answers.ways.Share.{Share}
+use Rattle.q_tree.specs.answers.Lanes.{lane_to}
+use Rattle.q_tree.specs.answers.Turns.{turn_to}
 use Rattle.q_device.specs.declared.promises.worst.Worst.{Worst}
 use Rattle.q_device.specs.promises.Promise.{has_room, late_on}
 

@@ -1,9 +1,9 @@
 //! How long a packet of a fifo waits at most, and by when the packet that is last there has left.
 ghost use Rattle.std.specs.Prelude.{◌≡◌, IfSome};
 ghost use Rattle.q_model.specs.Tally.{totals};
-ghost use Rattle.q_tree.specs.Lanes.{lane_to};
-ghost use Rattle.q_tree.specs.Turns.{turn_to};
-ghost use Rattle.q_tree.specs.Ways.{IsShare};
+ghost use Rattle.q_tree.specs.answers.Lanes.{lane_to};
+ghost use Rattle.q_tree.specs.answers.Turns.{turn_to};
+ghost use Rattle.q_tree.specs.answers.Ways.{IsShare};
 ghost use Rattle.q_device.specs.promises.Latest.{latest_at_turn, latest_below, latest_of};
 ghost use Rattle.q_device.specs.promises.Worst.{worst_of};
 

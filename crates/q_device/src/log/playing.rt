@@ -6,7 +6,7 @@ ghost use Rattle.q_model.specs.Tally.{history, totals};
 ghost use Rattle.q_model.specs.declared.event.Event.TheVariants as event;
 ghost use Rattle.q_model.specs.declared.reply.Reply.TheVariants as reply;
 ghost use Rattle.q_model.specs.declared.refusal.Refusal.TheVariants as refusals;
-ghost use Rattle.q_tree.specs.Commanding.{MayTakeMemory};
+ghost use Rattle.q_tree.specs.commands.Commanding.{MayTakeMemory};
 ghost use Rattle.q_device.specs.device.DeviceSeen.{HasRoomFor, IsRefusal};
 
 use crate::device::Device;

@@ -1,6 +1,6 @@
 ghost use Rattle.std.specs.Prelude.{◌≡◌, ◌≤◌, ◌+◌, ◌*◌, ◌/◌, ◌^◌, All, IfSome, length, option_map};
 ghost use Rattle.q_device.specs.promises.Promise.{has_room, lack_at, lack_of_link, late_of, late_on, part_of, promise_on, promise_seen, rate_of, slack_on};
-ghost use Rattle.q_tree.specs.Ways.{IsShare};
+ghost use Rattle.q_tree.specs.answers.Ways.{IsShare};
 
 use arrayvec::ArrayVec;
 use q_model::Settings;

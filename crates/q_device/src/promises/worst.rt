@@ -1,7 +1,7 @@
 ghost use Rattle.std.specs.Prelude.{◌≡◌, ◌≤◌, ◌+◌, ◌^◌, nat_le, nat_lt, if◌then◌else◌, Some, None};
 ghost use Rattle.q_device.specs.promises.Promise.{has_room, late_on};
 ghost use Rattle.q_device.specs.promises.Worst.{bytes_in_turn, most_bytes, most_held, most_of_turn, time_of, worst_in_turn, worst_of_bytes, worst_on};
-ghost use Rattle.q_tree.specs.Ways.{IsShare};
+ghost use Rattle.q_tree.specs.answers.Ways.{IsShare};
 
 use crate::promises::service::{has_room, late_on};
 use q_codel::Limit;

@@ -13,7 +13,7 @@ use Rattle.q_model.specs.Node.{Discipline, Fifo, Prio, Tbf, Drr, FqCodel, Forest
 use Rattle.q_invariants.proofs.Kept.{IsLawfulRoot}
 use Rattle.q_invariants.proofs.tree.Forests.{each-nodes}
 use Rattle.q_invariants.proofs.tree.Quiet.{child-lawful}
-use Rattle.q_tree.specs.Lanes.{is_prio, limit_of, limit_along}
+use Rattle.q_tree.specs.answers.Lanes.{is_prio, limit_of, limit_along}
 use Rattle.q_laws.specs.line.Line.{line_own, line}
 
 pub first-line : {M : Type 0} (s c : Node M) → slice_get (children s) 0 ≡ Some c → unwrap_or (slice_get (each line_own s.below) 0) [] ≡ line c

@@ -4,10 +4,10 @@ use Rattle.std.specs.Prelude.{Bool, true, false, ◌&&◌, nat_lt, nat_le, if◌
 use Rattle.std.proofs.lemmas.Bool.{and_parts}
 use Rattle.std.proofs.lemmas.Option.{none-some, same_Some}
 use Rattle.q_codel.specs.declared.limit.Limit.{Limit}
-use Rattle.q_tree.specs.declared.lanes.Lane.{Lane}
-use Rattle.q_tree.specs.declared.turns.Turn.{Turn}
-use Rattle.q_tree.specs.declared.ways.Link.{Link}
-use Rattle.q_tree.specs.declared.ways.Share.{Share}
+use Rattle.q_tree.specs.declared.answers.lanes.Lane.{Lane}
+use Rattle.q_tree.specs.declared.answers.turns.Turn.{Turn}
+use Rattle.q_tree.specs.declared.answers.ways.Link.{Link}
+use Rattle.q_tree.specs.declared.answers.ways.Share.{Share}
 use Rattle.q_device.specs.declared.promises.worst.Worst.{Worst}
 use Rattle.q_device.specs.promises.Promise.{has_room, late_on}
 use Rattle.q_device.specs.promises.Worst.{bytes_in_turn, most_bytes, time_of, worst_in_turn, worst_of_bytes, worst_on}

@@ -27,7 +27,7 @@ use Rattle.q_invariants.proofs.Kept.{IsLawfulRoot}
 use Rattle.q_invariants.proofs.tree.Members.{All-front}
 use Rattle.q_invariants.proofs.tree.Quiet.{child-lawful}
 use Rattle.q_invariants.proofs.tree.Ways.{IsOn, route-goes}
-use Rattle.q_tree.specs.Lanes.{is_prio, limit_of, limit_along}
+use Rattle.q_tree.specs.answers.Lanes.{is_prio, limit_of, limit_along}
 use Rattle.q_device.specs.promises.Worst.{most_bytes}
 use Rattle.q_laws.specs.line.Line.{line_in, line_own, line, bytes_in}
 use Rattle.q_laws.proofs.line.LaneLines.{IsFirst, first-line, is-first}

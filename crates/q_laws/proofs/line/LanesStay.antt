@@ -21,10 +21,10 @@ use Rattle.q_model.specs.Work.{Worked, booked, each_booked, settled_in}
 use Rattle.q_invariants.proofs.put.DrrSettled.{class-settled}
 use Rattle.q_invariants.proofs.put.PutStages.{IsPutOf, along-related, quiet-related}
 use Rattle.q_invariants.proofs.tree.Related.{AllRelated, IsRelated, forget}
-use Rattle.q_tree.specs.declared.ways.Link.{Link}
-use Rattle.q_tree.specs.Lanes.{is_prio, lane_below, lane_from, lane_to, level_of, limit_along, limit_of}
-use Rattle.q_tree.specs.Turns.{limit_in, turn_on, turn_to}
-use Rattle.q_tree.specs.Ways.{DrrClass, Way, class_of_drr, drr_class, drrs_on, has_tbf, is_tbf, shares_of, way_below, way_from, way_to}
+use Rattle.q_tree.specs.declared.answers.ways.Link.{Link}
+use Rattle.q_tree.specs.answers.Lanes.{is_prio, lane_below, lane_from, lane_to, level_of, limit_along, limit_of}
+use Rattle.q_tree.specs.answers.Turns.{limit_in, turn_on, turn_to}
+use Rattle.q_tree.specs.answers.Ways.{DrrClass, Way, class_of_drr, drr_class, drrs_on, has_tbf, is_tbf, shares_of, way_below, way_from, way_to}
 
 -- What a discipline is without the packets that it queues, as far as places and lanes are found by it: an fq_codel has neither.
 abbrev pub setting : Discipline → Discipline

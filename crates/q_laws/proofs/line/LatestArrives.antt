@@ -23,13 +23,13 @@ use Rattle.q_model.specs.Step.{DeviceState}
 use Rattle.q_model.specs.Tally.{Note, history}
 use Rattle.q_model.specs.TreeState.{stats}
 use Rattle.q_invariants.proofs.Replays.{replay-kept}
-use Rattle.q_tree.specs.declared.lanes.Lane.{Lane}
-use Rattle.q_tree.specs.declared.turns.Turn.{Turn}
-use Rattle.q_tree.specs.declared.ways.Link.{Link}
-use Rattle.q_tree.specs.Lanes.{lane_to, level_of}
-use Rattle.q_tree.specs.TurnNow.{bytes_before}
-use Rattle.q_tree.specs.Turns.{limit_in, turn_on, turn_to}
-use Rattle.q_tree.specs.Ways.{DrrClass, Way, share_of, shares_of, way_to}
+use Rattle.q_tree.specs.declared.answers.lanes.Lane.{Lane}
+use Rattle.q_tree.specs.declared.answers.turns.Turn.{Turn}
+use Rattle.q_tree.specs.declared.answers.ways.Link.{Link}
+use Rattle.q_tree.specs.answers.Lanes.{lane_to, level_of}
+use Rattle.q_tree.specs.answers.TurnNow.{bytes_before}
+use Rattle.q_tree.specs.answers.Turns.{limit_in, turn_on, turn_to}
+use Rattle.q_tree.specs.answers.Ways.{DrrClass, Way, share_of, shares_of, way_to}
 use Rattle.q_device.specs.declared.promises.latest.Latest.{Latest}
 use Rattle.q_device.specs.promises.Latest.{counted_level, latest_at_turn, latest_in_turn, latest_of, latest_of_bytes, latest_on, paid_at}
 use Rattle.q_device.specs.promises.Promise.{late_on}

@@ -19,10 +19,10 @@ use Rattle.q_model.specs.declared.event.Event.{Event}
 use Rattle.q_model.specs.declared.place.Place.{Place}
 use Rattle.q_model.specs.Events.{IsEvent}
 use Rattle.q_invariants.proofs.Replays.{replay-kept}
-use Rattle.q_tree.specs.declared.lanes.Lane.{Lane}
-use Rattle.q_tree.specs.declared.ways.Link.{Link}
-use Rattle.q_tree.specs.Lanes.{lane_below, lane_from, lane_to, level_of, limit_along}
-use Rattle.q_tree.specs.Ways.{has_tbf}
+use Rattle.q_tree.specs.declared.answers.lanes.Lane.{Lane}
+use Rattle.q_tree.specs.declared.answers.ways.Link.{Link}
+use Rattle.q_tree.specs.answers.Lanes.{lane_below, lane_from, lane_to, level_of, limit_along}
+use Rattle.q_tree.specs.answers.Ways.{has_tbf}
 use Rattle.q_device.specs.declared.promises.latest.Latest.{Latest}
 use Rattle.q_device.specs.promises.Latest.{counted_level, latest_on, paid_at}
 use Rattle.q_device.specs.promises.Promise.{late_on}

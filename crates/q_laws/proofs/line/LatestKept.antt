@@ -27,10 +27,10 @@ use Rattle.q_model.specs.TreeState.{stats}
 use Rattle.q_invariants.proofs.Replays.{IsKept, replay-kept}
 use Rattle.q_invariants.proofs.tree.Members.{All-front}
 use Rattle.q_invariants.proofs.tree.Quiet.{child-lawful}
-use Rattle.q_tree.specs.declared.lanes.Lane.{Lane}
-use Rattle.q_tree.specs.declared.ways.Link.{Link}
-use Rattle.q_tree.specs.Lanes.{lane_from, lane_to, level_of, limit_along}
-use Rattle.q_tree.specs.Turns.{turn_to}
+use Rattle.q_tree.specs.declared.answers.lanes.Lane.{Lane}
+use Rattle.q_tree.specs.declared.answers.ways.Link.{Link}
+use Rattle.q_tree.specs.answers.Lanes.{lane_from, lane_to, level_of, limit_along}
+use Rattle.q_tree.specs.answers.Turns.{turn_to}
 use Rattle.q_device.specs.declared.promises.latest.Latest.{Latest}
 use Rattle.q_device.specs.Laws.{given_in}
 use Rattle.q_device.specs.promises.Latest.{counted_level, latest_at, latest_at_turn, latest_of, latest_of_bytes, latest_on, paid_at}

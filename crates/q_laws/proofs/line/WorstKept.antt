@@ -42,10 +42,10 @@ use Rattle.q_invariants.proofs.Replays.{IsKept, not-before, replay-kept}
 use Rattle.q_invariants.proofs.sums.Told.{IsRootTold, root-booked, root-memory}
 use Rattle.q_invariants.proofs.tree.Forests.{each-nodes, lawful-with_memory}
 use Rattle.q_invariants.proofs.tree.Members.{All-front}
-use Rattle.q_tree.specs.declared.lanes.Lane.{Lane}
-use Rattle.q_tree.specs.declared.ways.Link.{Link}
-use Rattle.q_tree.specs.Lanes.{lane_below, lane_from, lane_to, limit_along}
-use Rattle.q_tree.specs.Ways.{has_tbf}
+use Rattle.q_tree.specs.declared.answers.lanes.Lane.{Lane}
+use Rattle.q_tree.specs.declared.answers.ways.Link.{Link}
+use Rattle.q_tree.specs.answers.Lanes.{lane_below, lane_from, lane_to, limit_along}
+use Rattle.q_tree.specs.answers.Ways.{has_tbf}
 use Rattle.q_device.specs.Laws.{given_in}
 use Rattle.q_device.specs.promises.Promise.{late_on}
 use Rattle.q_device.specs.promises.Worst.{most_bytes, time_of}

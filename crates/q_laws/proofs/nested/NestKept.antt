@@ -16,9 +16,9 @@ use Rattle.q_model.specs.Tally.{Note}
 use Rattle.q_invariants.proofs.Replays.{IsKept, replay-kept}
 use Rattle.q_invariants.proofs.tree.Members.{All-front}
 use Rattle.q_invariants.proofs.tree.Within.{IsOf}
-use Rattle.q_tree.specs.declared.ways.Link.{Link}
-use Rattle.q_tree.specs.declared.ways.Share.{Share}
-use Rattle.q_tree.specs.Ways.{DrrClass, drrs_on, share_of}
+use Rattle.q_tree.specs.declared.answers.ways.Link.{Link}
+use Rattle.q_tree.specs.declared.answers.ways.Share.{Share}
+use Rattle.q_tree.specs.answers.Ways.{DrrClass, drrs_on, share_of}
 use Rattle.q_device.specs.Laws.{given_in}
 use Rattle.q_device.specs.promises.Worst.{most_held}
 use Rattle.q_device.specs.Sharing.{device_after}

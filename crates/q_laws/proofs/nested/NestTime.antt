@@ -19,8 +19,8 @@ use Rattle.q_model.specs.Tally.{Note, history}
 use Rattle.q_model.specs.Work.{booked}
 use Rattle.q_invariants.proofs.Replays.{IsKept, replay-kept}
 use Rattle.q_invariants.proofs.tree.Members.{All-front}
-use Rattle.q_tree.specs.declared.ways.Link.{Link}
-use Rattle.q_tree.specs.Ways.{share_of}
+use Rattle.q_tree.specs.declared.answers.ways.Link.{Link}
+use Rattle.q_tree.specs.answers.Ways.{share_of}
 use Rattle.q_device.specs.promises.Worst.{time_of}
 use Rattle.q_device.specs.Sharing.{device_after}
 use Rattle.q_device.proofs.ClassStretches.{at-start}

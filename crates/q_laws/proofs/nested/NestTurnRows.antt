@@ -13,7 +13,7 @@ use Rattle.q_model.specs.declared.kind.Kind.TheVariants.{Drr}
 use Rattle.q_model.specs.declared.place.Place.TheVariants.{Root, Class}
 use Rattle.q_model.specs.declared.protocol.Protocol.TheVariants as protocol
 use Rattle.q_model.specs.Settings.{DeviceSettings}
-use Rattle.q_tree.specs.declared.ways.Share.{Share}
+use Rattle.q_tree.specs.declared.answers.ways.Share.{Share}
 use Rattle.q_device.specs.Laws.{given_in}
 use Rattle.q_device.specs.Sharing.{device_after}
 use Rattle.q_laws.specs.line.Line.{bytes_in}

@@ -6,7 +6,7 @@ use Rattle.q_model.specs.declared.event.Event.{Event}
 use Rattle.q_model.specs.Step.{DeviceState, step}
 use Rattle.q_model.specs.Tally.{Note, history}
 use Rattle.q_invariants.proofs.tree.StepNodes.{clock-rises}
-use Rattle.q_tree.specs.ReadyAt.{ready_at}
+use Rattle.q_tree.specs.answers.ReadyAt.{ready_at}
 use Rattle.q_laws.specs.rate.Rate.{due_in, IsDrainedFrom, IsNeverLate, NeverLateIsDrained}
 
 -- what comes by the time that the device says comes by the time that is due

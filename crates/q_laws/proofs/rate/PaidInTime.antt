@@ -25,7 +25,7 @@ use Rattle.q_invariants.proofs.bucket.BucketSteps.{IsUncutAt}
 use Rattle.q_invariants.proofs.Replays.{IsKept, step-kept, replay-kept}
 use Rattle.q_invariants.proofs.tree.StepNodes.{clock-rises}
 use Rattle.q_invariants.proofs.tree.Within.{found, lawful-of}
-use Rattle.q_tree.specs.ReadyAt.{ready_at}
+use Rattle.q_tree.specs.answers.ReadyAt.{ready_at}
 use Rattle.q_device.specs.Sharing.{device_after}
 use Rattle.q_device.proofs.ClassStretches.{at-start, mtu-stays}
 use Rattle.q_laws.specs.rate.Delay.{paid_so_far, next_below, IsLeft, latest, level_counted, PaysInTime, BytesArePaidInTime}

@@ -2,7 +2,7 @@
 use Rattle.std.proofs.Common.{◌≡◌, ℕ, List, [], ◌∷◌, refl}
 use Rattle.q_drr.specs.Schedule.{Class, Entry}
 use Rattle.q_drr.specs.Waiting.{bytes_of_turn}
-use Rattle.q_tree.specs.declared.ways.Share.{Share}
+use Rattle.q_tree.specs.declared.answers.ways.Share.{Share}
 use Rattle.q_laws.specs.share.Calm.{most_of_calm_turn}
 use Rattle.q_laws.specs.share.Handed.{lacks_handed}
 use Rattle.q_device.specs.promises.Worst.{most_of_turn}

@@ -22,9 +22,9 @@ use Rattle.q_model.specs.Tally.{Note}
 use Rattle.q_invariants.proofs.Replays.{IsKept}
 use Rattle.q_invariants.proofs.tree.Forests.{each-nodes}
 use Rattle.q_invariants.proofs.tree.Within.{IsOf}
-use Rattle.q_tree.specs.declared.ways.Link.{Link}
-use Rattle.q_tree.specs.declared.ways.Share.{Share}
-use Rattle.q_tree.specs.Ways.{DrrClass, Way, drrs_on, has_tbf, is_tbf, share_of, way_below, way_from, way_to}
+use Rattle.q_tree.specs.declared.answers.ways.Link.{Link}
+use Rattle.q_tree.specs.declared.answers.ways.Share.{Share}
+use Rattle.q_tree.specs.answers.Ways.{DrrClass, Way, drrs_on, has_tbf, is_tbf, share_of, way_below, way_from, way_to}
 use Rattle.q_device.specs.promises.Promise.{Promise, has_room, lack_of_link, late_of, late_on, part_of, promise_on, rate_of, slack_on}
 use Rattle.q_device.specs.Sharing.{device_after}
 use Rattle.q_laws.specs.line.Line.{IsLink}

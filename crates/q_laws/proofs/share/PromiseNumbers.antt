@@ -6,9 +6,9 @@ use Rattle.std.proofs.lemmas.Bool.{cases_lt}
 use Rattle.std.proofs.lemmas.Grind.{div_ceil_times}
 use Rattle.std.proofs.lemmas.List.Elements.{All-head, All-tail}
 use Rattle.q_bucket.specs.Level.{units_in_byte}
-use Rattle.q_tree.specs.declared.ways.Link.{Link}
-use Rattle.q_tree.specs.declared.ways.Share.{Share}
-use Rattle.q_tree.specs.Ways.{DrrClass, share_of}
+use Rattle.q_tree.specs.declared.answers.ways.Link.{Link}
+use Rattle.q_tree.specs.declared.answers.ways.Share.{Share}
+use Rattle.q_tree.specs.answers.Ways.{DrrClass, share_of}
 use Rattle.q_device.specs.promises.Promise.{lacks_of_bytes, lack_at, late_on, slack_on, part_of}
 use Rattle.q_device.proofs.promises.LackNumbers.{cancel-lt}
 use Rattle.q_laws.specs.rate.Rate.{HasRoom}

@@ -19,7 +19,7 @@ use Rattle.q_model.specs.Stretches.{ClassAt, class_in, IsBackloggedClass}
 use Rattle.q_model.specs.Tally.{Note}
 use Rattle.q_invariants.proofs.class.ClassMoves.{class-node}
 use Rattle.q_invariants.proofs.Replays.{replay-kept}
-use Rattle.q_tree.specs.Ways.{share_among}
+use Rattle.q_tree.specs.answers.Ways.{share_among}
 use Rattle.q_device.specs.Sharing.{device_after}
 use Rattle.q_device.proofs.ClassStretches.{at-start}
 use Rattle.q_laws.specs.share.Calm.{IsCalm, most_of_calm_turn, CalmTurnsAreBounded, CalmClassesWaitAtMost}

@@ -44,9 +44,9 @@ use Rattle.q_invariants.proofs.tree.Members.{All-front}
 use Rattle.q_invariants.proofs.tree.Related.{IsRelated, forget}
 use Rattle.q_invariants.proofs.tree.StepNodes.{Becomes, IsAsked, IsPut, becomes, clock-rises}
 use Rattle.q_invariants.proofs.tree.Within.{IsOf, found, lawful-of}
-use Rattle.q_tree.specs.Lanes.{limit_of}
-use Rattle.q_tree.specs.declared.ways.Share.{Share}
-use Rattle.q_tree.specs.Ways.{share_among}
+use Rattle.q_tree.specs.answers.Lanes.{limit_of}
+use Rattle.q_tree.specs.declared.answers.ways.Share.{Share}
+use Rattle.q_tree.specs.answers.Ways.{share_among}
 use Rattle.q_device.specs.promises.Worst.{most_of_turn}
 use Rattle.q_device.specs.Sharing.{device_after}
 use Rattle.q_device.proofs.ClassStretches.{at-start}

@@ -9,10 +9,10 @@ use Rattle.q_model.specs.Node.{Discipline, Fifo, Prio, Tbf, Drr, FqCodel, Node, 
 use Rattle.q_model.specs.Settings.{DeviceSettings, IsInRange}
 use Rattle.q_model.specs.Step.{DeviceState}
 use Rattle.q_model.specs.Tally.{Note}
-use Rattle.q_tree.specs.declared.ways.Link.{Link}
-use Rattle.q_tree.specs.Lanes.{level_of}
-use Rattle.q_tree.specs.TurnNow.{bytes_before}
-use Rattle.q_tree.specs.Ways.{DrrClass, Way, drrs_on, has_tbf, way_below, way_from, way_to}
+use Rattle.q_tree.specs.declared.answers.ways.Link.{Link}
+use Rattle.q_tree.specs.answers.Lanes.{level_of}
+use Rattle.q_tree.specs.answers.TurnNow.{bytes_before}
+use Rattle.q_tree.specs.answers.Ways.{DrrClass, Way, drrs_on, has_tbf, way_below, way_from, way_to}
 use Rattle.q_device.specs.promises.Latest.{latest_on}
 use Rattle.q_device.specs.Sharing.{device_after}
 use Rattle.q_laws.specs.line.Latest.{IsToldBy, at_best}

@@ -23,9 +23,9 @@ use Rattle.q_model.specs.TreeState.{given}
 use Rattle.q_invariants.proofs.class.ClassMoves.{backlogged-active, class-node}
 use Rattle.q_invariants.proofs.Replays.{IsKept, replay-kept}
 use Rattle.q_invariants.proofs.tree.Within.{IsOf, lawful-of}
-use Rattle.q_tree.specs.declared.ways.Link.{Link}
-use Rattle.q_tree.specs.Lanes.{level_of, limit_of}
-use Rattle.q_tree.specs.Ways.{DrrClass, way_from}
+use Rattle.q_tree.specs.declared.answers.ways.Link.{Link}
+use Rattle.q_tree.specs.answers.Lanes.{level_of, limit_of}
+use Rattle.q_tree.specs.answers.Ways.{DrrClass, way_from}
 use Rattle.q_device.specs.declared.promises.latest.Latest.{Latest}
 use Rattle.q_device.specs.Laws.{given_in}
 use Rattle.q_device.specs.promises.Latest.{counted_level, latest_at, latest_of_bytes, latest_on, paid_at}
@@ -40,7 +40,7 @@ use Rattle.q_laws.specs.share.Service.{HasClasses, all_sent}
 use Rattle.q_laws.specs.turn.FifoTurn.{class_line}
 use Rattle.q_laws.specs.turn.Turn.{shown_by}
 use Rattle.q_laws.specs.turn.TurnLatest.{LatestTurnIsEnough, LatestTurnIsInTime}
-use Rattle.q_tree.specs.TurnNow.{bytes_along, bytes_before, bytes_in_drr}
+use Rattle.q_tree.specs.answers.TurnNow.{bytes_along, bytes_before, bytes_in_drr}
 use Rattle.q_device.specs.promises.Latest.{latest_in_turn}
 use Rattle.q_drr.specs.Waiting.{turn_now}
 use Rattle.q_laws.specs.turn.TurnWorst.{IsTurn, LeadsTo, id_of}

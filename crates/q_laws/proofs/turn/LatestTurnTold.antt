@@ -33,15 +33,15 @@ use Rattle.q_invariants.proofs.Replays.{IsKept, not-before, replay-kept, step-ke
 use Rattle.q_invariants.proofs.tree.Forests.{lawful-with_memory}
 use Rattle.q_invariants.proofs.tree.Related.{forget}
 use Rattle.q_invariants.proofs.tree.Within.{IsOf}
-use Rattle.q_tree.specs.declared.turns.Turn.{Turn}
-use Rattle.q_tree.specs.declared.ways.Link.{Link}
-use Rattle.q_tree.specs.Lanes.{level_of, limit_of}
-use Rattle.q_tree.specs.Turns.{turn_to}
-use Rattle.q_tree.specs.Ways.{DrrClass, way_from, way_to}
+use Rattle.q_tree.specs.declared.answers.turns.Turn.{Turn}
+use Rattle.q_tree.specs.declared.answers.ways.Link.{Link}
+use Rattle.q_tree.specs.answers.Lanes.{level_of, limit_of}
+use Rattle.q_tree.specs.answers.Turns.{turn_to}
+use Rattle.q_tree.specs.answers.Ways.{DrrClass, way_from, way_to}
 use Rattle.q_device.specs.promises.Latest.{latest_on}
 use Rattle.q_device.specs.Sharing.{device_after}
 use Rattle.q_laws.specs.line.Line.{bytes_in, line, line_own}
-use Rattle.q_tree.specs.TurnNow.{bytes_along, bytes_before, bytes_in_drr}
+use Rattle.q_tree.specs.answers.TurnNow.{bytes_along, bytes_before, bytes_in_drr}
 use Rattle.q_device.specs.promises.Latest.{latest_in_turn}
 use Rattle.q_drr.specs.Waiting.{turn_now}
 use Rattle.q_laws.specs.line.Worst.{IsKeptAt, with_arrival}

@@ -1,6 +1,6 @@
 -- The most bytes of a turn, computed from the definition for worked classes.
 use Rattle.std.proofs.Common.{◌≡◌, ℕ, refl}
-use Rattle.q_tree.specs.declared.ways.Share.{Share}
+use Rattle.q_tree.specs.declared.answers.ways.Share.{Share}
 use Rattle.q_device.specs.promises.Worst.{most_of_turn}
 
 share : ℕ → ℕ → ℕ → Share

@@ -23,7 +23,7 @@ use Rattle.q_model.specs.Tally.{Note}
 use Rattle.q_invariants.proofs.class.ClassChildren.{child-has}
 use Rattle.q_invariants.proofs.class.ClassMoves.{ClassNode, class-node, drr-lawful, same-drr}
 use Rattle.q_invariants.proofs.Replays.{IsKept, replay-kept}
-use Rattle.q_tree.specs.Ways.{share_among}
+use Rattle.q_tree.specs.answers.Ways.{share_among}
 use Rattle.q_device.specs.promises.Worst.{most_of_turn}
 use Rattle.q_device.specs.Sharing.{device_after}
 use Rattle.q_device.proofs.ClassStretches.{at-start, deficits-bounded}

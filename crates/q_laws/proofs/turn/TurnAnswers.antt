@@ -11,12 +11,12 @@ use Rattle.q_model.specs.Find.{class_path}
 use Rattle.q_model.specs.Node.{Discipline, Fifo, Prio, Tbf, Drr, FqCodel, Node, children}
 use Rattle.q_model.specs.Settings.{DeviceSettings}
 use Rattle.q_model.specs.Tally.{Note}
-use Rattle.q_tree.specs.declared.lanes.Lane.{Lane}
-use Rattle.q_tree.specs.declared.turns.Turn.{Turn}
-use Rattle.q_tree.specs.declared.ways.Link.{Link}
-use Rattle.q_tree.specs.Lanes.{is_prio, lane_below, lane_from, lane_to, limit_along}
-use Rattle.q_tree.specs.Turns.{limit_in, turn_on, turn_to}
-use Rattle.q_tree.specs.Ways.{DrrClass, Way, class_of_drr, drr_class, drrs_on, has_tbf, shares_of, way_below, way_from, way_to}
+use Rattle.q_tree.specs.declared.answers.lanes.Lane.{Lane}
+use Rattle.q_tree.specs.declared.answers.turns.Turn.{Turn}
+use Rattle.q_tree.specs.declared.answers.ways.Link.{Link}
+use Rattle.q_tree.specs.answers.Lanes.{is_prio, lane_below, lane_from, lane_to, limit_along}
+use Rattle.q_tree.specs.answers.Turns.{limit_in, turn_on, turn_to}
+use Rattle.q_tree.specs.answers.Ways.{DrrClass, Way, class_of_drr, drr_class, drrs_on, has_tbf, shares_of, way_below, way_from, way_to}
 use Rattle.q_device.specs.promises.Worst.{worst_in_turn, worst_on}
 use Rattle.q_device.specs.Sharing.{device_after}
 use Rattle.q_laws.specs.turn.TurnWorst.{TurnIsAnswered}

@@ -32,7 +32,7 @@ use Rattle.q_invariants.proofs.Replays.{IsKept}
 use Rattle.q_invariants.proofs.sums.Told.{noted-history}
 use Rattle.q_invariants.proofs.tree.Forests.{lawful-with_memory, nodes-side}
 use Rattle.q_invariants.proofs.tree.Within.{found, lawful-of}
-use Rattle.q_tree.specs.Lanes.{limit_of}
+use Rattle.q_tree.specs.answers.Lanes.{limit_of}
 use Rattle.q_laws.specs.share.Service.{HasClasses}
 use Rattle.q_laws.specs.turn.Turn.{shown_by}
 use Rattle.q_laws.proofs.rate.LinkAsks.{GaveAt, Leaves, drr-takes, held-takes}

@@ -24,8 +24,8 @@ use Rattle.q_invariants.proofs.class.ClassChildren.{child-at, place_in}
 use Rattle.q_invariants.proofs.Replays.{IsKept, not-before, replay-kept, step-kept}
 use Rattle.q_invariants.proofs.tree.Members.{All-front}
 use Rattle.q_invariants.proofs.tree.StepNodes.{clock-rises}
-use Rattle.q_tree.specs.declared.ways.Link.{Link}
-use Rattle.q_tree.specs.Ways.{share_among}
+use Rattle.q_tree.specs.declared.answers.ways.Link.{Link}
+use Rattle.q_tree.specs.answers.Ways.{share_among}
 use Rattle.q_device.specs.promises.Worst.{most_of_turn}
 use Rattle.q_device.specs.Sharing.{device_after}
 use Rattle.q_device.proofs.ClassStretches.{at-start}

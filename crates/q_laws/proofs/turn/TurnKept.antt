@@ -22,9 +22,9 @@ use Rattle.q_model.specs.Tally.{Note, history}
 use Rattle.q_model.specs.TreeState.{given}
 use Rattle.q_invariants.proofs.Replays.{IsKept, replay-kept}
 use Rattle.q_invariants.proofs.tree.Members.{All-front}
-use Rattle.q_tree.specs.declared.ways.Link.{Link}
-use Rattle.q_tree.specs.Turns.{turn_to}
-use Rattle.q_tree.specs.Ways.{DrrClass, drrs_on, share_of, way_to}
+use Rattle.q_tree.specs.declared.answers.ways.Link.{Link}
+use Rattle.q_tree.specs.answers.Turns.{turn_to}
+use Rattle.q_tree.specs.answers.Ways.{DrrClass, drrs_on, share_of, way_to}
 use Rattle.q_device.specs.Laws.{given_in}
 use Rattle.q_device.specs.promises.Promise.{late_on}
 use Rattle.q_device.specs.promises.Worst.{bytes_in_turn, most_bytes, most_of_turn, time_of}

@@ -31,18 +31,18 @@ use Rattle.q_invariants.proofs.tree.Quiet.{child-lawful}
 use Rattle.q_invariants.proofs.tree.Related.{forget}
 use Rattle.q_invariants.proofs.tree.Ways.{route-goes}
 use Rattle.q_invariants.proofs.tree.Within.{IsOf}
-use Rattle.q_tree.specs.declared.turns.Turn.{Turn}
-use Rattle.q_tree.specs.declared.ways.Link.{Link}
-use Rattle.q_tree.specs.declared.ways.Share.{Share}
-use Rattle.q_tree.specs.Lanes.{limit_of}
-use Rattle.q_tree.specs.Turns.{limit_in, turn_on, turn_to}
-use Rattle.q_tree.specs.Ways.{DrrClass, Way, drr_class, drrs_on, has_tbf, shares_of, way_below, way_from, way_to}
+use Rattle.q_tree.specs.declared.answers.turns.Turn.{Turn}
+use Rattle.q_tree.specs.declared.answers.ways.Link.{Link}
+use Rattle.q_tree.specs.declared.answers.ways.Share.{Share}
+use Rattle.q_tree.specs.answers.Lanes.{limit_of}
+use Rattle.q_tree.specs.answers.Turns.{limit_in, turn_on, turn_to}
+use Rattle.q_tree.specs.answers.Ways.{DrrClass, Way, drr_class, drrs_on, has_tbf, shares_of, way_below, way_from, way_to}
 use Rattle.q_device.specs.promises.Worst.{most_bytes}
 use Rattle.q_device.specs.Sharing.{device_after}
 use Rattle.q_device.proofs.ClassStretches.{mtu-stays}
 use Rattle.q_laws.specs.line.Line.{bytes_in, line, line_own}
 use Rattle.q_laws.specs.turn.FifoTurn.{class_line}
-use Rattle.q_tree.specs.TurnNow.{bytes_along}
+use Rattle.q_tree.specs.answers.TurnNow.{bytes_along}
 use Rattle.q_laws.specs.line.Worst.{EndsWithin, with_arrival}
 use Rattle.q_laws.specs.turn.TurnWorst.{TurnsKeepLimits, id_of, turn_of}
 use Rattle.q_laws.proofs.line.LanePuts.{IsPutLast, lane-puts}

@@ -31,7 +31,7 @@ use Rattle.q_invariants.proofs.sums.Risen.{all-rise}
 use Rattle.q_invariants.proofs.sums.Told.{noted-history}
 use Rattle.q_invariants.proofs.tree.Related.{forget}
 use Rattle.q_invariants.proofs.tree.StepNodes.{Becomes, IsAsked, becomes}
-use Rattle.q_tree.specs.declared.ways.Link.{Link}
+use Rattle.q_tree.specs.declared.answers.ways.Link.{Link}
 use Rattle.q_device.specs.Laws.{given_in}
 use Rattle.q_device.specs.Sharing.{device_after}
 use Rattle.q_laws.specs.line.Line.{bytes_in}

@@ -19,8 +19,8 @@ use Rattle.q_invariants.proofs.Replays.{IsKept, not-before, step-kept}
 use Rattle.q_invariants.proofs.tree.Forests.{lawful-with_memory}
 use Rattle.q_invariants.proofs.tree.Related.{forget}
 use Rattle.q_invariants.proofs.tree.Within.{IsOf, found, lawful-of}
-use Rattle.q_tree.specs.declared.ways.Link.{Link}
-use Rattle.q_tree.specs.Lanes.{limit_of}
+use Rattle.q_tree.specs.declared.answers.ways.Link.{Link}
+use Rattle.q_tree.specs.answers.Lanes.{limit_of}
 use Rattle.q_laws.specs.line.Line.{IsLink}
 use Rattle.q_laws.specs.share.Service.{HasClasses, IsClass, classes_of}
 use Rattle.q_laws.specs.turn.FifoTurn.{IsFifoClass}

@@ -12,7 +12,7 @@ use Rattle.q_model.specs.declared.place.Place.{Place}
 use Rattle.q_model.specs.declared.place.Place.TheVariants.{Root, Class}
 use Rattle.q_model.specs.declared.tbf_limit.TbfLimit.TheVariants as limit
 use Rattle.q_model.specs.Settings.{DeviceSettings}
-use Rattle.q_tree.specs.declared.ways.Link.{Link}
+use Rattle.q_tree.specs.declared.answers.ways.Link.{Link}
 use Rattle.q_device.specs.declared.promises.worst.Worst.{Worst}
 use Rattle.q_device.specs.promises.Worst.{worst_of, worst_in_turn}
 use Rattle.q_device.specs.Sharing.{device_after}

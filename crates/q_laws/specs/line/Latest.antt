@@ -14,9 +14,9 @@ use Rattle.q_model.specs.Settings.{DeviceSettings}
 use Rattle.q_model.specs.Step.{step}
 use Rattle.q_model.specs.Stretches.{Throughout}
 use Rattle.q_model.specs.Tally.{history}
-use Rattle.q_tree.specs.declared.lanes.Lane.{Lane}
-use Rattle.q_tree.specs.declared.ways.Link.{Link}
-use Rattle.q_tree.specs.Lanes.{lane_to}
+use Rattle.q_tree.specs.declared.answers.lanes.Lane.{Lane}
+use Rattle.q_tree.specs.declared.answers.ways.Link.{Link}
+use Rattle.q_tree.specs.answers.Lanes.{lane_to}
 use Rattle.q_device.specs.declared.promises.latest.Latest.{Latest}
 use Rattle.q_device.specs.Laws.{given_in}
 use Rattle.q_device.specs.promises.Latest.{latest_of, paid_at}

@@ -17,7 +17,7 @@ use Rattle.q_model.specs.Settings.{DeviceSettings}
 use Rattle.q_model.specs.Step.{DeviceState, step}
 use Rattle.q_model.specs.Stretches.{TbfAt, tbf_in, IsTbf, Throughout}
 use Rattle.q_model.specs.Tally.{Note, history}
-use Rattle.q_tree.specs.Ways.{is_tbf}
+use Rattle.q_tree.specs.answers.Ways.{is_tbf}
 use Rattle.q_device.specs.Laws.{given_in}
 use Rattle.q_device.specs.Sharing.{device_after}
 use Rattle.q_laws.specs.order.Order.{answers}

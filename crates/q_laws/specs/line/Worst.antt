@@ -17,9 +17,9 @@ use Rattle.q_model.specs.Settings.{DeviceSettings}
 use Rattle.q_model.specs.Step.{DeviceState, step}
 use Rattle.q_model.specs.Stretches.{Throughout}
 use Rattle.q_model.specs.Tally.{Note, history}
-use Rattle.q_tree.specs.declared.lanes.Lane.{Lane}
-use Rattle.q_tree.specs.declared.ways.Link.{Link}
-use Rattle.q_tree.specs.Lanes.{lane_to}
+use Rattle.q_tree.specs.declared.answers.lanes.Lane.{Lane}
+use Rattle.q_tree.specs.declared.answers.ways.Link.{Link}
+use Rattle.q_tree.specs.answers.Lanes.{lane_to}
 use Rattle.q_device.specs.declared.promises.worst.Worst.{Worst}
 use Rattle.q_device.specs.Laws.{given_in}
 use Rattle.q_device.specs.promises.Worst.{most_bytes, worst_on}

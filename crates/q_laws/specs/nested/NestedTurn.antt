@@ -14,9 +14,9 @@ use Rattle.q_model.specs.Settings.{DeviceSettings}
 use Rattle.q_model.specs.Step.{DeviceState, step}
 use Rattle.q_model.specs.Stretches.{bytes_sent, length_held, qdisc, Throughout}
 use Rattle.q_model.specs.Tally.{Note, history}
-use Rattle.q_tree.specs.declared.ways.Link.{Link}
-use Rattle.q_tree.specs.declared.ways.Share.{Share}
-use Rattle.q_tree.specs.Ways.{DrrClass, share_among, share_of, way_to}
+use Rattle.q_tree.specs.declared.answers.ways.Link.{Link}
+use Rattle.q_tree.specs.declared.answers.ways.Share.{Share}
+use Rattle.q_tree.specs.answers.Ways.{DrrClass, share_among, share_of, way_to}
 use Rattle.q_device.specs.Laws.{given_in}
 use Rattle.q_device.specs.promises.Worst.{most_held, most_of_turn, time_of}
 use Rattle.q_device.specs.Sharing.{device_after}

@@ -13,8 +13,8 @@ use Rattle.q_model.specs.Step.{DeviceState, step}
 use Rattle.q_model.specs.Stretches.{bytes_spent, TbfAt, tbf_in, IsTbf, Throughout}
 use Rattle.q_model.specs.Tally.{Note, history}
 use Rattle.q_model.specs.TreeState.{given}
-use Rattle.q_tree.specs.ReadyAt.{ready_at}
-use Rattle.q_tree.specs.Ways.{is_tbf}
+use Rattle.q_tree.specs.answers.ReadyAt.{ready_at}
+use Rattle.q_tree.specs.answers.Ways.{is_tbf}
 use Rattle.q_device.specs.Sharing.{device_after}
 
 -- ---- a level that is not cut

@@ -11,8 +11,8 @@ use Rattle.q_model.specs.Beneath.{is_empty}
 use Rattle.q_model.specs.Events.{IsEvent}
 use Rattle.q_model.specs.Settings.{DeviceSettings}
 use Rattle.q_model.specs.Stretches.{ClassAt, class_in, IsBackloggedClass, Throughout}
-use Rattle.q_tree.specs.declared.ways.Share.{Share}
-use Rattle.q_tree.specs.Ways.{share_among}
+use Rattle.q_tree.specs.declared.answers.ways.Share.{Share}
+use Rattle.q_tree.specs.answers.Ways.{share_among}
 use Rattle.q_device.specs.Sharing.{device_after}
 use Rattle.q_laws.specs.share.Service.{class_sent, IsClass, HasClasses, quanta_of, all_sent}
 use Rattle.q_laws.specs.turn.MostOfTurn.{share_in}

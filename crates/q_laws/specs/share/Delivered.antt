@@ -8,9 +8,9 @@ use Rattle.q_model.specs.Settings.{DeviceSettings}
 use Rattle.q_model.specs.Step.{DeviceState}
 use Rattle.q_model.specs.Stretches.{IsBackloggedClass, Throughout}
 use Rattle.q_model.specs.Tally.{Note}
-use Rattle.q_tree.specs.declared.ways.Link.{Link}
-use Rattle.q_tree.specs.declared.ways.Share.{Share}
-use Rattle.q_tree.specs.Ways.{DrrClass, share_of, shares_of, way_to}
+use Rattle.q_tree.specs.declared.answers.ways.Link.{Link}
+use Rattle.q_tree.specs.declared.answers.ways.Share.{Share}
+use Rattle.q_tree.specs.answers.Ways.{DrrClass, share_of, shares_of, way_to}
 use Rattle.q_device.specs.promises.Promise.{Promise, lack_of_link, part_of, promise_on}
 use Rattle.q_device.specs.Sharing.{device_after}
 use Rattle.q_laws.specs.rate.Rate.{HasRoom, IsDrained, IsPolledOut}

@@ -13,8 +13,8 @@ use Rattle.q_model.specs.Settings.{DeviceSettings}
 use Rattle.q_model.specs.Step.{DeviceState, step}
 use Rattle.q_model.specs.Stretches.{ClassAt, class_in, Throughout}
 use Rattle.q_model.specs.Tally.{Note, history}
-use Rattle.q_tree.specs.Lanes.{limit_of}
-use Rattle.q_tree.specs.Ways.{share_among}
+use Rattle.q_tree.specs.answers.Lanes.{limit_of}
+use Rattle.q_tree.specs.answers.Ways.{share_among}
 use Rattle.q_device.specs.promises.Worst.{most_of_turn}
 use Rattle.q_device.specs.Sharing.{device_after}
 use Rattle.q_laws.specs.line.Line.{bytes_in, line, BeginsWith}

@@ -8,8 +8,8 @@ use Rattle.q_model.specs.declared.event.Event.{Event}
 use Rattle.q_model.specs.Events.{IsEvent}
 use Rattle.q_model.specs.Settings.{DeviceSettings}
 use Rattle.q_model.specs.Stretches.{ClassAt, class_in, IsBackloggedClass, Throughout}
-use Rattle.q_tree.specs.declared.ways.Share.{Share}
-use Rattle.q_tree.specs.Ways.{share_among}
+use Rattle.q_tree.specs.declared.answers.ways.Share.{Share}
+use Rattle.q_tree.specs.answers.Ways.{share_among}
 use Rattle.q_device.specs.promises.Worst.{most_of_turn}
 use Rattle.q_device.specs.Sharing.{device_after}
 use Rattle.q_laws.specs.share.Service.{HasClasses, all_sent}

@@ -13,10 +13,10 @@ use Rattle.q_model.specs.Step.{step}
 use Rattle.q_model.specs.Stretches.{length_held, Throughout}
 use Rattle.q_model.specs.Tally.{history}
 use Rattle.q_model.specs.TreeState.{given}
-use Rattle.q_tree.specs.declared.turns.Turn.{Turn}
-use Rattle.q_tree.specs.declared.ways.Link.{Link}
-use Rattle.q_tree.specs.Turns.{turn_to}
-use Rattle.q_tree.specs.Ways.{DrrClass}
+use Rattle.q_tree.specs.declared.answers.turns.Turn.{Turn}
+use Rattle.q_tree.specs.declared.answers.ways.Link.{Link}
+use Rattle.q_tree.specs.answers.Turns.{turn_to}
+use Rattle.q_tree.specs.answers.Ways.{DrrClass}
 use Rattle.q_device.specs.declared.promises.latest.Latest.{Latest}
 use Rattle.q_device.specs.Laws.{given_in}
 use Rattle.q_device.specs.Sharing.{device_after}

@@ -17,10 +17,10 @@ use Rattle.q_model.specs.Step.{DeviceState, step}
 use Rattle.q_model.specs.Stretches.{length_held, qdisc, Throughout}
 use Rattle.q_model.specs.Tally.{Note, history}
 use Rattle.q_model.specs.TreeState.{given}
-use Rattle.q_tree.specs.declared.turns.Turn.{Turn}
-use Rattle.q_tree.specs.declared.ways.Link.{Link}
-use Rattle.q_tree.specs.Turns.{turn_to}
-use Rattle.q_tree.specs.Ways.{DrrClass, share_of, way_to}
+use Rattle.q_tree.specs.declared.answers.turns.Turn.{Turn}
+use Rattle.q_tree.specs.declared.answers.ways.Link.{Link}
+use Rattle.q_tree.specs.answers.Turns.{turn_to}
+use Rattle.q_tree.specs.answers.Ways.{DrrClass, share_of, way_to}
 use Rattle.q_device.specs.declared.promises.worst.Worst.{Worst}
 use Rattle.q_device.specs.Laws.{given_in}
 use Rattle.q_device.specs.promises.Worst.{most_bytes, worst_in_turn, worst_of}

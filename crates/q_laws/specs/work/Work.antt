@@ -18,7 +18,7 @@ use Rattle.q_model.specs.Settings.{DeviceSettings}
 use Rattle.q_model.specs.Step.{DeviceState, step}
 use Rattle.q_model.specs.Stretches.{qdisc}
 use Rattle.q_model.specs.Tally.{Note, history}
-use Rattle.q_tree.specs.Ways.{is_tbf}
+use Rattle.q_tree.specs.answers.Ways.{is_tbf}
 use Rattle.q_device.specs.Sharing.{device_after}
 
 -- neither the node nor one below it is a tbf

@@ -8,9 +8,9 @@ ghost use Rattle.q_model.specs.Node.{shape};
 ghost use Rattle.q_model.specs.Ranges.{IsCommand};
 ghost use Rattle.q_model.specs.declared.command.Command.TheVariants.{QdiscChange};
 ghost use Rattle.q_model.specs.declared.kind.Kind.TheVariants as kind;
-ghost use Rattle.q_tree.specs.Changing.{IsChange, NeedsMore};
-ghost use Rattle.q_tree.specs.Commands.{IsAnswered, plan_of, told};
-ghost use Rattle.q_tree.specs.Planning.{IsLawful, IsPlanBy, device_of, planned_by, root_of};
+ghost use Rattle.q_tree.specs.commands.Changing.{IsChange, NeedsMore};
+ghost use Rattle.q_tree.specs.commands.Commands.{IsAnswered, plan_of, told};
+ghost use Rattle.q_tree.specs.commands.Planning.{IsLawful, IsPlanBy, device_of, planned_by, root_of};
 
 use crate::commands::discipline_change::DisciplineChange;
 use crate::commands::edit::Edit;

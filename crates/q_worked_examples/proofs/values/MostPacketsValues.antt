@@ -6,7 +6,7 @@ use Rattle.q_model.specs.declared.event.Event.{Event}
 use Rattle.q_model.specs.declared.kind.Kind.TheVariants.{Pfifo, Bfifo, Tbf, Drr, FqCodel}
 use Rattle.q_model.specs.declared.place.Place.TheVariants.{Root}
 use Rattle.q_model.specs.declared.tbf_limit.TbfLimit.TheVariants.{Bytes}
-use Rattle.q_tree.specs.MostPackets.{most_packets}
+use Rattle.q_tree.specs.answers.MostPackets.{most_packets}
 use Rattle.q_worked_examples.proofs.scripts.Script.{run, packet, from_port, arrives, polls, tc, add_root, add_in, add_class, filter_port, no_options}
 use Rattle.q_worked_examples.proofs.SharedRules.{shared_rules}
 

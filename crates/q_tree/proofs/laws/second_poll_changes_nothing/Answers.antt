@@ -6,7 +6,7 @@ use Rattle.q_invariants.proofs.Kept.{IsLawfulRoot}
 use Rattle.q_invariants.proofs.tree.Forests.{lawful-with_memory}
 use Rattle.q_tree.specs.Kept.{Kept}
 use Rattle.q_tree.specs.TreeSeen.{tree_seen}
-use Rattle.q_tree.proofs.PolledTwice.{IsPolledTwice, polled-twice}
+use Rattle.q_tree.proofs.laws.PolledTwice.{IsPolledTwice, polled-twice}
 use Rattle.q_tree.proofs.TreeLemmas.{lawful-root, least-mtu}
 use Rattle.q_tree.proofs.laws.second_poll_changes_nothing.Goals.{After-ns}
 use Rattle.q_tree.proofs.laws.second_poll_changes_nothing.Goals as goal

@@ -8,9 +8,9 @@ use Rattle.q_model.specs.declared.fate.Fate.TheVariants.{Kept}
 use Rattle.q_model.specs.Beneath.{beneath}
 use Rattle.q_model.specs.Step.{DeviceState}
 use Rattle.q_codel.specs.Bursts.{IsShort}
+use Rattle.q_tree.specs.arrival.KeepSteps.{CanBeKeptBelow}
 use Rattle.q_tree.specs.Bursts.{room_at}
-use Rattle.q_tree.specs.GiveSteps.{IsNoFifo}
-use Rattle.q_tree.specs.KeepSteps.{CanBeKeptBelow}
+use Rattle.q_tree.specs.departure.GiveSteps.{IsNoFifo}
 use Rattle.q_tree.specs.Kept as code
 use Rattle.q_device.specs.declared.device.Device.TheInside.{Inside}
 use Rattle.q_device.specs.device.Bursts.{arrived_by, budget_at, fates_by}

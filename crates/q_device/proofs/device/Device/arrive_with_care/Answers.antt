@@ -8,7 +8,7 @@ use Rattle.q_model.specs.Ranges.{HasPacketFields}
 use Rattle.q_model.specs.Step.{fate_of, losses_in, step}
 use Rattle.q_model.specs.Tally.{totals, with_packet}
 use Rattle.q_model.specs.TreeState.{noted_by_put, own_loss}
-use Rattle.q_tree.specs.Places.{places_at}
+use Rattle.q_tree.specs.arrival.Places.{places_at}
 use Rattle.q_tree.specs.TreeSeen.{numbers}
 use Rattle.q_device.specs.declared.device.Device.TheInside.{Inside}
 use Rattle.q_device.specs.Counters.{HasNotFallen}

@@ -8,8 +8,8 @@ use Rattle.q_model.specs.declared.refusal.Refusal.{Refusal}
 use Rattle.q_model.specs.Node.{shape}
 use Rattle.q_model.specs.Step.{step}
 use Rattle.q_model.specs.Tally.{totals}
-use Rattle.q_tree.specs.Commands.{IsRefused, plan_of}
-use Rattle.q_tree.specs.Commanding.{MayTakeMemory, WantsMemory}
+use Rattle.q_tree.specs.commands.Commanding.{MayTakeMemory, WantsMemory}
+use Rattle.q_tree.specs.commands.Commands.{IsRefused, plan_of}
 use Rattle.q_tree.specs.TreeSeen.{numbers}
 use Rattle.q_device.specs.declared.device.Device.TheInside.{Inside}
 use Rattle.q_device.specs.Counters.{HasNotFallen}

@@ -1,5 +1,5 @@
 use Rattle.std.proofs.Common.{◌∙◌, sym, ap}
-use Rattle.q_tree.specs.Lanes.{lane_to}
+use Rattle.q_tree.specs.answers.Lanes.{lane_to}
 use Rattle.q_device.specs.device.DeviceSeen.{DeviceSeen}
 use Rattle.q_device.proofs.device.Device.lane_at.Goals as goal
 use Rattle.q_device.proofs.promises.WorstStands.{lane-stands}

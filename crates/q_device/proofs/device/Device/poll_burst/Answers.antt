@@ -1,8 +1,8 @@
 use Rattle.std.proofs.Common.{◌≡◌, ◌∙◌, ℕ, length, sym, ap, ap₂, subst, arith}
 use Rattle.std.proofs.lemmas.Bool.{ltb-false}
 use Rattle.q_model.specs.Step.{DeviceState}
-use Rattle.q_tree.specs.Kept as code
 use Rattle.q_tree.specs.Bursts.{polled_each}
+use Rattle.q_tree.specs.Kept as code
 use Rattle.q_tree.specs.Kept.{kept}
 use Rattle.q_device.specs.declared.device.Device.TheInside.{Inside}
 use Rattle.q_device.specs.device.Bursts.{AreGivenAt, after_polls}

@@ -1,5 +1,5 @@
 use Rattle.std.proofs.Common.{◌∙◌, sym, ap}
-use Rattle.q_tree.specs.Turns.{turn_to}
+use Rattle.q_tree.specs.answers.Turns.{turn_to}
 use Rattle.q_device.specs.device.DeviceSeen.{DeviceSeen}
 use Rattle.q_device.proofs.device.Device.turn_at.Goals as goal
 use Rattle.q_device.proofs.promises.WorstStands.{turn-stands}

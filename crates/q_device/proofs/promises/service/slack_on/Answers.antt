@@ -1,7 +1,7 @@
 use Rattle.std.proofs.Common.{subst}
 use Rattle.std.specs.Prelude.{All}
 use Rattle.std.proofs.lemmas.List.Elements.{All-tail}
-use Rattle.q_tree.specs.Ways.{IsShare}
+use Rattle.q_tree.specs.answers.Ways.{IsShare}
 use Rattle.q_device.proofs.promises.service.slack_on.Goals as goal
 
 pub lack_at-slack-requires-in-loop-share-clause-share : goal.lack_at-slack-requires-in-loop-share-clause-share
