@@ -10,3 +10,5 @@ pub use Rattle.q_device.proofs.laws.ClassStretches
 pub use Rattle.q_device.proofs.laws.CountLemmas
 pub use Rattle.q_device.proofs.laws.ReplayLemmas
 pub use Rattle.q_device.proofs.laws.ShrinkLemmas
+pub use Rattle.q_device.proofs.promises.LackNumbers
+pub use Rattle.q_device.proofs.promises.WorstStands

@@ -1,4 +1,10 @@
 pub mod TreeLemmas
+pub use Rattle.q_tree.proofs.answers.Foreseeing
+pub use Rattle.q_tree.proofs.answers.ForeseenAsks
+pub use Rattle.q_tree.proofs.answers.MostPacketsLemmas
+pub use Rattle.q_tree.proofs.answers.MostPacketsTrees
+pub use Rattle.q_tree.proofs.answers.WayLemmas
+pub use Rattle.q_tree.proofs.arrival.Arriving
 pub use Rattle.q_tree.proofs.commands.Plans
 pub use Rattle.q_tree.proofs.disciplines.FlowCounts
 pub use Rattle.q_tree.proofs.laws.OtherSubtrees

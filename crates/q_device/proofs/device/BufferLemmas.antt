@@ -19,8 +19,8 @@ use Rattle.q_invariants.proofs.edit.EditLater.{root-later}
 use Rattle.q_invariants.proofs.Kept.{IsLawfulRoot}
 use Rattle.q_invariants.proofs.Replays.{IsKept, not-before, not-after, step-kept, replay-kept}
 use Rattle.q_tree.specs.answers.MostPackets.{most_packets}
-use Rattle.q_tree.proofs.answers.MostPacketsLemmas.{queued-within-most}
-use Rattle.q_tree.proofs.answers.MostPacketsTrees.{put-least, take-least}
+use Rattle.q_tree.proofs.MostPacketsLemmas.{queued-within-most}
+use Rattle.q_tree.proofs.MostPacketsTrees.{put-least, take-least}
 use Rattle.q_device.specs.Buffers.{AcceptsNoCommand, NoMoreIsHeld}
 use Rattle.q_device.specs.Sharing.{device_after}
 

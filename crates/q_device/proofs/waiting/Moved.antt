@@ -9,8 +9,8 @@ use Rattle.q_model.specs.Ask.{Asked, befores}
 use Rattle.q_invariants.proofs.again.SecondPrio.{ready, ready-here, ready-later}
 use Rattle.q_invariants.proofs.ask.AskPrio.{peeked_to}
 use Rattle.q_tree.specs.answers.ReadyAt.{no_packet, at_hand, shaped, with_band, with_bands, outlook}
-use Rattle.q_tree.proofs.answers.Foreseeing.{Covers, lets-go}
-use Rattle.q_tree.proofs.answers.ForeseenAsks.{or_else, first_of}
+use Rattle.q_tree.proofs.Foreseeing.{Covers, lets-go}
+use Rattle.q_tree.proofs.ForeseenAsks.{or_else, first_of}
 use Rattle.q_device.proofs.waiting.Renewed.{Outlook, IsOpen, Formed, never, covers-in, ahead-sooner, shaped-covers, known-covers}
 use Rattle.q_device.proofs.waiting.RenewedBands.{band-cases, either}
 

@@ -31,8 +31,8 @@ use Rattle.q_invariants.proofs.ask.AskPrio.{peeked_to, notes_to}
 use Rattle.q_invariants.proofs.ask.DrrService.{IsMetAt, met-asked}
 use Rattle.q_invariants.proofs.class.Exact.{classes-served, exact-length}
 use Rattle.q_tree.specs.answers.ReadyAt.{no_packet, with_bands, paid, of_fifo, of_flows, of_class, outlook}
-use Rattle.q_tree.proofs.answers.Foreseeing.{Covers}
-use Rattle.q_tree.proofs.answers.ForeseenAsks.{prio-shown}
+use Rattle.q_tree.proofs.Foreseeing.{Covers}
+use Rattle.q_tree.proofs.ForeseenAsks.{prio-shown}
 use Rattle.q_fqcodel.proofs.FlowsShow.{take_leaves_none}
 use Rattle.q_device.proofs.waiting.Moved.{Moves, none-moves, hand-moves, IsMoved, AreMoved, bands-move, shaped-hidden, shaped-waits}
 use Rattle.q_device.proofs.waiting.Renewed.{Outlook}

@@ -7,7 +7,7 @@ use Rattle.std.proofs.lemmas.Option.{none-some}
 use Rattle.q_packet.specs.Descriptor.{Descriptor}
 use Rattle.q_bucket.specs.Level.{TokenBucket, IsInRange, units_in_byte, level_at}
 use Rattle.q_tree.specs.answers.ReadyAt.{later, is_before, sooner, no_packet, at_hand, at_best, covers_at, shaped_after, shaped_known, shaped}
-use Rattle.q_tree.proofs.answers.Foreseeing.{Foresees, Covers, covered, covers-some, lets-go}
+use Rattle.q_tree.proofs.Foreseeing.{Foresees, Covers, covered, covers-some, lets-go}
 
 -- what is known of a node, as q_tree has it
 abbrev result_of : {A B C : Type 0} → (A → B → C) → Type 0

@@ -31,9 +31,9 @@ use Rattle.q_invariants.proofs.ask.AskPrio.{peeked_to, notes_to}
 use Rattle.q_invariants.proofs.class.Exact.{exact-length}
 use Rattle.q_invariants.proofs.tree.Forests.{each-side}
 use Rattle.q_tree.specs.answers.ReadyAt.{no_packet, at_best, shaped, with_bands, paid, of_fifo, of_flows, of_class, outlook_own, outlook}
-use Rattle.q_tree.proofs.answers.Foreseeing.{Foresees, Covers}
-use Rattle.q_tree.proofs.answers.ForeseenAsks.{Follows, follows}
 use Rattle.q_tree.proofs.FlowCounts.{one, packets-all}
+use Rattle.q_tree.proofs.Foreseeing.{Foresees, Covers}
+use Rattle.q_tree.proofs.ForeseenAsks.{Follows, follows}
 use Rattle.q_device.proofs.waiting.Renewed.{Outlook, Formed, Renews, covers-in, comes-before, none-formed, none-renews, hand-renews, held-renews, best-formed, best-renews, shaped-renews}
 use Rattle.q_device.proofs.waiting.RenewedBands.{AllRenew, bands-renew, paid-at, paid-least, paid-open, paid-renews, past-renews}
 

@@ -5,7 +5,7 @@ use Rattle.std.specs.Option.{option_map_or}
 use Rattle.std.proofs.lemmas.Bool.{cases_Bool, cond-true, cond-false, leb-true, leb-false, ltb-true, ltb-false}
 use Rattle.std.proofs.lemmas.Option.{none-some}
 use Rattle.q_tree.specs.answers.ReadyAt.{sooner, at_best, joined, with_next, after_first, with_band, with_bands, if_paid, paid}
-use Rattle.q_tree.proofs.answers.Foreseeing.{Covers}
+use Rattle.q_tree.proofs.Foreseeing.{Covers}
 use Rattle.q_device.proofs.waiting.Renewed.{Outlook, IsOpen, Stays, Formed, Renews, never, covers-in, covers-late, comes-before, sooner-ahead, ahead-sooner, sooner-covers, same-some, best-closed, best-formed}
 
 -- a moment that none comes by

@@ -16,8 +16,8 @@ use Rattle.q_invariants.proofs.ask.Asks.{before-is, before-root, beneath-befores
 use Rattle.q_invariants.proofs.Kept.{AllLawful, IsLawfulRoot}
 use Rattle.q_invariants.proofs.sums.Told.{root-booked}
 use Rattle.q_tree.specs.answers.ReadyAt.{outlook_own, outlook}
-use Rattle.q_tree.proofs.answers.Foreseeing.{Foresees}
-use Rattle.q_tree.proofs.answers.ForeseenAsks.{foreseen}
+use Rattle.q_tree.proofs.Foreseeing.{Foresees}
+use Rattle.q_tree.proofs.ForeseenAsks.{foreseen}
 use Rattle.q_device.proofs.waiting.Renewed.{Outlook, Renews}
 use Rattle.q_device.proofs.waiting.RenewedAsks.{IsRenewed, AreRenewed, asked-outlook, befores-renew, aged, asked-renews}
 

@@ -9,7 +9,7 @@ use Rattle.q_drr.proofs.TakeLemmas.{Front, served_nothing}
 use Rattle.q_model.specs.Ask.{Asked, class_answer, length_of, head_of, place_met, ask_drr}
 use Rattle.q_model.specs.Node.{Own}
 use Rattle.q_model.specs.Route.{class_at}
-use Rattle.q_tree.proofs.answers.ForeseenAsks.{met-shown}
+use Rattle.q_tree.proofs.ForeseenAsks.{met-shown}
 
 headless : (o : Option Asked) → option_and_then (λ (a : Asked). a.shown) o ≡ None → option_and_then length_of o ≡ None
 headless None e = refl

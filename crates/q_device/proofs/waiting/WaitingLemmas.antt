@@ -21,7 +21,7 @@ use Rattle.q_model.proofs.ShrinkLemmas.{each-each_memory}
 use Rattle.q_invariants.proofs.again.SecondPeeks.{lawful-shape}
 use Rattle.q_invariants.proofs.Replays.{not-after, not-before}
 use Rattle.q_tree.specs.answers.ReadyAt.{is_before, is_sure, outlook}
-use Rattle.q_tree.proofs.answers.Foreseeing.{Foresees, Covers}
+use Rattle.q_tree.proofs.Foreseeing.{Foresees, Covers}
 use Rattle.q_device.specs.device.DeviceSeen.{DeviceSeen}
 use Rattle.q_device.specs.DeviceLaws.{IsReplayed}
 use Rattle.q_device.proofs.laws.LawfulLemmas.{replay-lawful, seen-lawful}

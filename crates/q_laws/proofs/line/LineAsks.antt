@@ -18,7 +18,7 @@ use Rattle.q_model.specs.Work.{Worked, worked}
 use Rattle.q_invariants.proofs.ask.Asks.{before-is}
 use Rattle.q_invariants.proofs.tree.Forests.{each-side}
 use Rattle.q_tree.specs.answers.Ways.{is_tbf}
-use Rattle.q_tree.proofs.answers.ForeseenAsks.{first_of, or_else, prio-shown}
+use Rattle.q_tree.proofs.ForeseenAsks.{first_of, or_else, prio-shown}
 use Rattle.q_laws.specs.line.Line.{line_in, line_own, line, BeginsWith}
 use Rattle.q_laws.proofs.work.WorkTrees.{NoTbfs}
 

@@ -51,8 +51,8 @@ use Rattle.q_device.specs.promises.Promise.{late_on}
 use Rattle.q_device.specs.promises.Worst.{most_bytes, time_of}
 use Rattle.q_device.specs.Sharing.{device_after}
 use Rattle.q_device.proofs.ClassStretches.{at-start, mtu-stays}
-use Rattle.q_device.proofs.promises.WorstStands.{limit-stands}
 use Rattle.q_device.proofs.ReplayLemmas.{replay_from-append}
+use Rattle.q_device.proofs.WorstStands.{limit-stands}
 use Rattle.q_laws.specs.line.Line.{IsInLine, IsLink, bytes_in, line, line_at_root, line_below_root, line_own}
 use Rattle.q_laws.specs.line.Worst.{EndsWithin, IsKeptAt, LinesKeepLimits, WorstIsEnough, WorstIsInTime, with_arrival}
 use Rattle.q_laws.specs.order.Order.{answers}

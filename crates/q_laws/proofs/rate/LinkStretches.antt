@@ -33,8 +33,8 @@ use Rattle.q_invariants.proofs.Kept.{IsLawfulRoot}
 use Rattle.q_invariants.proofs.Replays.{IsKept, step-kept, replay-kept}
 use Rattle.q_invariants.proofs.tree.Forests.{each-nodes}
 use Rattle.q_invariants.proofs.tree.StepNodes.{clock-rises}
-use Rattle.q_tree.proofs.answers.Foreseeing.{through}
-use Rattle.q_tree.proofs.answers.ForeseenAsks.{tbf-shown}
+use Rattle.q_tree.proofs.Foreseeing.{through}
+use Rattle.q_tree.proofs.ForeseenAsks.{tbf-shown}
 use Rattle.q_tree.specs.answers.ReadyAt.{ready_at}
 use Rattle.q_device.specs.Sharing.{device_after}
 use Rattle.q_device.proofs.ClassStretches.{at-start, at-end, mtu-stays}

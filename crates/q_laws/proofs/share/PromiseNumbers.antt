@@ -10,7 +10,7 @@ use Rattle.q_tree.specs.declared.answers.ways.Link.{Link}
 use Rattle.q_tree.specs.declared.answers.ways.Share.{Share}
 use Rattle.q_tree.specs.answers.Ways.{DrrClass, share_of}
 use Rattle.q_device.specs.promises.Promise.{lacks_of_bytes, lack_at, late_on, slack_on, part_of}
-use Rattle.q_device.proofs.promises.LackNumbers.{cancel-lt}
+use Rattle.q_device.proofs.LackNumbers.{cancel-lt}
 use Rattle.q_laws.specs.rate.Rate.{HasRoom}
 use Rattle.q_laws.specs.share.Delivered.{IsPart, level_of, levels_of}
 use Rattle.q_laws.specs.share.InTime.{quanta_on, sums_on, lacks_on}

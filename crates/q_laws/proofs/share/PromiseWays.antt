@@ -23,7 +23,7 @@ use Rattle.q_invariants.proofs.edit.EditHandles.{once-apart}
 use Rattle.q_invariants.proofs.Replays.{IsKept}
 use Rattle.q_invariants.proofs.tree.Members.{All-at}
 use Rattle.q_invariants.proofs.tree.Within.{Within, IsOf, HasHandle, found, same-node}
-use Rattle.q_tree.proofs.answers.WayLemmas.{is-at}
+use Rattle.q_tree.proofs.WayLemmas.{is-at}
 use Rattle.q_tree.specs.answers.Ways.{DrrClass, class_of_drr, drr_class, drrs_on, share_of}
 use Rattle.q_laws.specs.share.Delivered.{IsPart, level_of, levels_of}
 use Rattle.q_laws.specs.share.InTime.{IsWay, last_level}

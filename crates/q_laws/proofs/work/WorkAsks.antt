@@ -32,8 +32,8 @@ use Rattle.q_invariants.proofs.edit.EditClasses.{class_known}
 use Rattle.q_invariants.proofs.edit.EditClassPlans.{position_of}
 use Rattle.q_invariants.proofs.sums.Weights.{weigh-count}
 use Rattle.q_tree.specs.answers.Ways.{is_tbf}
-use Rattle.q_tree.proofs.answers.ForeseenAsks.{first_of, or_else, prio-shown}
 use Rattle.q_tree.proofs.FlowCounts.{count-sum, packets-all}
+use Rattle.q_tree.proofs.ForeseenAsks.{first_of, or_else, prio-shown}
 use Rattle.q_device.proofs.waiting.SilentDrrs.{hides, list-left, place-front}
 use Rattle.q_fqcodel.proofs.FlowsShow.{take_leaves_none}
 

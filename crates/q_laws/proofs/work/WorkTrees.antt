@@ -42,7 +42,7 @@ use Rattle.q_invariants.proofs.tree.Quiet.{beneath-quiet, child-lawful}
 use Rattle.q_invariants.proofs.tree.StepNodes.{IsAsked, becomes}
 use Rattle.q_invariants.proofs.tree.Within.{found, lawful-of}
 use Rattle.q_tree.specs.answers.Ways.{is_tbf}
-use Rattle.q_tree.proofs.answers.ForeseenAsks.{or_else, first_of, prio-shown}
+use Rattle.q_tree.proofs.ForeseenAsks.{or_else, first_of, prio-shown}
 use Rattle.q_device.specs.Sharing.{device_after}
 use Rattle.q_device.proofs.ReplayLemmas.{replay_from-append}
 use Rattle.q_device.proofs.waiting.RenewedTrees.{take-empty}

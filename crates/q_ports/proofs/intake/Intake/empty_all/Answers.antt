@@ -1,6 +1,6 @@
 use Rattle.std.proofs.Common.{◌∙◌, ◌+◌, refl, arith, map}
 use Rattle.q_ports.specs.Rings.{received_from}
-use Rattle.q_tree.proofs.arrival.Arriving.{on-err}
+use Rattle.q_tree.proofs.Arriving.{on-err}
 use Rattle.q_ports.proofs.CollectLemmas.{collects-none, collects-then, stops-then}
 use Rattle.q_ports.proofs.RingLemmas.{empty-more, ids-length}
 use Rattle.q_ports.proofs.intake.Intake.empty_all.Goals as goal

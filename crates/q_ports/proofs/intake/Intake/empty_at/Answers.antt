@@ -3,7 +3,7 @@ use Rattle.std.proofs.lemmas.List.{length-map}
 use Rattle.q_packet.specs.Descriptor.{Descriptor}
 use Rattle.q_ports.specs.Collected.{take}
 use Rattle.q_ports.specs.Rings.{RingSeen, received_from}
-use Rattle.q_tree.proofs.arrival.Arriving.{on-err}
+use Rattle.q_tree.proofs.Arriving.{on-err}
 use Rattle.q_ports.proofs.CollectLemmas.{collects-more, collects-none, stops-here}
 use Rattle.q_ports.proofs.RingLemmas.{ids-length, receives-all, receives-ids, receives-known, receives-others, receives-received}
 use Rattle.q_ports.proofs.intake.Intake.empty_at.Goals as goal
