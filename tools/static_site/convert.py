@@ -91,6 +91,7 @@ def manual(folder, name, names):
     made = run("mandoc", "-Thtml", "-O", "fragment,man=%N.%S.html", name, cwd=folder)
     keep = lambda it: it[0] if it[1] in names else it[2]
     made = re.sub(r'(?s)<a class="Xr" href="([^"]*)\.html">(.*?)</a>', keep, made)
+    made = re.sub(r'<span class="Pa">(docs/\w+)\.md</span>', r'<a href="../\1.html">\1.md</a>', made)
     # The name of the page is its only heading of the first level.
     made = re.sub(r"<(/?)h([12])\b", lambda it: f"<{it[1]}h{int(it[2]) + 1}", made)
     return f"<h1>{title_of(os.path.basename(name))}</h1>\n{made}"
