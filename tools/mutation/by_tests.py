@@ -34,7 +34,7 @@ SUITES = {
     "import": (["examples/import/test", PROGRAM], (PROGRAM,)),
     "heap": (["embed/portable/try-heap"], ()),
 }
-# Those that run one test alone where a mutant names it, as all of them take minutes.
+# Those of which only the tests are run that mutants name: all take minutes, and some need what a copy has not.
 NAMED = ("wire",)
 # Those that are tried where a mutant names none.
 ALL = ("program", "c", "rust")
@@ -162,8 +162,7 @@ def teller(said):
 def judged(room, mutant, number, longest):
     """Which suite and test tell a mutant: the result, both, and what was said."""
     for suite in suites_of(mutant):
-        words = [*SUITES[suite][0], *([mutant.test] if suite in NAMED and mutant.test else [])]
-        status, said = run(room, words, number, longest[suite])
+        status, said = run(room, [*SUITES[suite][0], *names_of(suite, [mutant])], number, longest[suite])
         if status is None:
             return "told", suite, f"it did not end in {longest[suite]} s", said
         if status and re.search(UNREAD, said, re.M):
@@ -177,12 +176,17 @@ def show(name, mutant, came, suite, test, begun):
     print(f"{name:12} {mutant.name:50} {came:11} {suite:8} {test[:70]:70} {time.monotonic() - begun:4.0f} s", flush=True)
 
 
-def stand(room, suites):
+def names_of(suite, mutants):
+    """The tests of a suite that are run for some mutants; none where all are."""
+    return sorted({it.test for it in mutants if it.suite == suite and it.test}) if suite in NAMED else []
+
+
+def stand(room, suites, mutants):
     """The suites that pass without a mutant, each with the longest time that it may take with one."""
     longest = {}
     for suite in suites:
         begun = time.monotonic()
-        status, said = run(room, SUITES[suite][0], 0)
+        status, said = run(room, [*SUITES[suite][0], *names_of(suite, mutants)], 0)
         longest[suite] = max(SECONDS, int(TIMES * (time.monotonic() - begun)))
         if status != 0:
             del longest[suite]
@@ -215,7 +219,7 @@ def tried(every, found, top, room):
             switched.answer_in(f"{room}/{LIBRARY}")
         if LIBRARY in needed:
             run(room, ["make", "-s", "-C", "embed/c"], 0)
-        longest = stand(room, suites)
+        longest = stand(room, suites, [it for _, it in found])
         for name, mutant in found:
             is_tried = mutant in behind or not switched.is_switched(mutant)
             if is_tried and all(it in longest for it in suites_of(mutant)):
