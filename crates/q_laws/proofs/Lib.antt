@@ -64,6 +64,7 @@ mod RestMoves
 mod RestNodes
 mod RestReplays
 mod RestSteps
+mod RoomAgain
 mod ServiceStretches
 mod ShareInTime
 mod StillHeld

@@ -6,6 +6,7 @@ pub mod Handed
 pub mod InTime
 pub mod Latest
 pub mod Line
+pub mod Memory
 pub mod MostOfTurn
 pub mod NestedTurn
 pub mod NewFlow
