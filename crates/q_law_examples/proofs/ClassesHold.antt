@@ -1,5 +1,5 @@
 -- The premises of the laws about the classes of a drr, computed for a worked replay, and with them the laws.
-use Rattle.q_device.specs.Promise.{promise_on}
+use Rattle.q_device.specs.promises.Promise.{promise_on}
 use Rattle.q_device.specs.Sharing.{ClassesSendTheirShares, ClassesShareByQuanta, ClassesWakeWithAQuantum, DeficitsAreBounded, GrantsComeWhereShort, device_after}
 use Rattle.q_drr.specs.Schedule.{deficit_of}
 use Rattle.q_law_examples.proofs.ByTest.{Found, InEach, both, by-test, found, in-each, passes-left, passes-right, value-of}
@@ -9,16 +9,16 @@ use Rattle.q_law_examples.proofs.StateTests.{class-there, class_test, queued-cla
 use Rattle.q_law_examples.proofs.StaysTests.{IsServedBy, served-there}
 use Rattle.q_law_examples.specs.Classes.{AgainstAnother, CalmPartOfAll, CalmSinceEmpty, DeficitIsBounded, GrantsAndDeficits, GrantsWhereShort, PartOfAll, SharePromised, SharesByQuanta, WakesWithAQuantum}
 use Rattle.q_law_examples.specs.Replays.{arrives, both_classes, first_class, link_before, link_during, link_since, link_tree, link_two_sent, settings, shared, shared_before, three_polls}
-use Rattle.q_laws.specs.Calm.{CalmClassesGetTheirParts, ClassesAreCalm, IsCalm}
-use Rattle.q_laws.specs.Delivered.{IsServed, ShareIsDelivered}
-use Rattle.q_laws.specs.Service.{ClassAgainstAny, ClassesGetTheirParts, HasClasses, IsClass}
+use Rattle.q_laws.specs.share.Calm.{CalmClassesGetTheirParts, ClassesAreCalm, IsCalm}
+use Rattle.q_laws.specs.share.Delivered.{IsServed, ShareIsDelivered}
+use Rattle.q_laws.specs.share.Service.{ClassAgainstAny, ClassesGetTheirParts, HasClasses, IsClass}
 use Rattle.q_model.specs.Beneath.{is_empty}
 use Rattle.q_model.specs.Events.{IsEvent}
 use Rattle.q_model.specs.Replay.{replay}
 use Rattle.q_model.specs.Step.{DeviceState}
 use Rattle.q_model.specs.Stretches.{ClassAt, IsBackloggedClass, Throughout, class_in, grants_to}
 use Rattle.q_model.specs.Tally.{Note, history}
-use Rattle.q_tree.specs.Ways.{shares_of}
+use Rattle.q_tree.specs.answers.Ways.{shares_of}
 use Rattle.std.proofs.Common.{List, Some, arith, refl, ◌≡◌}
 use Rattle.std.proofs.lemmas.Bool.{leb-true}
 use Rattle.std.specs.Prelude.{All, None, [], false, nat_le, suc, true, ℕ, ◌++◌, ◌+◌, ◌∷◌, ◌≢◌}

@@ -1,5 +1,5 @@
 -- The premises of the laws about a link and what its classes get in time, computed for a worked replay, and with them the laws.
-use Rattle.q_device.specs.Promise.{promise_on}
+use Rattle.q_device.specs.promises.Promise.{promise_on}
 use Rattle.q_device.specs.Sharing.{BucketsAreBounded, device_after}
 use Rattle.q_law_examples.proofs.ByTest.{Found, InEach, both, by-test, found, in-each, passes-left, passes-right}
 use Rattle.q_law_examples.proofs.EventTests.{drained-there, never-late-there, nowhere-cut-there}
@@ -9,18 +9,18 @@ use Rattle.q_law_examples.proofs.StateTests.{queued-class-there, queued-link-the
 use Rattle.q_law_examples.proofs.StaysTests.{IsOverBy, IsServedBy, over-there, served-there}
 use Rattle.q_law_examples.specs.Links.{BoundedBucket, DeliveredRate, DeliveredService, HandedInTime, HoldsAfterPoll, LatenessOfService, LeavesInTime, NeverLate, PaidInTime, ShareOfRate, SlackOfService, SpentRate}
 use Rattle.q_law_examples.specs.Replays.{both_classes, first_class, first_share, link_at_times, link_before, link_during, link_next, link_of_tree, link_two_sent, promised, rate_of_link, settings}
-use Rattle.q_laws.specs.Delay.{BytesArePaidInTime, IsLeft}
-use Rattle.q_laws.specs.Delivered.{IsPart, IsServed, LatenessIsTheGreatest, ServiceIsDelivered, SlackIsTheLaws}
-use Rattle.q_laws.specs.Handed.{ClassesHandInTime, ClassesLeaveInTime, IsHolding, PollsLeaveHolding}
-use Rattle.q_laws.specs.InTime.{ClassesShareInTime, IsLinkOver}
-use Rattle.q_laws.specs.Rate.{HasRoom, IsBackloggedLink, IsDrained, IsNeverLate, IsNowhereCut, IsPolledOut, NeverLateIsDrained, RateIsDelivered, RateIsSpent}
-use Rattle.q_laws.specs.Service.{HasClasses}
+use Rattle.q_laws.specs.rate.Delay.{BytesArePaidInTime, IsLeft}
+use Rattle.q_laws.specs.rate.Rate.{HasRoom, IsBackloggedLink, IsDrained, IsNeverLate, IsNowhereCut, IsPolledOut, NeverLateIsDrained, RateIsDelivered, RateIsSpent}
+use Rattle.q_laws.specs.share.Delivered.{IsPart, IsServed, LatenessIsTheGreatest, ServiceIsDelivered, SlackIsTheLaws}
+use Rattle.q_laws.specs.share.Handed.{ClassesHandInTime, ClassesLeaveInTime, IsHolding, PollsLeaveHolding}
+use Rattle.q_laws.specs.share.InTime.{ClassesShareInTime, IsLinkOver}
+use Rattle.q_laws.specs.share.Service.{HasClasses}
 use Rattle.q_model.specs.Events.{IsEvent}
 use Rattle.q_model.specs.Replay.{replay}
 use Rattle.q_model.specs.Step.{DeviceState, step}
 use Rattle.q_model.specs.Stretches.{IsBackloggedClass, IsTbf, TbfAt, Throughout, tbf_in}
 use Rattle.q_model.specs.Tally.{Note, history}
-use Rattle.q_tree.specs.Ways.{share_of, shares_of}
+use Rattle.q_tree.specs.answers.Ways.{share_of, shares_of}
 use Rattle.std.proofs.Common.{List, Some, refl, ◌≡◌}
 use Rattle.std.proofs.lemmas.Bool.{leb-true}
 use Rattle.std.proofs.lemmas.List.Elements.{All-cons, All-nil}

@@ -8,11 +8,11 @@ use Rattle.q_law_examples.proofs.StateTests.{in_fifo_test, waiting-there}
 use Rattle.q_law_examples.proofs.StaysTests.{IsNestedBy, IsOverBy, IsPathBy, IsWayBy, nested-there, over-there, path-there, way-there}
 use Rattle.q_law_examples.specs.Nested.{BoundedTurns, EnoughForTurns, ProductOfShares, TurnsInTime}
 use Rattle.q_law_examples.specs.Replays.{class, first_class, first_level, inner_class, inner_level, link_during, link_next, link_of_tree, nested_before, rate_of_link, settings}
-use Rattle.q_laws.specs.Delivered.{level_of, levels_of}
-use Rattle.q_laws.specs.InTime.{IsLinkOver, IsWay, SharesMultiply}
-use Rattle.q_laws.specs.NestedTurn.{IsNestedTurn, IsPath, KeepsBelow, NestedTurnIsEnough, NestedTurnIsInTime, NestedTurnsAreBounded, StaysOn, bytes_below}
-use Rattle.q_laws.specs.Rate.{HasRoom, IsDrained, IsPolledOut}
-use Rattle.q_laws.specs.TurnWorst.{IsWaiting}
+use Rattle.q_laws.specs.nested.NestedTurn.{IsNestedTurn, IsPath, KeepsBelow, NestedTurnIsEnough, NestedTurnIsInTime, NestedTurnsAreBounded, StaysOn, bytes_below}
+use Rattle.q_laws.specs.rate.Rate.{HasRoom, IsDrained, IsPolledOut}
+use Rattle.q_laws.specs.share.Delivered.{level_of, levels_of}
+use Rattle.q_laws.specs.share.InTime.{IsLinkOver, IsWay, SharesMultiply}
+use Rattle.q_laws.specs.turn.TurnWorst.{IsWaiting}
 use Rattle.q_model.specs.Events.{IsEvent}
 use Rattle.q_model.specs.Replay.{replay}
 use Rattle.q_model.specs.Step.{DeviceState}

@@ -13,14 +13,14 @@ use Rattle.q_model.specs.Node.{Node}
 use Rattle.q_model.specs.Step.{DeviceState}
 use Rattle.q_model.specs.Stretches.{ClassAt, FqAt, TbfAt, class_in, fq_in, tbf_in, IsBackloggedClass, IsBackloggedFlow, IsTbf}
 use Rattle.q_model.specs.Tally.{Note}
-use Rattle.q_tree.specs.Lanes.{limit_of}
-use Rattle.q_tree.specs.Ways.{is_tbf}
-use Rattle.q_laws.specs.FifoTurn.{class_line, IsFifoClass, IsInFifo}
-use Rattle.q_laws.specs.Line.{bytes_in, line_below_root, IsAlone, IsInLine, IsLink}
-use Rattle.q_laws.specs.Delay.{paid_so_far}
-use Rattle.q_laws.specs.Rate.{IsBackloggedLink}
-use Rattle.q_laws.specs.Service.{given_so_far, IsClass, IsQueuedFlow}
-use Rattle.q_laws.specs.TurnWorst.{IsWaiting}
+use Rattle.q_tree.specs.answers.Lanes.{limit_of}
+use Rattle.q_tree.specs.answers.Ways.{is_tbf}
+use Rattle.q_laws.specs.line.Line.{bytes_in, line_below_root, IsAlone, IsInLine, IsLink}
+use Rattle.q_laws.specs.rate.Delay.{paid_so_far}
+use Rattle.q_laws.specs.rate.Rate.{IsBackloggedLink}
+use Rattle.q_laws.specs.share.Service.{given_so_far, IsClass, IsQueuedFlow}
+use Rattle.q_laws.specs.turn.FifoTurn.{class_line, IsFifoClass, IsInFifo}
+use Rattle.q_laws.specs.turn.TurnWorst.{IsWaiting}
 use Rattle.q_law_examples.proofs.ByTest.{all-by, found, passing}
 
 is-false : (b : Bool) → not b ≡ true → b ≡ false

@@ -8,14 +8,14 @@ use Rattle.q_model.specs.Node.{Node, children}
 use Rattle.q_model.specs.Step.{DeviceState}
 use Rattle.q_model.specs.Stretches.{ClassAt, class_in, qdisc}
 use Rattle.q_model.specs.Tally.{Note}
-use Rattle.q_tree.specs.declared.ways.Link.{Link}
-use Rattle.q_tree.specs.Ways.{DrrClass, way_to}
-use Rattle.q_laws.specs.Delivered.{level_of, levels_of, IsServed}
-use Rattle.q_laws.specs.InTime.{last_level, IsLinkOver, Level, IsBeneath, IsWay}
-use Rattle.q_laws.specs.NestedTurn.{IsNestedTurn, IsPath}
-use Rattle.q_laws.specs.Service.{HasClasses}
-use Rattle.q_laws.specs.Turn.{shown_by, IsClassLeft}
-use Rattle.q_laws.specs.TurnWorst.{IsTurn, LeadsTo}
+use Rattle.q_tree.specs.declared.answers.ways.Link.{Link}
+use Rattle.q_tree.specs.answers.Ways.{DrrClass, way_to}
+use Rattle.q_laws.specs.nested.NestedTurn.{IsNestedTurn, IsPath}
+use Rattle.q_laws.specs.share.Delivered.{level_of, levels_of, IsServed}
+use Rattle.q_laws.specs.share.InTime.{last_level, IsLinkOver, Level, IsBeneath, IsWay}
+use Rattle.q_laws.specs.share.Service.{HasClasses}
+use Rattle.q_laws.specs.turn.Turn.{shown_by, IsClassLeft}
+use Rattle.q_laws.specs.turn.TurnWorst.{IsTurn, LeadsTo}
 use Rattle.q_law_examples.proofs.ByTest.{is_one, one-of}
 use Rattle.q_law_examples.proofs.StateTests.{queued_link_test, queued-link-there, queued_class_test, queued-class-there, class_test, class-there, fifo_class_test, fifo-class-there}
 

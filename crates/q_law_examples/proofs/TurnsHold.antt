@@ -1,7 +1,7 @@
 -- The premises of the laws about a turn, computed for worked replays, and with them the laws.
-use Rattle.q_device.specs.Latest.{latest_in_turn, latest_of}
+use Rattle.q_device.specs.promises.Latest.{latest_in_turn, latest_of}
+use Rattle.q_device.specs.promises.Worst.{worst_in_turn}
 use Rattle.q_device.specs.Sharing.{device_after}
-use Rattle.q_device.specs.Worst.{worst_in_turn}
 use Rattle.q_drr.specs.Schedule.{deficit_of, quantum_of}
 use Rattle.q_law_examples.proofs.ByTest.{Found, InEach, both, by-test, found, in-each, passes-left, passes-right, value-of}
 use Rattle.q_law_examples.proofs.EventTests.{drained-there}
@@ -11,23 +11,23 @@ use Rattle.q_law_examples.proofs.StateTests.{fifo-class-there, fifo_class_test, 
 use Rattle.q_law_examples.proofs.StaysTests.{IsTurnBy, left-there, turn-there}
 use Rattle.q_law_examples.specs.Replays.{both_classes, class, first_class, first_latest, first_turn, first_worst, five_thousand, link_before, link_during, link_next, link_of_tree, one_more, settings, told_before}
 use Rattle.q_law_examples.specs.Turns.{AnsweredLatest, AnsweredTurn, BoundedCalmTurn, BoundedTurn, EnoughForLatest, EnoughForTurn, FifoWaitsAtMost, LatestInTime, StandsAsItFills, TurnInTime, TurnKeepsLimit, WaitsAtMost, WaitsAtMostCalm, WaitsItsTurn}
-use Rattle.q_laws.specs.Calm.{CalmClassesWaitAtMost, CalmTurnsAreBounded, IsCalm}
-use Rattle.q_laws.specs.FifoTurn.{FifosWaitAtMost, IsFifoClass, IsInFifo, KeepFifo, class_line}
-use Rattle.q_laws.specs.Latest.{at_best}
-use Rattle.q_laws.specs.Line.{bytes_in}
-use Rattle.q_laws.specs.MostOfTurn.{ClassesWaitAtMost, TurnsAreBounded}
-use Rattle.q_laws.specs.Rate.{IsDrained}
-use Rattle.q_laws.specs.Service.{HasClasses}
-use Rattle.q_laws.specs.Turn.{ClassesWaitTheirTurn, StaysLeft}
-use Rattle.q_laws.specs.TurnLatest.{LatestTurnIsAnswered, LatestTurnIsEnough, LatestTurnIsInTime, LatestTurnStandsAsItFills}
-use Rattle.q_laws.specs.TurnWorst.{IsTurn, IsWaiting, LeadsTo, TurnIsAnswered, TurnIsEnough, TurnIsInTime, TurnsKeepLimits, id_of, turn_of}
-use Rattle.q_laws.specs.Worst.{IsKeptAt, with_arrival}
+use Rattle.q_laws.specs.line.Latest.{at_best}
+use Rattle.q_laws.specs.line.Line.{bytes_in}
+use Rattle.q_laws.specs.line.Worst.{IsKeptAt, with_arrival}
+use Rattle.q_laws.specs.rate.Rate.{IsDrained}
+use Rattle.q_laws.specs.share.Calm.{CalmClassesWaitAtMost, CalmTurnsAreBounded, IsCalm}
+use Rattle.q_laws.specs.share.Service.{HasClasses}
+use Rattle.q_laws.specs.turn.FifoTurn.{FifosWaitAtMost, IsFifoClass, IsInFifo, KeepFifo, class_line}
+use Rattle.q_laws.specs.turn.MostOfTurn.{ClassesWaitAtMost, TurnsAreBounded}
+use Rattle.q_laws.specs.turn.Turn.{ClassesWaitTheirTurn, StaysLeft}
+use Rattle.q_laws.specs.turn.TurnLatest.{LatestTurnIsAnswered, LatestTurnIsEnough, LatestTurnIsInTime, LatestTurnStandsAsItFills}
+use Rattle.q_laws.specs.turn.TurnWorst.{IsTurn, IsWaiting, LeadsTo, TurnIsAnswered, TurnIsEnough, TurnIsInTime, TurnsKeepLimits, id_of, turn_of}
 use Rattle.q_model.specs.Events.{IsEvent}
 use Rattle.q_model.specs.Replay.{replay}
 use Rattle.q_model.specs.Step.{DeviceState}
 use Rattle.q_model.specs.Stretches.{ClassAt, IsBackloggedClass, Throughout, class_in}
 use Rattle.q_model.specs.Tally.{Note, history}
-use Rattle.q_tree.specs.Turns.{turn_to}
+use Rattle.q_tree.specs.answers.Turns.{turn_to}
 use Rattle.std.proofs.Common.{List, Some, refl, ◌≡◌}
 use Rattle.std.proofs.lemmas.Bool.{leb-true}
 use Rattle.std.specs.Prelude.{All, [], max, nat_le, true, ◌++◌, ◌^◌, ◌∷◌, ◌≤◌}

@@ -1,16 +1,16 @@
 -- Worked replays at which the premises of the laws about the classes of a drr hold, and what they say there.
-use Rattle.q_device.specs.Promise.{promise_on}
+use Rattle.q_device.specs.promises.Promise.{promise_on}
 use Rattle.q_device.specs.Sharing.{SendsItsShare, ShareByQuanta, device_after, length_shown}
 use Rattle.q_drr.specs.Schedule.{deficit_of, quantum_of}
 use Rattle.q_law_examples.specs.Replays.{arrives, both_classes, class, first_class, link_before, link_during, link_since, link_tree, link_two_sent, packet, settings, shared, shared_before, three_polls}
-use Rattle.q_laws.specs.Calm.{GetsItsCalmPart, IsCalm}
-use Rattle.q_laws.specs.Delivered.{GetsItsShare, IsServed, level_of, levels_of}
-use Rattle.q_laws.specs.InTime.{last_level, sent_at}
-use Rattle.q_laws.specs.Service.{GetsItsPart, HasClasses, IsClass, SendsNoMore, all_sent, class_sent, quanta_of}
+use Rattle.q_laws.specs.share.Calm.{GetsItsCalmPart, IsCalm}
+use Rattle.q_laws.specs.share.Delivered.{GetsItsShare, IsServed, level_of, levels_of}
+use Rattle.q_laws.specs.share.InTime.{last_level, sent_at}
+use Rattle.q_laws.specs.share.Service.{GetsItsPart, HasClasses, IsClass, SendsNoMore, all_sent, class_sent, quanta_of}
 use Rattle.q_model.specs.Beneath.{is_empty}
 use Rattle.q_model.specs.Events.{IsEvent}
 use Rattle.q_model.specs.Stretches.{ClassAt, IsBackloggedClass, Throughout, class_in, grants_to}
-use Rattle.q_tree.specs.Ways.{shares_of}
+use Rattle.q_tree.specs.answers.Ways.{shares_of}
 use Rattle.std.specs.Prelude.{All, IsSomeAnd, None, Some, [], false, length, suc, true, ℕ, ◌*◌, ◌++◌, ◌+◌, ◌<◌, ◌∷◌, ◌≡◌, ◌≢◌}
 use Rattle.q_model.specs.declared.event.Event.TheVariants as event
 

@@ -1,19 +1,19 @@
 -- Worked replays at which the premises of the laws about a tbf, and about a class of a drr below it, hold in time, and what they say there.
 use Rattle.q_bucket.specs.Level.{level_at, units_in_byte}
-use Rattle.q_device.specs.Promise.{lack_of_link, promise_on}
+use Rattle.q_device.specs.promises.Promise.{lack_of_link, promise_on}
 use Rattle.q_device.specs.Sharing.{IsBounded, device_after}
 use Rattle.q_law_examples.specs.Replays.{both_classes, class, first_class, first_share, link_at_times, link_before, link_during, link_next, link_of_tree, link_two_sent, packet, promised, rate_of_link, settings}
-use Rattle.q_laws.specs.Delay.{IsLeft, PaysInTime, latest, level_counted}
-use Rattle.q_laws.specs.Delivered.{GetsItsService, IsGreatestLateness, IsPart, IsServed, IsSlack, level_of, levels_of}
-use Rattle.q_laws.specs.Handed.{IsHolding, class_left, lacks_handed}
-use Rattle.q_laws.specs.InTime.{GetsItsRate, IsLinkOver, last_level, sent_at}
-use Rattle.q_laws.specs.Rate.{DeliversItsRate, HasRoom, IsBackloggedLink, IsDrained, IsNeverLate, IsNowhereCut, IsPolledOut, SpendsWhatComes}
-use Rattle.q_laws.specs.Service.{HasClasses, class_sent, quanta_of}
+use Rattle.q_laws.specs.rate.Delay.{IsLeft, PaysInTime, latest, level_counted}
+use Rattle.q_laws.specs.rate.Rate.{DeliversItsRate, HasRoom, IsBackloggedLink, IsDrained, IsNeverLate, IsNowhereCut, IsPolledOut, SpendsWhatComes}
+use Rattle.q_laws.specs.share.Delivered.{GetsItsService, IsGreatestLateness, IsPart, IsServed, IsSlack, level_of, levels_of}
+use Rattle.q_laws.specs.share.Handed.{IsHolding, class_left, lacks_handed}
+use Rattle.q_laws.specs.share.InTime.{GetsItsRate, IsLinkOver, last_level, sent_at}
+use Rattle.q_laws.specs.share.Service.{HasClasses, class_sent, quanta_of}
 use Rattle.q_model.specs.Events.{IsEvent}
 use Rattle.q_model.specs.Step.{step}
 use Rattle.q_model.specs.Stretches.{IsBackloggedClass, IsTbf, TbfAt, Throughout, tbf_in}
 use Rattle.q_model.specs.Tally.{history}
-use Rattle.q_tree.specs.Ways.{share_of, shares_of}
+use Rattle.q_tree.specs.answers.Ways.{share_of, shares_of}
 use Rattle.std.specs.Prelude.{All, IfSome, Some, [], length, map, ◌*◌, ◌++◌, ◌+◌, ◌-◌, ◌<◌, ◌∷◌, ◌≡◌, ◌≤◌}
 use Rattle.q_model.specs.declared.event.Event.TheVariants as event
 use Rattle.q_model.specs.declared.polled.Polled.TheVariants as polled

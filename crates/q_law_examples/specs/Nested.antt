@@ -1,21 +1,21 @@
 -- Worked replays at which the premises of the laws about drrs below one another hold, and what they say there.
 use Rattle.q_bucket.specs.Level.{units_in_byte}
 use Rattle.q_device.specs.Laws.{given_in}
+use Rattle.q_device.specs.promises.Worst.{most_held, time_of}
 use Rattle.q_device.specs.Sharing.{device_after}
-use Rattle.q_device.specs.Worst.{most_held, time_of}
 use Rattle.q_law_examples.specs.Replays.{class, first_class, first_level, inner_class, inner_level, link_during, link_next, link_of_tree, nested_before, rate_of_link, settings}
-use Rattle.q_laws.specs.Delay.{PaysInTime}
-use Rattle.q_laws.specs.Delivered.{level_of, levels_of}
-use Rattle.q_laws.specs.InTime.{IsLinkOver, IsWay, lacks_on, last_level, quanta_on, sent_at, sums_on}
-use Rattle.q_laws.specs.Line.{bytes_in}
-use Rattle.q_laws.specs.NestedTurn.{IsNestedTurn, IsPath, KeepsBelow, StaysOn, bytes_below, most_of_turns, reached_by, share_at}
-use Rattle.q_laws.specs.Order.{answers}
-use Rattle.q_laws.specs.Rate.{HasRoom, IsDrained, IsPolledOut}
+use Rattle.q_laws.specs.line.Line.{bytes_in}
+use Rattle.q_laws.specs.nested.NestedTurn.{IsNestedTurn, IsPath, KeepsBelow, StaysOn, bytes_below, most_of_turns, reached_by, share_at}
+use Rattle.q_laws.specs.order.Order.{answers}
+use Rattle.q_laws.specs.rate.Delay.{PaysInTime}
+use Rattle.q_laws.specs.rate.Rate.{HasRoom, IsDrained, IsPolledOut}
+use Rattle.q_laws.specs.share.Delivered.{level_of, levels_of}
+use Rattle.q_laws.specs.share.InTime.{IsLinkOver, IsWay, lacks_on, last_level, quanta_on, sent_at, sums_on}
 use Rattle.q_model.specs.Events.{IsEvent}
 use Rattle.q_model.specs.Step.{step}
 use Rattle.q_model.specs.Stretches.{Throughout}
 use Rattle.q_model.specs.Tally.{history}
-use Rattle.q_tree.specs.Ways.{share_of}
+use Rattle.q_tree.specs.answers.Ways.{share_of}
 use Rattle.std.specs.List.{filter_map}
 use Rattle.std.specs.Prelude.{All, Some, [], map, ◌*◌, ◌++◌, ◌+◌, ◌-◌, ◌<◌, ◌∷◌, ◌≤◌}
 

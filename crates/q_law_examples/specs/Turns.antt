@@ -1,30 +1,30 @@
 -- Worked replays at which the premises of the laws about the turn of a packet in a class of a drr hold, and what they say there.
-use Rattle.q_device.specs.Latest.{latest_in_turn, latest_of}
 use Rattle.q_device.specs.Laws.{given_in}
+use Rattle.q_device.specs.promises.Latest.{latest_in_turn, latest_of}
+use Rattle.q_device.specs.promises.Worst.{most_bytes, most_of_turn, worst_in_turn, worst_of}
 use Rattle.q_device.specs.Sharing.{device_after}
-use Rattle.q_device.specs.Worst.{most_bytes, most_of_turn, worst_in_turn, worst_of}
 use Rattle.q_drr.specs.Schedule.{quantum_of}
 use Rattle.q_drr.specs.Waiting.{bytes_of_turn}
 use Rattle.q_law_examples.specs.Replays.{both_classes, class, first_class, first_latest, first_turn, first_worst, five_thousand, link_before, link_during, link_next, link_of_tree, one_more, packet, settings, told_before}
-use Rattle.q_laws.specs.Calm.{IsCalm, most_of_calm_turn}
-use Rattle.q_laws.specs.Delay.{PaysInTime}
-use Rattle.q_laws.specs.FifoTurn.{IsFifoClass, IsInFifo, KeepFifo, class_line}
-use Rattle.q_laws.specs.Latest.{IsToldBy, at_best}
-use Rattle.q_laws.specs.Line.{bytes_in}
-use Rattle.q_laws.specs.MostOfTurn.{share_in}
-use Rattle.q_laws.specs.Order.{answers}
-use Rattle.q_laws.specs.Rate.{IsDrained}
-use Rattle.q_laws.specs.Service.{HasClasses, all_sent}
-use Rattle.q_laws.specs.Turn.{StaysLeft, shown_by}
-use Rattle.q_laws.specs.TurnWorst.{IsTurn, IsWaiting, LeadsTo, id_of, turn_line, turn_of}
-use Rattle.q_laws.specs.Worst.{EndsWithin, IsKeptAt, with_arrival}
+use Rattle.q_laws.specs.line.Latest.{IsToldBy, at_best}
+use Rattle.q_laws.specs.line.Line.{bytes_in}
+use Rattle.q_laws.specs.line.Worst.{EndsWithin, IsKeptAt, with_arrival}
+use Rattle.q_laws.specs.order.Order.{answers}
+use Rattle.q_laws.specs.rate.Delay.{PaysInTime}
+use Rattle.q_laws.specs.rate.Rate.{IsDrained}
+use Rattle.q_laws.specs.share.Calm.{IsCalm, most_of_calm_turn}
+use Rattle.q_laws.specs.share.Service.{HasClasses, all_sent}
+use Rattle.q_laws.specs.turn.FifoTurn.{IsFifoClass, IsInFifo, KeepFifo, class_line}
+use Rattle.q_laws.specs.turn.MostOfTurn.{share_in}
+use Rattle.q_laws.specs.turn.Turn.{StaysLeft, shown_by}
+use Rattle.q_laws.specs.turn.TurnWorst.{IsTurn, IsWaiting, LeadsTo, id_of, turn_line, turn_of}
 use Rattle.q_model.specs.Events.{IsEvent}
 use Rattle.q_model.specs.Step.{step}
 use Rattle.q_model.specs.Stretches.{ClassAt, IsBackloggedClass, Throughout, class_in, length_held}
 use Rattle.q_model.specs.Tally.{history}
 use Rattle.q_model.specs.TreeState.{given}
-use Rattle.q_tree.specs.Turns.{turn_to}
-use Rattle.q_tree.specs.Ways.{share_among}
+use Rattle.q_tree.specs.answers.Turns.{turn_to}
+use Rattle.q_tree.specs.answers.Ways.{share_among}
 use Rattle.std.specs.List.{filter_map}
 use Rattle.std.specs.Prelude.{All, Some, [], max, ◌++◌, ◌+◌, ◌^◌, ◌∷◌, ◌≡◌, ◌≤◌}
 use Rattle.q_model.specs.declared.event.Event.TheVariants as event

@@ -1,5 +1,5 @@
 use Rattle.std.proofs.Common.{subst}
-use Rattle.q_laws.specs.Service.{ClassAgainstAny}
+use Rattle.q_laws.specs.share.Service.{ClassAgainstAny}
 use Rattle.q_law_examples.proofs.ClassesHold.{against-another}
 use Rattle.q_law_examples.proofs.examples.class_against_any.Goals as goal
 

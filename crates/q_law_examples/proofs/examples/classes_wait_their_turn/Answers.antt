@@ -1,5 +1,5 @@
 use Rattle.std.proofs.Common.{subst}
-use Rattle.q_laws.specs.Turn.{ClassesWaitTheirTurn}
+use Rattle.q_laws.specs.turn.Turn.{ClassesWaitTheirTurn}
 use Rattle.q_law_examples.proofs.TurnsHold.{waits-its-turn}
 use Rattle.q_law_examples.proofs.examples.classes_wait_their_turn.Goals as goal
 

@@ -1,5 +1,5 @@
 use Rattle.std.proofs.Common.{subst}
-use Rattle.q_laws.specs.FifoTurn.{FifosWaitAtMost}
+use Rattle.q_laws.specs.turn.FifoTurn.{FifosWaitAtMost}
 use Rattle.q_law_examples.proofs.TurnsHold.{fifo-waits-at-most}
 use Rattle.q_law_examples.proofs.examples.fifos_wait_at_most.Goals as goal
 

@@ -1,5 +1,5 @@
 use Rattle.std.proofs.Common.{subst}
-use Rattle.q_laws.specs.TurnLatest.{LatestTurnIsAnswered, LatestTurnIsEnough, LatestTurnIsInTime, LatestTurnStandsAsItFills}
+use Rattle.q_laws.specs.turn.TurnLatest.{LatestTurnIsAnswered, LatestTurnIsEnough, LatestTurnIsInTime, LatestTurnStandsAsItFills}
 use Rattle.q_law_examples.proofs.TurnsHold.{answered-latest, enough-for-latest, latest-in-time, stands-as-it-fills}
 use Rattle.q_law_examples.proofs.examples.latest_turn_is_enough.Goals as goal
 

@@ -1,6 +1,6 @@
 use Rattle.std.proofs.Common.{subst}
-use Rattle.q_laws.specs.Calm.{CalmClassesGetTheirParts, ClassesAreCalm}
-use Rattle.q_laws.specs.Service.{ClassesGetTheirParts}
+use Rattle.q_laws.specs.share.Calm.{CalmClassesGetTheirParts, ClassesAreCalm}
+use Rattle.q_laws.specs.share.Service.{ClassesGetTheirParts}
 use Rattle.q_law_examples.proofs.ClassesHold.{part-of-all, calm-part-of-all, calm-since-empty}
 use Rattle.q_law_examples.proofs.examples.least_share.Goals as goal
 

@@ -1,5 +1,5 @@
 use Rattle.std.proofs.Common.{subst}
-use Rattle.q_laws.specs.NestedTurn.{NestedTurnIsEnough, NestedTurnIsInTime, NestedTurnsAreBounded}
+use Rattle.q_laws.specs.nested.NestedTurn.{NestedTurnIsEnough, NestedTurnIsInTime, NestedTurnsAreBounded}
 use Rattle.q_law_examples.proofs.NestedHold.{bounded-turns, enough-for-turns, turns-in-time}
 use Rattle.q_law_examples.proofs.examples.nested_turns_are_bounded.Goals as goal
 

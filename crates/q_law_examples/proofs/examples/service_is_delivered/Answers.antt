@@ -1,5 +1,5 @@
 use Rattle.std.proofs.Common.{subst}
-use Rattle.q_laws.specs.Delivered.{LatenessIsTheGreatest, ServiceIsDelivered, SlackIsTheLaws}
+use Rattle.q_laws.specs.share.Delivered.{LatenessIsTheGreatest, ServiceIsDelivered, SlackIsTheLaws}
 use Rattle.q_law_examples.proofs.LinksHold.{delivered-service, slack-of-service, lateness-of-service}
 use Rattle.q_law_examples.proofs.examples.service_is_delivered.Goals as goal
 

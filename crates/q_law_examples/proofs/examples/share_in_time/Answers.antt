@@ -1,6 +1,6 @@
 use Rattle.std.proofs.Common.{subst}
-use Rattle.q_laws.specs.Handed.{ClassesHandInTime, ClassesLeaveInTime, PollsLeaveHolding}
-use Rattle.q_laws.specs.InTime.{ClassesShareInTime, SharesMultiply}
+use Rattle.q_laws.specs.share.Handed.{ClassesHandInTime, ClassesLeaveInTime, PollsLeaveHolding}
+use Rattle.q_laws.specs.share.InTime.{ClassesShareInTime, SharesMultiply}
 use Rattle.q_law_examples.proofs.LinksHold.{share-of-rate, handed-in-time, holds-after-poll, leaves-in-time}
 use Rattle.q_law_examples.proofs.NestedHold.{product-of-shares}
 use Rattle.q_law_examples.proofs.examples.share_in_time.Goals as goal

@@ -1,5 +1,5 @@
 use Rattle.std.proofs.Common.{subst}
-use Rattle.q_laws.specs.Delivered.{ShareIsDelivered}
+use Rattle.q_laws.specs.share.Delivered.{ShareIsDelivered}
 use Rattle.q_law_examples.proofs.ClassesHold.{share-promised}
 use Rattle.q_law_examples.proofs.examples.share_is_delivered.Goals as goal
 

@@ -1,5 +1,5 @@
 use Rattle.std.proofs.Common.{subst}
-use Rattle.q_laws.specs.TurnWorst.{TurnIsAnswered, TurnIsEnough, TurnIsInTime, TurnsKeepLimits}
+use Rattle.q_laws.specs.turn.TurnWorst.{TurnIsAnswered, TurnIsEnough, TurnIsInTime, TurnsKeepLimits}
 use Rattle.q_law_examples.proofs.TurnsHold.{answered-turn, turn-keeps-limit, enough-for-turn, turn-in-time}
 use Rattle.q_law_examples.proofs.examples.turn_is_enough.Goals as goal
 

@@ -1,6 +1,6 @@
 use Rattle.std.proofs.Common.{subst}
-use Rattle.q_laws.specs.Calm.{CalmClassesWaitAtMost, CalmTurnsAreBounded}
-use Rattle.q_laws.specs.MostOfTurn.{ClassesWaitAtMost, TurnsAreBounded}
+use Rattle.q_laws.specs.share.Calm.{CalmClassesWaitAtMost, CalmTurnsAreBounded}
+use Rattle.q_laws.specs.turn.MostOfTurn.{ClassesWaitAtMost, TurnsAreBounded}
 use Rattle.q_law_examples.proofs.TurnsHold.{bounded-turn, waits-at-most, bounded-calm-turn, waits-at-most-calm}
 use Rattle.q_law_examples.proofs.examples.turns_are_bounded.Goals as goal
 
