@@ -6,8 +6,8 @@ import "C"
 // Service is what a class of a drr is promised while something is queued in it, whatever comes to the other classes.
 type Service struct {
 	Link  uint64 // the rate of the tbf at the root, in bits a second; 0 if a drr is at the root, as Rate is
-	Rate  uint64 // the class's share of that rate
-	Part  uint64 // the class's share of a billion bytes, in bytes
+	Rate  uint64 // the class's share of that rate, rounded down at each drr on the way
+	Part  uint64 // the class's share of a billion bytes, in bytes, rounded down so too
 	Slack uint64 // the most bytes that the class can fall short of its share
 	Late  uint64 // by how many nanoseconds polls may be late; Never if they may come at any time
 }

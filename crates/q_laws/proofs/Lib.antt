@@ -1,3 +1,4 @@
+mod RoomAgain
 mod line
 mod nested
 mod new_flow

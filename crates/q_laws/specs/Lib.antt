@@ -1,3 +1,4 @@
+pub mod Memory
 pub mod line
 pub mod nested
 pub mod new_flow

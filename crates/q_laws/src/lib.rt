@@ -17,3 +17,4 @@
 #![tactic(auto)]
 
 pub mod laws;
+pub mod memory;

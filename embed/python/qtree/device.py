@@ -66,8 +66,8 @@ class Counters(NamedTuple):
 class Service(NamedTuple):
     """What a class of a drr is promised while something is queued in it, whatever comes to the other classes."""
     link: int  # the rate of the tbf at the root, in bits a second; 0 if a drr is at the root, as rate is
-    rate: int  # the class's share of that rate
-    part: int  # the class's share of a billion bytes, in bytes
+    rate: int  # the class's share of that rate, rounded down at each drr on the way
+    part: int  # the class's share of a billion bytes, in bytes, rounded down so too
     slack: int  # the most bytes that the class can fall short of its share
     late: Optional[int]  # by how many nanoseconds polls may be late; None if they may come at any time
 

@@ -18,9 +18,10 @@ use crate::raw::sys;
 pub struct Service {
     /// The rate of the tbf at the root, in bits a second; `None` if a drr is at the root.
     pub link: Option<u64>,
-    /// The class's share of that rate, in bits a second; `None` if a drr is at the root.
+    /// The class's share of that rate, in bits a second, rounded down at each drr on the way; `None`
+    /// if a drr is at the root.
     pub rate: Option<u64>,
-    /// The class's share of a billion bytes, in bytes.
+    /// The class's share of a billion bytes, in bytes, rounded down at each drr on the way.
     pub part: u64,
     /// The most bytes that the class can fall short of its share.
     pub slack: u64,

@@ -1,0 +1,14 @@
+pub mod BandsHold
+pub mod ByTest
+pub mod ClassesHold
+pub mod EventTests
+pub mod Fits
+pub mod FlowsHold
+pub mod LinesHold
+pub mod LinksHold
+pub mod NestedHold
+pub mod Rules
+pub mod StateTests
+pub mod StaysTests
+pub mod TreeTests
+pub mod TurnsHold
