@@ -22,8 +22,12 @@ pub mod DrrGoesOn
 pub mod DrrPauses
 pub mod EditLemmas
 pub mod EmptyFifo
+pub mod FieldIndexLemmas
+pub mod FieldSetLemmas
+pub mod FieldValueLemmas
 pub mod FifoHead
 pub mod FilterIndexValues
+pub mod FilterSetLemmas
 pub mod FindLemmas
 pub mod FlowCounts
 pub mod FlowHeld

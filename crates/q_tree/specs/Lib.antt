@@ -12,6 +12,9 @@ pub mod Commands
 pub mod CountersSeen
 pub mod Editing
 pub mod EmptyFifo
+pub mod FieldSets
+pub mod FieldValues
+pub mod FilterSets
 pub mod FilterShapes
 pub mod FiltersSeen
 pub mod Finding
@@ -19,6 +22,7 @@ pub mod Flows
 pub mod Grafting
 pub mod Holding
 pub mod Index
+pub mod IndexByField
 pub mod IndexOfFilters
 pub mod IndexSeen
 pub mod GiveSteps
@@ -48,6 +52,7 @@ pub mod Seen
 pub mod SendSteps
 pub mod Showing
 pub mod Shown
+pub mod SomeIndex
 pub mod TreeSeen
 pub mod TurnNow
 pub mod Turns

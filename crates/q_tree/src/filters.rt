@@ -3,9 +3,10 @@ ghost use Rattle.std.specs.List.{filter, take_while};
 ghost use Rattle.std.specs.Option.{IfSome};
 ghost use Rattle.q_model.specs.Filters.{named_class, with_filter};
 ghost use Rattle.q_model.specs.declared.filter.Filter.{Filter};
-ghost use Rattle.q_tree.specs.IndexOfFilters.{AreOfManyShapes, IsIndexOf};
+ghost use Rattle.q_tree.specs.IndexOfFilters.{AreOfManyShapes};
+ghost use Rattle.q_tree.specs.SomeIndex.{IsSomeIndexOf};
 
-use crate::filter_index::FilterIndex;
+use crate::index_of_filters::IndexOfFilters;
 use crate::masked_filter::MaskedFilter;
 use crate::matching::named_class;
 use q_model::{Filter, FilterPrio, Minor};
@@ -19,7 +20,7 @@ use std::marker::Model;
 #[derive(Drop)]
 pub(crate) struct Filters {
     list: Vec<MaskedFilter>,
-    index: Option<Box<FilterIndex>>,
+    index: Option<Box<IndexOfFilters>>,
 }
 
 impl Model for Filters {
@@ -104,11 +105,12 @@ impl Filters {
 fn new_index(
     alloc: Global,
     filters: &[MaskedFilter],
-) -> Result<Option<Box<FilterIndex>>, AllocError>
-    ensures index { IfOk result (λ made. IfSome made (λ index. IsIndexOf index.value filters.now)) }
+) -> Result<Option<Box<IndexOfFilters>>, AllocError>
+    ensures index { IfOk result (λ made. IfSome made (λ index. IsSomeIndexOf index.value filters.now)) }
     ensures none { IfOk result (λ made. made ≡ None → 9 ≤ length filters.now → length filters.now ≤ 256 → AreOfManyShapes filters.now) }
+    ensures few { IfOk result (λ made. made ≡ None → length filters.now ≤ 256 → length filters.now ≤ 16) }
 {
-    let Some(index) = FilterIndex::new(alloc, filters)? else {
+    let Some(index) = IndexOfFilters::new(alloc, filters)? else {
         return Ok(None);
     };
     Ok(Some(Box::new(alloc, index)?))
