@@ -27,6 +27,21 @@ static void filters_of_all_shapes(void) {
     arrive();
 }
 
+/* No filter but the last one takes the packet; each has values of its own in each of the five keys. */
+static void filters_of_all_keys(void) {
+    open_device(1514);
+    tc("qdisc add dev d root handle 1: drr");
+    tc("class add dev d parent 1: classid 1:1 drr");
+    for (uint32_t at = 1; at <= FILTERS; at++) {
+        tc("filter add dev d parent 1: protocol ip prio %u flower ip_proto %x src_ip 10.%u.0.0/%u dst_ip 10.%u.0.0/%u src_port %u dst_port %u "
+           "classid 1:1",
+           at, at, at, 16 + at % 17, at, 16 + at / 17, 2 * at, 2 * at);
+    }
+    tc("filter add dev d parent 1: protocol all prio 65535 flower classid 1:1");
+    packet = (qtree_packet){ .len = 100, .family = 4, .proto = 99, .src_low = 0x0a800001, .dst_low = 0x0a400001, .sport = 301, .dport = 301 };
+    arrive();
+}
+
 static void filters_by_port(void) {
     open_device(1514);
     tc("qdisc add dev d root handle 1: drr");
@@ -67,6 +82,7 @@ const struct row arrival_rows[] = {
     { "arrive", "at a pfifo with a packet", first_at_a_pfifo, arrive },
     { "arrive-ports", "past 255 filters by port", filters_by_port, arrive },
     { "arrive-shapes", "past 255 filters of as many shapes", filters_of_all_shapes, arrive },
+    { "arrive-keys", "past 255 filters of as many values of each key", filters_of_all_keys, arrive },
     { "arrive-512", "at a pfifo that doubles its 512 places", pfifo_of_512, arrive },
     { "arrive-doubles", "at a pfifo that doubles its 1,048,576 places", pfifo_that_doubles, arrive },
     { "arrive-flows", "at an fq_codel with 1,048,576 packets", flows_that_double, arrive },

@@ -3,15 +3,21 @@ ghost use Rattle.std.specs.List.{filter, take_while};
 ghost use Rattle.std.specs.Option.{IfSome};
 ghost use Rattle.q_model.specs.Filters.{named_class, with_filter};
 ghost use Rattle.q_model.specs.declared.filter.Filter.{Filter};
-ghost use Rattle.q_tree.specs.filters.IndexOfFilters.{AreOfManyShapes, IsIndexOf};
+ghost use Rattle.q_tree.specs.filters.IndexOfFilters.{AreOfManyShapes};
+ghost use Rattle.q_tree.specs.filters.SomeIndex.{IsSomeIndexOf};
 
 pub(crate) mod chains;
+pub(crate) mod field_index;
+pub(crate) mod field_sets;
+pub(crate) mod field_values;
 pub(crate) mod filter_index;
+pub(crate) mod filter_set;
 pub(crate) mod filter_shape;
+pub(crate) mod index_of_filters;
 pub(crate) mod masked_filter;
 pub(crate) mod matching;
 
-use crate::filters::filter_index::FilterIndex;
+use crate::filters::index_of_filters::IndexOfFilters;
 use crate::filters::masked_filter::MaskedFilter;
 use crate::filters::matching::named_class;
 use q_model::{Filter, FilterPrio, Minor};
@@ -25,7 +31,7 @@ use std::marker::Model;
 #[derive(Drop)]
 pub(crate) struct Filters {
     list: Vec<MaskedFilter>,
-    index: Option<Box<FilterIndex>>,
+    index: Option<Box<IndexOfFilters>>,
 }
 
 impl Model for Filters {
@@ -110,11 +116,12 @@ impl Filters {
 fn new_index(
     alloc: Global,
     filters: &[MaskedFilter],
-) -> Result<Option<Box<FilterIndex>>, AllocError>
-    ensures index { IfOk result (λ made. IfSome made (λ index. IsIndexOf index.value filters.now)) }
+) -> Result<Option<Box<IndexOfFilters>>, AllocError>
+    ensures index { IfOk result (λ made. IfSome made (λ index. IsSomeIndexOf index.value filters.now)) }
     ensures none { IfOk result (λ made. made ≡ None → 9 ≤ length filters.now → length filters.now ≤ 256 → AreOfManyShapes filters.now) }
+    ensures few { IfOk result (λ made. made ≡ None → length filters.now ≤ 256 → length filters.now ≤ 16) }
 {
-    let Some(index) = FilterIndex::new(alloc, filters)? else {
+    let Some(index) = IndexOfFilters::new(alloc, filters)? else {
         return Ok(None);
     };
     Ok(Some(Box::new(alloc, index)?))

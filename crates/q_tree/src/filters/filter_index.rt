@@ -62,7 +62,7 @@ impl FilterIndex {
     }
 
     /// The class that the first matching filter names.
-    #[inline(never)]
+    #[inline(always)]
     pub(crate) fn named_class(&self, filters: &[MaskedFilter], packet: &KeptPacket) -> Option<Minor>
         requires { IsIndexOf self.now filters.now }
         ensures { result ≡ named_class filters.now packet.now }

@@ -38,6 +38,7 @@ mod tree;
 mod tree_change;
 mod tree_classes;
 mod tree_commands;
+mod tree_filter_shapes;
 mod tree_filters;
 mod tree_handles;
 mod tree_oldest;
