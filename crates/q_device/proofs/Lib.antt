@@ -23,6 +23,7 @@ mod PollAnswers
 pub mod PollLemmas
 mod PromiseStands
 pub mod ReadyNumbers
+pub mod HandedOut
 pub mod RecorderLemmas
 pub mod Renewed
 pub mod RenewedAsks
@@ -36,6 +37,7 @@ pub mod SilentDrrs
 pub mod StatsStands
 pub mod StepStands
 pub mod ToldLemmas
+pub mod TurnLemmas
 pub mod TurnNowStands
 pub mod WaitingLemmas
 pub mod WorstStands

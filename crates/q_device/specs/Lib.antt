@@ -14,8 +14,10 @@ pub mod Latest
 pub mod Laws
 pub mod Polls
 pub mod Promise
+pub mod Reaps
 pub mod Replayed
 pub mod Room
 pub mod Sharing
+pub mod Turning
 pub mod Waiting
 pub mod Worst

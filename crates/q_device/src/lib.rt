@@ -8,6 +8,8 @@
 //!   [`StoredPacket`], whose fields may be out of range until the caller has checked them.
 //! - [`Device::arrive_many`] lets several packets arrive at one time, and [`Device::poll_many`] polls for several. An [`Answer`] is what the first
 //!   of them writes about each packet.
+//! - [`Device::turn`] is a turn of a program's loop, as many polls as are due and then as many reaps, and answers by a [`Turned`] when to take the
+//!   next. [`Device::reap_many`] hands out several losses; a [`ToldLoss`] is what it writes of each.
 //! - [`play`] plays a list of events on a new device, and returns the [`Replies`].
 //! - [`LastEvents`] is a log in which a program notes the latest events. (The recorder of a device has the first ones.)
 //! - [`Service`] is what a class of a drr is promised; [`Device::service`] computes it. [`Worst`] is how long a packet waits in a fifo at most;
@@ -51,8 +53,11 @@ mod latest;
 pub mod laws;
 mod packets;
 mod playing;
+mod reaping;
 mod recording;
 mod service;
+mod told_loss;
+mod turn;
 mod worst;
 
 pub use crate::answer::Answer;
@@ -62,6 +67,8 @@ pub use crate::given::Given;
 pub use crate::last_events::LastEvents;
 pub use crate::latest::Latest;
 pub use crate::service::Service;
+pub use crate::told_loss::ToldLoss;
+pub use crate::turn::Turned;
 pub use crate::worst::Worst;
 pub use playing::{Replies, play};
 pub use q_codel::{Loss as Lost, Told};
