@@ -12,7 +12,6 @@ ghost use Rattle.q_packet.specs.Descriptor.{Descriptor};
 ghost use Rattle.q_packet.specs.Stored.{IsStored, descriptor, stored_of};
 ghost use Rattle.std.specs.Option.{option_map_or};
 ghost use Rattle.q_tree.specs.answers.MostPackets.{most_packets};
-ghost use Rattle.q_tree.specs.answers.ReadyAt.{is_sure, ready_at};
 ghost use Rattle.q_tree.specs.answers.Ways.{IsShare};
 ghost use Rattle.q_tree.specs.commands.Commanding.{MayTakeMemory};
 ghost use Rattle.q_tree.specs.TreeSeen.{tree_numbers};
@@ -25,6 +24,7 @@ ghost use Rattle.q_device.specs.promises.Promise.{promise_of, promise_seen};
 
 mod bursts;
 mod latest;
+mod readiness;
 
 use crate::given::Given;
 use crate::log::recording::{has_room, record_arrival, record_command, record_poll};
@@ -214,25 +214,6 @@ impl Device {
         record_poll(&mut self.recorded, &self.settings, self.spare, at);
         count_poll(sent, &mut self.others);
         given_of(sent, &self.tree)
-    }
-
-    /// Computes until when a program may sleep: the time before which no poll gives a packet, as long as no packet arrives and no command comes.
-    ///
-    /// Returns `None` if no poll will ever give a packet: none is queued, or no token bucket will ever hold enough for what waits. The time is
-    /// never before the clock, and it is the clock if a poll may give a packet at once. Changes nothing, allocates nothing, and visits each node of
-    /// the tree at most once.
-    ///
-    /// A poll at that time may still answer `Later`. It gives a packet if the tree is sure of the time (the clause `some`): every packet that the
-    /// time depends on is known, and no drr has to grant a quantum first. If the tree is not sure, an fq_codel that was not asked yet may drop the
-    /// packet that it would have sent, and a drr may pass its turn to another class. The next answer is then a later time.
-    pub fn ready_at(&self) -> Option<Moment>
-        ensures value { result ≡ ready_at self.now.device.clock self.now.device.tree.root }
-        ensures from { IfSome result (λ at. self.now.device.clock ≤ at) }
-        ensures early { IfSome result (λ at. (t : ℕ) → self.now.device.clock ≤ t → t < at → given t self.now.device.tree ≡ None) }
-        ensures some { is_sure self.now.device.clock self.now.device.tree.root ≡ true → IfSome result (λ at. IsSome (given at self.now.device.tree)) }
-        ensures never { IfNone result ((t : ℕ) → self.now.device.clock ≤ t → t ≤ 2 ^ 62 → given t self.now.device.tree ≡ None) }
-    {
-        self.tree.ready_at(self.tree.clock())
     }
 
     /// Computes how many packets can be queued in the device at most, now and as long as no command is carried out.

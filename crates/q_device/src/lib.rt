@@ -8,6 +8,8 @@
 //!   [`StoredPacket`], whose fields may be out of range until the caller has checked them.
 //! - [`Device::arrive_many`] lets several packets arrive at one time, and [`Device::poll_many`] polls for several. An [`Answer`] is what the first
 //!   of them writes about each packet.
+//! - [`Device::turn`] is a turn of a program's loop, as many polls as are due and then as many reaps, and answers by a [`Turned`] when to take the
+//!   next. [`Device::reap_many`] hands out several losses; a [`ToldLoss`] is what it writes of each.
 //! - [`play`] plays a list of events on a new device, and returns the [`Replies`].
 //! - [`LastEvents`] is a log in which a program notes the latest events. (The recorder of a device has the first ones.)
 //! - [`Service`] is what a class of a drr is promised; [`Device::service`] computes it. [`Worst`] is how long a packet waits in a fifo at most;
@@ -50,6 +52,9 @@ pub mod laws;
 mod log;
 mod packets;
 mod promises;
+mod reaping;
+mod told_loss;
+mod turn;
 
 pub use crate::answer::Answer;
 pub use crate::bursts::Stopped;
@@ -61,6 +66,8 @@ pub use crate::log::playing::{Replies, play};
 pub use crate::promises::latest::Latest;
 pub use crate::promises::service::Service;
 pub use crate::promises::worst::Worst;
+pub use crate::told_loss::ToldLoss;
+pub use crate::turn::Turned;
 pub use q_codel::{Loss as Lost, Told};
 pub use q_model::{Event, Fate, Polled, Reply, Settings};
 pub use q_packet::{
