@@ -1,3 +1,4 @@
 pub mod Chains
 pub mod Explained
 pub mod FoundOptions
+pub mod Joined

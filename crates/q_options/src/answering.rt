@@ -4,6 +4,7 @@ ghost use Rattle.std.specs.IoError.{error_kind};
 ghost use Rattle.clap.specs.Words.{kind_of as clap_kind};
 ghost use Rattle.clap.specs.declared.error.kind.ErrorKind.TheVariants.{DisplayHelp, DisplayVersion};
 ghost use Rattle.q_options.specs.Answer.{IsDriveAnsweredOf, IsPlayedFrom, IsShown, IsTold, IsTurnedDown};
+ghost use Rattle.q_options.specs.Usage.{AsksForNothing, IsHelpFailed, IsToldBy, IsTurnedDownWith};
 ghost use Rattle.q_options.specs.CommandLine.{IsAsked};
 ghost use Rattle.q_options.specs.declared.drive_options.DriveOptions.{DriveOptions};
 ghost use Rattle.q_options.specs.declared.play_options.PlayOptions.{PlayOptions};
@@ -19,6 +20,8 @@ use crate::play_asked::play_asked;
 use crate::playing::FAULT;
 use crate::program_options::Options;
 use crate::telling::tell;
+use crate::usage::tell_usage;
+use clap::error::ErrorKind as UsageFault;
 use q_script::{RunFault, Source};
 use q_show::Target;
 use std::alloc::Global;
@@ -28,7 +31,7 @@ use std::sync::Wait;
 use std::thread::Threads;
 
 /// Does what a command line asks for, the program's name first, and answers the exit status: that of [`play`](crate::play) or of [`drive`]; 0
-/// where help or the version was asked for and is written to the output; 2, with lines on the error output, where nothing that can
+/// where help or the version was asked for and is written to the output; 2, with one line on the error output, where nothing that can
 /// be done was asked for. The source is read only to drive, or to play where no file is named. It waits for the threads of `drive`.
 ///
 /// The source and the target are new. What their reads and writes came to says which answer this is: no fault of a read or a
@@ -55,6 +58,9 @@ pub fn answer<H: Files + Threads + Wait + Sync, R: Read, W: Write, E: Write>(
         ⊎ ((options : DriveOptions) × IfOk words (λ all. IsAsked (map string_bytes all.items) (Asked.Drive options)) × IsDriveAnsweredOf options.explain options.settings (R.remaining source.old.reader.now)
         (W.contents target.old.writer.now) (W.contents target.new.writer.now)
         (E.contents errors.old) (E.contents errors.new) source.new.reads target.new.writes result) }
+    // On wrong usage the error output has one line, which names the help of the command.
+    ensures wrong_usage { IfOk words (λ all. AsksForNothing (map string_bytes all.items) → result ≡ 2
+        → IsTurnedDownWith (map string_bytes all.items) target.new.writes (E.contents errors.old) (E.contents errors.new)) }
     // The words of the command line could not be had: one is not UTF-8, or there is no memory for them.
     ensures not_utf8 { IfErr words (λ error. error_kind error ≡ ErrorKind.InvalidData →
         IsTold SomeFault.Argument (E.contents errors.old) (E.contents errors.new)) }
@@ -70,7 +76,7 @@ pub fn answer<H: Files + Threads + Wait + Sync, R: Read, W: Write, E: Write>(
     };
     let options = match options(alloc, &words) {
         Ok(options) => options,
-        Err(error) => return show(alloc, &error, target, errors),
+        Err(error) => return show(alloc, &error, &words, target, errors),
     };
     match options {
         Options::Play(options) => play_asked(rt, alloc, &options, source, target, errors),
@@ -86,10 +92,11 @@ pub fn answer<H: Files + Threads + Wait + Sync, R: Read, W: Write, E: Write>(
     }
 }
 
-/// Writes what clap has to say: help and the version to the output, with status 0; all else to the error output.
+/// Writes what clap has to say: help and the version to the output, with status 0; of wrong usage one line to the error output.
 fn show<W: Write, E: Write>(
     alloc: Global,
     error: &clap::Error,
+    words: &[String],
     target: &mut Target<'_, W>,
     errors: &mut E,
 ) -> u8
@@ -100,15 +107,38 @@ fn show<W: Write, E: Write>(
     ensures silent { result ≡ 0 → Keeps (E.contents errors.old) (E.contents errors.new) }
     ensures kept { result ≡ 2 → (target.new ≡ target.old) ⊎ ((kind : ErrorKind) × IsTold (SomeFault.Help kind) (E.contents errors.old) (E.contents errors.new)
         × WriteFailed target.new.writes kind) }
+    ensures told { result ≡ 2 → IsToldBy (map string_bytes words.now) (clap_kind error.now) target.new.writes (E.contents errors.old) (E.contents errors.new) }
 {
-    if error.kind() == clap::error::ErrorKind::OutOfMemory {
-        tell(Fault::Run(RunFault::Memory), errors);
-        return FAULT;
+    match error.kind() {
+        UsageFault::OutOfMemory => {
+            tell(Fault::Run(RunFault::Memory), errors);
+            FAULT
+        }
+        UsageFault::DisplayHelp | UsageFault::DisplayVersion => {
+            show_text(alloc, error, target, errors)
+        }
+        _ => {
+            tell_usage(error, words, errors);
+            FAULT
+        }
     }
-    if error.use_stderr() {
-        let _ = write!(errors, "{error}");
-        return FAULT;
-    }
+}
+
+/// Writes clap's text to the output, with status 0.
+fn show_text<W: Write, E: Write>(
+    alloc: Global,
+    error: &clap::Error,
+    target: &mut Target<'_, W>,
+    errors: &mut E,
+) -> u8
+    requires unwritten { target.old.writes ≡ no_writes }
+    ensures same_writer { target.new.writer.ghost_name ≡ target.old.writer.ghost_name }
+    ensures status { (result ≡ 0) ⊎ (result ≡ 2) }
+    ensures silent { result ≡ 0 → Keeps (E.contents errors.old) (E.contents errors.new) }
+    ensures kept { result ≡ 2 → (target.new ≡ target.old) ⊎ ((kind : ErrorKind) × IsTold (SomeFault.Help kind) (E.contents errors.old) (E.contents errors.new)
+        × WriteFailed target.new.writes kind) }
+    ensures told { result ≡ 2 → IsHelpFailed target.new.writes (E.contents errors.old) (E.contents errors.new) }
+{
     let Ok(text) = format!(in alloc; "{error}") else {
         tell(Fault::Run(RunFault::Memory), errors);
         return FAULT;

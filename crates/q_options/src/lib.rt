@@ -13,7 +13,7 @@
 //! - [`Standard`] is the standard input or output that `main` hands to [`answer`]: a closed one is reported as such. [`PromptedReader`]
 //!   says before its first read that standard input is a terminal.
 //!
-//! `specs/Answer.antt` says what is answered. What clap prints is in no contract.
+//! `specs/Answer.antt` says what is answered, and `specs/Usage.antt` which line comes on wrong usage. What clap prints is in no contract.
 #![tactic(auto)]
 
 mod answering;
@@ -30,6 +30,7 @@ mod prompted_reader;
 mod standard;
 mod telling;
 mod telling_of_lines;
+mod usage;
 
 pub use answering::answer;
 pub use command_line::options;

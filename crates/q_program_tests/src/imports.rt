@@ -7,7 +7,7 @@ use std::process::Abort;
 use std::test::Fail;
 
 /// Runs a script; what is written, and how it went. It promises nothing of either.
-fn written(
+pub fn written(
     alloc: Global,
     script: &[u8],
     settings: RunSettings,

@@ -17,6 +17,8 @@ mod meeting;
 #[cfg(test)]
 mod open_gate;
 #[cfg(test)]
+mod permits;
+#[cfg(test)]
 mod port_calls;
 #[cfg(test)]
 mod ports;

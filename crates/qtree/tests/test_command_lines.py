@@ -37,104 +37,118 @@ DRIVES = [
     ),
 ]
 
-# Command lines that are turned down, each with the lines of standard error before its first empty one, as one line.
+# Command lines that are turned down, each with the line of standard error.
 TURNED_DOWN = """\
 qtree drive
-    error: the following required arguments were not provided: --senders <N> --count <N> --len <N> --ring <N>
+    qtree: the following required arguments were not provided: --senders <N> --count <N> --len <N> --ring <N>; try 'qtree drive --help'
 qtree
-    A packet scheduler with the behaviour of Linux traffic control
+    qtree: no command is named; try 'qtree --help'
+qtree --loud
+    qtree: unexpected argument '--loud'; try 'qtree --help'
+qtree --loud play
+    qtree: unexpected argument '--loud'; try 'qtree --help'
+qtree played
+    qtree: unrecognized subcommand 'played'; try 'qtree --help'
+qtree help played
+    qtree: unrecognized subcommand 'played'; try 'qtree --help'
 qtree play --loud
-    error: unexpected argument '--loud' found
+    qtree: unexpected argument '--loud'; try 'qtree play --help'
 qtree play script script
-    error: unexpected argument 'script' found
+    qtree: unexpected argument 'script'; try 'qtree play --help'
 qtree play --explain=1
-    error: unexpected value '1' for '--explain' found; no more were expected
+    qtree: unexpected value '1' for '--explain' found; no more were expected; try 'qtree play --help'
 qtree play --explain --explain
-    error: the argument '--explain' cannot be used multiple times
+    qtree: the argument '--explain' cannot be used multiple times; try 'qtree play --help'
 qtree drive --explain
-    error: the following required arguments were not provided: --senders <N> --count <N> --len <N> --ring <N>
+    qtree: the following required arguments were not provided: --senders <N> --count <N> --len <N> --ring <N>; try 'qtree drive --help'
 qtree play --mtu 0
-    error: invalid value '0' for '--mtu <N>': 0 is not in 1..=65535
+    qtree: invalid value '0' for '--mtu <N>': 0 is not in 1..=65535; try 'qtree play --help'
 qtree play --mtu 65536
-    error: invalid value '65536' for '--mtu <N>': 65536 is not in 1..=65535
+    qtree: invalid value '65536' for '--mtu <N>': 65536 is not in 1..=65535; try 'qtree play --help'
 qtree play --mtu
-    error: a value is required for '--mtu <N>' but none was supplied
+    qtree: a value is required for '--mtu <N>' but none was supplied; try 'qtree play --help'
 qtree play --mtu 1 --mtu 2
-    error: the argument '--mtu <N>' cannot be used multiple times
+    qtree: the argument '--mtu <N>' cannot be used multiple times; try 'qtree play --help'
 qtree play --txqueuelen -1
-    error: unexpected argument '-1' found
+    qtree: unexpected argument '-1'; try 'qtree play --help'
 qtree play --seed 4294967296
-    error: invalid value '4294967296' for '--seed <N>': 4294967296 is not in 0..=4294967295
+    qtree: invalid value '4294967296' for '--seed <N>': 4294967296 is not in 0..=4294967295; try 'qtree play --help'
 qtree play --record 1000001
-    error: invalid value '1000001' for '--record <N>': 1000001 is not in 0..=1000000
+    qtree: invalid value '1000001' for '--record <N>': 1000001 is not in 0..=1000000; try 'qtree play --help'
 qtree play --record 1k
-    error: invalid value '1k' for '--record <N>': invalid digit found in string
+    qtree: invalid value '1k' for '--record <N>': invalid digit found in string; try 'qtree play --help'
 """
 
 # The same of numbers past their bounds, and of options that are missing, are given twice, or belong to the other command.
 PAST_THEIR_BOUNDS = """\
 qtree drive
-    error: the following required arguments were not provided: --senders <N> --count <N> --len <N> --ring <N>
+    qtree: the following required arguments were not provided: --senders <N> --count <N> --len <N> --ring <N>; try 'qtree drive --help'
 qtree drive --count 1 --len 1 --ring 1
-    error: the following required arguments were not provided: --senders <N>
+    qtree: the following required arguments were not provided: --senders <N>; try 'qtree drive --help'
 qtree drive --senders 1 --len 1 --ring 1
-    error: the following required arguments were not provided: --count <N>
+    qtree: the following required arguments were not provided: --count <N>; try 'qtree drive --help'
 qtree drive --senders 1 --count 1 --ring 1
-    error: the following required arguments were not provided: --len <N>
+    qtree: the following required arguments were not provided: --len <N>; try 'qtree drive --help'
 qtree drive --senders 1 --count 1 --len 1
-    error: the following required arguments were not provided: --ring <N>
+    qtree: the following required arguments were not provided: --ring <N>; try 'qtree drive --help'
 qtree drive --senders 0 --count 1 --len 1 --ring 1
-    error: invalid value '0' for '--senders <N>': 0 is not in 1..=64
+    qtree: invalid value '0' for '--senders <N>': 0 is not in 1..=64; try 'qtree drive --help'
 qtree drive --senders 65 --count 1 --len 1 --ring 1
-    error: invalid value '65' for '--senders <N>': 65 is not in 1..=64
+    qtree: invalid value '65' for '--senders <N>': 65 is not in 1..=64; try 'qtree drive --help'
 qtree drive --senders 257 --count 1 --len 1 --ring 1
-    error: invalid value '257' for '--senders <N>': 257 is not in 1..=64
+    qtree: invalid value '257' for '--senders <N>': 257 is not in 1..=64; try 'qtree drive --help'
 qtree drive --senders 1 --count -1 --len 1 --ring 1
-    error: unexpected argument '-1' found
+    qtree: unexpected argument '-1'; try 'qtree drive --help'
 qtree drive --senders 1 --count 1000001 --len 1 --ring 1
-    error: invalid value '1000001' for '--count <N>': 1000001 is not in 0..=1000000
+    qtree: invalid value '1000001' for '--count <N>': 1000001 is not in 0..=1000000; try 'qtree drive --help'
 qtree drive --senders 1 --count 1 --len 0 --ring 1
-    error: invalid value '0' for '--len <N>': 0 is not in 1..=65535
+    qtree: invalid value '0' for '--len <N>': 0 is not in 1..=65535; try 'qtree drive --help'
 qtree drive --senders 1 --count 1 --len 65536 --ring 1
-    error: invalid value '65536' for '--len <N>': 65536 is not in 1..=65535
+    qtree: invalid value '65536' for '--len <N>': 65536 is not in 1..=65535; try 'qtree drive --help'
 qtree drive --senders 1 --count 1 --len 1 --ring 0
-    error: invalid value '0' for '--ring <N>': 0 is not in 1..=65536
+    qtree: invalid value '0' for '--ring <N>': 0 is not in 1..=65536; try 'qtree drive --help'
 qtree drive --senders 1 --count 1 --len 1 --ring 65537
-    error: invalid value '65537' for '--ring <N>': 65537 is not in 1..=65536
+    qtree: invalid value '65537' for '--ring <N>': 65537 is not in 1..=65536; try 'qtree drive --help'
 qtree drive --senders 1 --senders 1 --count 1 --len 1 --ring 1
-    error: the argument '--senders <N>' cannot be used multiple times
+    qtree: the argument '--senders <N>' cannot be used multiple times; try 'qtree drive --help'
 qtree drive --show --show --senders 1 --count 1 --len 1 --ring 1
-    error: the argument '--show' cannot be used multiple times
+    qtree: the argument '--show' cannot be used multiple times; try 'qtree drive --help'
 qtree drive --explain --explain --senders 1 --count 1 --len 1 --ring 1
-    error: the argument '--explain' cannot be used multiple times
+    qtree: the argument '--explain' cannot be used multiple times; try 'qtree drive --help'
 qtree drive --show=1 --senders 1 --count 1 --len 1 --ring 1
-    error: unexpected value '1' for '--show' found; no more were expected
+    qtree: unexpected value '1' for '--show' found; no more were expected; try 'qtree drive --help'
 qtree drive --until-idle --until-idle --senders 1 --count 1 --len 1 --ring 1
-    error: the argument '--until-idle' cannot be used multiple times
+    qtree: the argument '--until-idle' cannot be used multiple times; try 'qtree drive --help'
 qtree drive --until-idle=1 --senders 1 --count 1 --len 1 --ring 1
-    error: unexpected value '1' for '--until-idle' found; no more were expected
+    qtree: unexpected value '1' for '--until-idle' found; no more were expected; try 'qtree drive --help'
 qtree drive --senders 1 --count 1 --len 1 --ring 1 --mtu 0
-    error: invalid value '0' for '--mtu <N>': 0 is not in 1..=65535
+    qtree: invalid value '0' for '--mtu <N>': 0 is not in 1..=65535; try 'qtree drive --help'
 qtree drive --senders 1 --count 1 --len 1 --ring 1 --record 1000001
-    error: invalid value '1000001' for '--record <N>': 1000001 is not in 0..=1000000
+    qtree: invalid value '1000001' for '--record <N>': 1000001 is not in 0..=1000000; try 'qtree drive --help'
 qtree play --senders 1
-    error: unexpected argument '--senders' found
+    qtree: unexpected argument '--senders'; try 'qtree play --help'
 qtree play --show
-    error: unexpected argument '--show' found
+    qtree: unexpected argument '--show'; try 'qtree play --help'
 qtree play --until-idle
-    error: unexpected argument '--until-idle' found
+    qtree: unexpected argument '--until-idle'; try 'qtree play --help'
 """
+
+# Words that would end a line, or that a terminal would not show, and one that is cut: each with the line of standard error.
+HOSTILE_WORDS = [
+    ("qtree play --a\nb", "unexpected argument '--a b'"),
+    ("qtree play --a\n\nb", "unexpected argument '--a"),
+    ("qtree play --mtu \x1b[1m\a", "invalid value '?[1m?' for '--mtu <N>': invalid digit found in string"),
+    (f"qtree play --{700 * 'a'}", f"unexpected argument '--{479 * 'a'}..."),
+]
 
 
 class CommandLines(ProgramTest):
     def assert_turned_down(self, rows):
-        """Nothing is on standard output, and standard error says why; the usage may be behind that."""
+        """Nothing is on standard output, and standard error has this line."""
         lines = rows.splitlines()
         for line, told in zip(lines[::2], lines[1::2]):
             with self.subTest(line):
-                status, output, errors = self.answer(line)
-                first_lines = b" ".join(errors.partition(b"\n\n")[0].split())
-                self.assert_is(line, (status, output, first_lines), (2, b"", told.strip().encode()))
+                self.assert_answers(line, "", 2, "", f"{told.strip()}\n")
 
     def test_scripts_and_their_statuses(self):
         for line, script, status, report, told in ANSWERS:
@@ -143,6 +157,11 @@ class CommandLines(ProgramTest):
 
     def test_options_of_play_turned_down(self):
         self.assert_turned_down(TURNED_DOWN)
+
+    def test_hostile_words_turned_down_in_one_line(self):
+        for line, told in HOSTILE_WORDS:
+            with self.subTest(line[:40]):
+                self.assert_answers(line, "", 2, "", f"qtree: {told}; try 'qtree play --help'\n")
 
     def test_options_past_their_bounds(self):
         """A line that is whole is answered, and those that differ from it are not."""
