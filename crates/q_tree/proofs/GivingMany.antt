@@ -11,30 +11,30 @@ use Rattle.q_model.specs.Node.{Node, shape}
 use Rattle.q_model.specs.Step.{DeviceState, poll}
 use Rattle.q_model.specs.Work.{Worked, booked}
 use Rattle.q_invariants.proofs.Kept.{IsLawfulRoot}
-use Rattle.q_invariants.proofs.Told.{booked-lawful, each-booked}
-use Rattle.q_tree.specs.AskSteps.{CanAsk, CanAskIn, answer_of}
+use Rattle.q_invariants.proofs.sums.Told.{booked-lawful, each-booked}
+use Rattle.q_tree.specs.arrival.KeepSteps.{no_sink}
 use Rattle.q_tree.specs.Bursts.{AreGiven, polled_each, with_sends}
-use Rattle.q_tree.specs.DisciplineChanges.{IsUnchanged}
+use Rattle.q_tree.specs.commands.DisciplineChanges.{IsUnchanged}
+use Rattle.q_tree.specs.departure.AskSteps.{CanAsk, CanAskIn, answer_of}
+use Rattle.q_tree.specs.departure.GiveSteps.{IsGivenOne, alone}
+use Rattle.q_tree.specs.departure.PopSteps.{with_sent}
+use Rattle.q_tree.specs.departure.SendSteps.{IsSentIn}
 use Rattle.q_tree.specs.GiveMany.{AreGivenBelow, AreGivenSteps, IsGiving}
-use Rattle.q_tree.specs.GiveSteps.{IsGivenOne, alone}
-use Rattle.q_tree.specs.KeepSteps.{no_sink}
 use Rattle.q_tree.specs.Kept.{Kept, kept}
-use Rattle.q_tree.specs.PopSteps.{with_sent}
 use Rattle.q_tree.specs.Seen.{IsKept, seen}
-use Rattle.q_tree.specs.SendSteps.{IsSentIn}
 use Rattle.q_tree.specs.TreeSeen.{IsIndexedDevice, tree_seen}
 use Rattle.q_tree.specs.declared.node.Discipline.{Discipline}
 use Rattle.q_tree.specs.declared.node.Node.TheInside as node
 use Rattle.q_tree.specs.declared.tree.Tree.TheInside.{Inside}
-use Rattle.q_tree.proofs.Asking.{answered, taken-told}
-use Rattle.q_tree.proofs.BurstArrivals.{both, none-more}
-use Rattle.q_tree.proofs.BurstSends.{IsSentBurst, IsWithinTotals, less-both, none-less, row-one}
-use Rattle.q_tree.proofs.GivenTree.{given-alone, given-indexed, given-tree}
-use Rattle.q_tree.proofs.Keeping.{same-kept, same-node}
-use Rattle.q_tree.proofs.Peeks.{can-book, can-in, shown-here, told-here}
-use Rattle.q_tree.proofs.Quiet.{shown-nothing}
-use Rattle.q_tree.proofs.SendForms.{IsSentAs, one-sent}
-use Rattle.q_tree.proofs.SendLemmas.{left-some}
+use Rattle.q_tree.proofs.arrival.BurstArrivals.{both, none-more}
+use Rattle.q_tree.proofs.arrival.Keeping.{same-kept, same-node}
+use Rattle.q_tree.proofs.counters.Quiet.{shown-nothing}
+use Rattle.q_tree.proofs.departure.Asking.{answered, taken-told}
+use Rattle.q_tree.proofs.departure.BurstSends.{IsSentBurst, IsWithinTotals, less-both, none-less, row-one}
+use Rattle.q_tree.proofs.departure.GivenTree.{given-alone, given-indexed, given-tree}
+use Rattle.q_tree.proofs.departure.Peeks.{can-book, can-in, shown-here, told-here}
+use Rattle.q_tree.proofs.departure.SendForms.{IsSentAs, one-sent}
+use Rattle.q_tree.proofs.departure.SendLemmas.{left-some}
 use Rattle.q_tree.proofs.TreeLemmas.{top-row}
 
 -- ---- a row

@@ -17,23 +17,23 @@ use Rattle.q_model.specs.Node as spec
 use Rattle.q_model.specs.Node.{Discipline, Node, none}
 use Rattle.q_model.specs.Pop.{pop}
 use Rattle.q_model.specs.Work.{booked}
-use Rattle.q_invariants.proofs.Exact.{active-brought_up}
-use Rattle.q_invariants.proofs.Forests.{nodes-side}
-use Rattle.q_invariants.proofs.Members.{All-at}
-use Rattle.q_tree.specs.AskSteps.{CanAskIn}
-use Rattle.q_tree.specs.GiveSteps.{CanServeHeads, IsFifoIn, IsFreeFifo, IsQuick, IsQuickIn, alone, nothing_shown}
-use Rattle.q_tree.specs.Holding.{packet_held}
-use Rattle.q_tree.specs.KeepSteps.{no_sink}
+use Rattle.q_invariants.proofs.class.Exact.{active-brought_up}
+use Rattle.q_invariants.proofs.tree.Forests.{nodes-side}
+use Rattle.q_invariants.proofs.tree.Members.{All-at}
+use Rattle.q_tree.specs.arrival.KeepSteps.{no_sink}
+use Rattle.q_tree.specs.departure.AskSteps.{CanAskIn}
+use Rattle.q_tree.specs.departure.GiveSteps.{CanServeHeads, IsFifoIn, IsFreeFifo, IsQuick, IsQuickIn, alone, nothing_shown}
+use Rattle.q_tree.specs.departure.Holding.{packet_held}
+use Rattle.q_tree.specs.departure.PopSteps.{HasHead, HasHeadIn}
 use Rattle.q_tree.specs.Kept.{Kept, kept}
-use Rattle.q_tree.specs.PopSteps.{HasHead, HasHeadIn}
 use Rattle.q_tree.specs.Seen.{children_seen, discipline_seen, seen}
 use Rattle.q_tree.specs.declared.node.Discipline as code
 use Rattle.q_tree.specs.declared.node.Node.TheInside.{Inside}
-use Rattle.q_tree.proofs.AskBands.{get-there}
-use Rattle.q_tree.proofs.Asking.{set-same}
-use Rattle.q_tree.proofs.GivenHeads.{head-asked}
-use Rattle.q_tree.proofs.Peeks.{serve-of}
-use Rattle.q_tree.proofs.ServeLemmas.{AreClassesAsked, IsClassShown, IsMet, class-shown, heads_of, place-within}
+use Rattle.q_tree.proofs.departure.Asking.{set-same}
+use Rattle.q_tree.proofs.departure.GivenHeads.{head-asked}
+use Rattle.q_tree.proofs.departure.Peeks.{serve-of}
+use Rattle.q_tree.proofs.disciplines.AskBands.{get-there}
+use Rattle.q_tree.proofs.disciplines.ServeLemmas.{AreClassesAsked, IsClassShown, IsMet, class-shown, heads_of, place-within}
 
 -- ---- a fifo that holds nothing
 

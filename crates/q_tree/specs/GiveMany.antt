@@ -5,10 +5,10 @@ use Rattle.q_packet.specs.Descriptor.{Descriptor}
 use Rattle.q_model.specs.declared.totals.Totals.{Totals}
 use Rattle.q_model.specs.Beneath.{totals_in}
 use Rattle.q_model.specs.Node as spec
-use Rattle.q_tree.specs.AskSteps.{CanAsk}
 use Rattle.q_tree.specs.Bursts.{with_sends}
-use Rattle.q_tree.specs.GiveSteps.{IsGivenOne, IsQuickIn}
-use Rattle.q_tree.specs.Holding.{packet_held}
+use Rattle.q_tree.specs.departure.AskSteps.{CanAsk}
+use Rattle.q_tree.specs.departure.GiveSteps.{IsGivenOne, IsQuickIn}
+use Rattle.q_tree.specs.departure.Holding.{packet_held}
 use Rattle.q_tree.specs.Kept.{Kept}
 use Rattle.q_tree.specs.Seen.{IsKept, children_seen, discipline_seen, seen}
 use Rattle.q_tree.specs.declared.node.Discipline.{Discipline}

@@ -2,13 +2,13 @@ use Rattle.std.proofs.Common.{◌∙◌, List, None, length, refl, sym, ap, subs
 use Rattle.std.specs.Prelude.{All}
 use Rattle.q_model.specs.declared.totals.Totals.{Totals}
 use Rattle.q_model.specs.Node.{Node, children}
-use Rattle.q_invariants.proofs.Forests.{nodes-side}
-use Rattle.q_tree.specs.GiveSteps.{IsFreeFifo, IsQuick, IsQuickIn}
+use Rattle.q_invariants.proofs.tree.Forests.{nodes-side}
+use Rattle.q_tree.specs.departure.GiveSteps.{IsFreeFifo, IsQuick, IsQuickIn}
 use Rattle.q_tree.specs.Kept.{Kept}
 use Rattle.q_tree.specs.Seen.{children_seen, discipline_seen}
-use Rattle.q_tree.proofs.HeldLemmas.{none-kept}
-use Rattle.q_tree.proofs.ServingHeads.{quick-out}
+use Rattle.q_tree.proofs.departure.HeldLemmas.{none-kept}
 use Rattle.q_tree.proofs.node.Node.has_fifo_classes.Goals as goal
+use Rattle.q_tree.proofs.ServingHeads.{quick-out}
 
 pub returns-then-len-most-clause-comes : goal.returns-then-len-most-clause-comes
 returns-then-len-most-clause-comes c h =

@@ -6,8 +6,8 @@ use Rattle.q_tree.specs.Bursts.{AreGiven, polled_each}
 use Rattle.q_tree.specs.Kept.{Kept, kept}
 use Rattle.q_tree.specs.TreeSeen.{IsIndexedDevice, tree_seen}
 use Rattle.q_tree.proofs.GivingMany.{sent-some, sent-within}
-use Rattle.q_tree.proofs.TreeLemmas.{can-ask-root, top-row}
 use Rattle.q_tree.proofs.tree.Tree.send_some.Goals as goal
+use Rattle.q_tree.proofs.TreeLemmas.{can-ask-root, top-row}
 
 pub give_some-sent-requires-clause-asks : goal.give_some-sent-requires-clause-asks
 give_some-sent-requires-clause-asks g c =
