@@ -10,7 +10,7 @@ use Rattle.q_model.specs.Lawful.{IsLawfulOwn}
 use Rattle.q_model.specs.Node.{Node, shape}
 use Rattle.q_model.specs.Step.{DeviceState, poll}
 use Rattle.q_model.specs.Work.{Worked, booked}
-use Rattle.q_invariants.proofs.Kept.{IsLawfulRoot}
+use Rattle.q_invariants.specs.Kept.{IsLawfulRoot}
 use Rattle.q_invariants.proofs.sums.Told.{booked-lawful, each-booked}
 use Rattle.q_tree.specs.arrival.KeepSteps.{no_sink}
 use Rattle.q_tree.specs.Bursts.{AreGiven, polled_each, with_sends}
