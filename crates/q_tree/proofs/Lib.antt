@@ -1,5 +1,3 @@
-pub mod GivingMany
-pub mod ServingHeads
 pub mod TreeLemmas
 pub use Rattle.q_tree.proofs.answers.Foreseeing
 pub use Rattle.q_tree.proofs.answers.ForeseenAsks

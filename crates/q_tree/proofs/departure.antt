@@ -9,6 +9,7 @@ pub mod GivenInto
 pub mod GivenMany
 pub mod GivenTree
 pub mod GivingComes
+pub mod GivingMany
 pub mod HeldLemmas
 pub mod Peeks
 pub mod PopLemmas

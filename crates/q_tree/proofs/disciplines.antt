@@ -14,4 +14,5 @@ pub mod IdleClasses
 pub mod RoundsServed
 pub mod SendBands
 pub mod ServeLemmas
+pub mod ServingHeads
 pub mod TakeCounts

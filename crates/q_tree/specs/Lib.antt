@@ -1,5 +1,4 @@
 pub mod Bursts
-pub mod GiveMany
 pub mod Kept
 pub mod Laws
 pub mod NodeCode

@@ -1,5 +1,6 @@
 -- A packet goes out: nodes are asked for the next one, hold it, and give it.
 pub mod AskSteps
+pub mod GiveMany
 pub mod GiveSteps
 pub mod Holding
 pub mod PopSteps

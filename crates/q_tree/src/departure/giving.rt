@@ -13,11 +13,11 @@ ghost use Rattle.q_tree.specs.arrival.KeepSteps.{no_sink};
 ghost use Rattle.q_tree.specs.Bursts.{IsGivenOut};
 ghost use Rattle.q_tree.specs.commands.DisciplineChanges.{IsUnchanged};
 ghost use Rattle.q_tree.specs.departure.AskSteps.{AreAsked, CanAsk, CanAskEach, CanAskIn, answer_of, answers};
+ghost use Rattle.q_tree.specs.departure.GiveMany.{AreGivenAlong, AreGivenIn, CanGiveEach};
 ghost use Rattle.q_tree.specs.departure.GiveSteps.{CanGive, CanGiveFrom, CanServeHeads, CanSpendHead, HasFifoClasses, HasFirstHead, IsFreeFifo, IsIdleIn, IsNoFifo, IsQuick, IsQuickIn, alone};
 ghost use Rattle.q_tree.specs.departure.PopSteps.{HasHead};
 ghost use Rattle.q_tree.specs.departure.SendSteps.{AreSent, IsSentIn};
 ghost use Rattle.q_tree.specs.disciplines.Meeting.{HasServed};
-ghost use Rattle.q_tree.specs.GiveMany.{AreGivenAlong, AreGivenIn, CanGiveEach};
 ghost use Rattle.q_tree.specs.Seen.{children_seen, discipline_seen};
 
 use crate::arrival::keep::totals;

@@ -5,7 +5,7 @@ use Rattle.q_packet.specs.Descriptor.{Descriptor}
 use Rattle.q_model.specs.declared.totals.Totals.{Totals}
 use Rattle.q_tree.proofs.arrival.KeepingMany.{totals-more}
 use Rattle.q_tree.proofs.departure.GivenMany.{told-then}
-use Rattle.q_tree.proofs.GivingMany.{gives-ask, gives-more}
+use Rattle.q_tree.proofs.departure.GivingMany.{gives-ask, gives-more}
 use Rattle.q_tree.proofs.departure.giving.give_each.Goals as goal
 
 pub give_one-requires-clause-asks : goal.give_one-requires-clause-asks

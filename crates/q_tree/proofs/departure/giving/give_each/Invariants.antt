@@ -1,6 +1,6 @@
 use Rattle.std.proofs.Common.{None}
+use Rattle.q_tree.specs.departure.GiveMany.{AreGivenIn}
 use Rattle.q_tree.specs.departure.GiveSteps.{IsNoFifo, IsQuickIn}
-use Rattle.q_tree.specs.GiveMany.{AreGivenIn}
 use Rattle.q_tree.specs.Seen.{children_seen, discipline_seen}
 use Rattle.q_tree.proofs.departure.giving.give_each.Given as goal
 

@@ -12,7 +12,7 @@ use Rattle.q_tree.specs.Kept.{Kept}
 use Rattle.q_tree.proofs.disciplines.IdleClasses.{idle, idle-schedule_same}
 use Rattle.q_tree.proofs.disciplines.RoundsServed.{can-go, fewer-needed, round-goes-on, round-starts, rounds-go-on}
 use Rattle.q_tree.proofs.disciplines.ServeLemmas.{class-given, class-sends, classes-start, front-met, short-enough}
-use Rattle.q_tree.proofs.ServingHeads.{fifo-after, front-back, front-head, front-is, front-passed, front-shows, shown-of}
+use Rattle.q_tree.proofs.disciplines.ServingHeads.{fifo-after, front-back, front-head, front-is, front-passed, front-shows, shown-of}
 use Rattle.q_tree.proofs.departure.giving.give_from_classes.Goals as goal
 
 pub loop-place-init : goal.loop-place-init

@@ -9,8 +9,8 @@ use Rattle.q_tree.specs.Seen.{children_seen, discipline_seen, places_seen}
 use Rattle.q_tree.specs.declared.node.Discipline.TheVariants as code
 use Rattle.q_tree.proofs.departure.Peeks.{asked-in, items-are}
 use Rattle.q_tree.proofs.departure.SendForms.{asked-sent-in, sent-in, prio-left}
+use Rattle.q_tree.proofs.disciplines.ServingHeads.{serve-heads}
 use Rattle.q_tree.proofs.node.Discipline.give_one.Goals as goal
-use Rattle.q_tree.proofs.ServingHeads.{serve-heads}
 
 pub returns-in-Prio-clause-given : goal.returns-in-Prio-clause-given
 returns-in-Prio-clause-given c = λ so handle filters.

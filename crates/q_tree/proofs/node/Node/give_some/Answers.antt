@@ -4,10 +4,10 @@ use Rattle.q_invariants.proofs.tree.Forests.{nodes-side}
 use Rattle.q_tree.specs.departure.AskSteps.{CanAsk}
 use Rattle.q_tree.specs.departure.GiveSteps.{CanGiveFrom}
 use Rattle.q_tree.specs.Seen.{children_seen, discipline_seen}
+use Rattle.q_tree.proofs.departure.GivingMany.{gives-none}
 use Rattle.q_tree.proofs.departure.HeldLemmas.{none-kept}
-use Rattle.q_tree.proofs.GivingMany.{gives-none}
+use Rattle.q_tree.proofs.disciplines.ServingHeads.{quick-in}
 use Rattle.q_tree.proofs.node.Node.give_some.Goals as goal
-use Rattle.q_tree.proofs.ServingHeads.{quick-in}
 
 pub give_each-sent-requires : goal.give_each-sent-requires
 give_each-sent-requires g c = record {

@@ -7,8 +7,8 @@ use Rattle.q_tree.specs.departure.GiveSteps.{IsFreeFifo, IsQuick, IsQuickIn}
 use Rattle.q_tree.specs.Kept.{Kept}
 use Rattle.q_tree.specs.Seen.{children_seen, discipline_seen}
 use Rattle.q_tree.proofs.departure.HeldLemmas.{none-kept}
+use Rattle.q_tree.proofs.disciplines.ServingHeads.{quick-out}
 use Rattle.q_tree.proofs.node.Node.has_fifo_classes.Goals as goal
-use Rattle.q_tree.proofs.ServingHeads.{quick-out}
 
 pub returns-then-len-most-clause-comes : goal.returns-then-len-most-clause-comes
 returns-then-len-most-clause-comes c h =

@@ -5,7 +5,7 @@ use Rattle.q_model.specs.Step.{DeviceState}
 use Rattle.q_tree.specs.Bursts.{AreGiven, polled_each}
 use Rattle.q_tree.specs.Kept.{Kept, kept}
 use Rattle.q_tree.specs.TreeSeen.{IsIndexedDevice, tree_seen}
-use Rattle.q_tree.proofs.GivingMany.{sent-some, sent-within}
+use Rattle.q_tree.proofs.departure.GivingMany.{sent-some, sent-within}
 use Rattle.q_tree.proofs.tree.Tree.send_some.Goals as goal
 use Rattle.q_tree.proofs.TreeLemmas.{can-ask-root, top-row}
 

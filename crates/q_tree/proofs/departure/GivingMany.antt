@@ -16,10 +16,10 @@ use Rattle.q_tree.specs.arrival.KeepSteps.{no_sink}
 use Rattle.q_tree.specs.Bursts.{AreGiven, polled_each, with_sends}
 use Rattle.q_tree.specs.commands.DisciplineChanges.{IsUnchanged}
 use Rattle.q_tree.specs.departure.AskSteps.{CanAsk, CanAskIn, answer_of}
+use Rattle.q_tree.specs.departure.GiveMany.{AreGivenBelow, AreGivenSteps, IsGiving}
 use Rattle.q_tree.specs.departure.GiveSteps.{IsGivenOne, alone}
 use Rattle.q_tree.specs.departure.PopSteps.{with_sent}
 use Rattle.q_tree.specs.departure.SendSteps.{IsSentIn}
-use Rattle.q_tree.specs.GiveMany.{AreGivenBelow, AreGivenSteps, IsGiving}
 use Rattle.q_tree.specs.Kept.{Kept, kept}
 use Rattle.q_tree.specs.Seen.{IsKept, seen}
 use Rattle.q_tree.specs.TreeSeen.{IsIndexedDevice, tree_seen}
