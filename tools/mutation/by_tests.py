@@ -46,6 +46,7 @@ FAILED = (
     r"^test (\S+) \.\.\. FAILED",
     r"^--- FAIL: (\w+)",
     r"^(\w+): FAILED",
+    r"^(\w+\.c:\d+: .*)",
     r"^SUMMARY: (.*)",
 )
 UNREAD = r"^\S+:\d+:\d+: (?:fatal )?error: |^error\[E\d+\]|could not compile|SyntaxError|IndentationError|\[build failed\]|undefined reference"
