@@ -16,7 +16,7 @@ use std::alloc::{AllocError, Global};
 use std::convert::AsStr;
 
 /// The version of this program, the processor that it is compiled for, and the kit that it is proved with.
-const VERSION: &str = "1.3.0 for x86_64, proved with rattle-kit-13b";
+const VERSION: &str = "1.3.0 for x86_64, proved with rattle-kit-13f";
 
 const PLAY_END: &str = "Example:
   printf 'tc qdisc add dev eth0 root pfifo limit 2\\npkt 1500\\npoll\\n' | qtree play
