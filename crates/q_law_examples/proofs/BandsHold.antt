@@ -7,9 +7,9 @@ use Rattle.q_law_examples.proofs.StateTests.{alone-there, alone_test}
 use Rattle.q_law_examples.proofs.TreeTests.{no-command-there, no-tbf-there}
 use Rattle.q_law_examples.specs.Bands.{ConservedWork, LineFirst, OrderOfFlow, StrictBands}
 use Rattle.q_law_examples.specs.Replays.{bands_before, bands_during, bands_flow, bands_map, bands_second, bands_tree, packet, settings}
-use Rattle.q_laws.specs.Line.{IsAlone, KeepLine, LinesLeaveFirst, line_at_root}
-use Rattle.q_laws.specs.Order.{FlowsKeepOrder, NoCommandIsDone, flow_among}
-use Rattle.q_laws.specs.Work.{BandsAreStrict, HasNoTbf, WorkIsConserved}
+use Rattle.q_laws.specs.line.Line.{IsAlone, KeepLine, LinesLeaveFirst, line_at_root}
+use Rattle.q_laws.specs.order.Order.{FlowsKeepOrder, NoCommandIsDone, flow_among}
+use Rattle.q_laws.specs.work.Work.{BandsAreStrict, HasNoTbf, WorkIsConserved}
 use Rattle.q_model.specs.Beneath.{beneath}
 use Rattle.q_model.specs.Conserved.{sent_in}
 use Rattle.q_model.specs.Events.{IsEvent}

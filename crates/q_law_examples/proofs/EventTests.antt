@@ -8,8 +8,8 @@ use Rattle.q_model.specs.declared.event.Event.{Event}
 use Rattle.q_model.specs.Step.{DeviceState, step}
 use Rattle.q_model.specs.Stretches.{TbfAt, tbf_in}
 use Rattle.q_model.specs.Tally.{Note, history}
-use Rattle.q_tree.specs.ReadyAt.{ready_at}
-use Rattle.q_laws.specs.Rate.{due_in, IsDrained, IsDrainedFrom, IsNeverLate, IsNowhereCut}
+use Rattle.q_tree.specs.answers.ReadyAt.{ready_at}
+use Rattle.q_laws.specs.rate.Rate.{due_in, IsDrained, IsDrainedFrom, IsNeverLate, IsNowhereCut}
 
 some-within : (o : Option ℕ) (f : ℕ → ℕ) (n : ℕ) → option_map_or (λ at. nat_le n (f at)) o true ≡ true → IfSome o (λ at. n ≤ f at)
 some-within None f n h = tt

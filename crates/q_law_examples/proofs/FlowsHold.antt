@@ -8,9 +8,9 @@ use Rattle.q_law_examples.proofs.Rules.{all_rules}
 use Rattle.q_law_examples.proofs.StateTests.{flow-there, flow_test, queued-flow-there, queued_flow_test}
 use Rattle.q_law_examples.specs.Flows.{FlowAgainstAnother, FlowBeginsNew, FlowIsNotStarved, FlowShare, GrantedEvenly, JoinsBefore, JoinsFirst, JoinsSpared}
 use Rattle.q_law_examples.specs.Replays.{flow_joins, flows_before, flows_during, flows_granting, flows_then, settings}
-use Rattle.q_laws.specs.NewFlow.{NewFlowsGoBefore}
-use Rattle.q_laws.specs.Rest.{JoiningFlowsAreSpared}
-use Rattle.q_laws.specs.Service.{FlowAgainstAny, IsQueuedFlow, NewFlowFirst, NoFlowStarves}
+use Rattle.q_laws.specs.new_flow.NewFlow.{NewFlowsGoBefore}
+use Rattle.q_laws.specs.new_flow.Rest.{JoiningFlowsAreSpared}
+use Rattle.q_laws.specs.share.Service.{FlowAgainstAny, IsQueuedFlow, NewFlowFirst, NoFlowStarves}
 use Rattle.q_model.specs.Events.{IsEvent}
 use Rattle.q_model.specs.Replay.{replay}
 use Rattle.q_model.specs.Stretches.{FqAt, IsBackloggedFlow, Throughout, bytes_given, flow_grants_to, fq_in}

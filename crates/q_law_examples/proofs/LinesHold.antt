@@ -1,8 +1,8 @@
 -- The premises of the laws about a line, computed for worked replays, and with them the laws.
-use Rattle.q_device.specs.Latest.{latest_of}
 use Rattle.q_device.specs.Laws.{given_in}
+use Rattle.q_device.specs.promises.Latest.{latest_of}
+use Rattle.q_device.specs.promises.Worst.{worst_on}
 use Rattle.q_device.specs.Sharing.{device_after}
-use Rattle.q_device.specs.Worst.{worst_on}
 use Rattle.q_law_examples.proofs.ByTest.{Found, both, by-test, found, passes, passes-left, passes-right}
 use Rattle.q_law_examples.proofs.EventTests.{drained-there}
 use Rattle.q_law_examples.proofs.Fits.{event-fits, events-fit}
@@ -10,16 +10,16 @@ use Rattle.q_law_examples.proofs.Rules.{all_rules}
 use Rattle.q_law_examples.proofs.StateTests.{alone-there, alone_test, in-line-there, in_line_test, link-there, link_test}
 use Rattle.q_law_examples.specs.Lines.{EnoughForWorst, EnoughInLine, LatestInLine, LimitIsDelay, LineInTime, LineKeepsLimit, RisesNoFaster, StandsInLine, ToldBefore, WorstInTime}
 use Rattle.q_law_examples.specs.Replays.{first_lane, five_thousand, in_line, line_before, line_during, line_latest, line_next, line_told, line_worst, link_of_tree, one_more, rate_of_link, settings}
-use Rattle.q_laws.specs.Latest.{LatestIsEnough, LatestIsInTime, LatestIsToldBefore, LatestRisesNoFaster, LatestStandsAsItFills, at_best}
-use Rattle.q_laws.specs.Line.{IsAlone, IsInLine, IsLink, KeepLine, LimitsAreDelays, LinesLeaveInTime, bytes_in, line_at_root, line_below_root}
-use Rattle.q_laws.specs.Order.{answers}
-use Rattle.q_laws.specs.Rate.{HasRoom, IsDrained}
-use Rattle.q_laws.specs.Worst.{IsKeptAt, LinesKeepLimits, WorstIsEnough, WorstIsInTime, with_arrival}
+use Rattle.q_laws.specs.line.Latest.{LatestIsEnough, LatestIsInTime, LatestIsToldBefore, LatestRisesNoFaster, LatestStandsAsItFills, at_best}
+use Rattle.q_laws.specs.line.Line.{IsAlone, IsInLine, IsLink, KeepLine, LimitsAreDelays, LinesLeaveInTime, bytes_in, line_at_root, line_below_root}
+use Rattle.q_laws.specs.line.Worst.{IsKeptAt, LinesKeepLimits, WorstIsEnough, WorstIsInTime, with_arrival}
+use Rattle.q_laws.specs.order.Order.{answers}
+use Rattle.q_laws.specs.rate.Rate.{HasRoom, IsDrained}
 use Rattle.q_model.specs.Events.{IsEvent}
 use Rattle.q_model.specs.Replay.{replay}
 use Rattle.q_model.specs.Stretches.{TbfAt, Throughout, tbf_in}
 use Rattle.q_model.specs.Tally.{history}
-use Rattle.q_tree.specs.Lanes.{lane_to}
+use Rattle.q_tree.specs.answers.Lanes.{lane_to}
 use Rattle.std.proofs.Common.{Some, refl, ◌≡◌}
 use Rattle.std.proofs.lemmas.Bool.{leb-true, ltb-true}
 use Rattle.std.specs.List.{filter_map}

@@ -7,8 +7,8 @@ use Rattle.q_law_examples.proofs.Rules.{all_rules}
 use Rattle.q_law_examples.proofs.StateTests.{queued-link-there, queued_link_test, tbf-there, tbf_test}
 use Rattle.q_law_examples.specs.Rates.{BoundedBucket, DeliveredRate, NeverLate, PaidInTime, SpentRate}
 use Rattle.q_law_examples.specs.Replays.{line_at_times, line_before, line_during, line_next, rate_of_link, settings}
-use Rattle.q_laws.specs.Delay.{BytesArePaidInTime, IsLeft}
-use Rattle.q_laws.specs.Rate.{HasRoom, IsBackloggedLink, IsDrained, IsNeverLate, IsNowhereCut, IsPolledOut, NeverLateIsDrained, RateIsDelivered, RateIsSpent}
+use Rattle.q_laws.specs.rate.Delay.{BytesArePaidInTime, IsLeft}
+use Rattle.q_laws.specs.rate.Rate.{HasRoom, IsBackloggedLink, IsDrained, IsNeverLate, IsNowhereCut, IsPolledOut, NeverLateIsDrained, RateIsDelivered, RateIsSpent}
 use Rattle.q_model.specs.Events.{IsEvent}
 use Rattle.q_model.specs.Replay.{replay}
 use Rattle.q_model.specs.Step.{DeviceState}

@@ -11,11 +11,11 @@ use Rattle.q_model.specs.Node.{Node}
 use Rattle.q_model.specs.Step.{DeviceState}
 use Rattle.q_model.specs.Stretches.{FqAt, TbfAt, fq_in, tbf_in, IsBackloggedFlow, IsTbf}
 use Rattle.q_model.specs.Tally.{Note}
-use Rattle.q_tree.specs.Ways.{is_tbf}
-use Rattle.q_laws.specs.Line.{bytes_in, line_below_root, IsAlone, IsInLine, IsLink}
-use Rattle.q_laws.specs.Delay.{paid_so_far}
-use Rattle.q_laws.specs.Rate.{IsBackloggedLink}
-use Rattle.q_laws.specs.Service.{IsQueuedFlow}
+use Rattle.q_tree.specs.answers.Ways.{is_tbf}
+use Rattle.q_laws.specs.line.Line.{bytes_in, line_below_root, IsAlone, IsInLine, IsLink}
+use Rattle.q_laws.specs.rate.Delay.{paid_so_far}
+use Rattle.q_laws.specs.rate.Rate.{IsBackloggedLink}
+use Rattle.q_laws.specs.share.Service.{IsQueuedFlow}
 use Rattle.q_law_examples.proofs.ByTest.{all-by, passing}
 
 is-false : (b : Bool) → not b ≡ true → b ≡ false

@@ -9,9 +9,9 @@ use Rattle.q_model.specs.Conserved.{every_node}
 use Rattle.q_model.specs.Node.{Node}
 use Rattle.q_model.specs.Step.{DeviceState}
 use Rattle.q_model.specs.Tally.{Note}
-use Rattle.q_tree.specs.Ways.{is_tbf}
-use Rattle.q_laws.specs.Order.{answers, is_done, NoCommandIsDone}
-use Rattle.q_laws.specs.Work.{HasNoTbf}
+use Rattle.q_tree.specs.answers.Ways.{is_tbf}
+use Rattle.q_laws.specs.order.Order.{answers, is_done, NoCommandIsDone}
+use Rattle.q_laws.specs.work.Work.{HasNoTbf}
 use Rattle.q_law_examples.proofs.ByTest.{all-by}
 
 is-false : (b : Bool) → not b ≡ true → b ≡ false

@@ -2,9 +2,9 @@
 use Rattle.q_device.specs.Laws.{brought, given_in}
 use Rattle.q_device.specs.Sharing.{device_after}
 use Rattle.q_law_examples.specs.Replays.{bands_before, bands_during, bands_flow, bands_map, bands_second, bands_tree, packet, settings}
-use Rattle.q_laws.specs.Line.{BeginsWith, IsAlone, KeepLine, line_at_root}
-use Rattle.q_laws.specs.Order.{IsPartOf, NoCommandIsDone, answers, flow_among}
-use Rattle.q_laws.specs.Work.{GivesInOrder, HasNoTbf, IsNeverHeldBack}
+use Rattle.q_laws.specs.line.Line.{BeginsWith, IsAlone, KeepLine, line_at_root}
+use Rattle.q_laws.specs.order.Order.{IsPartOf, NoCommandIsDone, answers, flow_among}
+use Rattle.q_laws.specs.work.Work.{GivesInOrder, HasNoTbf, IsNeverHeldBack}
 use Rattle.q_model.specs.Beneath.{beneath}
 use Rattle.q_model.specs.Conserved.{sent_in}
 use Rattle.q_model.specs.Events.{IsEvent}

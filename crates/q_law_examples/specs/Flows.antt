@@ -4,9 +4,9 @@ use Rattle.q_fqcodel.specs.FqState.{Flow}
 use Rattle.q_fqcodel.specs.Laws.{credits_of}
 use Rattle.q_fqcodel.specs.Put.{is_listed}
 use Rattle.q_law_examples.specs.Replays.{flow_joins, flows_before, flows_during, flows_granting, flows_then, settings}
-use Rattle.q_laws.specs.NewFlow.{all_given, reaches}
-use Rattle.q_laws.specs.Rest.{IsSparing}
-use Rattle.q_laws.specs.Service.{GivesNoMore, GoesFirst, IsQueuedFlow, credits_in}
+use Rattle.q_laws.specs.new_flow.NewFlow.{all_given, reaches}
+use Rattle.q_laws.specs.new_flow.Rest.{IsSparing}
+use Rattle.q_laws.specs.share.Service.{GivesNoMore, GoesFirst, IsQueuedFlow, credits_in}
 use Rattle.q_model.specs.Events.{IsEvent}
 use Rattle.q_model.specs.Stretches.{FqAt, IsBackloggedFlow, Throughout, bytes_given, flow_grants_to, fq_in, reach}
 use Rattle.std.specs.Prelude.{All, Some, [], false, max, pos, slice_get, true, ℕ, ◌++◌, ◌+◌, ◌-◌, ◌∷◌, ◌≡◌, ◌≢◌, ◌≤◌}

@@ -1,21 +1,21 @@
 -- Worked replays at which the premises of the laws about a fifo in line below a tbf hold, and what they say there.
 use Rattle.q_bucket.specs.Level.{level_at, units_in_byte}
-use Rattle.q_device.specs.Latest.{latest_of}
 use Rattle.q_device.specs.Laws.{given_in}
+use Rattle.q_device.specs.promises.Latest.{latest_of}
+use Rattle.q_device.specs.promises.Worst.{most_bytes, worst_on}
 use Rattle.q_device.specs.Sharing.{device_after}
-use Rattle.q_device.specs.Worst.{most_bytes, worst_on}
 use Rattle.q_law_examples.specs.Replays.{first_lane, five_thousand, in_line, line_before, line_during, line_latest, line_next, line_told, line_worst, link_of_tree, one_more, rate_of_link, settings}
-use Rattle.q_laws.specs.Delay.{PaysInTime, latest, level_counted}
-use Rattle.q_laws.specs.Latest.{IsToldBy, at_best}
-use Rattle.q_laws.specs.Line.{BeginsWith, IsAlone, IsInLine, IsLink, KeepLine, bytes_in, line_at_root, line_below_root}
-use Rattle.q_laws.specs.Order.{answers}
-use Rattle.q_laws.specs.Rate.{HasRoom, IsDrained}
-use Rattle.q_laws.specs.Worst.{EndsWithin, IsKeptAt, LeavesWithin, with_arrival}
+use Rattle.q_laws.specs.line.Latest.{IsToldBy, at_best}
+use Rattle.q_laws.specs.line.Line.{BeginsWith, IsAlone, IsInLine, IsLink, KeepLine, bytes_in, line_at_root, line_below_root}
+use Rattle.q_laws.specs.line.Worst.{EndsWithin, IsKeptAt, LeavesWithin, with_arrival}
+use Rattle.q_laws.specs.order.Order.{answers}
+use Rattle.q_laws.specs.rate.Delay.{PaysInTime, latest, level_counted}
+use Rattle.q_laws.specs.rate.Rate.{HasRoom, IsDrained}
 use Rattle.q_model.specs.Events.{IsEvent}
 use Rattle.q_model.specs.Step.{step}
 use Rattle.q_model.specs.Stretches.{TbfAt, Throughout, tbf_in}
 use Rattle.q_model.specs.Tally.{history}
-use Rattle.q_tree.specs.Lanes.{lane_to}
+use Rattle.q_tree.specs.answers.Lanes.{lane_to}
 use Rattle.std.specs.Int.{div_ceil}
 use Rattle.std.specs.List.{filter_map}
 use Rattle.std.specs.Prelude.{All, Some, [], max, ◌*◌, ◌++◌, ◌+◌, ◌-◌, ◌<◌, ◌^◌, ◌∷◌, ◌≡◌, ◌≤◌}

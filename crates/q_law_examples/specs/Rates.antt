@@ -2,8 +2,8 @@
 use Rattle.q_bucket.specs.Level.{level_at}
 use Rattle.q_device.specs.Sharing.{IsBounded, device_after}
 use Rattle.q_law_examples.specs.Replays.{line_at_times, line_before, line_during, line_next, rate_of_link, settings}
-use Rattle.q_laws.specs.Delay.{IsLeft, PaysInTime, latest, level_counted}
-use Rattle.q_laws.specs.Rate.{DeliversItsRate, HasRoom, IsBackloggedLink, IsDrained, IsNeverLate, IsNowhereCut, IsPolledOut, SpendsWhatComes}
+use Rattle.q_laws.specs.rate.Delay.{IsLeft, PaysInTime, latest, level_counted}
+use Rattle.q_laws.specs.rate.Rate.{DeliversItsRate, HasRoom, IsBackloggedLink, IsDrained, IsNeverLate, IsNowhereCut, IsPolledOut, SpendsWhatComes}
 use Rattle.q_model.specs.Events.{IsEvent}
 use Rattle.q_model.specs.Step.{step}
 use Rattle.q_model.specs.Stretches.{IsTbf, TbfAt, Throughout, tbf_in}

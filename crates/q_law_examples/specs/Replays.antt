@@ -12,12 +12,12 @@ use Rattle.q_model.specs.declared.place.Place.{Place}
 use Rattle.q_model.specs.declared.place.Place.TheVariants as place
 use Rattle.q_model.specs.declared.tbf_limit.TbfLimit.TheVariants as limit
 use Rattle.q_model.specs.Settings.{DeviceSettings}
-use Rattle.q_tree.specs.declared.lanes.Lane.{Lane}
-use Rattle.q_tree.specs.declared.ways.Link.{Link}
+use Rattle.q_tree.specs.declared.answers.lanes.Lane.{Lane}
+use Rattle.q_tree.specs.declared.answers.ways.Link.{Link}
 use Rattle.q_codel.specs.declared.limit.Limit.{Limit}
 use Rattle.q_codel.specs.declared.limit.Limit.TheVariants.{Bytes}
-use Rattle.q_device.specs.declared.latest.Latest.{Latest}
-use Rattle.q_device.specs.declared.worst.Worst.{Worst}
+use Rattle.q_device.specs.declared.promises.latest.Latest.{Latest}
+use Rattle.q_device.specs.declared.promises.worst.Worst.{Worst}
 
 abbrev pub settings : DeviceSettings
 settings = record { mtu = 1000; txqueuelen = 1000; recorder = 4096 }

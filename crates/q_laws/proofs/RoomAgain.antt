@@ -7,10 +7,10 @@ use Rattle.q_packet.specs.Descriptor.{Descriptor}
 use Rattle.q_model.specs.Find.{node_at}
 use Rattle.q_model.specs.Node.{Discipline, Fifo, Prio, Tbf, Drr, FqCodel, Node}
 use Rattle.q_model.specs.Route.{Route}
-use Rattle.q_tree.specs.Arrivals.{CanCount, HasPlace, HasPlaceIn}
+use Rattle.q_tree.specs.arrival.Arrivals.{CanCount, HasPlace, HasPlaceIn}
 use Rattle.q_tree.specs.Kept.{Kept}
+use Rattle.q_device.specs.device.DeviceSeen.{DeviceSeen, HasRoomFor}
 use Rattle.q_device.specs.DeviceLaws.{TellsItsLosses}
-use Rattle.q_device.specs.DeviceSeen.{DeviceSeen, HasRoomFor}
 use Rattle.q_laws.specs.Memory.{queued_in, GoesTo, HasNotFilled, RoomIsThereAgain}
 
 -- a queue has a place where fewer are in it than it has places for

@@ -7,9 +7,9 @@ use Rattle.q_model.specs.Find.{node_at}
 use Rattle.q_model.specs.Node.{Discipline, Fifo, Prio, Tbf, Drr, FqCodel, Node}
 use Rattle.q_model.specs.Route.{device_route}
 use Rattle.q_model.specs.Step.{DeviceState}
-use Rattle.q_tree.specs.Arrivals.{CanCount}
+use Rattle.q_tree.specs.arrival.Arrivals.{CanCount}
 use Rattle.q_tree.specs.Kept.{Kept}
-use Rattle.q_device.specs.DeviceSeen.{DeviceSeen, HasNoFewerPlaces, HasRoomFor}
+use Rattle.q_device.specs.device.DeviceSeen.{DeviceSeen, HasNoFewerPlaces, HasRoomFor}
 
 -- how many packets are in the queue of a fifo or an fq_codel; the others have none of their own
 abbrev pub queued_in : Discipline → Option ℕ

@@ -1,6 +1,6 @@
 //! What is true of the memory of every device: when it has room for a packet, so that the arrival takes none.
 ghost use Rattle.std.specs.Prelude.{◌≡◌, max};
-ghost use Rattle.q_device.specs.DeviceSeen.{HasNoFewerPlaces, polled_memory};
+ghost use Rattle.q_device.specs.device.DeviceSeen.{HasNoFewerPlaces, polled_memory};
 ghost use Rattle.q_laws.specs.Memory.{RoomIsThereAgain};
 
 use q_device::Device;

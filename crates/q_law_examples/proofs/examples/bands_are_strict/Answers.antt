@@ -1,5 +1,5 @@
 use Rattle.std.proofs.Common.{subst}
-use Rattle.q_laws.specs.Work.{BandsAreStrict}
+use Rattle.q_laws.specs.work.Work.{BandsAreStrict}
 use Rattle.q_law_examples.proofs.BandsHold.{strict-bands}
 use Rattle.q_law_examples.proofs.examples.bands_are_strict.Goals as goal
 

@@ -1,5 +1,5 @@
 use Rattle.std.proofs.Common.{subst}
-use Rattle.q_laws.specs.Delay.{BytesArePaidInTime}
+use Rattle.q_laws.specs.rate.Delay.{BytesArePaidInTime}
 use Rattle.q_law_examples.proofs.RatesHold.{paid-in-time}
 use Rattle.q_law_examples.proofs.examples.bytes_are_paid_in_time.Goals as goal
 

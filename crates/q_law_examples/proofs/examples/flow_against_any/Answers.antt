@@ -1,5 +1,5 @@
 use Rattle.std.proofs.Common.{subst}
-use Rattle.q_laws.specs.Service.{FlowAgainstAny}
+use Rattle.q_laws.specs.share.Service.{FlowAgainstAny}
 use Rattle.q_law_examples.proofs.FlowsHold.{flow-against-another}
 use Rattle.q_law_examples.proofs.examples.flow_against_any.Goals as goal
 

@@ -1,5 +1,5 @@
 use Rattle.std.proofs.Common.{subst}
-use Rattle.q_laws.specs.Order.{FlowsKeepOrder}
+use Rattle.q_laws.specs.order.Order.{FlowsKeepOrder}
 use Rattle.q_law_examples.proofs.BandsHold.{order-of-flow}
 use Rattle.q_law_examples.proofs.examples.flows_keep_order.Goals as goal
 

@@ -1,5 +1,5 @@
 use Rattle.std.proofs.Common.{subst}
-use Rattle.q_laws.specs.Rest.{JoiningFlowsAreSpared}
+use Rattle.q_laws.specs.new_flow.Rest.{JoiningFlowsAreSpared}
 use Rattle.q_law_examples.proofs.FlowsHold.{joins-spared}
 use Rattle.q_law_examples.proofs.examples.joining_flow_is_spared.Goals as goal
 

@@ -1,5 +1,5 @@
 use Rattle.std.proofs.Common.{subst}
-use Rattle.q_laws.specs.Latest.{LatestIsEnough, LatestIsInTime, LatestIsToldBefore, LatestRisesNoFaster, LatestStandsAsItFills}
+use Rattle.q_laws.specs.line.Latest.{LatestIsEnough, LatestIsInTime, LatestIsToldBefore, LatestRisesNoFaster, LatestStandsAsItFills}
 use Rattle.q_law_examples.proofs.LinesHold.{enough-in-line, latest-in-line, told-before, rises-no-faster, stands-in-line}
 use Rattle.q_law_examples.proofs.examples.latest_is_enough.Goals as goal
 

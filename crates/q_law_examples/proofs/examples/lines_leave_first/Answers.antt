@@ -1,5 +1,5 @@
 use Rattle.std.proofs.Common.{subst}
-use Rattle.q_laws.specs.Line.{LinesLeaveFirst}
+use Rattle.q_laws.specs.line.Line.{LinesLeaveFirst}
 use Rattle.q_law_examples.proofs.BandsHold.{line-first}
 use Rattle.q_law_examples.proofs.examples.lines_leave_first.Goals as goal
 

@@ -1,5 +1,5 @@
 use Rattle.std.proofs.Common.{subst}
-use Rattle.q_laws.specs.Line.{LimitsAreDelays, LinesLeaveInTime}
+use Rattle.q_laws.specs.line.Line.{LimitsAreDelays, LinesLeaveInTime}
 use Rattle.q_law_examples.proofs.LinesHold.{line-in-time, limit-is-delay}
 use Rattle.q_law_examples.proofs.examples.lines_leave_in_time.Goals as goal
 

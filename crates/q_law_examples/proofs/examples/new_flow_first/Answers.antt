@@ -1,5 +1,5 @@
 use Rattle.std.proofs.Common.{subst}
-use Rattle.q_laws.specs.Service.{NewFlowFirst}
+use Rattle.q_laws.specs.share.Service.{NewFlowFirst}
 use Rattle.q_law_examples.proofs.FlowsHold.{joins-first}
 use Rattle.q_law_examples.proofs.examples.new_flow_first.Goals as goal
 

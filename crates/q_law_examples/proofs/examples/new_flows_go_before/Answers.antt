@@ -1,5 +1,5 @@
 use Rattle.std.proofs.Common.{subst}
-use Rattle.q_laws.specs.NewFlow.{NewFlowsGoBefore}
+use Rattle.q_laws.specs.new_flow.NewFlow.{NewFlowsGoBefore}
 use Rattle.q_law_examples.proofs.FlowsHold.{joins-before}
 use Rattle.q_law_examples.proofs.examples.new_flows_go_before.Goals as goal
 

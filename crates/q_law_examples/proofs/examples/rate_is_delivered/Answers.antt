@@ -1,5 +1,5 @@
 use Rattle.std.proofs.Common.{subst}
-use Rattle.q_laws.specs.Rate.{RateIsDelivered, RateIsSpent}
+use Rattle.q_laws.specs.rate.Rate.{RateIsDelivered, RateIsSpent}
 use Rattle.q_law_examples.proofs.RatesHold.{spent-rate, delivered-rate, never-late}
 use Rattle.q_law_examples.proofs.examples.rate_is_delivered.Goals as goal
 

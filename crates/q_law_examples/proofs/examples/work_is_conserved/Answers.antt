@@ -1,5 +1,5 @@
 use Rattle.std.proofs.Common.{subst}
-use Rattle.q_laws.specs.Work.{WorkIsConserved}
+use Rattle.q_laws.specs.work.Work.{WorkIsConserved}
 use Rattle.q_law_examples.proofs.BandsHold.{conserved-work}
 use Rattle.q_law_examples.proofs.examples.work_is_conserved.Goals as goal
 

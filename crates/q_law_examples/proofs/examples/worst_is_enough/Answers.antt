@@ -1,5 +1,5 @@
 use Rattle.std.proofs.Common.{subst}
-use Rattle.q_laws.specs.Worst.{LinesKeepLimits, WorstIsEnough, WorstIsInTime}
+use Rattle.q_laws.specs.line.Worst.{LinesKeepLimits, WorstIsEnough, WorstIsInTime}
 use Rattle.q_law_examples.proofs.LinesHold.{line-keeps-limit, enough-for-worst, worst-in-time}
 use Rattle.q_law_examples.proofs.examples.worst_is_enough.Goals as goal
 

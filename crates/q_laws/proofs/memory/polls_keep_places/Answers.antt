@@ -1,8 +1,8 @@
 use Rattle.std.proofs.Common.{◌≡◌, ℕ, ◌≤◌, max, subst, arith}
 use Rattle.q_model.specs.Step.{DeviceState}
 use Rattle.q_model.specs.TreeState.{take_packet}
+use Rattle.q_tree.specs.arrival.Places.{places_at}
 use Rattle.q_tree.specs.Kept.{Kept, kept}
-use Rattle.q_tree.specs.Places.{places_at}
 use Rattle.q_laws.proofs.memory.polls_keep_places.Goals as goal
 
 pub returns : goal.returns
