@@ -1,0 +1,10 @@
+pub mod BandsHold
+pub mod ByTest
+pub mod EventTests
+pub mod Fits
+pub mod FlowsHold
+pub mod LinesHold
+pub mod RatesHold
+pub mod Rules
+pub mod StateTests
+pub mod TreeTests

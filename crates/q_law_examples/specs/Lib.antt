@@ -1,0 +1,5 @@
+pub mod Bands
+pub mod Flows
+pub mod Lines
+pub mod Rates
+pub mod Replays
