@@ -10,4 +10,5 @@ pub mod Readying
 pub mod Reaping
 pub mod SettingUpLemmas
 pub mod Telling
+pub mod TurnLemmas
 pub mod UndoneLemmas

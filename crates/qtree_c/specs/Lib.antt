@@ -22,3 +22,4 @@ pub mod Scripts
 pub mod SettingUp
 pub mod Showing
 pub mod Structs
+pub mod Turns
