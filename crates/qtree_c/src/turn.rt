@@ -1,16 +1,16 @@
 //! A turn of a program's loop: what is due is sent, what was lost is handed out, and the program learns when to come back.
 ghost use Rattle.std.specs.Prelude.{◌≡◌, ◌≢◌, ◌≤◌, ◌<◌, ◌^◌, length};
-ghost use Rattle.qtree_c.specs.Calls.{Calls};
-ghost use Rattle.qtree_c.specs.Noting.{Notes, noting};
+ghost use Rattle.qtree_c.specs.device.Calls.{Calls};
+ghost use Rattle.qtree_c.specs.events.Noting.{Notes, noting};
 ghost use Rattle.qtree_c.specs.Turns.{IsTurn, no_turn, polls_of_turn, turn_events};
 
-use crate::c_device::CDevice;
+use crate::abi::c_device::CDevice;
+use crate::abi::c_sent::CSent;
+use crate::abi::codes::{DONE, IS_CLOSED, OUT_OF_RANGE};
 use crate::c_lost::CLost;
-use crate::c_sent::CSent;
 use crate::c_turned::CTurned;
-use crate::codes::{DONE, IS_CLOSED, OUT_OF_RANGE};
-use crate::noting::{note_polls, note_polls_to_none};
-use crate::opened::Opened;
+use crate::device::opened::Opened;
+use crate::events::noting::{note_polls, note_polls_to_none};
 use q_device::{Device, Given, LastEvents};
 use q_packet::Moment;
 
@@ -48,23 +48,13 @@ fn turn(opened: &mut Opened, now: Moment, sent: &mut [CSent], lost: &mut [CLost]
     ensures noted { opened.new.last ≡ noting (turn_events now (length sent.old) opened.old.device) opened.old.last }
 {
     let turned = opened.device.turn(now, sent, lost);
-    note_turn(
-        &mut opened.last,
-        &opened.device,
-        turned.answer,
-        turned.sent,
-    );
+    note_turn(&mut opened.last, &opened.device, turned.answer, turned.sent);
     CTurned::of(turned.sent, turned.lost, turned.again)
 }
 
 /// Notes the polls of a turn, which the device has just taken: none where nothing was due.
 #[inline(always)]
-fn note_turn(
-    last: &mut Option<LastEvents>,
-    device: &Device,
-    answer: Option<Given>,
-    given: usize,
-)
+fn note_turn(last: &mut Option<LastEvents>, device: &Device, answer: Option<Given>, given: usize)
     ensures { last.new ≡ noting (polls_of_turn device.now.device.clock answer given) last.old }
 {
     match answer {
