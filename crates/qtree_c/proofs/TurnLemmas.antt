@@ -3,9 +3,9 @@ use Rattle.std.proofs.Common.{◌≡◌, ◌∙◌, ℕ, ◌+◌, ◌-◌, ◌^�
 use Rattle.std.specs.Prelude.{true, false, if◌then◌else◌, length, unwrap_or}
 use Rattle.q_device.specs.device.DeviceSeen.{DeviceSeen}
 use Rattle.q_device.specs.device.Polls.{given_by}
+use Rattle.q_device.specs.device.Turning as turning
+use Rattle.q_device.specs.device.Turning.{IsSent, is_early}
 use Rattle.q_device.specs.log.LastNoted.{LastNoted}
-use Rattle.q_device.specs.Turning as turning
-use Rattle.q_device.specs.Turning.{IsSent, is_early}
 use Rattle.q_device.specs.declared.given.Given.{Given}
 use Rattle.q_device.specs.declared.given.Given.TheVariants as given
 use Rattle.q_device.specs.declared.turn.Turned.{Turned}
