@@ -15,9 +15,9 @@ use Rattle.q_device.specs.declared.given.Given.TheVariants as given
 use Rattle.qtree_c.specs.abi.Structs.{sent_of}
 use Rattle.qtree_c.specs.device.Folds.{answer_by}
 use Rattle.qtree_c.specs.events.Noting.{poll_events}
-use Rattle.qtree_c.specs.declared.c_lost.CLost.{CLost}
+use Rattle.qtree_c.specs.declared.abi.c_lost.CLost.{CLost}
 use Rattle.qtree_c.specs.declared.abi.c_sent.CSent.{CSent}
-use Rattle.qtree_c.specs.declared.c_turned.CTurned.{CTurned}
+use Rattle.qtree_c.specs.declared.abi.c_turned.CTurned.{CTurned}
 
 -- what a program needs in order to free the bytes of a packet that was lost
 abbrev pub lost_of : Loss → CLost

@@ -12,9 +12,9 @@ use Rattle.q_device.specs.declared.turn.Turned.{Turned}
 use Rattle.q_device.proofs.Polling.{idle-gives_none, later-gives_none}
 use Rattle.qtree_c.specs.abi.Structs.{sent_of}
 use Rattle.qtree_c.specs.device.Folds.{answer_by}
+use Rattle.qtree_c.specs.device.Turns.{IsTurn, lost_of, polls_of_turn, turn_events}
 use Rattle.qtree_c.specs.events.Noting.{noting, poll_events}
-use Rattle.qtree_c.specs.Turns.{IsTurn, lost_of, polls_of_turn, turn_events}
-use Rattle.qtree_c.specs.declared.c_lost.CLost.{CLost}
+use Rattle.qtree_c.specs.declared.abi.c_lost.CLost.{CLost}
 use Rattle.qtree_c.specs.declared.abi.c_sent.CSent.{CSent}
 use Rattle.qtree_c.proofs.device.Polling.{none-clock, packets-clock, polls-are}
 use Rattle.qtree_c.proofs.events.NotingLemmas.{noted-polls}
