@@ -85,14 +85,9 @@ static void *send_all(void *its) {
     return NULL;
 }
 
-/* Whether a packet may go. A poll before that would be an event that gives nothing. */
-static bool is_due(const qtree_device *device, uint64_t now) {
-    uint64_t due;
-    return qtree_ready_at(device, &due) == QTREE_DONE && due <= now;
-}
-
-/* Takes packets in, polls and reaps, and returns whether there was something to do. If qtree_take_in takes nothing, the ring was empty. */
-static bool turn(qtree_device *device) {
+/* Takes packets in, polls for what is due and reaps, and returns whether there was something to do. *again is when a packet may go next,
+ * UINT64_MAX if never. If qtree_take_in takes nothing, the ring was empty. */
+static bool turn(qtree_device *device, uint64_t *again) {
     uint64_t now = clock_ns(CLOCK_MONOTONIC);
     bool is_busy = false;
     for (int i = 0; i < SENDERS; i++) {
@@ -103,15 +98,13 @@ static bool turn(qtree_device *device) {
             is_busy = true;
         }
     }
-    qtree_packet packet;
-    while (is_due(device, now) && qtree_poll(device, now, &packet) == QTREE_DONE) {
-        is_busy = true; /* transmits packet.buf of the sender packet.port */
-    }
-    qtree_loss loss;
-    while (qtree_reap(device, &loss) == QTREE_DONE) {
-        is_busy = true; /* frees loss.packet.buf of that sender */
-    }
-    return is_busy;
+    qtree_sent sent[BURST];
+    qtree_lost lost[BURST];
+    qtree_turned turned;
+    CHECK(qtree_turn(device, now, sent, BURST, lost, BURST, &turned) == QTREE_DONE);
+    *again = turned.again;
+    /* Here the program transmits each sent[i].buf of the sender sent[i].port, and frees each lost[i].buf of the sender lost[i].port. */
+    return is_busy || turned.sent > 0 || turned.lost > 0;
 }
 
 /* Sleeps until a sender rings or until `due`, in nanoseconds; a time of 0 disarms the timer, and only a sender ends the sleep. */
@@ -124,19 +117,17 @@ static void sleep_until(int timer, uint64_t due) {
 
 /* Calls turn, and sleeps when there is nothing to do, until all senders have ended and nothing is left. Returns how many times it slept. */
 static uint64_t drain(qtree_device *device, int timer) {
-    for (uint64_t sleeps = 0;;) {
+    for (uint64_t sleeps = 0, again;;) {
         do {
             bell_hush(&arrivals);
-            while (turn(device)) {
+            while (turn(device, &again)) {
             }
             bell_listen(&arrivals);
-        } while (turn(device));
-        uint64_t due;
-        bool is_due = qtree_ready_at(device, &due) == QTREE_DONE;
-        if (is_due || atomic_load(&open_senders) > 0) {
-            sleep_until(timer, is_due ? due : 0);
+        } while (turn(device, &again));
+        if (again < UINT64_MAX || atomic_load(&open_senders) > 0) {
+            sleep_until(timer, again < UINT64_MAX ? again : 0);
             sleeps++;
-        } else if (!turn(device)) { /* a sender may have brought a packet just before it ended */
+        } else if (!turn(device, &again)) { /* a sender may have brought a packet just before it ended */
             return sleeps;
         }
     }

@@ -68,11 +68,13 @@ static void arrive(qtree_device *device, uint64_t now) {
 static void poll(qtree_device *device, uint64_t now) {
     qtree_packet packets[MANY];
     qtree_sent sent[MANY];
+    qtree_turned turned;
     size_t count;
-    switch (below(4)) {
+    switch (below(5)) {
     case 0: qtree_poll(device, now, packets); break;
     case 1: qtree_poll_buf(device, now, sent); break;
     case 2: qtree_poll_many(device, now, packets, below(MANY + 1), &count); break;
+    case 3: qtree_turn(device, now, sent, below(MANY + 1), NULL, 0, &turned); break;
     default: qtree_poll_bufs(device, now, sent, below(MANY + 1), &count); break;
     }
 }

@@ -198,6 +198,52 @@ static void through_codel(unsigned long times) {
     }
 }
 
+/* Turns that find nothing, so many: as of a program that wakes for something else. */
+static void turns(unsigned long times, uint64_t now) {
+    qtree_sent sent[32];
+    qtree_lost lost[32];
+    qtree_turned turned;
+    for (unsigned long i = 0; i < times; i++) {
+        CHECK(qtree_turn(&device, now, sent, 32, lost, 32, &turned) == QTREE_DONE && turned.sent == 0 && turned.lost == 0 && turned.again > now);
+    }
+}
+
+static void turns_at_an_empty_pfifo(unsigned long times) {
+    run("tc qdisc add dev wan root pfifo");
+    turns(times, 0);
+}
+
+/* The fq_codel has packets, and the tbf holds one for which it has no tokens yet. */
+static void turns_at_a_tbf_that_waits(unsigned long times) {
+    qtree_sent sent;
+    run("tc qdisc add dev wan root handle 1: tbf rate 8mbit burst 1500 latency 50ms");
+    run("tc qdisc add dev wan parent 1:1 handle 2: fq_codel");
+    for (uint32_t i = 0; i < 8; i++) {
+        const qtree_packet packet = { .len = 1500, .hash = i };
+        CHECK(qtree_arrive(&device, &packet, 0) == QTREE_DONE);
+    }
+    CHECK(qtree_poll_buf(&device, 0, &sent) == QTREE_DONE && qtree_poll_buf(&device, 0, &sent) == QTREE_LATER);
+    turns(times, 0);
+}
+
+/* Bursts of 32 through a pfifo, each sent by a turn. */
+static void turns_of_32(unsigned long times) {
+    qtree_packet packets[32];
+    qtree_sent sent[32];
+    qtree_lost lost[32];
+    qtree_turned turned;
+    uint8_t codes[32];
+    size_t done;
+    for (size_t i = 0; i < 32; i++) {
+        packets[i] = (qtree_packet){ .len = 1000 };
+    }
+    run("tc qdisc add dev wan root pfifo limit 2000");
+    for (unsigned long i = 0; i < times; i += 32) {
+        CHECK(qtree_arrive_many(&device, packets, 32, codes, 32, &done, 0) == QTREE_DONE && done == 32);
+        CHECK(qtree_turn(&device, 0, sent, 32, lost, 32, &turned) == QTREE_DONE && turned.sent == 32 && turned.again == UINT64_MAX);
+    }
+}
+
 /* A full fq_codel loses a packet of its fat flow for each that arrives in another. */
 static void through_a_full_fq_codel(unsigned long times) {
     qtree_loss loss;
@@ -234,6 +280,9 @@ static int work(const char *name, unsigned long times) {
         { "filters-left", through_filters_left },
         { "codel", through_codel },
         { "full-fq_codel", through_a_full_fq_codel },
+        { "empty-turns", turns_at_an_empty_pfifo },
+        { "early-turns", turns_at_a_tbf_that_waits },
+        { "turns-of-32", turns_of_32 },
     };
     for (size_t i = 0; i < sizeof all / sizeof all[0]; i++) {
         if (strcmp(all[i].name, name) == 0) {

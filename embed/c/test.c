@@ -35,12 +35,12 @@ static void sizes(void) {
         sizeof(qtree_device), sizeof(qtree_settings), sizeof(qtree_packet), sizeof(qtree_loss),   sizeof(qtree_row),    sizeof(qtree_event),
         sizeof(qtree_fault),  sizeof(qtree_count),    sizeof(qtree_port),   sizeof(qtree_outlet), sizeof(qtree_layout),
         sizeof(qtree_sent),   sizeof(qtree_promise), sizeof(qtree_node_view), sizeof(qtree_class_view), sizeof(qtree_delay),
-        sizeof(qtree_report), sizeof(qtree_undone), sizeof(qtree_departure),
+        sizeof(qtree_report), sizeof(qtree_undone), sizeof(qtree_departure), sizeof(qtree_lost), sizeof(qtree_turned),
     };
-    for (uint32_t what = QTREE_TYPE_DEVICE; what <= QTREE_TYPE_DEPARTURE; what++) {
+    for (uint32_t what = QTREE_TYPE_DEVICE; what <= QTREE_TYPE_TURNED; what++) {
         CHECK(qtree_size_of(what) == bytes[what]);
     }
-    CHECK(qtree_size_of(QTREE_TYPE_DEPARTURE + 1) == 0 && qtree_size_of(UINT32_MAX) == 0);
+    CHECK(qtree_size_of(QTREE_TYPE_TURNED + 1) == 0 && qtree_size_of(UINT32_MAX) == 0);
     qtree_fault fault;
     qtree_sample_fault(&fault);
     CHECK(fault.word == 1 && fault.number == 2);

@@ -3,41 +3,6 @@
 /* So many descriptors are filled at a time: 2 KB of stack. */
 enum { BURST = 32 };
 
-static size_t reap(qtree_device *device, qtree_batch_lost *lost, size_t room) {
-    qtree_loss loss;
-    size_t count = 0;
-    while (count < room && qtree_reap(device, &loss) == QTREE_DONE) {
-        lost[count++] = (qtree_batch_lost){ .number = loss.packet.number, .buf = loss.packet.buf, .cause = loss.cause };
-    }
-    return count;
-}
-
-qtree_code qtree_batch_turn(qtree_device *device, uint64_t now, qtree_sent *sent, size_t room, qtree_batch_lost *lost, size_t lost_room,
-                            qtree_batch_turned *turned) {
-    qtree_code code;
-    *turned = (qtree_batch_turned){ .again = UINT64_MAX };
-    if (now > QTREE_MOMENT_MAX) {
-        return QTREE_OUT_OF_RANGE;
-    }
-    while ((code = qtree_ready_at(device, &turned->again)) == QTREE_DONE && turned->again <= now && turned->sent < room) {
-        /* A poll at this time may still answer Later: the next qtree_ready_at then gives a later time. */
-        if (qtree_poll_buf(device, now, &sent[turned->sent]) == QTREE_DONE) {
-            turned->sent++;
-        }
-    }
-    if (code == QTREE_IS_CLOSED) {
-        return code;
-    }
-    if (code == QTREE_NOTHING) {
-        turned->again = UINT64_MAX;
-    }
-    turned->lost = reap(device, lost, lost_room);
-    if (lost_room > 0 && turned->lost == lost_room && turned->again > now) {
-        turned->again = now;
-    }
-    return QTREE_DONE;
-}
-
 qtree_code qtree_batch_frames(qtree_device *device, const uint8_t *base, size_t size, const qtree_batch_frame *frames, size_t count,
                               uint32_t seed, uint64_t now, uint8_t *codes, size_t *done) {
     qtree_packet packets[BURST];

@@ -7,27 +7,6 @@
 
 #include <qtree.h>
 
-/* A lost packet, without the rest of its descriptor. */
-typedef struct qtree_batch_lost {
-    uint64_t number;
-    uint32_t buf;
-    qtree_code cause;
-} qtree_batch_lost;
-
-/* What a turn did. */
-typedef struct qtree_batch_turned {
-    size_t sent;
-    size_t lost;
-    uint64_t again; /* when to take the next turn, if no packet arrives before; UINT64_MAX if there is nothing to wait for */
-} qtree_batch_turned;
-
-/* Polls while a packet is due at now and sent has room, then reaps while lost has room. turned->again is not after now if a packet may
- * still be due, or a loss may still wait: then the program takes another turn.
- *
- * Returns QTREE_DONE, or, as qtree_poll_buf does, QTREE_OUT_OF_RANGE or QTREE_IS_CLOSED. */
-qtree_code qtree_batch_turn(qtree_device *device, uint64_t now, qtree_sent *sent, size_t room, qtree_batch_lost *lost, size_t lost_room,
-                            qtree_batch_turned *turned);
-
 /* A frame: where its IP header begins in a block of bytes, how many bytes from there on are the frame's, and what the device is given. */
 typedef struct qtree_batch_frame {
     uint64_t number;

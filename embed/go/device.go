@@ -34,7 +34,7 @@ type Device struct {
 	cause  C.uint8_t
 	sent   C.qtree_sent
 	loss   C.qtree_loss
-	turned C.qtree_batch_turned
+	turned C.qtree_turned
 	count  C.size_t
 	moment C.uint64_t
 	_      [0]sync.Mutex // go vet reports a copy
@@ -134,7 +134,7 @@ func (d *Device) Reap() (Lost, bool) {
 		return Lost{}, false
 	}
 	packet := &d.loss.packet
-	return Lost{Number: uint64(packet.number), Buf: uint32(packet.buf), Cause: Cause(d.loss.cause)}, true
+	return Lost{Number: uint64(packet.number), Port: uint32(packet.port), Buf: uint32(packet.buf), Cause: Cause(d.loss.cause)}, true
 }
 
 // Turned is what a turn did.
@@ -148,13 +148,17 @@ type Turned struct {
 // send or to reap, Again is not after now: the program takes another turn.
 func (d *Device) Turn(now uint64, sent []Sent, lost []Lost) (Turned, error) {
 	var polled *C.qtree_sent
-	var reaped *C.qtree_batch_lost
+	var reaped *C.qtree_lost
 	if len(sent) > 0 {
 		polled = (*C.qtree_sent)(unsafe.Pointer(&sent[0]))
 	}
 	if len(lost) > 0 {
-		reaped = (*C.qtree_batch_lost)(unsafe.Pointer(&lost[0]))
+		reaped = (*C.qtree_lost)(unsafe.Pointer(&lost[0]))
 	}
-	code := C.qtree_batch_turn(&d.device, C.uint64_t(now), polled, C.size_t(len(sent)), reaped, C.size_t(len(lost)), &d.turned)
-	return Turned{Sent: int(d.turned.sent), Lost: int(d.turned.lost), Again: uint64(d.turned.again)}, errorOf(code)
+	code := C.qtree_turn(&d.device, C.uint64_t(now), polled, C.size_t(len(sent)), reaped, C.size_t(len(lost)), &d.turned)
+	turned := Turned{Sent: int(d.turned.sent), Lost: int(d.turned.lost), Again: uint64(d.turned.again)}
+	if len(lost) > 0 && turned.Lost == len(lost) && turned.Again > now {
+		turned.Again = now
+	}
+	return turned, errorOf(code)
 }

@@ -58,8 +58,10 @@ type Sent struct {
 // Lost is a lost packet.
 type Lost struct {
 	Number uint64
+	Port   uint32
 	Buf    uint32
 	Cause  Cause
+	_      [4]byte
 }
 
 // Frame says where a packet's bytes are in a block of bytes, and what the device is given.
@@ -75,7 +77,7 @@ type Frame struct {
 var (
 	packet C.qtree_packet
 	sent   C.qtree_sent
-	lost   C.qtree_batch_lost
+	lost   C.qtree_lost
 	frame  C.qtree_batch_frame
 
 	_ [unsafe.Sizeof(Packet{}) - unsafe.Sizeof(packet)]byte

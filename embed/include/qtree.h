@@ -619,6 +619,54 @@ qtree_code qtree_reap(qtree_device *device, qtree_loss *loss);
  *   QTREE_IS_CLOSED  the device is closed, and the count is 0 */
 qtree_code qtree_reap_many(qtree_device *device, qtree_loss *losses, size_t room, size_t *count);
 
+/* ---- Turns ---- */
+
+/* The fields of a lost packet that a program needs in order to release its bytes. */
+typedef struct qtree_lost {
+    uint64_t number; /* number and port are the program's own, or those of the ring by which the packet came */
+    uint32_t port;
+    uint32_t buf;
+    qtree_code cause; /* QTREE_LOST_.. */
+} qtree_lost;
+
+/* What a turn did, and when to take the next one. */
+typedef struct qtree_turned {
+    size_t sent;    /* how many packets are in sent, in its first places */
+    size_t lost;    /* how many losses are in lost, in its first places */
+    uint64_t again; /* before this time no poll returns a packet, as qtree_ready_at has it; UINT64_MAX if none ever will */
+} qtree_turned;
+
+/* Takes one turn of a program's loop: polls for what is due, hands out losses, and says when to come back.
+ *
+ * now     the time of all polls
+ * sent    room places for the packets to send. If one may go at that time, the device is polled as by
+ *         qtree_poll_bufs. Otherwise it is not polled, and there is no event.
+ * lost    lost_room places for the packets that were lost, the oldest first, as qtree_reap_many hands them out
+ * turned  what was done; on an error 0 packets and 0 losses, and never
+ *
+ * Either number of places may be 0: such a turn polls nothing, or leaves the losses where they are.
+ *
+ * If turned->sent is room, more packets may be due, and if turned->lost is lost_room, more losses may wait: the
+ * program takes another turn at once. Otherwise it sleeps until the time turned->again, or until a packet comes in:
+ * docs/EMBEDDING.md has whole event loops.
+ *
+ * Returns
+ *   QTREE_DONE          *turned says what was done
+ *   QTREE_OUT_OF_RANGE  the time is out of its range
+ *   QTREE_IS_CLOSED     the device is closed
+ *
+ * For example, a program that has just read its clock:
+ *
+ *     do {
+ *         qtree_turn(&device, now, sent, ROOM, lost, ROOM, &turned);
+ *         for (size_t i = 0; i < turned.sent; i++) transmit(sent[i].buf);
+ *         for (size_t i = 0; i < turned.lost; i++) release(lost[i].buf);
+ *     } while (turned.sent == ROOM || turned.lost == ROOM);
+ *     // sleep until turned.again, or until a packet comes in
+ */
+qtree_code qtree_turn(qtree_device *device, uint64_t now, qtree_sent *sent, size_t room, qtree_lost *lost, size_t lost_room,
+                      qtree_turned *turned);
+
 /* ---- Counters ---- */
 
 /* The places of a tree: the device itself, its root, and the classes. */
@@ -1248,7 +1296,9 @@ enum {
     QTREE_TYPE_DELAY = 15,
     QTREE_TYPE_REPORT = 16,
     QTREE_TYPE_UNDONE = 17,
-    QTREE_TYPE_DEPARTURE = 18
+    QTREE_TYPE_DEPARTURE = 18,
+    QTREE_TYPE_LOST = 19,
+    QTREE_TYPE_TURNED = 20
 };
 size_t qtree_size_of(uint32_t what);
 

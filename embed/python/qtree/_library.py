@@ -53,6 +53,7 @@ _FUNCTIONS = {
     "poll_buf": [_p, _u64, _p],
     "ready_at": [_p, _p],
     "reap": [_p, _p],
+    "turn": [_p, _u64, _p, _size, _p, _size, _p],
     "most_packets": [_p, _p],
     "stats": [*_place, _p],
     "oldest": [*_place, _p],
@@ -69,7 +70,6 @@ _FUNCTIONS = {
     "version": [],
 }
 _BATCH = {
-    "turn": [_p, _u64, _p, _size, _p, _size, _p],
     "frames": [_p, _p, _size, _p, _size, _u32, _u64, _p, _p],
     "hash": [_p, _size, _u32, _p],
     "simulate": [_p, _p, _p, _size, _u64, _u64, _p, _p],

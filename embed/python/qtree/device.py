@@ -193,8 +193,9 @@ class Device:
         sent, sent_at = made(Sent, room)
         lost, lost_at = made(Lost, room)
         turned = _Turned()
-        check(batch.qtree_batch_turn(self.handle, _moment(now), sent_at, room, lost_at, room, ctypes.byref(turned)))
-        return Turned(listed(sent, turned.sent), listed(lost, turned.lost), _time(turned.again))
+        check(qtree.qtree_turn(self.handle, _moment(now), sent_at, room, lost_at, room, ctypes.byref(turned)))
+        again = min(turned.again, now) if room > 0 and turned.lost == room else turned.again
+        return Turned(listed(sent, turned.sent), listed(lost, turned.lost), _time(again))
 
     def ready_at(self) -> Optional[int]:
         """The time before which no poll gives a packet; None if none ever will, as long as no packet arrives and no command comes."""
@@ -211,7 +212,7 @@ class Device:
         if code == NOTHING:
             return None
         check(code)
-        return Lost(loss.packet.number, loss.packet.buf, loss.cause)
+        return Lost(loss.packet.number, loss.packet.port, loss.packet.buf, loss.cause)
 
     def counters(self, place: str = "top") -> Counters:
         """The counters of a place: top is the device itself, root the qdisc at its root, and 1:10 the qdisc in that class. Raises

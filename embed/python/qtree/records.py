@@ -51,7 +51,7 @@ class Sent(_Shown):
 
 class Lost(_Shown):
     """A lost packet."""
-    _fields_ = [("number", _u64), ("buf", _u32), ("cause", _u32)]
+    _fields_ = [("number", _u64), ("port", _u32), ("buf", _u32), ("cause", _u32)]
 
 
 class Frame(_Shown):

@@ -7,6 +7,7 @@ use crate::fault::Fault;
 use crate::latest::Latest;
 use crate::loss::Loss;
 use crate::losses::Losses;
+use crate::lost::Lost;
 use crate::node::Node;
 use crate::packet::Packet;
 use crate::place::Place;
@@ -18,6 +19,7 @@ use crate::service::Service;
 use crate::settings::Settings;
 use crate::show::Show;
 use crate::text::text_of;
+use crate::turned::Turned;
 use crate::worst::Worst;
 use alloc::string::String;
 use alloc::vec::Vec;
@@ -317,6 +319,47 @@ impl Device {
     pub fn ready_at(&self) -> Option<u64> {
         let (code, moment) = self.0.ready_at();
         (code == sys::QTREE_DONE).then_some(moment)
+    }
+
+    /// Takes one turn of a program's loop: polls for what is due, hands out losses, and says when to
+    /// come back.
+    ///
+    /// If a packet may go at the time, the device is polled as by [`Device::poll_bufs`]. Otherwise
+    /// it is not polled, and there is no event. Then losses are handed out, the oldest first. Each
+    /// is written into the first places of its slice, and a slice may be empty.
+    ///
+    /// If each place of `sent` has a packet, more may be due, and if each place of `lost` has a
+    /// loss, more may wait: the program takes another turn at once. Otherwise it sleeps until the
+    /// time `again`, or until a packet comes in.
+    ///
+    /// ```
+    /// # use qtree::{Device, Error, Lost, Packet, Sent, Settings};
+    /// let mut device = Device::open(Settings::default())?;
+    /// device.command("tc qdisc add dev wan root handle 1: tbf rate 8mbit burst 1500 limit 3000", 0)?;
+    /// for buf in 0..3 {
+    ///     device.arrive(&Packet::builder(1500).buf(buf).build()?, 0)?;
+    /// }
+    /// let (mut sent, mut lost) = ([Sent::default(); 32], [Lost::default(); 32]);
+    /// let turned = device.turn(0, &mut sent, &mut lost)?;
+    /// assert_eq!((turned.sent, sent[0].buf()), (1, 0)); // the bucket has tokens for one
+    /// assert_eq!((turned.lost, lost[0].buf()), (1, 2)); // the limit has room for two
+    /// assert_eq!(turned.again, Some(1_500_000)); // 1500 bytes take 1.5 ms
+    /// # Ok::<(), Error>(())
+    /// ```
+    ///
+    /// # Errors
+    ///
+    /// `OutOfRange` if the time is out of its range.
+    pub fn turn(
+        &mut self,
+        now: u64,
+        sent: &mut [Sent],
+        lost: &mut [Lost],
+    ) -> Result<Turned, Error> {
+        match self.0.turn(now, sent, lost) {
+            (sys::QTREE_DONE, turned) => Ok(Turned::of(turned)),
+            (code, _) => Err(Error::of(code)),
+        }
     }
 
     /// Returns how many packets can be queued at most, now and as long as no command changes the

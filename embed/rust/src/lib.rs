@@ -34,6 +34,9 @@
 //!    buffers. Losses that no program takes keep memory.
 //! 5. It sleeps until the time of [`Device::ready_at`], or until a packet comes in.
 //!
+//! [`Device::turn`] does the third, the fourth and the question of the fifth by one call, for a
+//! program that needs no whole packets to send and to reuse them.
+//!
 //! # Times
 //!
 //! A time is a number of nanoseconds since an instant that the program chooses, and is at most
@@ -117,6 +120,7 @@ mod head;
 mod latest;
 mod loss;
 mod losses;
+mod lost;
 mod node;
 mod offer_error;
 mod outlet;
@@ -141,6 +145,7 @@ mod settled;
 mod show;
 mod text;
 mod turn;
+mod turned;
 mod undone;
 mod worst;
 
@@ -159,6 +164,7 @@ pub use head::{ip_at, mark_head};
 pub use latest::Latest;
 pub use loss::Loss;
 pub use losses::Losses;
+pub use lost::Lost;
 pub use node::{ListedFlows, Node};
 pub use offer_error::OfferError;
 pub use packet::Packet;
@@ -177,6 +183,7 @@ pub use settings::Settings;
 pub use settled::Settled;
 pub use show::Show;
 pub use turn::Turn;
+pub use turned::Turned;
 pub use undone::Undone;
 pub use worst::Worst;
 

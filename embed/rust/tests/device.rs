@@ -1,6 +1,8 @@
 //! A device from one thread to another, a shaped download, and every refusal that a program can
 //! meet.
-use qtree::{Cause, Device, Error, Fate, Packet, Place, Polled, Settings, Show};
+use qtree::{
+    Cause, Device, Error, Fate, Lost, MOMENT_MAX, Packet, Place, Polled, Sent, Settings, Show,
+};
 
 fn udp(len: u16, buf: u32) -> Packet {
     Packet::builder(len)
@@ -29,6 +31,41 @@ fn a_bucket_is_waited_for() -> Result<(), Error> {
     assert_eq!(device.poll(at - 1)?, Polled::Later);
     assert!(matches!(device.poll(at)?, Polled::Packet(packet) if packet.buf() == 2));
     assert_eq!(device.poll(at)?, Polled::Idle);
+    Ok(())
+}
+
+#[test]
+fn a_turn_is_polls_reaps_and_when_to_come_back() -> Result<(), Error> {
+    let mut device = Device::open(Settings::default())?;
+    device.command(
+        "tc qdisc add dev wan root tbf rate 8mbit burst 1000 limit 3000",
+        0,
+    )?;
+    for buf in 0..5 {
+        device.arrive(&udp(1000, buf), 0)?;
+    }
+    let (mut sent, mut lost) = ([Sent::default(); 4], [Lost::default(); 1]);
+    let turned = device.turn(0, &mut sent, &mut lost)?;
+    assert_eq!((turned.sent, sent[0].buf(), sent[0].len()), (1, 0, 1000));
+    assert_eq!((turned.lost, lost[0].buf()), (1, 3));
+    assert_eq!(lost[0].cause(), Cause::OverLimit);
+    assert_eq!(
+        (turned.again, device.ready_at()),
+        (Some(1_000_000), Some(1_000_000))
+    );
+    // The slice for losses was full, so that one more may wait. Nothing is due, so that there is no event.
+    let events = device.events();
+    let turned = device.turn(999_999, &mut sent, &mut lost)?;
+    assert_eq!((turned.sent, turned.lost, lost[0].buf()), (0, 1, 4));
+    assert_eq!((turned.again, device.events()), (Some(1_000_000), events));
+    assert_eq!(
+        device.turn(3_000_000, &mut sent[..1], &mut [])?.again,
+        Some(4_000_000)
+    );
+    assert!(matches!(
+        device.turn(MOMENT_MAX + 1, &mut sent, &mut lost),
+        Err(Error::OutOfRange)
+    ));
     Ok(())
 }
 

@@ -40,4 +40,5 @@ size_of_struct n =
     if n == 4 then 96 else if n == 5 then 80 else if n == 6 then 16 else if n == 7 then 16 else
     if n == 8 then 16 else if n == 9 then 16 else if n == 10 then 48 else if n == 11 then 24 else
     if n == 12 then 32 else if n == 13 then 192 else if n == 14 then 24 else if n == 15 then 24 else
-    if n == 16 then 40 else if n == 17 then 32 else if n == 18 then 24 else 0
+    if n == 16 then 40 else if n == 17 then 32 else if n == 18 then 24 else if n == 19 then 24 else
+    if n == 20 then 24 else 0

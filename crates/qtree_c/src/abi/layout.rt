@@ -11,6 +11,7 @@ use crate::abi::c_event::CEvent;
 use crate::abi::c_fault::CFault;
 use crate::abi::c_layout::CLayout;
 use crate::abi::c_loss::CLoss;
+use crate::abi::c_lost::CLost;
 use crate::abi::c_node_view::CNodeView;
 use crate::abi::c_outlet::COutlet;
 use crate::abi::c_port::CPort;
@@ -19,6 +20,7 @@ use crate::abi::c_report::CReport;
 use crate::abi::c_row::CRow;
 use crate::abi::c_sent::CSent;
 use crate::abi::c_settings::CSettings;
+use crate::abi::c_turned::CTurned;
 use crate::abi::c_undone::CUndone;
 use q_packet::StoredPacket;
 
@@ -48,7 +50,7 @@ pub extern "C" fn qtree_layout_of(layout: &mut CLayout)
     };
 }
 
-/// The bytes of the struct with this number, 0 to 18; 0 for any other.
+/// The bytes of the struct with this number, 0 to 20; 0 for any other.
 #[unsafe(no_mangle)]
 pub extern "C" fn qtree_size_of(what: u32) -> usize
     ensures { result ≡ size_of_struct what }
@@ -73,6 +75,8 @@ pub extern "C" fn qtree_size_of(what: u32) -> usize
         16 => size_of::<CReport>(),
         17 => size_of::<CUndone>(),
         18 => size_of::<CDeparture>(),
+        19 => size_of::<CLost>(),
+        20 => size_of::<CTurned>(),
         _ => 0,
     }
 }

@@ -1,4 +1,5 @@
 use super::sys;
+use crate::lost::Lost;
 use crate::packet::Packet;
 use crate::sent::Sent;
 use alloc::vec::Vec;
@@ -168,6 +169,31 @@ impl RawDevice {
         // SAFETY: the device is open, and `loss` is another place.
         let code = unsafe { sys::qtree_reap(&mut self.0, &mut loss) };
         (code, loss)
+    }
+
+    /// Also what was done, and when to come back.
+    pub(crate) fn turn(
+        &mut self,
+        now: u64,
+        sent: &mut [Sent],
+        lost: &mut [Lost],
+    ) -> (u32, sys::Turned) {
+        let mut turned = sys::Turned::default();
+        let (polled, room) = (sent.as_mut_ptr().cast(), sent.len());
+        let (reaped, lost_room) = (lost.as_mut_ptr().cast(), lost.len());
+        // SAFETY: the device is open; pointers and lengths are those of `sent` and `lost`, whose types are laid out like C's.
+        let code = unsafe {
+            sys::qtree_turn(
+                &mut self.0,
+                now,
+                polled,
+                room,
+                reaped,
+                lost_room,
+                &mut turned,
+            )
+        };
+        (code, turned)
     }
 
     pub(crate) fn stats(&self, (place, major, minor): (u32, u16, u16)) -> (u32, sys::Row) {

@@ -130,6 +130,23 @@ pub struct Delay {
 
 #[repr(C)]
 #[derive(Clone, Copy, Default)]
+pub struct Lost {
+    pub number: u64,
+    pub port: u32,
+    pub buf: u32,
+    pub cause: u32,
+}
+
+#[repr(C)]
+#[derive(Clone, Copy, Default)]
+pub struct Turned {
+    pub sent: usize,
+    pub lost: usize,
+    pub again: u64,
+}
+
+#[repr(C)]
+#[derive(Clone, Copy, Default)]
 pub struct Departure {
     pub bytes: u64,
     pub at: u64,
@@ -233,6 +250,8 @@ layout!(Packet, 64: src_high 0, src_low 8, dst_high 16, dst_low 24, number 32, p
     sport 54, dport 56, proto 58, family 59, prio 60, ecn 61);
 layout!(Sent, 24: number 0, port 8, buf 12, len 16, ecn 18);
 layout!(Loss, 72: packet 0, cause 64);
+layout!(Lost, 24: number 0, port 8, buf 12, cause 16);
+layout!(Turned, 24: sent 0, lost 8, again 16);
 layout!(Count, 16: packets 0, bytes 8);
 layout!(Row, 96: arrived 0, sent 16, refused 32, dropped 48, queued 64, marked 80);
 layout!(Promise, 32: link 0, rate 8, part 16, slack 24);
@@ -336,6 +355,15 @@ unsafe extern "C" {
         losses: *mut Loss,
         room: usize,
         count: *mut usize,
+    ) -> u32;
+    pub fn qtree_turn(
+        device: *mut Device,
+        now: u64,
+        sent: *mut Sent,
+        room: usize,
+        lost: *mut Lost,
+        lost_room: usize,
+        turned: *mut Turned,
     ) -> u32;
     pub fn qtree_ring_open(port: *mut Port, outlet: *mut Outlet, index: u32, places: usize) -> u32;
     pub fn qtree_offer(port: *mut Port, packet: *const Packet) -> u32;
