@@ -1,4 +1,4 @@
-use Rattle.std.proofs.Common.{◌≡◌, take}
+use Rattle.std.proofs.Common.{take}
 use Rattle.q_tree.specs.IndexByField.{IsFieldIndexOf}
 use Rattle.q_tree.proofs.field_index.FieldIndex.add_all.Given as goal
 

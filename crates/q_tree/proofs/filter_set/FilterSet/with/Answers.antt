@@ -1,4 +1,3 @@
-use Rattle.std.proofs.Common.{arith}
 use Rattle.q_tree.proofs.FilterSetLemmas.{with_high-holds, with_low-holds}
 use Rattle.q_tree.proofs.filter_set.FilterSet.with.Goals as goal
 
