@@ -16,7 +16,7 @@ use Rattle.q_tree.specs.declared.field_sets.Piece.{Piece}
 use Rattle.q_tree.specs.declared.field_sets.Values.{Values}
 use Rattle.q_tree.specs.declared.filter_set.FilterSet.{FilterSet}
 use Rattle.q_tree.proofs.FieldValueLemmas.{takes-in}
-use Rattle.q_tree.proofs.IndexOfFilterLemmas.{find-place}
+use Rattle.q_tree.proofs.filters.IndexOfFilterLemmas.{find-place}
 
 takes_at-map : (t : Filter → Values) (filters : List Filter) (j x : ℕ) (f : Filter) → slice_get filters j ≡ Some f → takes_at (map t filters) j x ≡ is_in (t f) x
 takes_at-map t filters j x f e =

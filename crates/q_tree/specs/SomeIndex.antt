@@ -2,8 +2,8 @@
 -- Nothing here is of a standard.
 use Rattle.std.specs.Prelude.{List}
 use Rattle.q_model.specs.declared.filter.Filter.{Filter}
+use Rattle.q_tree.specs.filters.IndexOfFilters.{IsIndexOf}
 use Rattle.q_tree.specs.IndexByField.{IsFieldIndexOf}
-use Rattle.q_tree.specs.IndexOfFilters.{IsIndexOf}
 use Rattle.q_tree.specs.declared.index_of_filters.IndexOfFilters.{IndexOfFilters}
 use Rattle.q_tree.specs.declared.index_of_filters.IndexOfFilters.TheVariants.{ByField, ByShape}
 

@@ -6,7 +6,7 @@ ghost use Rattle.q_tree.specs.IndexByField.{IsCutFor, IsFieldIndexOf};
 
 use crate::field_sets::FieldSets;
 use crate::field_values::{of_byte, of_family, of_port, of_prefix};
-use crate::masked_filter::MaskedFilter;
+use crate::filters::masked_filter::MaskedFilter;
 use q_model::Minor;
 use q_packet::KeptPacket;
 use std::alloc::{AllocError, Global};

@@ -1,12 +1,12 @@
 ghost use Rattle.std.specs.Prelude.{◌≡◌, ◌≤◌, IfOk, None, length};
 ghost use Rattle.std.specs.Option.{IfSome};
 ghost use Rattle.q_model.specs.Filters.{named_class};
-ghost use Rattle.q_tree.specs.IndexOfFilters.{AreOfManyShapes};
+ghost use Rattle.q_tree.specs.filters.IndexOfFilters.{AreOfManyShapes};
 ghost use Rattle.q_tree.specs.SomeIndex.{IsSomeIndexOf};
 
 use crate::field_index::FieldIndex;
-use crate::filter_index::FilterIndex;
-use crate::masked_filter::MaskedFilter;
+use crate::filters::filter_index::FilterIndex;
+use crate::filters::masked_filter::MaskedFilter;
 use q_model::Minor;
 use q_packet::KeptPacket;
 use std::alloc::{AllocError, Global};

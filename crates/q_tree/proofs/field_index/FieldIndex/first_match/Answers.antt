@@ -4,8 +4,8 @@ use Rattle.q_packet.specs.Key.{IsKey, Key}
 use Rattle.q_tree.specs.FieldSets.{takes_at}
 use Rattle.q_tree.specs.FieldValues.{dport_values, dst_values, family_values, proto_values, sport_values, src_values}
 use Rattle.q_tree.specs.FilterSets.{holds}
-use Rattle.q_tree.proofs.FieldIndexLemmas.{first-found, in_all}
 use Rattle.q_tree.proofs.field_index.FieldIndex.first_match.Goals as goal
+use Rattle.q_tree.proofs.FieldIndexLemmas.{first-found, in_all}
 
 pub returns : goal.returns
 returns c = λ filters h.

@@ -1,8 +1,8 @@
 use Rattle.std.proofs.Common.{◌≡◌, ◌∙◌, ap, arith, map}
 use Rattle.q_model.specs.declared.filter.Filter.{Filter}
 use Rattle.q_tree.specs.FieldValues.{dport_values, dst_values, family_values, proto_values, sport_values, src_values}
-use Rattle.q_tree.proofs.FieldIndexLemmas.{field-more, length-more, length-values}
 use Rattle.q_tree.proofs.field_index.FieldIndex.mark.Goals as goal
+use Rattle.q_tree.proofs.FieldIndexLemmas.{field-more, length-more, length-values}
 
 pub returns : goal.returns
 returns c = λ filters h long.

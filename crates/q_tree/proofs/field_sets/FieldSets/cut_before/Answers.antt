@@ -3,8 +3,8 @@ use Rattle.std.specs.List.{insert}
 use Rattle.std.proofs.lemmas.Option.{slice_get_read}
 use Rattle.q_tree.specs.FieldSets.{ArePieces, IsFieldOf, IsStart}
 use Rattle.q_tree.specs.declared.field_sets.Piece.{Piece}
-use Rattle.q_tree.proofs.FieldSetLemmas.{IsWithin, field-insert, pieces-insert, start-insert, start-inserted}
 use Rattle.q_tree.proofs.field_sets.FieldSets.cut_before.Goals as goal
+use Rattle.q_tree.proofs.FieldSetLemmas.{IsWithin, field-insert, pieces-insert, start-insert, start-inserted}
 
 abbrev new_piece : goal.In_ok-insert → Piece
 new_piece c = record { start = c.args.value; takers = c.index.result.now.takers }

@@ -1,7 +1,7 @@
 use Rattle.std.proofs.Common.{subst, sym}
 use Rattle.q_tree.specs.FieldSets.{IsCutBy, IsFieldOf}
-use Rattle.q_tree.proofs.FieldSetLemmas.{field-marked, pieces-marked}
 use Rattle.q_tree.proofs.field_sets.FieldSets.mark.Goals as goal
+use Rattle.q_tree.proofs.FieldSetLemmas.{field-marked, pieces-marked}
 
 pub invariant_of-self : goal.invariant_of-self
 invariant_of-self c = pieces-marked c.self.inside.pieces.items c.mark_each.new.pieces.items c.args.place c.args.values c.self.invariant c.mark_each.ensures

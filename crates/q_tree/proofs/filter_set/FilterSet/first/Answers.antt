@@ -1,6 +1,6 @@
 use Rattle.std.proofs.Common.{arith, rules}
-use Rattle.q_tree.proofs.FilterSetLemmas.{first_high-holds, first_high-none, first_low-holds, first_low-none}
 use Rattle.q_tree.proofs.filter_set.FilterSet.first.Goals as goal
+use Rattle.q_tree.proofs.FilterSetLemmas.{first_high-holds, first_high-none, first_low-holds, first_low-none}
 
 pub returns-then-self-ne0-clause-there : goal.returns-then-self-ne0-clause-there
 returns-then-self-ne0-clause-there c = λ within. first_low-holds c.args.self (omega (arith, c.if-self-ne0.true)) (search rules)

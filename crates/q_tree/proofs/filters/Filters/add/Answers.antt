@@ -5,7 +5,7 @@ use Rattle.std.specs.Option.{IfSome}
 use Rattle.q_model.specs.Filters.{with_filter}
 use Rattle.q_model.specs.declared.filter.Filter.{Filter}
 use Rattle.q_tree.specs.SomeIndex.{IsSomeIndexOf}
-use Rattle.q_tree.proofs.EditLemmas.{filter-placed}
+use Rattle.q_tree.proofs.commands.EditLemmas.{filter-placed}
 use Rattle.q_tree.proofs.FieldIndexLemmas.{remove-insert, taken-within}
 use Rattle.q_tree.proofs.filters.Filters.add.Goals as goal
 
