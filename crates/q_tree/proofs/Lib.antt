@@ -1,7 +1,3 @@
-pub mod FieldIndexLemmas
-pub mod FieldSetLemmas
-pub mod FieldValueLemmas
-pub mod FilterSetLemmas
 pub mod TreeLemmas
 pub use Rattle.q_tree.proofs.answers.Foreseeing
 pub use Rattle.q_tree.proofs.answers.ForeseenAsks

@@ -1,14 +1,9 @@
 pub mod Bursts
-pub mod FieldSets
-pub mod FieldValues
-pub mod FilterSets
-pub mod IndexByField
 pub mod Kept
 pub mod Laws
 pub mod NodeCode
 pub mod NodeFalls
 pub mod Seen
-pub mod SomeIndex
 pub mod TreeSeen
 pub mod answers
 pub mod arrival

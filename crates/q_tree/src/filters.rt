@@ -4,17 +4,22 @@ ghost use Rattle.std.specs.Option.{IfSome};
 ghost use Rattle.q_model.specs.Filters.{named_class, with_filter};
 ghost use Rattle.q_model.specs.declared.filter.Filter.{Filter};
 ghost use Rattle.q_tree.specs.filters.IndexOfFilters.{AreOfManyShapes};
-ghost use Rattle.q_tree.specs.SomeIndex.{IsSomeIndexOf};
+ghost use Rattle.q_tree.specs.filters.SomeIndex.{IsSomeIndexOf};
 
 pub(crate) mod chains;
+pub(crate) mod field_index;
+pub(crate) mod field_sets;
+pub(crate) mod field_values;
 pub(crate) mod filter_index;
+pub(crate) mod filter_set;
 pub(crate) mod filter_shape;
+pub(crate) mod index_of_filters;
 pub(crate) mod masked_filter;
 pub(crate) mod matching;
 
+use crate::filters::index_of_filters::{IndexOfFilters, MOST};
 use crate::filters::masked_filter::MaskedFilter;
 use crate::filters::matching::named_class;
-use crate::index_of_filters::{IndexOfFilters, MOST};
 use q_model::{Filter, FilterPrio, Minor};
 use q_packet::KeptPacket;
 use std::alloc::{AllocError, Global};

@@ -1,7 +1,7 @@
 -- What is stored beside the filters of a node: where there is an index, it is that of them.
 -- Nothing here is of a standard.
 use Rattle.std.specs.Option.{IfSome}
-use Rattle.q_tree.specs.SomeIndex.{IsSomeIndexOf}
+use Rattle.q_tree.specs.filters.SomeIndex.{IsSomeIndexOf}
 use Rattle.q_tree.specs.declared.filters.Filters.TheInside.{Inside}
 
 abbrev pub IsIndexed : Inside → Type 0

@@ -4,9 +4,9 @@ use Rattle.std.specs.List.{insert, remove, take_while}
 use Rattle.std.specs.Option.{IfSome}
 use Rattle.q_model.specs.Filters.{with_filter}
 use Rattle.q_model.specs.declared.filter.Filter.{Filter}
-use Rattle.q_tree.specs.SomeIndex.{IsSomeIndexOf}
+use Rattle.q_tree.specs.filters.SomeIndex.{IsSomeIndexOf}
 use Rattle.q_tree.proofs.commands.EditLemmas.{filter-placed}
-use Rattle.q_tree.proofs.FieldIndexLemmas.{remove-insert, taken-within}
+use Rattle.q_tree.proofs.filters.FieldIndexLemmas.{remove-insert, taken-within}
 use Rattle.q_tree.proofs.filters.Filters.add.Goals as goal
 
 pub returns-in-Ok-clause-ok : goal.returns-in-Ok-clause-ok

@@ -1,7 +1,0 @@
-use Rattle.std.proofs.Common.{◌∙◌, ◌++◌, ◌∷◌, [], ap}
-use Rattle.q_tree.proofs.field_sets.FieldSets.new.Goals as goal
-use Rattle.q_tree.proofs.FieldSetLemmas.{field-none}
-use Rattle.q_tree.proofs.FilterSetLemmas.{none-holds}
-
-pub returns : goal.returns
-returns c = field-none c.push.new.self.items record { start = 0; takers = record { low = 0; high = 0 } } (c.in_ok-push.ensures.items ∙ ap (λ xs. xs ++ record { start = 0; takers = record { low = 0; high = 0 } } ∷ []) c.new-pieces.ensures.items) none-holds

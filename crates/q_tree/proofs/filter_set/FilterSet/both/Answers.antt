@@ -1,5 +1,0 @@
-use Rattle.q_tree.proofs.filter_set.FilterSet.both.Goals as goal
-use Rattle.q_tree.proofs.FilterSetLemmas.{both-holds}
-
-pub returns : goal.returns
-returns c = both-holds c.args.self c.args.other
