@@ -1,5 +1,5 @@
-ghost use Rattle.std.specs.Prelude.{◌≡◌, ◌==◌, ◌≤◌, [], IfOk, None, OnErr, OnOk, length, nat_le, not};
-ghost use Rattle.std.specs.List.{filter, take_while};
+ghost use Rattle.std.specs.Prelude.{◌≡◌, ◌==◌, ◌<◌, ◌≤◌, [], IfOk, None, OnErr, OnOk, length, nat_le, not};
+ghost use Rattle.std.specs.List.{filter, remove, take_while};
 ghost use Rattle.std.specs.Option.{IfSome};
 ghost use Rattle.q_model.specs.Filters.{named_class, with_filter};
 ghost use Rattle.q_model.specs.declared.filter.Filter.{Filter};
@@ -17,7 +17,7 @@ pub(crate) mod index_of_filters;
 pub(crate) mod masked_filter;
 pub(crate) mod matching;
 
-use crate::filters::index_of_filters::IndexOfFilters;
+use crate::filters::index_of_filters::{IndexOfFilters, MOST};
 use crate::filters::masked_filter::MaskedFilter;
 use crate::filters::matching::named_class;
 use q_model::{Filter, FilterPrio, Minor};
@@ -87,11 +87,8 @@ impl Filters {
         let alloc = *self.list.allocator();
         let place = place_behind(&self.list, filter.prio.number());
         self.list.insert(place, MaskedFilter::new(filter))?;
-        match new_index(alloc, &self.list) {
-            Ok(index) => {
-                self.index = index;
-                return Ok(());
-            }
+        match renew(&mut self.index, alloc, &self.list, place) {
+            Ok(()) => return Ok(()),
             Err(error) => {
                 self.list.remove(place);
                 return Err(error);
@@ -110,6 +107,29 @@ impl Filters {
             Err(_) => self.index = None,
         }
     }
+}
+
+// Renews the index where the filter in this place was added.
+fn renew(
+    index: &mut Option<Box<IndexOfFilters>>,
+    alloc: Global,
+    filters: &[MaskedFilter],
+    place: usize,
+) -> Result<(), AllocError>
+    requires there { place < length filters.now }
+    requires others { IfSome index.old (λ index. IsSomeIndexOf index.value (remove filters.now place)) }
+    ensures ok { OnOk result (IfSome index.new (λ index. IsSomeIndexOf index.value filters.now)) }
+    ensures err { OnErr result (IfSome index.new (λ index. IsSomeIndexOf index.value (remove filters.now place))) }
+{
+    if place + 1 == filters.len() && filters.len() <= MOST {
+        if let Some(index) = index {
+            if let IndexOfFilters::ByField(fields) = &mut **index {
+                return fields.add(place, &filters[place]);
+            }
+        }
+    }
+    *index = new_index(alloc, filters)?;
+    Ok(())
 }
 
 // The index of these filters, where they are many.

@@ -1,8 +1,8 @@
 -- The first filter in the sets of all fields is the first that takes the packet.
-use Rattle.std.proofs.Common.{◌≡◌, ◌∙◌, ◌⊎◌, ap, ap₂, ℕ, suc, ◌<◌, ◌≤◌, sym, refl, subst, arith, inl, inr, List, [], ◌∷◌, ◌++◌, length, map, slice_get, Some}
+use Rattle.std.proofs.Common.{◌≡◌, ◌∙◌, ◌⊎◌, ap, ap₂, ℕ, zero, suc, ◌<◌, ◌≤◌, sym, refl, subst, arith, inl, inr, List, [], ◌∷◌, ◌++◌, length, length-take, map, slice_get, Some}
 use Rattle.std.specs.Prelude.{Bool, true, false, ◌&&◌, option_map}
 use Rattle.std.specs.Option.{option_map_or}
-use Rattle.std.specs.List.{find}
+use Rattle.std.specs.List.{find, insert, prefix_len, remove, take_while}
 use Rattle.std.proofs.lemmas.Bool.{cases_lt}
 use Rattle.std.proofs.lemmas.Option.{slice_get-map, slice_get_past}
 use Rattle.q_packet.specs.Descriptor.{Descriptor}
@@ -68,3 +68,12 @@ length-values t (g ∷ filters) = ap suc (length-values t filters)
 pub field-more : (t : Filter → Values) (pieces : List Piece) (filters : List Filter) (f : Filter) (v : Values) → v ≡ t f → IsFieldOf pieces (map t filters ++ v ∷ [])
     → IsFieldOf pieces (map t (filters ++ f ∷ []))
 field-more t pieces filters f v e field = subst (IsFieldOf pieces) (ap (λ w. map t filters ++ w ∷ []) e ∙ map-more t filters f) field
+
+-- what was inserted is removed again
+pub remove-insert : {A : Type 0} (xs : List A) (k : ℕ) (y : A) → k ≤ length xs → remove (insert xs k y) k ≡ xs
+remove-insert xs zero y within = refl
+remove-insert [] (suc k) y within = absurd (omega (arith, within))
+remove-insert (x ∷ xs) (suc k) y within = ap (λ ys. x ∷ ys) (remove-insert xs k y (omega (arith, within)))
+
+pub taken-within : {A : Type 0} (p : A → Bool) (xs : List A) → length (take_while p xs) ≤ length xs
+taken-within p xs = omega (arith, length-take (prefix_len p xs) xs)

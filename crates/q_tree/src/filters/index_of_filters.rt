@@ -15,7 +15,7 @@ use std::alloc::{AllocError, Global};
 const FEWEST: usize = 17;
 
 /// The most filters of an index.
-const MOST: usize = 256;
+pub(crate) const MOST: usize = 256;
 
 /// By which a packet finds its filter: a hash of what is compared where many filters compare the same, and each field by itself
 /// where they compare many different things.

@@ -1,4 +1,4 @@
-use Rattle.std.proofs.Common.{rules, ◌≡◌, ◌<◌, Some, arith, length, refl, slice_get}
+use Rattle.std.proofs.Common.{rules, ◌<◌, length, refl}
 use Rattle.std.proofs.lemmas.Option.{slice_get_read}
 use Rattle.q_tree.proofs.filters.FieldSetLemmas.{marked-more}
 use Rattle.q_tree.proofs.filters.field_sets.mark_each.Goals as goal

@@ -1,5 +1,4 @@
-use Rattle.std.proofs.Common.{rules, ◌≡◌, ◌∙◌, ◌+◌, ◌-◌, ◌*◌, ◌/◌, ◌%◌, ◌^◌, ◌<◌, ap, ap₂, arith, subst, sym, ℕ}
-use Rattle.std.specs.Int.{w128}
+use Rattle.std.proofs.Common.{rules, ◌≡◌, ◌+◌, ◌-◌, ◌*◌, ◌/◌, ◌%◌, ◌^◌, ◌<◌, ap, ap₂, arith, ℕ}
 use Rattle.std.proofs.lemmas.Nat.{one_shl}
 use Rattle.q_tree.proofs.filters.FieldValueLemmas.{last_fits, shifted_back}
 use Rattle.q_tree.proofs.filters.field_values.of_prefix.Goals as goal

@@ -1,4 +1,4 @@
-use Rattle.std.proofs.Common.{◌≡◌, take}
+use Rattle.std.proofs.Common.{take}
 use Rattle.q_tree.specs.filters.IndexByField.{IsFieldIndexOf}
 use Rattle.q_tree.proofs.filters.field_index.FieldIndex.add_all.Given as goal
 

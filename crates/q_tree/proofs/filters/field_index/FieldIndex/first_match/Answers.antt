@@ -1,11 +1,9 @@
-use Rattle.std.proofs.Common.{◌≡◌, ◌∙◌, ap, ap₂, map, subst, ℕ, List}
+use Rattle.std.proofs.Common.{◌≡◌, ◌∙◌, ap, ap₂, map, subst, ℕ}
 use Rattle.std.specs.Prelude.{◌&&◌}
 use Rattle.q_packet.specs.Key.{IsKey, Key}
-use Rattle.q_model.specs.declared.filter.Filter.{Filter}
 use Rattle.q_tree.specs.filters.FieldSets.{takes_at}
 use Rattle.q_tree.specs.filters.FieldValues.{dport_values, dst_values, family_values, proto_values, sport_values, src_values}
 use Rattle.q_tree.specs.filters.FilterSets.{holds}
-use Rattle.q_tree.specs.filters.IndexByField.{IsFieldIndexOf}
 use Rattle.q_tree.proofs.filters.field_index.FieldIndex.first_match.Goals as goal
 use Rattle.q_tree.proofs.filters.FieldIndexLemmas.{first-found, in_all}
 

@@ -1,6 +1,6 @@
-use Rattle.std.proofs.Common.{◌≡◌, ◌∙◌, ap, arith, length, map}
+use Rattle.std.proofs.Common.{◌≡◌, ◌∙◌, ap, arith, map}
 use Rattle.q_model.specs.declared.filter.Filter.{Filter}
-use Rattle.q_tree.specs.filters.FieldValues.{dport_values, dst_values, family_values, number_values, prefix_values, proto_values, sport_values, src_values}
+use Rattle.q_tree.specs.filters.FieldValues.{dport_values, dst_values, family_values, proto_values, sport_values, src_values}
 use Rattle.q_tree.proofs.filters.field_index.FieldIndex.mark.Goals as goal
 use Rattle.q_tree.proofs.filters.FieldIndexLemmas.{field-more, length-more, length-values}
 

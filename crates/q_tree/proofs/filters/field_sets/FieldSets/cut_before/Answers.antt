@@ -1,4 +1,4 @@
-use Rattle.std.proofs.Common.{◌≡◌, ◌∙◌, ◌<◌, ◌≤◌, ◌+◌, Some, ap, arith, length, refl, slice_get, subst, suc, sym}
+use Rattle.std.proofs.Common.{◌≡◌, ◌∙◌, ◌<◌, ◌+◌, Some, ap, arith, length, refl, slice_get, subst, suc, sym}
 use Rattle.std.specs.List.{insert}
 use Rattle.std.proofs.lemmas.Option.{slice_get_read}
 use Rattle.q_tree.specs.filters.FieldSets.{ArePieces, IsFieldOf, IsStart}

@@ -1,4 +1,4 @@
-use Rattle.std.proofs.Common.{arith, rules, ◌≡◌, ◌<◌, ◌^◌}
+use Rattle.std.proofs.Common.{arith, rules}
 use Rattle.q_tree.proofs.filters.filter_set.FilterSet.first.Goals as goal
 use Rattle.q_tree.proofs.filters.FilterSetLemmas.{first_high-holds, first_high-none, first_low-holds, first_low-none}
 

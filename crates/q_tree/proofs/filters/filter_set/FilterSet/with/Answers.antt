@@ -1,4 +1,3 @@
-use Rattle.std.proofs.Common.{arith}
 use Rattle.q_tree.proofs.filters.filter_set.FilterSet.with.Goals as goal
 use Rattle.q_tree.proofs.filters.FilterSetLemmas.{with_high-holds, with_low-holds}
 
