@@ -48,23 +48,13 @@ fn turn(opened: &mut Opened, now: Moment, sent: &mut [CSent], lost: &mut [CLost]
     ensures noted { opened.new.last ≡ noting (turn_events now (length sent.old) opened.old.device) opened.old.last }
 {
     let turned = opened.device.turn(now, sent, lost);
-    note_turn(
-        &mut opened.last,
-        &opened.device,
-        turned.answer,
-        turned.sent,
-    );
+    note_turn(&mut opened.last, &opened.device, turned.answer, turned.sent);
     CTurned::of(turned.sent, turned.lost, turned.again)
 }
 
 /// Notes the polls of a turn, which the device has just taken: none where nothing was due.
 #[inline(always)]
-fn note_turn(
-    last: &mut Option<LastEvents>,
-    device: &Device,
-    answer: Option<Given>,
-    given: usize,
-)
+fn note_turn(last: &mut Option<LastEvents>, device: &Device, answer: Option<Given>, given: usize)
     ensures { last.new ≡ noting (polls_of_turn device.now.device.clock answer given) last.old }
 {
     match answer {
