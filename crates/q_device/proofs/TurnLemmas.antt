@@ -3,10 +3,10 @@ use Rattle.std.proofs.Common.{◌≡◌, ◌∙◌, ℕ, List, refl, sym, ap, su
 use Rattle.std.specs.Prelude.{max}
 use Rattle.q_packet.specs.Descriptor.{Descriptor}
 use Rattle.q_codel.specs.declared.loss.Loss.{Loss}
-use Rattle.q_tree.specs.ReadyAt.{is_before}
+use Rattle.q_tree.specs.answers.ReadyAt.{is_before}
 use Rattle.q_device.specs.declared.given.Given.{Given}
-use Rattle.q_device.specs.Bursts.{IsPolls}
-use Rattle.q_device.specs.DeviceSeen.{DeviceSeen}
+use Rattle.q_device.specs.device.Bursts.{IsPolls}
+use Rattle.q_device.specs.device.DeviceSeen.{DeviceSeen}
 use Rattle.q_device.specs.Reaps.{IsReaps}
 use Rattle.q_device.specs.Turning.{IsSent, IsTurn, is_early}
 use Rattle.q_device.specs.Waiting.{ready}

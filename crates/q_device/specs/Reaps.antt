@@ -2,7 +2,7 @@
 -- Nothing here is of a standard.
 use Rattle.std.specs.Prelude.{◌≡◌, ℕ, ◌+◌, List, ◌++◌, drop, length, map, min, take}
 use Rattle.q_codel.specs.declared.loss.Loss.{Loss}
-use Rattle.q_device.specs.DeviceSeen.{DeviceSeen}
+use Rattle.q_device.specs.device.DeviceSeen.{DeviceSeen}
 
 -- As many losses as wait, or as there are places, are handed out, and this is told of each in the first places. The others wait on, and
 -- what is behind those places stays as it was.

@@ -4,11 +4,11 @@ use Rattle.std.specs.Prelude.{◌≡◌, ℕ, Bool, true, false, List, Option, S
 use Rattle.q_packet.specs.Descriptor.{Descriptor}
 use Rattle.q_codel.specs.declared.loss.Loss.{Loss}
 use Rattle.q_model.specs.Step.{counts_at}
-use Rattle.q_tree.specs.ReadyAt.{is_before}
+use Rattle.q_tree.specs.answers.ReadyAt.{is_before}
 use Rattle.q_device.specs.declared.given.Given.{Given}
 use Rattle.q_device.specs.declared.turn.Turned.{Turned}
-use Rattle.q_device.specs.Bursts.{IsPolls}
-use Rattle.q_device.specs.DeviceSeen.{DeviceSeen}
+use Rattle.q_device.specs.device.Bursts.{IsPolls}
+use Rattle.q_device.specs.device.DeviceSeen.{DeviceSeen}
 use Rattle.q_device.specs.Reaps.{IsReaps}
 use Rattle.q_device.specs.Waiting.{ready}
 

@@ -1,14 +1,1 @@
-pub mod Arriving
-pub mod Commanding
-pub mod HeldSteps
-pub mod Naming
-pub mod NotingLemmas
-pub mod Offering
-pub mod Polling
-pub mod RawBoxValues
-pub mod Readying
-pub mod Reaping
-pub mod SettingUpLemmas
-pub mod Telling
 pub mod TurnLemmas
-pub mod UndoneLemmas

@@ -1,7 +1,7 @@
 //! When a device next gives a packet.
 ghost use Rattle.std.specs.Prelude.{◌≡◌, ◌<◌, ◌≤◌, ◌^◌, ℕ, true, None, IfNone, IfSome, IsSome};
 ghost use Rattle.q_model.specs.TreeState.{given};
-ghost use Rattle.q_tree.specs.ReadyAt.{is_sure, ready_at};
+ghost use Rattle.q_tree.specs.answers.ReadyAt.{is_sure, ready_at};
 ghost use Rattle.q_device.specs.Waiting.{ready};
 
 use crate::device::Device;

@@ -1,6 +1,6 @@
 use Rattle.std.proofs.Common.{◌∙◌, ap, subst, sym}
-use Rattle.q_device.specs.DeviceSeen.{DeviceSeen}
-use Rattle.qtree_c.specs.Noting.{noting}
+use Rattle.q_device.specs.device.DeviceSeen.{DeviceSeen}
+use Rattle.qtree_c.specs.events.Noting.{noting}
 use Rattle.qtree_c.specs.Turns.{IsTurn, polls_of_turn}
 use Rattle.qtree_c.specs.declared.c_turned.CTurned.{CTurned}
 use Rattle.qtree_c.proofs.TurnLemmas.{turn-noted, turn-told}
