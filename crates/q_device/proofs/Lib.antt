@@ -1,5 +1,3 @@
-pub mod HandedOut
-pub mod TurnLemmas
 pub mod waiting
 pub use Rattle.q_device.proofs.device.EventMemory
 pub use Rattle.q_device.proofs.device.PlaceLemmas

@@ -5,6 +5,7 @@ pub mod BurstEvents
 pub mod DeviceLaws
 pub mod EventLemmas
 pub mod EventMemory
+pub mod HandedOut
 pub mod KeptLemmas
 pub mod PlaceLemmas
 pub mod PollAnswers
@@ -15,3 +16,4 @@ pub mod RoomLemmas
 pub mod StatsStands
 pub mod StepStands
 pub mod ToldLemmas
+pub mod TurnLemmas

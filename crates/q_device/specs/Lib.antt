@@ -3,10 +3,8 @@ pub mod Counters
 pub mod DeviceLaws
 pub mod Events
 pub mod Laws
-pub mod Reaps
 pub mod Replayed
 pub mod Sharing
-pub mod Turning
 pub mod Waiting
 pub mod device
 pub mod log

@@ -6,4 +6,6 @@ pub mod DeviceSeen
 pub mod Giving
 pub mod Keeping
 pub mod Polls
+pub mod Reaps
 pub mod Room
+pub mod Turning

@@ -1,5 +1,5 @@
 //! Losses are handed out, as many as there are places for.
-ghost use Rattle.q_device.specs.Reaps.{IsReaps};
+ghost use Rattle.q_device.specs.device.Reaps.{IsReaps};
 
 use crate::device::Device;
 use crate::told_loss::ToldLoss;

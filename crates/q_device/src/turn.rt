@@ -1,7 +1,7 @@
 //! A turn of a program's loop: what is due is sent, what was lost is handed out, and the program learns when to come back.
 ghost use Rattle.std.specs.Prelude.{◌≡◌, Some, max};
 ghost use Rattle.q_tree.specs.answers.ReadyAt.{is_before};
-ghost use Rattle.q_device.specs.Turning.{IsSent, IsTurn};
+ghost use Rattle.q_device.specs.device.Turning.{IsSent, IsTurn};
 ghost use Rattle.q_device.specs.Waiting.{ready};
 
 use crate::device::Device;

@@ -4,4 +4,5 @@ pub mod Commanding
 pub mod Polling
 pub mod Reaping
 pub mod SettingUpLemmas
+pub mod TurnLemmas
 pub mod UndoneLemmas

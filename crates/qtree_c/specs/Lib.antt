@@ -1,4 +1,3 @@
-pub mod Turns
 pub mod abi
 pub mod answers
 pub mod device

@@ -3,3 +3,4 @@ pub mod Calls
 pub mod Folds
 pub mod Lines
 pub mod SettingUp
+pub mod Turns

@@ -12,3 +12,4 @@ pub(crate) mod polled_into;
 pub(crate) mod polls;
 pub(crate) mod set_up;
 pub(crate) mod steps;
+pub(crate) mod turn;

@@ -3,11 +3,8 @@
 
 mod abi;
 mod answers;
-mod c_lost;
-mod c_turned;
 mod device;
 mod events;
 mod frames;
 mod rings;
 mod show;
-mod turn;

@@ -11,6 +11,7 @@ use crate::abi::c_event::CEvent;
 use crate::abi::c_fault::CFault;
 use crate::abi::c_layout::CLayout;
 use crate::abi::c_loss::CLoss;
+use crate::abi::c_lost::CLost;
 use crate::abi::c_node_view::CNodeView;
 use crate::abi::c_outlet::COutlet;
 use crate::abi::c_port::CPort;
@@ -19,9 +20,8 @@ use crate::abi::c_report::CReport;
 use crate::abi::c_row::CRow;
 use crate::abi::c_sent::CSent;
 use crate::abi::c_settings::CSettings;
+use crate::abi::c_turned::CTurned;
 use crate::abi::c_undone::CUndone;
-use crate::c_lost::CLost;
-use crate::c_turned::CTurned;
 use q_packet::StoredPacket;
 
 /// The version of these functions: the major number in the high 16 bits, the minor one in the low 16.

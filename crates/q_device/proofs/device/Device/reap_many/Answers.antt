@@ -1,7 +1,7 @@
 use Rattle.std.proofs.Common.{◌≡◌, ◌∙◌, ℕ, ◌+◌, arith, length, slice_set, subst, sym}
-use Rattle.q_device.specs.Reaps.{IsReaps}
+use Rattle.q_device.specs.device.Reaps.{IsReaps}
 use Rattle.q_device.proofs.device.Device.reap_many.Goals as goal
-use Rattle.q_device.proofs.HandedOut.{IsReaping, reaping-begins, reaping-ends, reaping-more, reaping-stops}
+use Rattle.q_device.proofs.device.HandedOut.{IsReaping, reaping-begins, reaping-ends, reaping-more, reaping-stops}
 
 pub loop-i-init : goal.loop-i-init
 loop-i-init g c = reaping-begins g.L.ToldLoss.told c.args.places.now c.args.self.now

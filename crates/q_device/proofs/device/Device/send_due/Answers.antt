@@ -1,9 +1,9 @@
 use Rattle.std.proofs.Common.{◌∙◌, Some, ap, subst, sym}
 use Rattle.q_device.specs.device.DeviceSeen.{DeviceSeen}
-use Rattle.q_device.specs.Turning.{IsSent}
+use Rattle.q_device.specs.device.Turning.{IsSent}
 use Rattle.q_device.specs.Waiting.{ready}
 use Rattle.q_device.proofs.device.Device.send_due.Goals as goal
-use Rattle.q_device.proofs.TurnLemmas.{sent-due, sent-early}
+use Rattle.q_device.proofs.device.TurnLemmas.{sent-due, sent-early}
 
 pub returns-then-is_early-clause-sends : goal.returns-then-is_early-clause-sends
 returns-then-is_early-clause-sends g c =

@@ -1,5 +1,5 @@
 use Rattle.q_device.proofs.device.Device.turn.Goals as goal
-use Rattle.q_device.proofs.TurnLemmas.{turn-is}
+use Rattle.q_device.proofs.device.TurnLemmas.{turn-is}
 
 pub returns : goal.returns
 returns g c =

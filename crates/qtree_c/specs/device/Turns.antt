@@ -1,5 +1,5 @@
 -- A turn, as it is reported to C.
--- The turn is that of q_device's specs/Turning.antt, and the numbers this project's own.
+-- The turn is that of q_device's specs/device/Turning.antt, and the numbers this project's own.
 use Rattle.std.specs.Prelude.{◌≡◌, ℕ, ◌+◌, ◌-◌, ◌^◌, if◌then◌else◌, List, [], Option, Some, None, length, replicate, unwrap_or}
 use Rattle.q_packet.specs.Cause.{cause_number}
 use Rattle.q_codel.specs.declared.loss.Loss.{Loss}
@@ -7,17 +7,17 @@ use Rattle.q_model.specs.declared.event.Event.{Event}
 use Rattle.q_model.specs.declared.event.Event.TheVariants.{Poll}
 use Rattle.q_device.specs.device.DeviceSeen.{DeviceSeen}
 use Rattle.q_device.specs.device.Polls.{given_by}
-use Rattle.q_device.specs.Turning as turning
-use Rattle.q_device.specs.Turning.{is_early}
+use Rattle.q_device.specs.device.Turning as turning
+use Rattle.q_device.specs.device.Turning.{is_early}
 use Rattle.q_device.specs.Waiting.{ready}
 use Rattle.q_device.specs.declared.given.Given.{Given}
 use Rattle.q_device.specs.declared.given.Given.TheVariants as given
 use Rattle.qtree_c.specs.abi.Structs.{sent_of}
 use Rattle.qtree_c.specs.device.Folds.{answer_by}
 use Rattle.qtree_c.specs.events.Noting.{poll_events}
-use Rattle.qtree_c.specs.declared.c_lost.CLost.{CLost}
+use Rattle.qtree_c.specs.declared.abi.c_lost.CLost.{CLost}
 use Rattle.qtree_c.specs.declared.abi.c_sent.CSent.{CSent}
-use Rattle.qtree_c.specs.declared.c_turned.CTurned.{CTurned}
+use Rattle.qtree_c.specs.declared.abi.c_turned.CTurned.{CTurned}
 
 -- what a program needs in order to free the bytes of a packet that was lost
 abbrev pub lost_of : Loss → CLost

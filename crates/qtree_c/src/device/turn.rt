@@ -1,14 +1,14 @@
 //! A turn of a program's loop: what is due is sent, what was lost is handed out, and the program learns when to come back.
 ghost use Rattle.std.specs.Prelude.{◌≡◌, ◌≢◌, ◌≤◌, ◌<◌, ◌^◌, length};
 ghost use Rattle.qtree_c.specs.device.Calls.{Calls};
+ghost use Rattle.qtree_c.specs.device.Turns.{IsTurn, no_turn, polls_of_turn, turn_events};
 ghost use Rattle.qtree_c.specs.events.Noting.{Notes, noting};
-ghost use Rattle.qtree_c.specs.Turns.{IsTurn, no_turn, polls_of_turn, turn_events};
 
 use crate::abi::c_device::CDevice;
+use crate::abi::c_lost::CLost;
 use crate::abi::c_sent::CSent;
+use crate::abi::c_turned::CTurned;
 use crate::abi::codes::{DONE, IS_CLOSED, OUT_OF_RANGE};
-use crate::c_lost::CLost;
-use crate::c_turned::CTurned;
 use crate::device::opened::Opened;
 use crate::events::noting::{note_polls, note_polls_to_none};
 use q_device::{Device, Given, LastEvents};

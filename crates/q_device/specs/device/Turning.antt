@@ -9,7 +9,7 @@ use Rattle.q_device.specs.declared.given.Given.{Given}
 use Rattle.q_device.specs.declared.turn.Turned.{Turned}
 use Rattle.q_device.specs.device.Bursts.{IsPolls}
 use Rattle.q_device.specs.device.DeviceSeen.{DeviceSeen}
-use Rattle.q_device.specs.Reaps.{IsReaps}
+use Rattle.q_device.specs.device.Reaps.{IsReaps}
 use Rattle.q_device.specs.Waiting.{ready}
 
 -- a poll at this time counts before the device is ready

@@ -3,7 +3,7 @@ use Rattle.std.proofs.Common.{◌≡◌, ℕ, suc, ◌+◌, ◌<◌, ◌≤◌, 
 use Rattle.std.specs.Prelude.{drop, length, map, set, slice_get, take}
 use Rattle.q_codel.specs.declared.loss.Loss.{Loss}
 use Rattle.q_device.specs.device.DeviceSeen.{DeviceSeen, reaped}
-use Rattle.q_device.specs.Reaps.{IsReaps}
+use Rattle.q_device.specs.device.Reaps.{IsReaps}
 use Rattle.q_device.proofs.device.PlaceLemmas.{filled-more, next-taken, next-dropped, next-counted, some-left, none-left, map-more, length-taken, all-dropped}
 
 -- where none waits nothing is handed out

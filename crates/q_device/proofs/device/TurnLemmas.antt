@@ -7,8 +7,8 @@ use Rattle.q_tree.specs.answers.ReadyAt.{is_before}
 use Rattle.q_device.specs.declared.given.Given.{Given}
 use Rattle.q_device.specs.device.Bursts.{IsPolls}
 use Rattle.q_device.specs.device.DeviceSeen.{DeviceSeen}
-use Rattle.q_device.specs.Reaps.{IsReaps}
-use Rattle.q_device.specs.Turning.{IsSent, IsTurn, is_early}
+use Rattle.q_device.specs.device.Reaps.{IsReaps}
+use Rattle.q_device.specs.device.Turning.{IsSent, IsTurn, is_early}
 use Rattle.q_device.specs.Waiting.{ready}
 
 -- what the code asks is whether a poll would be too early

@@ -1,9 +1,9 @@
 use Rattle.std.proofs.Common.{◌∙◌, ap, sym, Option}
 use Rattle.q_device.specs.declared.given.Given.{Given}
+use Rattle.qtree_c.specs.device.Turns.{polls_of_turn}
 use Rattle.qtree_c.specs.events.Noting.{noting}
-use Rattle.qtree_c.specs.Turns.{polls_of_turn}
-use Rattle.qtree_c.proofs.TurnLemmas.{noting-none}
-use Rattle.qtree_c.proofs.turn.note_turn.Goals as goal
+use Rattle.qtree_c.proofs.device.TurnLemmas.{noting-none}
+use Rattle.qtree_c.proofs.device.turn.note_turn.Goals as goal
 
 pub returns-in-None : goal.returns-in-None
 returns-in-None c =

@@ -3,18 +3,18 @@ use Rattle.std.proofs.Common.{◌≡◌, ◌∙◌, ℕ, ◌+◌, ◌-◌, ◌^�
 use Rattle.std.specs.Prelude.{false, if◌then◌else◌, length, unwrap_or}
 use Rattle.q_device.specs.device.DeviceSeen.{DeviceSeen}
 use Rattle.q_device.specs.device.Polls.{given_by}
+use Rattle.q_device.specs.device.Turning as turning
+use Rattle.q_device.specs.device.Turning.{IsSent, is_early}
 use Rattle.q_device.specs.log.LastNoted.{LastNoted}
-use Rattle.q_device.specs.Turning as turning
-use Rattle.q_device.specs.Turning.{IsSent, is_early}
 use Rattle.q_device.specs.declared.given.Given.{Given}
 use Rattle.q_device.specs.declared.given.Given.TheVariants as given
 use Rattle.q_device.specs.declared.turn.Turned.{Turned}
 use Rattle.q_device.proofs.Polling.{idle-gives_none, later-gives_none}
 use Rattle.qtree_c.specs.abi.Structs.{sent_of}
 use Rattle.qtree_c.specs.device.Folds.{answer_by}
+use Rattle.qtree_c.specs.device.Turns.{IsTurn, lost_of, polls_of_turn, turn_events}
 use Rattle.qtree_c.specs.events.Noting.{noting, poll_events}
-use Rattle.qtree_c.specs.Turns.{IsTurn, lost_of, polls_of_turn, turn_events}
-use Rattle.qtree_c.specs.declared.c_lost.CLost.{CLost}
+use Rattle.qtree_c.specs.declared.abi.c_lost.CLost.{CLost}
 use Rattle.qtree_c.specs.declared.abi.c_sent.CSent.{CSent}
 use Rattle.qtree_c.proofs.device.Polling.{none-clock, packets-clock, polls-are}
 use Rattle.qtree_c.proofs.events.NotingLemmas.{noted-polls}

@@ -1,5 +1,5 @@
 ghost use Rattle.std.specs.Prelude.{◌≡◌};
-ghost use Rattle.qtree_c.specs.Turns.{lost_of};
+ghost use Rattle.qtree_c.specs.device.Turns.{lost_of};
 
 use q_device::{Lost, ToldLoss};
 

@@ -1,10 +1,10 @@
 use Rattle.std.proofs.Common.{◌∙◌, ap, subst, sym}
 use Rattle.q_device.specs.device.DeviceSeen.{DeviceSeen}
+use Rattle.qtree_c.specs.device.Turns.{IsTurn, polls_of_turn}
 use Rattle.qtree_c.specs.events.Noting.{noting}
-use Rattle.qtree_c.specs.Turns.{IsTurn, polls_of_turn}
-use Rattle.qtree_c.specs.declared.c_turned.CTurned.{CTurned}
-use Rattle.qtree_c.proofs.TurnLemmas.{turn-noted, turn-told}
-use Rattle.qtree_c.proofs.turn.turn.Goals as goal
+use Rattle.qtree_c.specs.declared.abi.c_turned.CTurned.{CTurned}
+use Rattle.qtree_c.proofs.device.TurnLemmas.{turn-noted, turn-told}
+use Rattle.qtree_c.proofs.device.turn.turn.Goals as goal
 
 pub returns-clause-turn : goal.returns-clause-turn
 returns-clause-turn c =
