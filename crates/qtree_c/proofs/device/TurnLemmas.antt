@@ -1,6 +1,6 @@
 -- A turn, and what is noted of it in the ring beside the device.
 use Rattle.std.proofs.Common.{◌≡◌, ◌∙◌, ℕ, ◌+◌, ◌-◌, ◌^◌, List, [], refl, sym, ap, ap₂, Bool, Option, Some, None}
-use Rattle.std.specs.Prelude.{true, false, if◌then◌else◌, length, unwrap_or}
+use Rattle.std.specs.Prelude.{false, if◌then◌else◌, length, unwrap_or}
 use Rattle.q_device.specs.device.DeviceSeen.{DeviceSeen}
 use Rattle.q_device.specs.device.Polls.{given_by}
 use Rattle.q_device.specs.device.Turning as turning
