@@ -8,7 +8,7 @@ use Rattle.q_model.specs.Events.{IsEvent}
 use Rattle.q_model.specs.Settings.{DeviceSettings}
 use Rattle.q_model.specs.Step.{DeviceState, step}
 use Rattle.q_model.specs.Tally.{Note, history}
-use Rattle.q_tree.specs.MostPackets.{most_packets}
+use Rattle.q_tree.specs.answers.MostPackets.{most_packets}
 use Rattle.q_device.specs.Sharing.{device_after}
 
 -- none of the events, from this device on, is a command that is accepted

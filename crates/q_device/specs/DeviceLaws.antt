@@ -12,7 +12,7 @@ use Rattle.q_model.specs.Tally.{Counts, totals}
 use Rattle.q_model.specs.TreeState.{stats}
 use Rattle.q_device.specs.Counters.{HasNotFallen, arrived_after}
 use Rattle.q_tree.specs.TreeSeen.{tree_numbers}
-use Rattle.q_device.specs.DeviceSeen.{DeviceSeen}
+use Rattle.q_device.specs.device.DeviceSeen.{DeviceSeen}
 use Rattle.q_device.specs.Replayed.{IsReplayOf}
 
 -- it is the replay of some events, which happened to it

@@ -6,7 +6,7 @@ use Rattle.q_model.specs.declared.row.Row.{Row}
 use Rattle.q_model.specs.Beneath.{beneath, row_of}
 use Rattle.q_model.specs.Step.{step}
 use Rattle.q_model.specs.Tally.{totals}
-use Rattle.q_device.specs.DeviceSeen.{DeviceSeen, Memory, with_event}
+use Rattle.q_device.specs.device.DeviceSeen.{DeviceSeen, Memory, with_event}
 
 -- the device after an event
 unfoldable pub after_event : Event → DeviceSeen → DeviceSeen

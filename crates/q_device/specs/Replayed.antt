@@ -4,7 +4,7 @@ use Rattle.std.specs.Prelude.{◌≡◌, ◌≤◌, List, min, length, take, dro
 use Rattle.q_model.specs.declared.event.Event.{Event}
 use Rattle.q_model.specs.Replay.{replay}
 use Rattle.q_model.specs.Tally.{totals}
-use Rattle.q_device.specs.DeviceSeen.{DeviceSeen, most_events}
+use Rattle.q_device.specs.device.DeviceSeen.{DeviceSeen, most_events}
 
 -- The device is what these events made of a new one: its tree with totals, and its losses, the first of which were handed out
 -- while the others wait. The first of the events are recorded, as many as the settings say, and all are counted.

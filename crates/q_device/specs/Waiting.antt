@@ -9,8 +9,8 @@ use Rattle.q_model.specs.Replay.{Replay, replay_from}
 use Rattle.q_model.specs.Step.{DeviceState, counts_at, polled_of, step}
 use Rattle.q_model.specs.Tally.{Counts, totals}
 use Rattle.q_model.specs.TreeState.{given}
-use Rattle.q_tree.specs.ReadyAt.{is_before, is_sure, ready_at}
-use Rattle.q_device.specs.DeviceSeen.{DeviceSeen}
+use Rattle.q_tree.specs.answers.ReadyAt.{is_before, is_sure, ready_at}
+use Rattle.q_device.specs.device.DeviceSeen.{DeviceSeen}
 
 -- the time before which no poll gives a packet; none where none ever will
 abbrev pub ready : DeviceState Counts → Option ℕ

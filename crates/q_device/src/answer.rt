@@ -24,7 +24,7 @@ impl Answer for Fate {
 
 /// The number of the cause of the loss, or 0 if the packet is kept.
 impl Answer for u8 {
-    ghost use Rattle.q_device.specs.Answers.{fate_number};
+    ghost use Rattle.q_device.specs.device.Answers.{fate_number};
 
     ghost answer = { fate_number };
 

@@ -4,12 +4,12 @@ ghost use Rattle.std.specs.Prelude.{◌≡◌, ◌≢◌, ◌≤◌, ◌++◌, I
 ghost use Rattle.q_model.specs.declared.event.Event.TheVariants.{Poll};
 ghost use Rattle.q_model.specs.declared.fate.Fate.TheVariants.{Kept};
 ghost use Rattle.q_packet.specs.Stored.{IsStored, descriptor};
-ghost use Rattle.q_device.specs.Bursts.{IsArrivals, IsArriving, IsNotNext, IsPolling, IsPolls, arrival, fate_in, given_as};
+ghost use Rattle.q_device.specs.device.Bursts.{IsArrivals, IsArriving, IsNotNext, IsPolling, IsPolls, arrival, fate_in, given_as};
+ghost use Rattle.q_device.specs.device.DeviceSeen.{DeviceSeen};
+ghost use Rattle.q_device.specs.device.Polls.{after_poll, given_at};
+ghost use Rattle.q_device.specs.device.Room.{KeepsPlaces};
 ghost use Rattle.q_device.specs.DeviceLaws.{HasItsMemory};
-ghost use Rattle.q_device.specs.DeviceSeen.{DeviceSeen};
 ghost use Rattle.q_device.specs.Events.{after_event, reply_to, with_memory};
-ghost use Rattle.q_device.specs.Polls.{after_poll, given_at};
-ghost use Rattle.q_device.specs.Room.{KeepsPlaces};
 ghost use Rattle.q_device.specs.declared.given.Given.TheVariants as given;
 
 use crate::answer::Answer;

@@ -11,24 +11,24 @@ ghost use Rattle.q_model.specs.declared.reply.Reply.TheVariants as reply;
 ghost use Rattle.q_packet.specs.Descriptor.{Descriptor};
 ghost use Rattle.q_packet.specs.Stored.{IsStored, descriptor, stored_of};
 ghost use Rattle.std.specs.Option.{option_map_or};
-ghost use Rattle.q_tree.specs.Commanding.{MayTakeMemory};
-ghost use Rattle.q_tree.specs.MostPackets.{most_packets};
-ghost use Rattle.q_tree.specs.ReadyAt.{is_sure, ready_at};
+ghost use Rattle.q_tree.specs.answers.MostPackets.{most_packets};
+ghost use Rattle.q_tree.specs.answers.ReadyAt.{is_sure, ready_at};
+ghost use Rattle.q_tree.specs.answers.Ways.{IsShare};
+ghost use Rattle.q_tree.specs.commands.Commanding.{MayTakeMemory};
 ghost use Rattle.q_tree.specs.TreeSeen.{tree_numbers};
-ghost use Rattle.q_tree.specs.Ways.{IsShare};
 ghost use Rattle.q_device.specs.Counters.{HasNotFallen};
+ghost use Rattle.q_device.specs.device.DeviceSeen.{IsRefusal, as_counted, longest, most_events, opened, polled_memory, reaped, with_event, HasNoFewerPlaces, HasRoomFor, IsCommanded, IsRefusedAt};
+ghost use Rattle.q_device.specs.device.Giving.{given_of, polled_in};
 ghost use Rattle.q_device.specs.DeviceLaws.{HasItsMemory, IsReplayed};
-ghost use Rattle.q_device.specs.DeviceSeen.{IsRefusal, as_counted, longest, most_events, opened, polled_memory, reaped, with_event, HasNoFewerPlaces, HasRoomFor, IsCommanded, IsRefusedAt};
-ghost use Rattle.q_device.specs.Giving.{given_of, polled_in};
 ghost use Rattle.q_device.specs.Laws.{given_in};
-ghost use Rattle.q_device.specs.Promise.{promise_of, promise_seen};
+ghost use Rattle.q_device.specs.promises.Promise.{promise_of, promise_seen};
 
 mod bursts;
 mod latest;
 
 use crate::given::Given;
-use crate::recording::{has_room, record_arrival, record_command, record_poll};
-use crate::service::{Service, promised};
+use crate::log::recording::{has_room, record_arrival, record_command, record_poll};
+use crate::promises::service::{Service, promised};
 use q_codel::{Loss as Lost, Losses};
 use q_model::{Command, Event, Fate, Place, Polled, Refusal, Row, Settings, stored_ranges};
 use q_packet::{KeptPacket, Moment, StoredPacket};
@@ -58,14 +58,14 @@ pub struct Device {
 }
 
 impl Model for Device {
-    ghost use Rattle.q_device.specs.DeviceSeen.{DeviceSeen};
-    ghost use Rattle.q_device.specs.DeviceCode.{device_code};
+    ghost use Rattle.q_device.specs.device.DeviceCode.{device_code};
+    ghost use Rattle.q_device.specs.device.DeviceSeen.{DeviceSeen};
 
     ghost Value = { DeviceSeen };
 
     ghost coded = { device_code };
 
-    ghost use Rattle.q_device.specs.Keeping.{device_seen, IsKeptDevice};
+    ghost use Rattle.q_device.specs.device.Keeping.{device_seen, IsKeptDevice};
 
     ghost view = { device_seen };
 

@@ -7,8 +7,8 @@ ghost use Rattle.q_model.specs.declared.event.Event.TheVariants as event;
 ghost use Rattle.q_model.specs.declared.reply.Reply.TheVariants as reply;
 ghost use Rattle.q_packet.specs.Descriptor.{Descriptor};
 ghost use Rattle.q_device.specs.Counters.{HasNotFallen};
-ghost use Rattle.q_device.specs.DeviceSeen.{HasNoFewerPlaces, HasRoomFor, as_counted, polled_memory, with_event};
-ghost use Rattle.q_device.specs.Giving.{polled_in};
+ghost use Rattle.q_device.specs.device.DeviceSeen.{HasNoFewerPlaces, HasRoomFor, as_counted, polled_memory, with_event};
+ghost use Rattle.q_device.specs.device.Giving.{polled_in};
 
 use crate::device::Device;
 use crate::given::Given;

@@ -9,11 +9,11 @@ use Rattle.q_model.specs.Beneath.{beneath}
 use Rattle.q_model.specs.Step.{counts_at, step}
 use Rattle.q_model.specs.Tally.{Counts, Note, Sent, counted, noted, totals}
 use Rattle.q_model.specs.TreeState.{asked, given}
+use Rattle.q_device.specs.device.DeviceSeen.{DeviceSeen, Memory, polled_memory, with_event}
 use Rattle.q_device.specs.DeviceLaws.{TellsItsLosses}
-use Rattle.q_device.specs.DeviceSeen.{DeviceSeen, Memory, polled_memory, with_event}
 use Rattle.q_device.specs.Waiting.{ReadyPassesEmptyPolls, ready}
 use Rattle.q_device.proofs.CountLemmas.{noted-rises}
-use Rattle.q_tree.specs.ReadyAt.{is_before}
+use Rattle.q_tree.specs.answers.ReadyAt.{is_before}
 use Rattle.q_drive.specs.Drained.{IsPolledWhenReady, polled, polls_left}
 
 -- what a poll leaves, with its memory

@@ -3,9 +3,9 @@ use Rattle.std.specs.Prelude.{◌≡◌, ℕ, ◌+◌, ◌-◌, ◌*◌, ◌^◌
 use Rattle.q_model.specs.declared.event.Event.TheVariants as event
 use Rattle.q_model.specs.Beneath.{beneath}
 use Rattle.q_model.specs.Step.{counts_at}
-use Rattle.q_device.specs.DeviceSeen.{DeviceSeen, polled_memory, with_event}
+use Rattle.q_device.specs.device.DeviceSeen.{DeviceSeen, polled_memory, with_event}
 use Rattle.q_device.specs.Waiting.{ready}
-use Rattle.q_tree.specs.ReadyAt.{is_before}
+use Rattle.q_tree.specs.answers.ReadyAt.{is_before}
 use Rattle.q_drive.specs.declared.draining.Drained.{Drained}
 
 -- the device after a poll at this time

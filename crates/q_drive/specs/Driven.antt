@@ -1,8 +1,8 @@
 -- What the senders come to.
 use Rattle.std.specs.Prelude.{◌≡◌, ℕ, ◌+◌, ◌*◌, ◌^◌, List, [], All, map, replicate}
 use Rattle.q_packet.specs.Descriptor.{Descriptor}
+use Rattle.q_device.specs.device.DeviceSeen.{DeviceSeen}
 use Rattle.q_device.specs.DeviceLaws.{IsLawfulDevice, IsReplayed, IsReplayOfRecorded}
-use Rattle.q_device.specs.DeviceSeen.{DeviceSeen}
 use Rattle.q_model.specs.declared.totals.Totals.{Totals}
 use Rattle.q_ports.specs.Driven as senders
 use Rattle.q_ports.specs.Placed.{PortSeen, placed_by, HasRing}

@@ -10,7 +10,7 @@ use Rattle.q_model.specs.Find.{Address, addresses, depth, count_nodes}
 use Rattle.q_model.specs.Lawful.{IsLawfulOwn}
 use Rattle.q_model.specs.Refusals.{most_levels, most_nodes}
 use Rattle.q_model.specs.TreeState.{TreeState}
-use Rattle.q_invariants.proofs.Weights.{weigh, arrived, sent, lost, dropped, marked}
+use Rattle.q_invariants.proofs.sums.Weights.{weigh, arrived, sent, lost, dropped, marked}
 
 -- a node that has noted this, and with these packets waiting and these held
 pub record AreCounted (notes : List Note) (waiting held : List Descriptor) : Type 0 where

@@ -13,10 +13,10 @@ use Rattle.q_model.specs.Settings.{DeviceSettings, IsInRange}
 use Rattle.q_model.specs.Step.{DeviceState, answered, step}
 use Rattle.q_model.specs.Tally.{Note, history}
 use Rattle.q_model.specs.TreeState.{plan}
+use Rattle.q_invariants.proofs.ask.Asks.{take-kept}
+use Rattle.q_invariants.proofs.edit.Edits.{edit-keeps, new-kept}
 use Rattle.q_invariants.proofs.Kept.{IsKeptTree}
-use Rattle.q_invariants.proofs.Asks.{take-kept}
-use Rattle.q_invariants.proofs.Puts.{put-kept}
-use Rattle.q_invariants.proofs.Edits.{edit-keeps, new-kept}
+use Rattle.q_invariants.proofs.put.Puts.{put-kept}
 
 abbrev pub IsKept : DeviceState (List Note) → Type 0
 IsKept d = IsKeptTree d.clock d.tree

@@ -15,8 +15,8 @@ use Rattle.q_model.specs.Shrink.{shrunk}
 use Rattle.q_model.specs.Sound.{IsSound}
 use Rattle.q_model.proofs.ShrinkLemmas.{each-each_memory}
 use Rattle.q_invariants.proofs.Kept.{AllCounted, AllLawful, IsKeptTree}
-use Rattle.q_invariants.proofs.Shuffled.{is-conserved}
-use Rattle.q_invariants.proofs.Counted.{is-balanced, are-bounded}
+use Rattle.q_invariants.proofs.sums.Counted.{is-balanced, are-bounded}
+use Rattle.q_invariants.proofs.sums.Shuffled.{is-conserved}
 
 -- what holds of each node, as a list
 conserved-nodes : (x : Forest (List Note)) → AllCounted x → All (λ (n : Node (List Note)). node.IsConserved n.memory (beneath n)) (nodes_of x)

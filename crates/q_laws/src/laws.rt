@@ -1,24 +1,24 @@
 //! What is true of service, of work and of order over every replay of a device. Each law is the contract of a function that does nothing.
-ghost use Rattle.q_laws.specs.Calm.{CalmClassesGetTheirParts, CalmClassesWaitAtMost, CalmTurnsAreBounded, ClassesAreCalm};
-ghost use Rattle.q_laws.specs.Delay.{BytesArePaidInTime};
-ghost use Rattle.q_laws.specs.Delivered.{LatenessIsTheGreatest, ServiceIsDelivered, ShareIsDelivered, SlackIsTheLaws};
-ghost use Rattle.q_laws.specs.FifoTurn.{FifosWaitAtMost};
-ghost use Rattle.q_laws.specs.Handed.{ClassesHandInTime, ClassesLeaveInTime, PollsLeaveHolding};
-ghost use Rattle.q_laws.specs.InTime.{ClassesShareInTime, SharesMultiply};
-ghost use Rattle.q_laws.specs.Latest.{LatestIsEnough, LatestIsInTime, LatestIsToldBefore, LatestRisesNoFaster, LatestStandsAsItFills};
-ghost use Rattle.q_laws.specs.Line.{LimitsAreDelays, LinesLeaveFirst, LinesLeaveInTime};
-ghost use Rattle.q_laws.specs.MostOfTurn.{ClassesWaitAtMost, TurnsAreBounded};
-ghost use Rattle.q_laws.specs.NestedTurn.{NestedTurnIsEnough, NestedTurnIsInTime, NestedTurnsAreBounded};
-ghost use Rattle.q_laws.specs.NewFlow.{NewFlowsGoBefore};
-ghost use Rattle.q_laws.specs.Order.{FlowsKeepOrder};
-ghost use Rattle.q_laws.specs.Rate.{NeverLateIsDrained, RateIsDelivered, RateIsSpent};
-ghost use Rattle.q_laws.specs.Rest.{JoiningFlowsAreSpared};
-ghost use Rattle.q_laws.specs.Service.{ClassAgainstAny, ClassesGetTheirParts, FlowAgainstAny, NoFlowStarves, NewFlowFirst};
-ghost use Rattle.q_laws.specs.Turn.{ClassesWaitTheirTurn};
-ghost use Rattle.q_laws.specs.TurnLatest.{LatestTurnIsAnswered, LatestTurnIsEnough, LatestTurnIsInTime, LatestTurnStandsAsItFills};
-ghost use Rattle.q_laws.specs.TurnWorst.{TurnIsAnswered, TurnIsEnough, TurnIsInTime, TurnsKeepLimits};
-ghost use Rattle.q_laws.specs.Work.{BandsAreStrict, WorkIsConserved};
-ghost use Rattle.q_laws.specs.Worst.{LinesKeepLimits, WorstIsEnough, WorstIsInTime};
+ghost use Rattle.q_laws.specs.line.Latest.{LatestIsEnough, LatestIsInTime, LatestIsToldBefore, LatestRisesNoFaster, LatestStandsAsItFills};
+ghost use Rattle.q_laws.specs.line.Line.{LimitsAreDelays, LinesLeaveFirst, LinesLeaveInTime};
+ghost use Rattle.q_laws.specs.line.Worst.{LinesKeepLimits, WorstIsEnough, WorstIsInTime};
+ghost use Rattle.q_laws.specs.nested.NestedTurn.{NestedTurnIsEnough, NestedTurnIsInTime, NestedTurnsAreBounded};
+ghost use Rattle.q_laws.specs.new_flow.NewFlow.{NewFlowsGoBefore};
+ghost use Rattle.q_laws.specs.new_flow.Rest.{JoiningFlowsAreSpared};
+ghost use Rattle.q_laws.specs.order.Order.{FlowsKeepOrder};
+ghost use Rattle.q_laws.specs.rate.Delay.{BytesArePaidInTime};
+ghost use Rattle.q_laws.specs.rate.Rate.{NeverLateIsDrained, RateIsDelivered, RateIsSpent};
+ghost use Rattle.q_laws.specs.share.Calm.{CalmClassesGetTheirParts, CalmClassesWaitAtMost, CalmTurnsAreBounded, ClassesAreCalm};
+ghost use Rattle.q_laws.specs.share.Delivered.{LatenessIsTheGreatest, ServiceIsDelivered, ShareIsDelivered, SlackIsTheLaws};
+ghost use Rattle.q_laws.specs.share.Handed.{ClassesHandInTime, ClassesLeaveInTime, PollsLeaveHolding};
+ghost use Rattle.q_laws.specs.share.InTime.{ClassesShareInTime, SharesMultiply};
+ghost use Rattle.q_laws.specs.share.Service.{ClassAgainstAny, ClassesGetTheirParts, FlowAgainstAny, NoFlowStarves, NewFlowFirst};
+ghost use Rattle.q_laws.specs.turn.FifoTurn.{FifosWaitAtMost};
+ghost use Rattle.q_laws.specs.turn.MostOfTurn.{ClassesWaitAtMost, TurnsAreBounded};
+ghost use Rattle.q_laws.specs.turn.Turn.{ClassesWaitTheirTurn};
+ghost use Rattle.q_laws.specs.turn.TurnLatest.{LatestTurnIsAnswered, LatestTurnIsEnough, LatestTurnIsInTime, LatestTurnStandsAsItFills};
+ghost use Rattle.q_laws.specs.turn.TurnWorst.{TurnIsAnswered, TurnIsEnough, TurnIsInTime, TurnsKeepLimits};
+ghost use Rattle.q_laws.specs.work.Work.{BandsAreStrict, WorkIsConserved};
 
 use q_model::Settings;
 

@@ -6,12 +6,12 @@ use Rattle.std.proofs.lemmas.List.Sums.{fold_push, fold-append}
 use Rattle.std.specs.List.{fold}
 use Rattle.q_packet.specs.Descriptor.{Descriptor}
 use Rattle.q_model.specs.declared.event.Event.TheVariants.{Arrive}
-use Rattle.q_device.specs.DeviceSeen.{DeviceSeen, Memory}
+use Rattle.q_device.specs.device.DeviceSeen.{DeviceSeen, Memory}
 use Rattle.q_device.specs.Events.{with_memory}
 use Rattle.q_device.proofs.EventMemory.{after-memory}
 use Rattle.q_ports.specs.Collected.{Received, received_one, arrived_one, Collects}
 use Rattle.q_ports.specs.Rings.{RingSeen, received_from}
-use Rattle.q_device.specs.Room.{KeepsPlaces, StaysButForPlaces}
+use Rattle.q_device.specs.device.Room.{KeepsPlaces, StaysButForPlaces}
 use Rattle.q_ports.specs.Stopped.{HasNoRoomForNext, Stops}
 use Rattle.q_device.proofs.RoomLemmas.{keeps-same, keeps-then}
 

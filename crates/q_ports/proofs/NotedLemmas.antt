@@ -3,8 +3,8 @@ use Rattle.std.proofs.Common.{◌≡◌, ◌∙◌, ℕ, List, [], ◌∷◌, �
 use Rattle.std.proofs.Math.Seq.{drop-append_seam}
 use Rattle.std.proofs.lemmas.List.{append_assoc, drop_all, map-append}
 use Rattle.q_packet.specs.Descriptor.{Descriptor}
-use Rattle.q_device.specs.DeviceSeen.{DeviceSeen, as_counted}
-use Rattle.q_device.specs.LastNoted.{LastNoted, all_noted, with_noted}
+use Rattle.q_device.specs.device.DeviceSeen.{DeviceSeen, as_counted}
+use Rattle.q_device.specs.log.LastNoted.{LastNoted, all_noted, with_noted}
 use Rattle.q_model.specs.Step.{DeviceState, counts_at}
 use Rattle.q_model.specs.Tally.{Counts}
 use Rattle.q_model.specs.declared.event.Event.{Event}

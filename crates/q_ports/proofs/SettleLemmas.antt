@@ -6,7 +6,7 @@ use Rattle.std.specs.Prelude.{sum_by}
 use Rattle.q_packet.specs.Descriptor.{Descriptor}
 use Rattle.q_model.specs.declared.row.Row.{Row}
 use Rattle.q_model.specs.declared.totals.Totals.{Totals}
-use Rattle.q_device.specs.DeviceSeen.{DeviceSeen}
+use Rattle.q_device.specs.device.DeviceSeen.{DeviceSeen}
 use Rattle.q_device.specs.Events.{device_row}
 use Rattle.q_device.proofs.EventMemory.{row-arrived}
 use Rattle.q_ports.specs.Held.{Held, held, whole}

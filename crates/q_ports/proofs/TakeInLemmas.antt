@@ -7,11 +7,11 @@ use Rattle.std.specs.List.{fold}
 use Rattle.q_packet.specs.Descriptor.{Descriptor}
 use Rattle.q_model.specs.declared.event.Event.TheVariants.{Arrive}
 use Rattle.q_model.specs.declared.totals.Totals.{Totals}
-use Rattle.q_device.specs.DeviceSeen.{DeviceSeen}
+use Rattle.q_device.specs.device.DeviceSeen.{DeviceSeen}
 use Rattle.q_device.specs.Events.{with_memory}
 use Rattle.q_device.proofs.EventMemory.{after-memory}
 use Rattle.q_ports.specs.Rings.{RingSeen, with_known}
-use Rattle.q_device.specs.Room.{StaysButForPlaces}
+use Rattle.q_device.specs.device.Room.{StaysButForPlaces}
 use Rattle.q_ports.specs.TakenIn.{arrived_at, arriving, TakesFirst, TakesIn}
 use Rattle.q_ports.proofs.Prefixes.{prefix_self, prefix_trans}
 use Rattle.q_device.proofs.RoomLemmas.{keeps-same, keeps-then}

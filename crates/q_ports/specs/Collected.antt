@@ -4,9 +4,9 @@ use Rattle.std.specs.Prelude.{◌≡◌, ℕ, ◌<◌, List, [], ◌∷◌, ◌+
 use Rattle.std.specs.List.{fold}
 use Rattle.q_packet.specs.Descriptor.{Descriptor}
 use Rattle.q_model.specs.declared.event.Event.TheVariants.{Arrive}
-use Rattle.q_device.specs.DeviceSeen.{DeviceSeen}
+use Rattle.q_device.specs.device.DeviceSeen.{DeviceSeen}
+use Rattle.q_device.specs.device.Room.{KeepsPlaces}
 use Rattle.q_device.specs.Events.{after_event, with_memory}
-use Rattle.q_device.specs.Room.{KeepsPlaces}
 
 -- a packet that was taken, and the ring that it came from
 pub record Received : Type 0 where

@@ -2,8 +2,8 @@
 -- Nothing here is of a standard.
 use Rattle.std.specs.Prelude.{◌≡◌, ℕ, List, ◌∷◌, drop, length, map}
 use Rattle.q_packet.specs.Descriptor.{Descriptor}
-use Rattle.q_device.specs.DeviceSeen.{DeviceSeen, as_counted}
-use Rattle.q_device.specs.LastNoted.{LastNoted, with_noted}
+use Rattle.q_device.specs.device.DeviceSeen.{DeviceSeen, as_counted}
+use Rattle.q_device.specs.log.LastNoted.{LastNoted, with_noted}
 use Rattle.q_model.specs.declared.event.Event.{Event}
 use Rattle.q_model.specs.declared.event.Event.TheVariants.{Arrive}
 use Rattle.q_ports.specs.Rings.{RingSeen}

@@ -2,7 +2,7 @@
 -- Nothing here is of a standard.
 use Rattle.std.specs.Prelude.{◌≡◌, ℕ, ◌<◌, List, [], length, get_or, map, replicate, All}
 use Rattle.q_model.specs.Settings.{DeviceSettings}
-use Rattle.q_device.specs.DeviceSeen.{DeviceSeen, opened}
+use Rattle.q_device.specs.device.DeviceSeen.{DeviceSeen, opened}
 use Rattle.q_ports.specs.declared.port_counts.PortCounts.{PortCounts}
 use Rattle.q_ports.specs.Placed.{HasRing, PortSeen, placed_by, ring_of_port}
 use Rattle.q_ports.specs.Rings.{received_from, ring_id}

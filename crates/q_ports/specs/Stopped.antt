@@ -2,11 +2,11 @@
 -- Nothing here is of a standard.
 use Rattle.std.specs.Prelude.{◌≡◌, ℕ, ◌<◌, List, ◌∷◌, drop, get_or, length, map}
 use Rattle.q_packet.specs.Descriptor.{Descriptor}
+use Rattle.q_device.specs.device.DeviceSeen.{DeviceSeen, HasRoomFor}
 use Rattle.q_device.specs.DeviceLaws.{HasItsMemory}
-use Rattle.q_device.specs.DeviceSeen.{DeviceSeen, HasRoomFor}
 use Rattle.q_ports.specs.Collected.{Collects}
 use Rattle.q_ports.specs.Rings.{RingSeen, received_from}
-use Rattle.q_device.specs.Room.{StaysButForPlaces}
+use Rattle.q_device.specs.device.Room.{StaysButForPlaces}
 
 -- a packet waits first in some ring, and the device, whose memory is that of its own tree, has no room for it
 pub record HasNoRoomForNext (device : DeviceSeen) (rings : List RingSeen) : Type 0 where

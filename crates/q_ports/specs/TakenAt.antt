@@ -2,12 +2,12 @@
 -- Nothing here is of a standard.
 use Rattle.std.specs.Prelude.{◌≡◌, ℕ, ◌<◌, List, length, map, Option, Result, IfNone, IfOk, IfSome, OnErr}
 use Rattle.q_packet.specs.Descriptor.{Descriptor}
-use Rattle.q_device.specs.DeviceSeen.{DeviceSeen}
+use Rattle.q_device.specs.device.DeviceSeen.{DeviceSeen}
 use Rattle.q_device.specs.Events.{with_memory}
 use Rattle.q_ports.specs.Collected.{arrived_one, received_one, take}
 use Rattle.q_ports.specs.Rings.{Receives, RingSeen, received_from, ring_id}
 use Rattle.q_ports.specs.Stopped.{HasNoRoomForNext}
-use Rattle.q_device.specs.Room.{KeepsPlaces, StaysButForPlaces}
+use Rattle.q_device.specs.device.Room.{KeepsPlaces, StaysButForPlaces}
 
 -- the first packet that was known to wait in one ring arrived, and was received
 pub record TakesKnown (at now : ℕ) (before after : List RingSeen) (device device' : DeviceSeen) : Type 0 where

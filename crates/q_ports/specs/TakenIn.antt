@@ -7,12 +7,12 @@ use Rattle.q_packet.specs.Descriptor.{Descriptor}
 use Rattle.q_model.specs.Tally.{with_packet}
 use Rattle.q_model.specs.declared.event.Event.TheVariants.{Arrive}
 use Rattle.q_model.specs.declared.totals.Totals.{Totals}
+use Rattle.q_device.specs.device.DeviceSeen.{DeviceSeen, HasRoomFor}
 use Rattle.q_device.specs.DeviceLaws.{HasItsMemory}
-use Rattle.q_device.specs.DeviceSeen.{DeviceSeen, HasRoomFor}
 use Rattle.q_device.specs.Events.{after_event, with_memory}
 use Rattle.q_ports.specs.Placed.{bytes_in}
 use Rattle.q_ports.specs.Rings.{RingSeen, popped}
-use Rattle.q_device.specs.Room.{KeepsPlaces, StaysButForPlaces}
+use Rattle.q_device.specs.device.Room.{KeepsPlaces, StaysButForPlaces}
 
 -- the packet arrived at the device
 abbrev pub arriving : ℕ → DeviceSeen → Descriptor → DeviceSeen

@@ -2,11 +2,11 @@
 -- Nothing here is of a standard.
 use Rattle.std.specs.Prelude.{◌≡◌, ℕ, ◌<◌, ◌≤◌, Bool, true, false, List, map, IfSome, IfNone}
 use Rattle.q_packet.specs.Descriptor.{Descriptor}
-use Rattle.q_device.specs.DeviceSeen.{DeviceSeen}
+use Rattle.q_device.specs.device.DeviceSeen.{DeviceSeen}
 use Rattle.q_model.specs.Conserved.{IsBalanced}
 use Rattle.q_model.specs.declared.row.Row.{Row}
+use Rattle.q_device.specs.device.Polls.{given_by, polled_by}
 use Rattle.q_device.specs.Events.{device_row}
-use Rattle.q_device.specs.Polls.{given_by, polled_by}
 use Rattle.q_ports.specs.Collected.{Collects}
 use Rattle.q_ports.specs.Rings.{received_from, AreSeenEmpty, RingSeen}
 use Rattle.q_ports.specs.Rows.{BoardSeen, RowHistorySeen, Publishes, Withholds}

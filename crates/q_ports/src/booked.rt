@@ -7,10 +7,10 @@ ghost use Rattle.q_model.specs.Tally.{totals, with_packet};
 ghost use Rattle.q_model.specs.declared.event.Event.TheVariants as event;
 ghost use Rattle.q_model.specs.declared.reply.Reply.TheVariants as reply;
 ghost use Rattle.q_device.specs.Counters.{HasNotFallen};
-ghost use Rattle.q_device.specs.DeviceSeen.{as_counted, polled_memory, reaped, HasNoFewerPlaces, HasRoomFor, IsCommanded, IsRefusal, IsRefusedAt};
-ghost use Rattle.q_device.specs.Giving.{polled_in};
-ghost use Rattle.q_tree.specs.Commanding.{MayTakeMemory};
-ghost use Rattle.q_tree.specs.ReadyAt.{is_sure, ready_at};
+ghost use Rattle.q_device.specs.device.DeviceSeen.{as_counted, polled_memory, reaped, HasNoFewerPlaces, HasRoomFor, IsCommanded, IsRefusal, IsRefusedAt};
+ghost use Rattle.q_device.specs.device.Giving.{polled_in};
+ghost use Rattle.q_tree.specs.answers.ReadyAt.{is_sure, ready_at};
+ghost use Rattle.q_tree.specs.commands.Commanding.{MayTakeMemory};
 ghost use Rattle.q_device.specs.Events.{after_event, device_row, reply_to, with_memory};
 ghost use Rattle.q_ports.specs.Held.{booking, held};
 
@@ -35,8 +35,8 @@ pub struct Booked<P: Ledger, B: Ledger> {
 
 impl<P: Ledger, B: Ledger> Model for Booked<P, B> {
     ghost use Rattle.std.specs.Prelude.{◌≡◌};
-    ghost use Rattle.q_device.specs.DeviceSeen.{DeviceSeen};
-    ghost use Rattle.q_device.specs.DeviceCode.{device_code};
+    ghost use Rattle.q_device.specs.device.DeviceCode.{device_code};
+    ghost use Rattle.q_device.specs.device.DeviceSeen.{DeviceSeen};
 
     ghost Value = { DeviceSeen };
 

@@ -3,7 +3,7 @@ ghost use Rattle.q_ports.specs.Collected.{Collects, CollectsOnly, CollectsSome};
 ghost use Rattle.q_ports.specs.Held.{held};
 ghost use Rattle.q_ports.specs.Placed.{placed_by, ring_of_port, share_of};
 ghost use Rattle.q_ports.specs.Rings.{all_of, ring_id, received_from, ring_seen, AreEmptyWithin, AreSameFrom, AreSeenEmpty, Looks, LooksBeside, RingSeen};
-ghost use Rattle.q_device.specs.Room.{StaysButForPlaces};
+ghost use Rattle.q_device.specs.device.Room.{StaysButForPlaces};
 ghost use Rattle.q_ports.specs.Stopped.{HasNoRoomForNext, Stops, StopsSome};
 ghost use Rattle.q_ports.specs.TakenAt.{HasTried, TakesAt, TakesKnown};
 

@@ -4,7 +4,7 @@ ghost use Rattle.q_model.specs.Beneath.{totals_in};
 ghost use Rattle.q_model.specs.Step.{counts_at};
 ghost use Rattle.q_ports.specs.Placed.{placed_by, ring_of_port};
 ghost use Rattle.q_ports.specs.Rings.{ring_seen, with_known};
-ghost use Rattle.q_device.specs.Room.{StaysButForPlaces};
+ghost use Rattle.q_device.specs.device.Room.{StaysButForPlaces};
 ghost use Rattle.q_ports.specs.TakenIn.{HasNoRoomForFirst, StopsAtFirst, TakesFirst, TakesIn};
 ghost use Rattle.rtrb.specs.Ring.{received};
 

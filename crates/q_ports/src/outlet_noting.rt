@@ -1,9 +1,9 @@
 //! Packets that are taken in from a ring are noted among the last events.
 ghost use Rattle.std.specs.Prelude.{◌≡◌, ◌≤◌, ◌<◌, [], true, false, length, OnOk, OnErr};
-ghost use Rattle.q_device.specs.LastNoted.{all_noted};
+ghost use Rattle.q_device.specs.log.LastNoted.{all_noted};
 ghost use Rattle.q_model.specs.Step.{counts_at};
 ghost use Rattle.q_ports.specs.NotedIn.{arrivals_between, NotesFirst};
-ghost use Rattle.q_device.specs.Room.{StaysButForPlaces};
+ghost use Rattle.q_device.specs.device.Room.{StaysButForPlaces};
 ghost use Rattle.q_ports.specs.TakenIn.{HasNoRoomForFirst, StopsAtFirst, TakesFirst, TakesIn};
 
 use crate::outlet::Outlet;

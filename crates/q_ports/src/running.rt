@@ -1,5 +1,5 @@
 ghost use Rattle.std.specs.Prelude.{◌≡◌, IfOk};
-ghost use Rattle.q_device.specs.DeviceSeen.{opened};
+ghost use Rattle.q_device.specs.device.DeviceSeen.{opened};
 
 use crate::booked::Booked;
 use crate::open::open_ports;

@@ -1,8 +1,8 @@
 //! A turn of the drain: packets arrive at the device, then it is polled, and its row is published.
 ghost use Rattle.std.specs.Prelude.{◌≡◌, ◌≤◌, [], length, map, vec_capacity, IfOk, IfSome, IfNone, OnOk, OnErr};
 ghost use Rattle.q_model.specs.Conserved.{IsBalanced};
+ghost use Rattle.q_device.specs.device.Polls.{given_by, polled_by};
 ghost use Rattle.q_device.specs.Events.{device_row};
-ghost use Rattle.q_device.specs.Polls.{given_by, polled_by};
 ghost use Rattle.q_ports.specs.Rings.{ring_id};
 ghost use Rattle.q_ports.specs.Rows.{shown_on, Publishes, Withholds};
 ghost use Rattle.q_ports.specs.Turned.{Turned};

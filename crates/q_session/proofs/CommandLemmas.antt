@@ -10,7 +10,7 @@ use Rattle.q_model.specs.Node.{shape}
 use Rattle.q_model.specs.Step.{answered, counts_at, step}
 use Rattle.q_model.specs.Tally.{Counts, totals}
 use Rattle.q_model.specs.TreeState.{plan}
-use Rattle.q_device.specs.DeviceSeen.{IsRefusal}
+use Rattle.q_device.specs.device.DeviceSeen.{IsRefusal}
 use Rattle.q_script_semantics.specs.Report.{SessionState, commanded, planned, refusing}
 use Rattle.q_script_semantics.specs.Text.{refused_line}
 

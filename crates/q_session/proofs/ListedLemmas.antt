@@ -9,7 +9,7 @@ use Rattle.q_model.specs.Lawful.{IsLawfulNode}
 use Rattle.q_model.specs.Node.{Node}
 use Rattle.q_model.specs.Tally.{Counts, totals}
 use Rattle.q_model.specs.Views.{class_views, filter_views}
-use Rattle.q_invariants.proofs.Members.{All-at}
+use Rattle.q_invariants.proofs.tree.Members.{All-at}
 use Rattle.q_tree.specs.Kept.{Kept}
 use Rattle.q_tree.specs.TreeSeen.{tree_numbers}
 use Rattle.q_session.specs.Shown.{IsOfLawful, counted}

@@ -18,8 +18,8 @@ use Rattle.q_model.specs.declared.class_view.ClassView.{ClassView}
 use Rattle.q_model.specs.declared.filter.Filter.{Filter}
 use Rattle.q_model.specs.declared.filter_view.FilterView.{FilterView}
 use Rattle.q_model.specs.Views.{class_ids, class_kind, class_views, filter_views, minors}
-use Rattle.q_invariants.proofs.EditSizes.{sum-cons}
-use Rattle.q_invariants.proofs.Forests.{each-nodes}
+use Rattle.q_invariants.proofs.sizes.EditSizes.{sum-cons}
+use Rattle.q_invariants.proofs.tree.Forests.{each-nodes}
 
 -- every node of a tree is counted
 counted : {M : Type 0} (x : Forest M) → length (nodes_of x) ≡ sum (each (λ own below. suc (sum below)) x)

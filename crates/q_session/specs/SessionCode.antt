@@ -4,7 +4,7 @@ use Rattle.std.specs.Prelude.{ℕ, List, refl}
 use Rattle.std.specs.Coded.{Coded, code_by, coded×, coded_ℕ, coded_list}
 use Rattle.q_codel.specs.declared.loss.Loss.{Loss}
 use Rattle.q_codel.specs.contracts.loss.Loss as loss
-use Rattle.q_device.specs.DeviceCode.{totals_code}
+use Rattle.q_device.specs.device.DeviceCode.{totals_code}
 use Rattle.q_model.specs.contracts.settings.Settings as settings
 use Rattle.q_model.specs.Settings.{DeviceSettings}
 use Rattle.q_model.specs.Step.{DeviceState}

@@ -3,7 +3,7 @@ use Rattle.std.proofs.Common.{◌≡◌, ◌∙◌, ℕ, suc, ◌+◌, ◌<◌, 
 use Rattle.std.proofs.Math.Seq.{take-suc}
 use Rattle.q_model.specs.declared.command.Command.{Command}
 use Rattle.q_model.specs.declared.event.Event.TheVariants as event
-use Rattle.q_device.specs.DeviceSeen.{DeviceSeen, with_event}
+use Rattle.q_device.specs.device.DeviceSeen.{DeviceSeen, with_event}
 use Rattle.q_setup.specs.Done.{AreAccepted, IsAccepted, after_commands}
 
 pub after-snoc : (now : ℕ) (cs : List Command) (c : Command) (d : DeviceSeen) → after_commands now (cs ++ c ∷ []) d ≡ with_event (event.Command c now) (after_commands now cs d)

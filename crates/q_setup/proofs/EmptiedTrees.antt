@@ -17,8 +17,8 @@ use Rattle.q_model.specs.Settings.{DeviceSettings}
 use Rattle.q_model.specs.Step.{DeviceState, Step, answered, done, new_device, step}
 use Rattle.q_model.specs.Tally.{Counts, totals}
 use Rattle.q_model.specs.TreeState.{checked, new_tree, plan}
+use Rattle.q_device.specs.device.DeviceSeen.{DeviceSeen}
 use Rattle.q_device.specs.DeviceLaws.{IsReplayed}
-use Rattle.q_device.specs.DeviceSeen.{DeviceSeen}
 use Rattle.q_setup.specs.Anew.{AllAreDone, add_root, after_all, delete_root, emptying, has_explicit_root}
 use Rattle.q_setup.proofs.SameTrees.{GoOnAlike, done_reply, forgotten, go_on_alike}
 

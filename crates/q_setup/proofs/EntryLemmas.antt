@@ -9,7 +9,7 @@ use Rattle.q_model.specs.Node.{Own, Forest, none, more, Node, nodes_in, each_mem
 use Rattle.q_model.specs.Shrink.{remembering}
 use Rattle.q_model.specs.TreeState.{TreeState}
 use Rattle.q_model.specs.Views.{class_kind, filter_views, ids_of, places_below, qdisc_view}
-use Rattle.q_tree.specs.Showing.{standing_in}
+use Rattle.q_tree.specs.answers.Showing.{standing_in}
 use Rattle.q_setup.specs.Alike.{Entry, entries, entry}
 
 module _ {M N : Type 0} (f : M → N) where

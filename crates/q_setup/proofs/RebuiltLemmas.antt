@@ -13,9 +13,9 @@ use Rattle.q_model.specs.Settings.{DeviceSettings}
 use Rattle.q_model.specs.Step.{DeviceState, answered, step}
 use Rattle.q_model.specs.Tally.{Counts, totals}
 use Rattle.q_model.specs.TreeState.{TreeState, plan}
-use Rattle.q_tree.specs.Commanding.{MayTakeMemory}
+use Rattle.q_tree.specs.commands.Commanding.{MayTakeMemory}
+use Rattle.q_device.specs.device.DeviceSeen.{DeviceSeen, IsRefusal, Memory, with_event}
 use Rattle.q_device.specs.DeviceLaws.{IsReplayed}
-use Rattle.q_device.specs.DeviceSeen.{DeviceSeen, IsRefusal, Memory, with_event}
 use Rattle.q_setup.specs.Alike.{AreAlike, entries}
 use Rattle.q_setup.specs.Anew.{AllAreDone, IsTrial, after_all, emptying, has_explicit_root}
 use Rattle.q_setup.specs.Done.{AreAccepted, GoesOn, IsRefusedAs, IsRefusedBy, after_commands}

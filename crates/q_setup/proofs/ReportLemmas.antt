@@ -3,7 +3,7 @@ use Rattle.std.proofs.Common.{◌≡◌, ◌∙◌, List, [], ◌∷◌, Result,
 use Rattle.std.specs.Prelude.{IfOk, Option, Some, None, ◌==◌, is_none, not, true}
 use Rattle.std.proofs.lemmas.Bool.{eqb-true, false≢true}
 use Rattle.q_model.specs.declared.refusal.Refusal.{Refusal}
-use Rattle.q_device.specs.DeviceSeen.{DeviceSeen}
+use Rattle.q_device.specs.device.DeviceSeen.{DeviceSeen}
 use Rattle.q_setup.specs.declared.report.Report.{Report}
 use Rattle.q_setup.specs.Alike.{AreAlike, entries}
 use Rattle.q_setup.specs.SetUp.{IsSetUp}

@@ -23,7 +23,7 @@ use Rattle.q_model.specs.Numbers.{IsMinor}
 use Rattle.q_model.specs.Tally.{Counts, totals}
 use Rattle.q_model.specs.TreeState.{TreeState}
 use Rattle.q_model.specs.Views.{class_ids, class_kind, minors, places_below}
-use Rattle.q_tree.specs.Showing.{standing_in}
+use Rattle.q_tree.specs.answers.Showing.{standing_in}
 use Rattle.q_setup.specs.Alike.{IsShort, entries, entry}
 
 length-cons_option : {A : Type 0} (x : Option A) (xs : List A) → length (cons_option x xs) ≤ suc (length xs)

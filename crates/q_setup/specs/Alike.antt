@@ -14,7 +14,7 @@ use Rattle.q_model.specs.declared.qdisc_view.QdiscView.{QdiscView}
 use Rattle.q_model.specs.Node.{Node, children}
 use Rattle.q_model.specs.TreeState.{TreeState}
 use Rattle.q_model.specs.Views.{class_views, filter_views, qdisc_view}
-use Rattle.q_tree.specs.Showing.{standing}
+use Rattle.q_tree.specs.answers.Showing.{standing}
 use Rattle.q_setup.specs.Naming.{same_handle, same_place}
 
 -- a node, as show prints it without its counters

@@ -6,8 +6,8 @@ use Rattle.q_model.specs.declared.refusal.Refusal.{Refusal}
 use Rattle.q_model.specs.declared.reply.Reply.TheVariants as reply
 use Rattle.q_model.specs.Step.{step}
 use Rattle.q_model.specs.Tally.{totals}
-use Rattle.q_tree.specs.Commanding.{MayTakeMemory}
-use Rattle.q_device.specs.DeviceSeen.{DeviceSeen, IsRefusal, with_event}
+use Rattle.q_tree.specs.commands.Commanding.{MayTakeMemory}
+use Rattle.q_device.specs.device.DeviceSeen.{DeviceSeen, IsRefusal, with_event}
 
 -- the device after events that are commands: its tree and losses as the model's step leaves them, recorded and counted
 abbrev pub after_commands : ℕ → List Command → DeviceSeen → DeviceSeen

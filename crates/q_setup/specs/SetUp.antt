@@ -1,7 +1,7 @@
 -- What a report says of a device that was set up.
 use Rattle.std.specs.Prelude.{◌≡◌, ℕ, not, List, [], Option, None}
 use Rattle.q_model.specs.declared.refusal.Refusal.{Refusal}
-use Rattle.q_device.specs.DeviceSeen.{DeviceSeen}
+use Rattle.q_device.specs.device.DeviceSeen.{DeviceSeen}
 use Rattle.q_model.specs.Step.{counts_at}
 use Rattle.q_setup.specs.Alike.{AreAlike, entries}
 use Rattle.q_setup.specs.Tried.{Tried, tried}

@@ -3,7 +3,7 @@ ghost use Rattle.std.specs.Prelude.{◌≡◌, ◌≤◌, ◌^◌, true, length,
 ghost use Rattle.std.specs.List.{AllByRecursion, list_any};
 ghost use Rattle.q_model.specs.Views.{class_views, filter_views};
 ghost use Rattle.q_model.specs.declared.place.Place.TheVariants as place;
-ghost use Rattle.q_tree.specs.Showing.{standing};
+ghost use Rattle.q_tree.specs.answers.Showing.{standing};
 ghost use Rattle.q_setup.specs.Naming.{same_handle, same_place};
 ghost use Rattle.q_setup.specs.Alike.{AreAlike, IsAmong, IsLike, IsShort, entries, entry, has_classes, quantum_of, same_share};
 

@@ -3,8 +3,8 @@ ghost use Rattle.std.specs.Prelude.{◌≡◌, ◌≤◌, IfSome, IsSome, None, 
 ghost use Rattle.q_model.specs.Step.{step};
 ghost use Rattle.q_model.specs.Tally.{totals};
 ghost use Rattle.q_model.specs.declared.event.Event.TheVariants as event;
-ghost use Rattle.q_tree.specs.Commanding.{MayTakeMemory};
-ghost use Rattle.q_device.specs.DeviceSeen.{IsRefusal, with_event};
+ghost use Rattle.q_tree.specs.commands.Commanding.{MayTakeMemory};
+ghost use Rattle.q_device.specs.device.DeviceSeen.{IsRefusal, with_event};
 ghost use Rattle.q_setup.specs.Done.{AreAccepted, IsAccepted, IsRefusedAs, after_commands};
 
 use q_device::Device;

@@ -19,7 +19,7 @@ use Rattle.q_model.proofs.handle.Handle.TheSendSync as handle
 use Rattle.q_model.proofs.row.Row.TheSendSync as row
 use Rattle.q_model.proofs.settings.Settings.TheSendSync as settings
 use Rattle.q_tree.proofs.commands.handles.Handles.TheSendSync as handles
-use Rattle.q_tree.proofs.masked_filter.MaskedFilter.TheSendSync as masked_filter
+use Rattle.q_tree.proofs.filters.masked_filter.MaskedFilter.TheSendSync as masked_filter
 use Rattle.q_tree.proofs.node.Node.TheLaws.TheKnot as knot
 use Rattle.q_device.specs.contracts.device.Device as Device
 use Rattle.q_ports.specs.contracts.booked.Booked as Booked

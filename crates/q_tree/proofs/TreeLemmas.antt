@@ -19,26 +19,26 @@ use Rattle.q_model.specs.TreeState.{TreeState, new_tree, peek_packet, take_packe
 use Rattle.q_model.specs.Work.{booked}
 use Rattle.q_model.proofs.ShrinkLemmas.{totals_for_history, shape-with_memory, each-each_memory}
 use Rattle.q_model.proofs.ShrinkSteps.{peek-stands, take-stands, new_tree-stands}
-use Rattle.q_invariants.proofs.Answer.{silent-nil}
-use Rattle.q_invariants.proofs.Asks.{peek-kept, take-kept}
-use Rattle.q_invariants.proofs.EditLater.{root-later}
-use Rattle.q_invariants.proofs.Edits.{new-kept}
-use Rattle.q_invariants.proofs.Forests.{lawful-with_memory}
+use Rattle.q_invariants.proofs.ask.Answer.{silent-nil}
+use Rattle.q_invariants.proofs.ask.Asks.{peek-kept, take-kept}
+use Rattle.q_invariants.proofs.edit.EditLater.{root-later}
+use Rattle.q_invariants.proofs.edit.Edits.{new-kept}
 use Rattle.q_invariants.proofs.Kept.{AllLawful, IsLawfulRoot, IsKeptTree}
 use Rattle.q_invariants.proofs.Sound.{kept-totals}
-use Rattle.q_tree.specs.AskSteps.{CanAsk, CanShow, IsShown, with_shown}
+use Rattle.q_invariants.proofs.tree.Forests.{lawful-with_memory}
+use Rattle.q_tree.specs.departure.AskSteps.{CanAsk, CanShow, IsShown, with_shown}
+use Rattle.q_tree.specs.departure.PopSteps.{with_sent}
+use Rattle.q_tree.specs.departure.Shown.{Shown}
 use Rattle.q_tree.specs.Kept.{Kept, kept}
-use Rattle.q_tree.specs.PopSteps.{with_sent}
 use Rattle.q_tree.specs.Seen.{IsCountedWithin}
 use Rattle.q_tree.specs.TreeSeen.{tree_seen, tree_numbers, IsKeptDevice}
-use Rattle.q_tree.specs.Shown.{Shown}
 use Rattle.q_tree.specs.declared.tree.Tree.TheInside.{Inside}
-use Rattle.q_tree.proofs.AskRows.{counted-shown}
-use Rattle.q_tree.proofs.Asking.{asked-weighs}
-use Rattle.q_tree.proofs.Forms.{noted-kept}
-use Rattle.q_tree.proofs.Peeks.{popped-asked, hand-asked}
-use Rattle.q_tree.proofs.Rows.{counts_in_row}
-use Rattle.q_tree.proofs.RowsOf.{IsRowOf, can-show, row-shown}
+use Rattle.q_tree.proofs.counters.AskRows.{counted-shown}
+use Rattle.q_tree.proofs.counters.Rows.{counts_in_row}
+use Rattle.q_tree.proofs.counters.RowsOf.{IsRowOf, can-show, row-shown}
+use Rattle.q_tree.proofs.departure.Asking.{asked-weighs}
+use Rattle.q_tree.proofs.departure.Forms.{noted-kept}
+use Rattle.q_tree.proofs.departure.Peeks.{popped-asked, hand-asked}
 
 pub stands : StandsFor kept totals (λ (k : Kept). k.counts)
 stands = record { nothing = refl; one_more = λ m n. refl }

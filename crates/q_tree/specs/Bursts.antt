@@ -12,7 +12,7 @@ use Rattle.q_model.specs.Node as spec
 use Rattle.q_model.specs.Step.{DeviceState, arrive, poll}
 use Rattle.q_model.specs.Tally.{Tally}
 use Rattle.q_model.specs.TreeState.{given}
-use Rattle.q_tree.specs.Arrivals.{minus, plus}
+use Rattle.q_tree.specs.arrival.Arrivals.{minus, plus}
 use Rattle.q_tree.specs.Kept as code
 use Rattle.q_tree.specs.Kept.{kept}
 

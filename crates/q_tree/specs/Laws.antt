@@ -12,9 +12,9 @@ use Rattle.q_model.specs.Route.{Route, device_route}
 use Rattle.q_model.specs.Step.{losses_in}
 use Rattle.q_model.specs.Tally.{Counts}
 use Rattle.q_model.specs.TreeState.{TreeState, put, noted_by_put, peek_packet, take_packet, noted_by_take, with_edit}
-use Rattle.q_tree.specs.Arrivals.{plus}
+use Rattle.q_tree.specs.arrival.Arrivals.{plus}
+use Rattle.q_tree.specs.arrival.Places.{places_at}
 use Rattle.q_tree.specs.Kept.{Kept, kept}
-use Rattle.q_tree.specs.Places.{places_at}
 
 -- Where the path to a node leaves the packet's route, a put changes nothing there: neither the node nor what it counted.
 abbrev pub PutLeavesOtherSubtrees : Type 0

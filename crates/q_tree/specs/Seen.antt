@@ -5,7 +5,7 @@ use Rattle.q_model.specs.declared.totals.Totals.{Totals}
 use Rattle.q_model.specs.Beneath.{beneath, totals_in}
 use Rattle.q_model.specs.Conserved.{held_beneath, IsBalanced, AreMarksBounded}
 use Rattle.q_model.specs.Node as spec
-use Rattle.q_tree.specs.Holding.{packet_held, since_held}
+use Rattle.q_tree.specs.departure.Holding.{packet_held, since_held}
 use Rattle.q_tree.specs.Kept.{Kept}
 use Rattle.q_tree.specs.declared.node.Discipline.{Discipline}
 use Rattle.q_tree.specs.declared.node.Discipline.TheVariants.{Fifo, Prio, Tbf, Drr, FqCodel}

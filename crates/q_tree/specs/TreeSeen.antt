@@ -13,9 +13,9 @@ use Rattle.q_model.specs.Step.{DeviceState}
 use Rattle.q_model.specs.Tally.{Note, Counts, with_packet}
 use Rattle.q_model.specs.TreeState.{TreeState}
 use Rattle.q_invariants.proofs.Kept.{IsKeptTree}
-use Rattle.q_tree.specs.Arrivals.{HasPlace}
+use Rattle.q_tree.specs.arrival.Arrivals.{HasPlace}
 use Rattle.q_tree.specs.Kept.{Kept}
-use Rattle.q_tree.specs.RouteSeen.{RouteSeen, route_seen}
+use Rattle.q_tree.specs.route.RouteSeen.{RouteSeen, route_seen}
 use Rattle.q_tree.specs.Seen.{IsCountedWithin}
 use Rattle.q_tree.specs.declared.tree.Tree.TheInside.{Inside}
 

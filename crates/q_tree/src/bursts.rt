@@ -7,14 +7,14 @@ ghost use Rattle.q_codel.specs.Bursts.{HasWidths, IsShort};
 ghost use Rattle.q_model.specs.Beneath.{packets_in, totals_in};
 ghost use Rattle.q_model.specs.Conserved.{IsBalanced};
 ghost use Rattle.q_model.specs.Node as spec;
+ghost use Rattle.q_tree.specs.arrival.KeepSteps.{CanBeKeptBelow};
 ghost use Rattle.q_tree.specs.Bursts.{AreKept, IsGivenOut, arrived_each, room_at, with_arrivals, with_queued, with_sends, with_taken};
-ghost use Rattle.q_tree.specs.GiveSteps.{CanGive, IsNoFifo};
-ghost use Rattle.q_tree.specs.KeepSteps.{CanBeKeptBelow};
+ghost use Rattle.q_tree.specs.departure.GiveSteps.{CanGive, IsNoFifo};
+ghost use Rattle.q_tree.specs.departure.PopSteps.{HasHead};
 ghost use Rattle.q_tree.specs.Kept.{kept};
-ghost use Rattle.q_tree.specs.PopSteps.{HasHead};
 
-use crate::booking::NOTHING;
 use crate::counters::Counters;
+use crate::counters::booking::NOTHING;
 use crate::node::{Discipline, Node};
 use crate::tree::Tree;
 use q_codel::Told;

@@ -3,10 +3,10 @@ ghost use Rattle.std.specs.Prelude.{◌≡◌, ◌≤◌, IfOk, length};
 ghost use Rattle.q_codel.specs.Losses.{IsTold};
 ghost use Rattle.q_model.specs.Beneath.{beneath};
 ghost use Rattle.q_model.specs.Node.{shape};
-ghost use Rattle.q_tree.specs.Commanding.{WantsMemory};
-ghost use Rattle.q_tree.specs.Commands.{IsAnswered, plan_of, told};
-ghost use Rattle.q_tree.specs.Editing.{LosesNothing};
-ghost use Rattle.q_tree.specs.Planning.{IsLawful, IsLossless, IsPlanBy, planned_by};
+ghost use Rattle.q_tree.specs.commands.Commanding.{WantsMemory};
+ghost use Rattle.q_tree.specs.commands.Commands.{IsAnswered, plan_of, told};
+ghost use Rattle.q_tree.specs.commands.Editing.{LosesNothing};
+ghost use Rattle.q_tree.specs.commands.Planning.{IsLawful, IsLossless, IsPlanBy, planned_by};
 
 pub(crate) mod change;
 pub(crate) mod class;

@@ -1,5 +1,7 @@
 ghost use Rattle.std.specs.Prelude.{◌≡◌, ◌<◌, ◌^◌};
-ghost use Rattle.q_tree.specs.CountersSeen.{HasArrivals, no_row};
+ghost use Rattle.q_tree.specs.counters.CountersSeen.{HasArrivals, no_row};
+
+pub(crate) mod booking;
 
 use q_model::{Row, Totals};
 use std::marker::Model;
@@ -32,7 +34,7 @@ impl Model for Counters {
 
     ghost Value = { Row };
 
-    ghost use Rattle.q_tree.specs.CountersSeen.{counters_seen, AddsUp};
+    ghost use Rattle.q_tree.specs.counters.CountersSeen.{counters_seen, AddsUp};
 
     ghost view = { counters_seen };
 

@@ -3,11 +3,17 @@ ghost use Rattle.std.specs.List.{filter, take_while};
 ghost use Rattle.std.specs.Option.{IfSome};
 ghost use Rattle.q_model.specs.Filters.{named_class, with_filter};
 ghost use Rattle.q_model.specs.declared.filter.Filter.{Filter};
-ghost use Rattle.q_tree.specs.IndexOfFilters.{AreOfManyShapes, IsIndexOf};
+ghost use Rattle.q_tree.specs.filters.IndexOfFilters.{AreOfManyShapes, IsIndexOf};
 
-use crate::filter_index::FilterIndex;
-use crate::masked_filter::MaskedFilter;
-use crate::matching::named_class;
+pub(crate) mod chains;
+pub(crate) mod filter_index;
+pub(crate) mod filter_shape;
+pub(crate) mod masked_filter;
+pub(crate) mod matching;
+
+use crate::filters::filter_index::FilterIndex;
+use crate::filters::masked_filter::MaskedFilter;
+use crate::filters::matching::named_class;
 use q_model::{Filter, FilterPrio, Minor};
 use q_packet::KeptPacket;
 use std::alloc::{AllocError, Global};
@@ -25,7 +31,7 @@ pub(crate) struct Filters {
 impl Model for Filters {
     ghost use Rattle.std.specs.Prelude.{List};
     ghost use Rattle.q_model.specs.declared.filter.Filter.{Filter};
-    ghost use Rattle.q_tree.specs.FiltersSeen.{IsIndexed};
+    ghost use Rattle.q_tree.specs.filters.FiltersSeen.{IsIndexed};
 
     ghost Value = { List Filter };
 

@@ -4,10 +4,10 @@ ghost use Rattle.q_model.specs.Lawful.{IsLawfulTree};
 ghost use Rattle.q_model.specs.Tally.{totals};
 ghost use Rattle.q_model.specs.TreeState.{given, noted_by_take, peek_packet, put, take_packet};
 ghost use Rattle.q_packet.specs.Descriptor.{Descriptor};
+ghost use Rattle.q_tree.specs.answers.MostPackets.{most_packets};
+ghost use Rattle.q_tree.specs.arrival.Places.{places_at};
 ghost use Rattle.q_tree.specs.Kept.{kept};
 ghost use Rattle.q_tree.specs.Laws.{EditLeavesOtherSubtrees, PeekCountsItsLosses, PutCountsItsLosses, PutKeepsPlaces, PutLeavesOtherSubtrees, TakeCountsItsLosses};
-ghost use Rattle.q_tree.specs.MostPackets.{most_packets};
-ghost use Rattle.q_tree.specs.Places.{places_at};
 ghost use Rattle.q_tree.specs.TreeSeen.{tree_numbers};
 
 use crate::tree::Tree;

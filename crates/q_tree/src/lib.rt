@@ -17,54 +17,27 @@
 //! drr, and [`Tree::filter_add`] and [`Tree::filter_del`] add and remove filters.
 #![tactic(auto)]
 
-mod arrived;
-mod booking;
+mod answers;
+mod arrival;
 mod bursts;
-mod chains;
-mod choice;
 mod commands;
 mod counters;
-mod dequeue;
+mod departure;
 mod disciplines;
-mod enqueue;
-mod filter_index;
-mod filter_shape;
 mod filters;
-mod find;
-mod giving;
-mod held;
-mod keep;
-mod lanes;
 pub mod laws;
-mod listed_flows;
-mod masked_filter;
-mod matching;
-mod most_packets;
 mod node;
-mod node_ref;
-mod node_route;
-mod nodes;
-mod oldest;
-mod outcome;
-mod peek;
-mod prepare;
-mod ready_at;
 mod route;
-mod shown;
-mod signals;
 mod tree;
-mod turns;
-mod views;
-mod ways;
 
-pub use crate::lanes::Lane;
-pub use crate::listed_flows::ListedFlows;
-pub use crate::node_ref::NodeRef;
-pub use crate::nodes::Nodes;
+pub use crate::answers::lanes::Lane;
+pub use crate::answers::listed_flows::ListedFlows;
+pub use crate::answers::node_ref::NodeRef;
+pub use crate::answers::nodes::Nodes;
+pub use crate::answers::turns::Turn;
+pub use crate::answers::ways::{Link, Share, Way};
 pub use crate::route::Route;
 pub use crate::tree::Tree;
-pub use crate::turns::Turn;
-pub use crate::ways::{Link, Share, Way};
 pub use q_model::{
     Burst, ClassId, ClassKind, ClassView, Command, Filter, FilterKeys, FilterPrio, FilterView,
     FqCodelOptions, Handle, IpPrefix, IpVersion, Kind, Latency, Minor, NodeView, Place,

@@ -2,13 +2,13 @@ ghost use Rattle.std.specs.Prelude.{◌≡◌, ◌≤◌, ◌+◌, None, length,
 ghost use Rattle.q_model.specs.Beneath.{beneath, is_empty, totals_in};
 ghost use Rattle.q_model.specs.Find.{depth};
 ghost use Rattle.q_model.specs.Route.{route};
-ghost use Rattle.q_tree.specs.Ahead.{ahead};
+ghost use Rattle.q_tree.specs.route.Ahead.{ahead};
 
-use crate::choice::Choice;
 use crate::counters::Counters;
+use crate::departure::held::Held;
 use crate::filters::Filters;
-use crate::held::Held;
-use crate::node_route::NodeRoute;
+use crate::route::choice::Choice;
+use crate::route::node_route::NodeRoute;
 use q_bucket::Bucket;
 use q_codel::Fifo;
 use q_drr::Active;

@@ -1,7 +1,10 @@
 ghost use Rattle.std.specs.Prelude.{◌≡◌};
-ghost use Rattle.q_tree.specs.RouteSeen.{path_seen, refusal_seen};
+ghost use Rattle.q_tree.specs.route.RouteSeen.{path_seen, refusal_seen};
 
-use crate::node_route::NodeRoute;
+pub(crate) mod choice;
+pub(crate) mod node_route;
+
+use crate::route::node_route::NodeRoute;
 use q_packet::Cause;
 use std::marker::Model;
 
@@ -19,7 +22,7 @@ pub struct Route {
 
 impl Model for Route {
     ghost use Rattle.std.specs.Prelude.{Some, None, if◌then◌else◌};
-    ghost use Rattle.q_tree.specs.RouteSeen.{RouteSeen};
+    ghost use Rattle.q_tree.specs.route.RouteSeen.{RouteSeen};
 
     ghost Value = { RouteSeen };
 

@@ -1,42 +1,5 @@
-mod BucketValues
-mod ChangeReports
-mod CoDelReports
-mod CoDelScripts
-mod CoDelValues
-mod CommandScripts
-mod DrrValues
-mod FifoScripts
-mod FqCodelReports
-mod FqCodelValues
-mod HeadValues
-mod LargeReports
-mod LeftmostValues
-mod LineAddresses
-mod LineFaults
-mod LineHeads
-mod LineOrders
-mod LinePlaces
-mod LineRanges
-pub mod LineTable
-mod LineUnits
-mod LineValues
-mod MadeValues
-mod MarkingValues
-mod MostPacketsValues
-mod NoteScripts
-mod OldestValues
-mod PacketValues
-mod PeekScripts
-mod ReadBackRows
-mod RefusalReports
-mod Reports
-mod RuleReports
-pub mod Script
-mod ScriptValues
 pub mod SharedRules
-mod ServiceScripts
-mod SharingScripts
-mod ShowValues
-mod TbfPrioScripts
-mod TreeReports
-mod WordValues
+pub mod lines
+pub mod reports
+pub mod scripts
+pub mod values

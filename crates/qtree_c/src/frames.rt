@@ -3,17 +3,21 @@ ghost use Rattle.std.specs.Prelude.{◌≡◌, ◌≤◌, ◌<◌};
 ghost use Rattle.q_packet.specs.Head.{head};
 ghost use Rattle.q_packet.specs.Key.{key_bytes};
 ghost use Rattle.q_packet.specs.OneAtATime.{one_at_a_time};
-ghost use Rattle.qtree_c.specs.Calls.{IsArrival};
-ghost use Rattle.q_device.specs.Bursts.{arrival};
-ghost use Rattle.qtree_c.specs.Frames.{IsFrameArrival};
-ghost use Rattle.qtree_c.specs.Noting.{noting, one_event};
-ghost use Rattle.qtree_c.specs.Structs.{framed};
+ghost use Rattle.qtree_c.specs.device.Calls.{IsArrival};
+ghost use Rattle.q_device.specs.device.Bursts.{arrival};
+ghost use Rattle.qtree_c.specs.abi.Structs.{framed};
+ghost use Rattle.qtree_c.specs.events.Noting.{noting, one_event};
+ghost use Rattle.qtree_c.specs.frames.Frames.{IsFrameArrival};
 
-use crate::arrivals::fate_number;
-use crate::c_device::CDevice;
-use crate::codes::{IS_CLOSED, MEMORY, OUT_OF_RANGE};
-use crate::opened::Opened;
-use crate::steps;
+pub(crate) mod ethernet;
+pub(crate) mod heads;
+pub(crate) mod marks;
+
+use crate::abi::c_device::CDevice;
+use crate::abi::codes::{IS_CLOSED, MEMORY, OUT_OF_RANGE};
+use crate::device::arrivals::fate_number;
+use crate::device::opened::Opened;
+use crate::device::steps;
 use q_packet::{FlowHash, Head, Moment, OneAtATime, Packet, StoredPacket, read_head};
 
 /// A packet arrives that has these first bytes, and this hash of its flow.

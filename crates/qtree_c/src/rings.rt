@@ -1,10 +1,14 @@
 //! Rings are opened, and each end is closed.
 ghost use Rattle.std.specs.Prelude.{◌≡◌, ◌≢◌, ◌≤◌, None, IfOk, IsSome};
-ghost use Rattle.qtree_c.specs.Ends.{AreOpened, IsNewRing};
+ghost use Rattle.qtree_c.specs.rings.Ends.{AreOpened, IsNewRing};
 
-use crate::c_outlet::COutlet;
-use crate::c_port::CPort;
-use crate::codes::{DONE, IS_OPEN, MEMORY, OUT_OF_RANGE};
+pub(crate) mod intakes;
+pub(crate) mod offers;
+pub(crate) mod sending;
+
+use crate::abi::c_outlet::COutlet;
+use crate::abi::c_port::CPort;
+use crate::abi::codes::{DONE, IS_OPEN, MEMORY, OUT_OF_RANGE};
 use q_ports::{Outlet, Port, open_ring};
 use std::alloc::{AllocError, Global};
 

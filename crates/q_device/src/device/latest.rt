@@ -1,15 +1,15 @@
 //! How long a packet of a fifo waits at most, and by when the packet that is last there has left.
 ghost use Rattle.std.specs.Prelude.{◌≡◌, IfSome};
 ghost use Rattle.q_model.specs.Tally.{totals};
-ghost use Rattle.q_tree.specs.Lanes.{lane_to};
-ghost use Rattle.q_tree.specs.Turns.{turn_to};
-ghost use Rattle.q_tree.specs.Ways.{IsShare};
-ghost use Rattle.q_device.specs.Latest.{latest_at_turn, latest_below, latest_of};
-ghost use Rattle.q_device.specs.Worst.{worst_of};
+ghost use Rattle.q_tree.specs.answers.Lanes.{lane_to};
+ghost use Rattle.q_tree.specs.answers.Turns.{turn_to};
+ghost use Rattle.q_tree.specs.answers.Ways.{IsShare};
+ghost use Rattle.q_device.specs.promises.Latest.{latest_at_turn, latest_below, latest_of};
+ghost use Rattle.q_device.specs.promises.Worst.{worst_of};
 
 use crate::device::Device;
-use crate::latest::{Latest, latest_in, latest_on};
-use crate::worst::{Worst, worst_in, worst_in_turn};
+use crate::promises::latest::{Latest, latest_in, latest_on};
+use crate::promises::worst::{Worst, worst_in, worst_in_turn};
 use q_model::Place;
 use q_tree::{Lane, Link, Turn};
 

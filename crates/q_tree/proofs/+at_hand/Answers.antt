@@ -1,9 +1,9 @@
 use Rattle.std.proofs.Common.{◌∙◌, refl, sym, ap, arith}
 use Rattle.q_tree.specs.Seen.{children_seen, discipline_seen}
-use Rattle.q_tree.proofs.AtHandLemmas.{found, passed, nobody, prio-shown, there-at}
-use Rattle.q_tree.proofs.RouteLemmas.{child-size, children-size}
+use Rattle.q_tree.proofs.disciplines.AtHandLemmas.{found, passed, nobody, prio-shown, there-at}
+use Rattle.q_tree.proofs.route.RouteLemmas.{child-size, children-size}
 use Rattle.q_tree.proofs.+at_hand.Goals as goal
-use Rattle.q_tree.proofs.HeldLemmas.{none-kept}
+use Rattle.q_tree.proofs.departure.HeldLemmas.{none-kept}
 
 pub disciplines::prio::first_at_hand-loop-band-init : goal.disciplines::prio::first_at_hand-loop-band-init
 disciplines::prio::first_at_hand-loop-band-init t c = refl

@@ -1,9 +1,9 @@
 use Rattle.std.proofs.Common.{◌∙◌, refl, sym, ap, arith}
 use Rattle.q_tree.specs.Seen.{children_seen, discipline_seen}
-use Rattle.q_tree.proofs.AtHandLemmas.{there-at}
-use Rattle.q_tree.proofs.RouteLemmas.{child-size, children-size}
-use Rattle.q_tree.proofs.SinceLemmas.{found-since, passed-since, nobody-since, kind-since}
-use Rattle.q_tree.proofs.HeldLemmas.{none-kept}
+use Rattle.q_tree.proofs.answers.SinceLemmas.{found-since, passed-since, nobody-since, kind-since}
+use Rattle.q_tree.proofs.departure.HeldLemmas.{none-kept}
+use Rattle.q_tree.proofs.disciplines.AtHandLemmas.{there-at}
+use Rattle.q_tree.proofs.route.RouteLemmas.{child-size, children-size}
 use Rattle.q_model.specs.Since.{at_hand_since}
 use Rattle.q_model.specs.Node.{Node}
 use Rattle.q_tree.specs.Kept.{Kept}

@@ -6,16 +6,16 @@ use Rattle.q_model.specs.Work.{booked}
 use Rattle.q_model.specs.Node.{side_by_side}
 use Rattle.q_tree.specs.Kept.{kept}
 use Rattle.q_tree.specs.NodeCode.{forest_size}
-use Rattle.q_tree.proofs.RouteLemmas.{child-size}
-use Rattle.q_tree.specs.PopSteps.{ArePopped, IsPoppedIn, popping_of}
+use Rattle.q_tree.proofs.route.RouteLemmas.{child-size}
+use Rattle.q_tree.specs.departure.PopSteps.{ArePopped, IsPoppedIn, popping_of}
 use Rattle.q_tree.specs.Seen.{seen, children_seen, discipline_seen, places_seen}
 use Rattle.q_tree.specs.declared.node.Discipline.TheVariants as code
-use Rattle.q_tree.proofs.AtHandLemmas.{none-held}
-use Rattle.q_tree.proofs.HeldLemmas.{none-kept}
-use Rattle.q_tree.proofs.Peeks.{items-are}
-use Rattle.q_tree.proofs.PopLemmas.{band-here, band-still, band-gave, bands-popped, bands-still, nothing-shown, ready-next, ready-none, none-popped, prio-popped, held-after, held-shown, own-shown, still-kept, gave}
-use Rattle.q_tree.proofs.RowsOf.{row-of, among}
-use Rattle.q_tree.proofs.SendLemmas.{given-some, given-none}
+use Rattle.q_tree.proofs.counters.RowsOf.{row-of, among}
+use Rattle.q_tree.proofs.departure.HeldLemmas.{none-kept}
+use Rattle.q_tree.proofs.departure.Peeks.{items-are}
+use Rattle.q_tree.proofs.departure.PopLemmas.{band-here, band-still, band-gave, bands-popped, bands-still, nothing-shown, ready-next, ready-none, none-popped, prio-popped, held-after, held-shown, own-shown, still-kept, gave}
+use Rattle.q_tree.proofs.departure.SendLemmas.{given-some, given-none}
+use Rattle.q_tree.proofs.disciplines.AtHandLemmas.{none-held}
 use Rattle.q_tree.proofs.+dequeue_at_hand.Goals as goal
 use Rattle.q_packet.specs.declared.stamped.Stamped.{Stamped}
 

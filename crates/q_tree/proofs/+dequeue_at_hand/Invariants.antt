@@ -2,7 +2,7 @@ use Rattle.std.proofs.Common.{◌≡◌, ◌+◌, ◌*◌}
 use Rattle.q_model.specs.Node.{side_by_side}
 use Rattle.q_tree.specs.NodeCode.{node_size, forest_size}
 use Rattle.q_tree.specs.Seen.{children_seen}
-use Rattle.q_tree.proofs.PopLemmas.{NoneBefore}
+use Rattle.q_tree.proofs.departure.PopLemmas.{NoneBefore}
 use Rattle.q_tree.proofs.+dequeue_at_hand.Given as goal
 
 -- the bands so far had none, and are as they were

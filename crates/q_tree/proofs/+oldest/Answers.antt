@@ -5,32 +5,32 @@ use Rattle.q_fqcodel.specs.FqState.{FqView}
 use Rattle.q_model.specs.Beneath.{beneath}
 use Rattle.q_model.specs.Node.{Node}
 use Rattle.q_model.specs.Oldest.{oldest}
+use Rattle.q_tree.specs.answers.Oldest.{oldest_of}
 use Rattle.q_tree.specs.Kept.{Kept}
-use Rattle.q_tree.specs.Oldest.{oldest_of}
 use Rattle.q_tree.specs.Seen.{children_seen, discipline_seen}
-use Rattle.q_tree.proofs.AtHandLemmas.{there-at}
-use Rattle.q_tree.proofs.OldestLemmas.{each-order, fifo-oldest, fq-oldest, held-arrival, inside-order, node-oldest, oldest-end, oldest-next, sooner-earlier}
-use Rattle.q_tree.proofs.RouteLemmas.{child-size, children-size}
+use Rattle.q_tree.proofs.answers.OldestLemmas.{each-order, fifo-oldest, fq-oldest, held-arrival, inside-order, node-oldest, oldest-end, oldest-next, sooner-earlier}
+use Rattle.q_tree.proofs.disciplines.AtHandLemmas.{there-at}
+use Rattle.q_tree.proofs.route.RouteLemmas.{child-size, children-size}
 use Rattle.q_tree.proofs.+oldest.Goals as goal
 
 -- nodes side by side
-pub oldest::oldest_of-loop-node-init : goal.oldest::oldest_of-loop-node-init
-oldest::oldest_of-loop-node-init t c = refl
+pub answers::oldest::oldest_of-loop-node-init : goal.answers::oldest::oldest_of-loop-node-init
+answers::oldest::oldest_of-loop-node-init t c = refl
 
-pub oldest::oldest_of-oldest-requires : goal.oldest::oldest_of-oldest-requires
-oldest::oldest_of-oldest-requires t c =
+pub answers::oldest::oldest_of-oldest-requires : goal.answers::oldest::oldest_of-oldest-requires
+answers::oldest::oldest_of-oldest-requires t c =
     let at = there-at c.args.nodes.now c.loop-node.node-index c.node-item.result c.loop-node-test.true c.node-item.is in
     (omega (arith, child-size c.args.nodes.now c.loop-node.node-index c.node-item.result at, c.decreases), each-order c.args.nodes.now c.loop-node.node-index c.node-item.result at c.requires)
 
-pub oldest::oldest_of-loop-node-preserved : goal.oldest::oldest_of-loop-node-preserved
-oldest::oldest_of-loop-node-preserved t c =
+pub answers::oldest::oldest_of-loop-node-preserved : goal.answers::oldest::oldest_of-loop-node-preserved
+answers::oldest::oldest_of-loop-node-preserved t c =
     ap (λ (o : Option ℕ). earlier o (oldest_of (map oldest (drop (c.loop-node.node-index + 1) c.args.nodes.now))))
     (c.sooner-first.ensures ∙ sooner-earlier c.loop-node.first c.oldest.result ∙ ap (earlier c.loop-node.first) c.oldest.ensures)
     ∙ sym (oldest-next c.args.nodes.now c.loop-node.node-index c.node-item.result c.loop-node.first c.loop-node-test.true c.node-item.is)
     ∙ c.loop-node.invariant
 
-pub oldest::oldest_of-returns : goal.oldest::oldest_of-returns
-oldest::oldest_of-returns t c = sym (oldest-end c.args.nodes.now c.loop-node.node-index c.loop-node.first c.loop-node-test.false) ∙ c.loop-node.invariant
+pub answers::oldest::oldest_of-returns : goal.answers::oldest::oldest_of-returns
+answers::oldest::oldest_of-returns t c = sym (oldest-end c.args.nodes.now c.loop-node.node-index c.loop-node.first c.loop-node-test.false) ∙ c.loop-node.invariant
 
 -- a discipline
 pub node::Discipline::oldest-returns-in-Fifo : goal.node::Discipline::oldest-returns-in-Fifo

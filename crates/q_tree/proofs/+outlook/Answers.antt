@@ -1,10 +1,10 @@
 use Rattle.std.proofs.Common.{◌∙◌, ◌+◌, refl, sym, ap, ap₂, map, drop, arith, Some}
 use Rattle.q_model.specs.Node as spec
+use Rattle.q_tree.specs.answers.ReadyAt.{outlook, paid, with_band, with_bands}
 use Rattle.q_tree.specs.Seen.{children_seen, discipline_seen}
-use Rattle.q_tree.specs.ReadyAt.{outlook, paid, with_band, with_bands}
-use Rattle.q_tree.proofs.AtHandLemmas.{there-at}
-use Rattle.q_tree.proofs.OutlookLemmas.{no-held, outlook-is, front-known, band-next, bands-end, no-place, at-front}
-use Rattle.q_tree.proofs.RouteLemmas.{child-size, children-size}
+use Rattle.q_tree.proofs.answers.OutlookLemmas.{no-held, outlook-is, front-known, band-next, bands-end, no-place, at-front}
+use Rattle.q_tree.proofs.disciplines.AtHandLemmas.{there-at}
+use Rattle.q_tree.proofs.route.RouteLemmas.{child-size, children-size}
 use Rattle.q_tree.proofs.+outlook.Goals as goal
 
 pub node::Node::outlook-of_bands-requires : goal.node::Node::outlook-of_bands-requires

@@ -1,7 +1,7 @@
 use Rattle.std.proofs.Common.{◌≡◌, map, drop}
 use Rattle.q_model.specs.Node.{side_by_side}
+use Rattle.q_tree.specs.answers.ReadyAt.{no_packet, outlook, with_bands}
 use Rattle.q_tree.specs.NodeCode.{node_size, forest_size}
-use Rattle.q_tree.specs.ReadyAt.{no_packet, outlook, with_bands}
 use Rattle.q_tree.proofs.+outlook.Given as goal
 
 abbrev pub invariant-disciplines::prio::of_bands-loop-band : goal.invariant-disciplines::prio::of_bands-loop-band

@@ -8,26 +8,26 @@ use Rattle.q_fqcodel.specs.Take.{head_sent, selected}
 use Rattle.q_model.specs.Ask.{ask_tbf, ask_drr, ask_fq_codel}
 use Rattle.q_model.specs.Node as spec
 use Rattle.q_model.specs.Node.{Node, shape, side_by_side}
-use Rattle.q_tree.specs.AskSteps.{answers, own_of, signals_of}
+use Rattle.q_tree.specs.departure.AskSteps.{answers, own_of, signals_of}
 use Rattle.q_tree.specs.Kept.{Kept}
 use Rattle.q_tree.specs.NodeCode.{forest_size}
 use Rattle.q_tree.specs.Seen.{children_seen, discipline_seen, places_seen}
 use Rattle.q_tree.specs.declared.node.Discipline.TheVariants as code
-use Rattle.q_tree.specs.Shown.{Shown}
-use Rattle.q_tree.proofs.AskBands.{band-at, band-once, band-shown, bands-go-on, bands-start, bands-end}
-use Rattle.q_tree.proofs.AskOnce.{fits-beside}
-use Rattle.q_tree.proofs.AtHandLemmas.{shown-len}
-use Rattle.q_tree.proofs.HereLemmas.{flow-packets}
-use Rattle.q_tree.proofs.Peeks.{asked-in, fifo-asked, fifo-peeked, held-of, each-of, room-of, own-room, items-are, serve-of, holding-after, can-in, enough, can-book, peeked-done, shown-here, told-here, tbf-none, tbf-allowed, tbf-none-since, tbf-waiting}
-use Rattle.q_tree.proofs.RoundsServed.{can-go, fewer-needed, round-goes-on, round-starts, rounds-go-on}
-use Rattle.q_tree.proofs.ServeLemmas.{classes-start, class-once, class-shown, class-size, front-met, place-within, short-enough, class-given, class-sends, class-unserved}
-use Rattle.q_tree.proofs.IdleClasses.{idle-unserved}
-use Rattle.q_tree.proofs.Quiet.{shown-nothing}
-use Rattle.q_tree.proofs.RouteLemmas.{child-size, children-size}
-use Rattle.q_tree.proofs.TakeCounts.{flow-told}
+use Rattle.q_tree.specs.departure.Shown.{Shown}
+use Rattle.q_tree.proofs.counters.Quiet.{shown-nothing}
+use Rattle.q_tree.proofs.departure.AskOnce.{fits-beside}
+use Rattle.q_tree.proofs.departure.Peeks.{asked-in, fifo-asked, fifo-peeked, held-of, each-of, room-of, own-room, items-are, serve-of, holding-after, can-in, enough, can-book, peeked-done, shown-here, told-here, tbf-none, tbf-allowed, tbf-none-since, tbf-waiting}
+use Rattle.q_tree.proofs.disciplines.AskBands.{band-at, band-once, band-shown, bands-go-on, bands-start, bands-end}
+use Rattle.q_tree.proofs.disciplines.AtHandLemmas.{shown-len}
+use Rattle.q_tree.proofs.disciplines.HereLemmas.{flow-packets}
+use Rattle.q_tree.proofs.disciplines.IdleClasses.{idle-unserved}
+use Rattle.q_tree.proofs.disciplines.RoundsServed.{can-go, fewer-needed, round-goes-on, round-starts, rounds-go-on}
+use Rattle.q_tree.proofs.disciplines.ServeLemmas.{classes-start, class-once, class-shown, class-size, front-met, place-within, short-enough, class-given, class-sends, class-unserved}
+use Rattle.q_tree.proofs.disciplines.TakeCounts.{flow-told}
+use Rattle.q_tree.proofs.route.RouteLemmas.{child-size, children-size}
 use Rattle.q_tree.proofs.+peek.Goals as goal
-use Rattle.q_tree.proofs.HeldLemmas.{none-kept, some-kept, some-there, none-there, empty-held, held-with}
-use Rattle.q_tree.specs.Holding.{held_with}
+use Rattle.q_tree.proofs.departure.HeldLemmas.{none-kept, some-kept, some-there, none-there, empty-held, held-with}
+use Rattle.q_tree.specs.departure.Holding.{held_with}
 use Rattle.q_model.specs.Since.{at_hand_since, since_of}
 use Rattle.q_packet.specs.Descriptor.{Descriptor}
 use Rattle.q_packet.specs.declared.stamped.Stamped.{Stamped}

@@ -3,12 +3,12 @@ use Rattle.std.specs.List.{sum_by}
 use Rattle.q_drr.specs.Schedule.{quantum_of}
 use Rattle.q_drr.specs.Take.{need}
 use Rattle.q_model.specs.Node.{side_by_side}
-use Rattle.q_tree.specs.AskSteps.{IsToldOf, answers, signals_of}
+use Rattle.q_tree.specs.departure.AskSteps.{IsToldOf, answers, signals_of}
 use Rattle.q_tree.specs.NodeCode.{node_size, forest_size}
 use Rattle.q_tree.specs.Seen.{children_seen}
-use Rattle.q_tree.proofs.AskBands.{AreBandsAsked, told_to}
-use Rattle.q_tree.proofs.RoundsServed.{IsInRound}
-use Rattle.q_tree.proofs.ServeLemmas.{AreClassesAsked, heads_of}
+use Rattle.q_tree.proofs.disciplines.AskBands.{AreBandsAsked, told_to}
+use Rattle.q_tree.proofs.disciplines.RoundsServed.{IsInRound}
+use Rattle.q_tree.proofs.disciplines.ServeLemmas.{AreClassesAsked, heads_of}
 use Rattle.q_tree.proofs.+peek.Given as goal
 
 abbrev pub invariant-disciplines::drr::meet_class-loop-place : goal.invariant-disciplines::drr::meet_class-loop-place

@@ -2,11 +2,11 @@ use Rattle.std.proofs.Common.{◌≡◌, ◌∙◌, refl, sym, ap, arith, Option
 use Rattle.std.specs.Prelude.{is_some}
 use Rattle.q_packet.specs.Descriptor.{Descriptor}
 use Rattle.q_model.specs.Pop.{pop}
+use Rattle.q_tree.specs.departure.Shown.{Shown}
 use Rattle.q_tree.specs.Seen.{children_seen, discipline_seen}
-use Rattle.q_tree.specs.Shown.{Shown}
-use Rattle.q_tree.proofs.AtHandLemmas.{found, passed, nobody, prio-shown, there-at}
-use Rattle.q_tree.proofs.HeldLemmas.{none-kept, none-there, some-there}
-use Rattle.q_tree.proofs.RouteLemmas.{child-size, children-size}
+use Rattle.q_tree.proofs.departure.HeldLemmas.{none-kept, none-there, some-there}
+use Rattle.q_tree.proofs.disciplines.AtHandLemmas.{found, passed, nobody, prio-shown, there-at}
+use Rattle.q_tree.proofs.route.RouteLemmas.{child-size, children-size}
 use Rattle.q_tree.proofs.+peek_again.Goals as goal
 
 pub disciplines::prio::peek_bands_again-loop-band-init : goal.disciplines::prio::peek_bands_again-loop-band-init

@@ -4,12 +4,12 @@ use Rattle.std.specs.Vec.Iter.{into_iter_items}
 use Rattle.q_model.specs.Beneath.{packets_in, packets_of}
 use Rattle.q_model.specs.Node.{FqCodel, side_by_side}
 use Rattle.q_fqcodel.specs.FqState.{FqView, all_packets}
+use Rattle.q_tree.specs.arrival.PutSteps.{packets_beneath}
 use Rattle.q_tree.specs.NodeCode.{forest_size}
-use Rattle.q_tree.specs.PutSteps.{packets_beneath}
 use Rattle.q_tree.specs.Seen.{children_seen, discipline_seen}
-use Rattle.q_tree.proofs.PurgeLemmas.{own-count, own-size, flows-count, room-taken, queue-told, node-told, left-count, left-size}
+use Rattle.q_tree.proofs.commands.PurgeLemmas.{own-count, own-size, flows-count, room-taken, queue-told, node-told, left-count, left-size}
 use Rattle.q_tree.proofs.+purge.Goals as goal
-use Rattle.q_tree.specs.Holding.{packet_held}
+use Rattle.q_tree.specs.departure.Holding.{packet_held}
 
 pub node::Node::purge-returns-in-Fifo-clause-told : goal.node::Node::purge-returns-in-Fifo-clause-told
 node::Node::purge-returns-in-Fifo-clause-told g t c =

@@ -2,9 +2,9 @@ use Rattle.std.proofs.Common.{◌≡◌, ◌++◌, length}
 use Rattle.std.specs.Vec.Iter.{into_iter_items, into_iter_len}
 use Rattle.q_codel.specs.Losses.{IsTold}
 use Rattle.q_model.specs.Node.{side_by_side}
+use Rattle.q_tree.specs.arrival.PutSteps.{packets_beneath}
+use Rattle.q_tree.specs.commands.Purging.{purged}
 use Rattle.q_tree.specs.NodeCode.{node_size, forest_size}
-use Rattle.q_tree.specs.Purging.{purged}
-use Rattle.q_tree.specs.PutSteps.{packets_beneath}
 use Rattle.q_tree.proofs.+purge.Given as goal
 
 abbrev pub decreases-node::Node::purge : goal.decreases-node::Node::purge

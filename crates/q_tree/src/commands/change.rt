@@ -1,16 +1,16 @@
 ghost use Rattle.std.specs.Prelude.{◌≡◌, ◌≤◌, length};
 ghost use Rattle.q_codel.specs.Losses.{IsTold};
 ghost use Rattle.q_invariants.proofs.Kept.{IsLawfulRoot};
-ghost use Rattle.q_invariants.proofs.SizedChanges.{change_sized};
+ghost use Rattle.q_invariants.proofs.sizes.SizedChanges.{change_sized};
 ghost use Rattle.q_model.specs.Beneath.{beneath};
 ghost use Rattle.q_model.specs.Find.{count_nodes};
 ghost use Rattle.q_model.specs.Node.{shape};
 ghost use Rattle.q_model.specs.Ranges.{IsCommand};
 ghost use Rattle.q_model.specs.declared.command.Command.TheVariants.{QdiscChange};
 ghost use Rattle.q_model.specs.declared.kind.Kind.TheVariants as kind;
-ghost use Rattle.q_tree.specs.Changing.{IsChange, NeedsMore};
-ghost use Rattle.q_tree.specs.Commands.{IsAnswered, plan_of, told};
-ghost use Rattle.q_tree.specs.Planning.{IsLawful, IsPlanBy, device_of, planned_by, root_of};
+ghost use Rattle.q_tree.specs.commands.Changing.{IsChange, NeedsMore};
+ghost use Rattle.q_tree.specs.commands.Commands.{IsAnswered, plan_of, told};
+ghost use Rattle.q_tree.specs.commands.Planning.{IsLawful, IsPlanBy, device_of, planned_by, root_of};
 
 use crate::commands::discipline_change::DisciplineChange;
 use crate::commands::edit::Edit;

@@ -1,11 +1,11 @@
 ghost use Rattle.std.specs.Prelude.{◌≡◌, ◌≤◌, Ok, OnErr, OnOk, length};
 ghost use Rattle.q_codel.specs.Losses.{IsTold};
 ghost use Rattle.q_model.specs.Beneath.{totals_in};
-ghost use Rattle.q_tree.specs.Purging.{purged};
-ghost use Rattle.q_tree.specs.DisciplineChanges.{FitsCounters, IsChangedBy, IsUnchanged, TakesMore, adds_children, lost_with};
+ghost use Rattle.q_tree.specs.commands.DisciplineChanges.{FitsCounters, IsChangedBy, IsUnchanged, TakesMore, adds_children, lost_with};
+ghost use Rattle.q_tree.specs.commands.Purging.{purged};
 ghost use Rattle.q_tree.specs.Seen.{children_seen, discipline_seen};
 
-use crate::booking::NOTHING;
+use crate::counters::booking::NOTHING;
 use crate::node::{Discipline, Node};
 use q_bucket::Bucket;
 use q_codel::{Limit, Sink};

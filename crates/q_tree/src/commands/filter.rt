@@ -5,14 +5,14 @@ ghost use Rattle.q_model.specs.Node.{shape};
 ghost use Rattle.q_model.specs.Ranges.{IsCommand};
 ghost use Rattle.q_model.specs.Refusals.{done_unless, has_filters};
 ghost use Rattle.q_model.specs.declared.command.Command.TheVariants.{FilterAdd, FilterDel};
-ghost use Rattle.q_tree.specs.Commands.{IsAnswered, plan_of, takes_memory, takes_none};
-ghost use Rattle.q_tree.specs.Editing.{LosesNothing};
-ghost use Rattle.q_tree.specs.Planning.{IsPlanBy};
+ghost use Rattle.q_tree.specs.commands.Commands.{IsAnswered, plan_of, takes_memory, takes_none};
+ghost use Rattle.q_tree.specs.commands.Editing.{LosesNothing};
+ghost use Rattle.q_tree.specs.commands.Planning.{IsPlanBy};
 
 use crate::commands::edit::Edit;
 use crate::commands::planned::Planned;
 use crate::commands::planner::Planner;
-use crate::masked_filter::MaskedFilter;
+use crate::filters::masked_filter::MaskedFilter;
 use crate::node::{Discipline, Node};
 use crate::tree::Tree;
 use q_model::{Command, Filter, FilterPrio, Handle, Refusal};

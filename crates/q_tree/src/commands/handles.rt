@@ -1,16 +1,16 @@
 ghost use Rattle.std.specs.Prelude.{◌≡◌, ◌≤◌, ◌+◌, [], OnErr, OnOk, length, map, option_map, true};
 ghost use Rattle.std.specs.List.{fold};
 ghost use Rattle.indexmap.specs.IndexMap.{spare};
-ghost use Rattle.q_invariants.proofs.EditHandles.{AreApart};
+ghost use Rattle.q_invariants.proofs.edit.EditHandles.{AreApart};
 ghost use Rattle.q_model.specs.Find.{addresses, count_nodes, depth};
 ghost use Rattle.q_model.specs.Numbers.{IsHandle};
 ghost use Rattle.q_model.specs.Refusals.{most_nodes};
-ghost use Rattle.q_tree.specs.Editing.{TakesMemory, adds_nodes};
-ghost use Rattle.q_tree.specs.Index.{added, addresses_beneath, free_among, has_among, listed, own_address, path_among, under};
+ghost use Rattle.q_tree.specs.commands.Editing.{TakesMemory, adds_nodes};
+ghost use Rattle.q_tree.specs.commands.Index.{added, addresses_beneath, free_among, has_among, listed, own_address, path_among, under};
 
+use crate::answers::find::Path;
 use crate::commands::counting::MOST_NODES;
 use crate::commands::edit::Edit;
-use crate::find::Path;
 use crate::node::Node;
 use indexmap::IndexMap;
 use q_model::Handle;
@@ -37,13 +37,13 @@ pub(crate) struct Handles {
 }
 
 impl Model for Handles {
-    ghost use Rattle.q_tree.specs.Index.{Index, index_code};
+    ghost use Rattle.q_tree.specs.commands.Index.{Index, index_code};
 
     ghost Value = { Index };
 
     ghost coded = { index_code };
 
-    ghost use Rattle.q_tree.specs.IndexSeen.{index_seen};
+    ghost use Rattle.q_tree.specs.commands.IndexSeen.{index_seen};
 
     ghost view = { index_seen };
 }

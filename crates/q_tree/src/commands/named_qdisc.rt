@@ -2,10 +2,10 @@ ghost use Rattle.std.specs.Prelude.{◌≡◌, option_copied, option_map};
 ghost use Rattle.q_model.specs.Find.{class_path, is_explicit, path_of, place_path};
 ghost use Rattle.q_model.specs.Node.{shape};
 ghost use Rattle.q_model.specs.QdiscCommands.{explicit_at, target};
-ghost use Rattle.q_tree.specs.Finding.{qdisc_with, reached};
+ghost use Rattle.q_tree.specs.answers.Finding.{qdisc_with, reached};
 
+use crate::answers::find::Path;
 use crate::commands::qdiscs::Qdiscs;
-use crate::find::Path;
 use crate::node::Node;
 use q_model::{ClassId, Handle, Place};
 

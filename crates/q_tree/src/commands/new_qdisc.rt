@@ -1,14 +1,14 @@
 ghost use Rattle.std.specs.Prelude.{IfOk, None, OnErr, Some};
 ghost use Rattle.q_model.specs.Make.{made};
-ghost use Rattle.q_tree.specs.Making.{IsNewDiscipline, IsNewNode, NeedsMemory};
-ghost use Rattle.q_tree.specs.Planning.{device_of};
+ghost use Rattle.q_tree.specs.commands.Making.{IsNewDiscipline, IsNewNode, NeedsMemory};
+ghost use Rattle.q_tree.specs.commands.Planning.{device_of};
 
 use crate::commands::planner::Planner;
 use crate::counters::Counters;
+use crate::departure::held::Held;
 use crate::disciplines::fq_codel::{new_queue, with_options};
 use crate::disciplines::tbf::{limit_bytes, new_tbf};
 use crate::filters::Filters;
-use crate::held::Held;
 use crate::node::{Discipline, Node};
 use q_bucket::Bucket;
 use q_codel::{Fifo, Limit};

@@ -1,5 +1,5 @@
+use crate::answers::find::Path;
 use crate::commands::edit::Edit;
-use crate::find::Path;
 
 /// An edit that was planned, with the path to the node that it changes.
 pub(crate) struct Planned {

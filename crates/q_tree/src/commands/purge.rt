@@ -2,11 +2,11 @@ ghost use Rattle.std.specs.Prelude.{◌≤◌, length};
 ghost use Rattle.std.specs.Option.{option_to_list};
 ghost use Rattle.q_codel.specs.Losses.{IsTold};
 ghost use Rattle.q_model.specs.Beneath.{beneath};
-ghost use Rattle.q_tree.specs.Holding.{packet_held};
-ghost use Rattle.q_tree.specs.Purging.{purged};
-ghost use Rattle.q_tree.specs.PutSteps.{packets_beneath};
+ghost use Rattle.q_tree.specs.arrival.PutSteps.{packets_beneath};
+ghost use Rattle.q_tree.specs.commands.Purging.{purged};
+ghost use Rattle.q_tree.specs.departure.Holding.{packet_held};
 
-use crate::held::Held;
+use crate::departure::held::Held;
 use crate::node::{Discipline, Node};
 use q_codel::Sink;
 use q_packet::Cause;

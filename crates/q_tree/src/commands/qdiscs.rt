@@ -2,7 +2,7 @@ ghost use Rattle.std.specs.Prelude.{◌≡◌, ◌≤◌};
 ghost use Rattle.std.specs.Coded.{Coded-set, coded_list};
 ghost use Rattle.q_model.specs.Find.{addresses, count_nodes, depth};
 ghost use Rattle.q_model.specs.Refusals.{most_levels, most_nodes};
-ghost use Rattle.q_tree.specs.Index.{address_code};
+ghost use Rattle.q_tree.specs.commands.Index.{address_code};
 
 use crate::commands::handles::Handles;
 use crate::node::Node;

@@ -1,4 +1,4 @@
-use Rattle.q_device.proofs.BufferLemmas.{no-more-is-held}
+use Rattle.q_device.proofs.device.BufferLemmas.{no-more-is-held}
 use Rattle.q_device.proofs.buffers.no_more_is_held.Goals as goal
 
 pub returns : goal.returns

@@ -1,6 +1,6 @@
 use Rattle.std.proofs.Common.{◌∙◌, set, ap, arith}
 use Rattle.q_model.specs.declared.fate.Fate.TheVariants.{Kept}
-use Rattle.q_device.proofs.PlaceLemmas.{same-more}
+use Rattle.q_device.proofs.device.PlaceLemmas.{same-more}
 use Rattle.q_device.proofs.bursts.all_kept.Goals as goal
 
 pub loop-i-preserved : goal.loop-i-preserved

@@ -4,7 +4,7 @@ use Rattle.q_model.specs.Beneath.{beneath, is_empty}
 use Rattle.q_model.specs.Node.{shape}
 use Rattle.q_model.proofs.ShrinkLemmas.{is_empty-with_memory}
 use Rattle.q_model.specs.declared.row.Row.{Row}
-use Rattle.q_device.specs.Giving.{given_of}
+use Rattle.q_device.specs.device.Giving.{given_of}
 use Rattle.q_device.proofs.device.given_of.Goals as goal
 
 pub returns-then-totals-eq0 : goal.returns-then-totals-eq0

@@ -1,4 +1,4 @@
-use Rattle.q_device.proofs.LawfulLemmas.{seen-arrived}
+use Rattle.q_device.proofs.laws.LawfulLemmas.{seen-arrived}
 use Rattle.q_device.proofs.laws.arrivals_alone_arrive.Goals as goal
 
 pub returns : goal.returns

@@ -1,4 +1,4 @@
-use Rattle.q_device.proofs.BucketStretches.{buckets-bounded}
+use Rattle.q_device.proofs.laws.BucketStretches.{buckets-bounded}
 use Rattle.q_device.proofs.laws.bucket_stretch.Goals as goal
 
 pub returns : goal.returns

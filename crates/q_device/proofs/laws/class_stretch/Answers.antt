@@ -1,4 +1,4 @@
-use Rattle.q_device.proofs.ClassStretches.{classes-share, deficits-bounded, grants-short, classes-wake}
+use Rattle.q_device.proofs.laws.ClassStretches.{classes-share, deficits-bounded, grants-short, classes-wake}
 use Rattle.q_device.proofs.laws.class_stretch.Goals as goal
 
 pub returns-clause-share : goal.returns-clause-share

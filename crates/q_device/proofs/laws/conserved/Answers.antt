@@ -2,8 +2,8 @@ use Rattle.q_model.specs.Replay.{replay}
 use Rattle.q_model.specs.Tally.{history}
 use Rattle.q_invariants.proofs.Replays.{replay-kept}
 use Rattle.q_invariants.proofs.Sound.{kept-sound}
-use Rattle.q_device.proofs.LawfulLemmas.{replay-lawful}
-use Rattle.q_device.proofs.ToldLemmas.{replay-tells}
+use Rattle.q_device.proofs.device.ToldLemmas.{replay-tells}
+use Rattle.q_device.proofs.laws.LawfulLemmas.{replay-lawful}
 use Rattle.q_device.proofs.laws.conserved.Goals as goal
 
 pub returns-clause-histories : goal.returns-clause-histories

@@ -1,4 +1,4 @@
-use Rattle.q_device.proofs.CountLemmas.{none-left-out, step-rises}
+use Rattle.q_device.proofs.laws.CountLemmas.{none-left-out, step-rises}
 use Rattle.q_device.proofs.laws.counters_never_fall.Goals as goal
 
 pub returns-clause-events : goal.returns-clause-events

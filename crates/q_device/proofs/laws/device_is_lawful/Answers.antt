@@ -1,4 +1,4 @@
-use Rattle.q_device.proofs.DeviceLaws.{lawful-device}
+use Rattle.q_device.proofs.device.DeviceLaws.{lawful-device}
 use Rattle.q_device.proofs.laws.device_is_lawful.Goals as goal
 
 pub returns : goal.returns

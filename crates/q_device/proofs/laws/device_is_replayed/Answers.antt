@@ -1,4 +1,4 @@
-use Rattle.q_device.proofs.DeviceLaws.{of-recorded}
+use Rattle.q_device.proofs.device.DeviceLaws.{of-recorded}
 use Rattle.q_device.proofs.laws.device_is_replayed.Goals as goal
 
 pub returns-clause-recorded : goal.returns-clause-recorded

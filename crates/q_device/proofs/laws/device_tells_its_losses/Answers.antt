@@ -1,4 +1,4 @@
-use Rattle.q_device.proofs.DeviceLaws.{tells-losses}
+use Rattle.q_device.proofs.device.DeviceLaws.{tells-losses}
 use Rattle.q_device.proofs.laws.device_tells_its_losses.Goals as goal
 
 pub returns : goal.returns

@@ -1,4 +1,4 @@
-use Rattle.q_device.proofs.WaitingLemmas.{early-polls}
+use Rattle.q_device.proofs.waiting.WaitingLemmas.{early-polls}
 use Rattle.q_device.proofs.laws.early_polls_give_nothing.Goals as goal
 
 pub returns : goal.returns

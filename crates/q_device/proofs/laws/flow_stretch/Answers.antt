@@ -1,4 +1,4 @@
-use Rattle.q_device.proofs.FlowStretches.{flows-share, flows-begin}
+use Rattle.q_device.proofs.laws.FlowStretches.{flows-share, flows-begin}
 use Rattle.q_device.proofs.laws.flow_stretch.Goals as goal
 
 pub returns : goal.returns

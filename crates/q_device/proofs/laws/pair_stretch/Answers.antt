@@ -1,5 +1,5 @@
-use Rattle.q_device.proofs.ClassStretches.{pairs-share}
-use Rattle.q_device.proofs.FlowStretches.{flows-even}
+use Rattle.q_device.proofs.laws.ClassStretches.{pairs-share}
+use Rattle.q_device.proofs.laws.FlowStretches.{flows-even}
 use Rattle.q_device.proofs.laws.pair_stretch.Goals as goal
 
 pub returns : goal.returns

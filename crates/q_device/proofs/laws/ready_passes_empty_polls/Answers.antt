@@ -1,4 +1,4 @@
-use Rattle.q_device.proofs.WaitingLemmas.{empty-polls}
+use Rattle.q_device.proofs.waiting.WaitingLemmas.{empty-polls}
 use Rattle.q_device.proofs.laws.ready_passes_empty_polls.Goals as goal
 
 pub returns : goal.returns

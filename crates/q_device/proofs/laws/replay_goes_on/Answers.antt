@@ -1,6 +1,6 @@
 use Rattle.q_model.specs.Tally.{history, totals}
 use Rattle.q_model.specs.Replay.{nothing_yet}
-use Rattle.q_device.proofs.ReplayLemmas.{replay_from-append}
+use Rattle.q_device.proofs.laws.ReplayLemmas.{replay_from-append}
 use Rattle.q_device.proofs.laws.replay_goes_on.Goals as goal
 
 pub returns : goal.returns

@@ -1,4 +1,4 @@
-use Rattle.q_device.proofs.ShrinkLemmas.{replay-shrunk}
+use Rattle.q_device.proofs.laws.ShrinkLemmas.{replay-shrunk}
 use Rattle.q_device.proofs.laws.replay_shrinks.Goals as goal
 
 pub returns : goal.returns

@@ -1,5 +1,5 @@
 use Rattle.std.proofs.Common.{◌≡◌, ◌∙◌, Some, [], ◌∷◌, ◌++◌, arith, sym, subst}
-use Rattle.q_device.specs.DeviceSeen.{DeviceSeen}
+use Rattle.q_device.specs.device.DeviceSeen.{DeviceSeen}
 use Rattle.q_device.specs.Waiting.{ready}
 use Rattle.q_drive.specs.Drained.{IsPolledWhenReady}
 use Rattle.q_drive.proofs.DrainLemmas.{polls-more}

@@ -1,6 +1,6 @@
 use Rattle.std.proofs.Common.{rules, ◌≡◌, ◌<◌, sym, subst}
+use Rattle.q_device.specs.device.DeviceSeen.{DeviceSeen}
 use Rattle.q_device.specs.DeviceLaws.{TellsItsLosses}
-use Rattle.q_device.specs.DeviceSeen.{DeviceSeen}
 use Rattle.q_drive.specs.Drained.{polls_left}
 use Rattle.q_drive.proofs.DrainLemmas.{fewer, polled_is}
 use Rattle.q_drive.proofs.draining.poll_when_ready.Goals as goal

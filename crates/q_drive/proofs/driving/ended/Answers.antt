@@ -1,6 +1,6 @@
 use Rattle.std.proofs.Common.{◌∙◌, sym, ap, subst}
+use Rattle.q_device.specs.device.DeviceSeen.{DeviceSeen}
 use Rattle.q_device.specs.DeviceLaws.{IsReplayed}
-use Rattle.q_device.specs.DeviceSeen.{DeviceSeen}
 use Rattle.q_drive.specs.Drained.{IsDrainedIf}
 use Rattle.q_drive.proofs.driving.ended.Goals as goal
 

@@ -1,4 +1,4 @@
-use Rattle.q_laws.proofs.WorkTrees.{bands-are-strict}
+use Rattle.q_laws.proofs.work.WorkTrees.{bands-are-strict}
 use Rattle.q_laws.proofs.laws.bands_are_strict.Goals as goal
 
 pub returns : goal.returns

@@ -1,4 +1,4 @@
-use Rattle.q_laws.proofs.PaidInTime.{bytes-are-paid}
+use Rattle.q_laws.proofs.rate.PaidInTime.{bytes-are-paid}
 use Rattle.q_laws.proofs.laws.bytes_are_paid_in_time.Goals as goal
 
 pub returns : goal.returns

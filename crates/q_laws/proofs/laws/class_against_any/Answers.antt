@@ -1,4 +1,4 @@
-use Rattle.q_laws.proofs.ServiceStretches.{class-against-any}
+use Rattle.q_laws.proofs.share.ServiceStretches.{class-against-any}
 use Rattle.q_laws.proofs.laws.class_against_any.Goals as goal
 
 pub returns : goal.returns

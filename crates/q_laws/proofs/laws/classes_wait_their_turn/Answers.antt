@@ -1,4 +1,4 @@
-use Rattle.q_laws.proofs.TurnSums.{classes-wait}
+use Rattle.q_laws.proofs.turn.TurnSums.{classes-wait}
 use Rattle.q_laws.proofs.laws.classes_wait_their_turn.Goals as goal
 
 pub returns : goal.returns

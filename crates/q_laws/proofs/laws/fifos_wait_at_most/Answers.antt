@@ -1,4 +1,4 @@
-use Rattle.q_laws.proofs.FifoTurns.{fifos-wait-at-most}
+use Rattle.q_laws.proofs.turn.FifoTurns.{fifos-wait-at-most}
 use Rattle.q_laws.proofs.laws.fifos_wait_at_most.Goals as goal
 
 pub returns : goal.returns

@@ -1,4 +1,4 @@
-use Rattle.q_laws.proofs.FlowService.{flow-against-any}
+use Rattle.q_laws.proofs.share.FlowService.{flow-against-any}
 use Rattle.q_laws.proofs.laws.flow_against_any.Goals as goal
 
 pub returns : goal.returns

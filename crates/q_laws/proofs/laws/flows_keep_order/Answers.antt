@@ -1,4 +1,4 @@
-use Rattle.q_laws.proofs.OrderSteps.{flows-keep-order}
+use Rattle.q_laws.proofs.order.OrderSteps.{flows-keep-order}
 use Rattle.q_laws.proofs.laws.flows_keep_order.Goals as goal
 
 pub returns : goal.returns

@@ -1,4 +1,4 @@
-use Rattle.q_laws.proofs.RestMoves.{joining-flows-are-spared}
+use Rattle.q_laws.proofs.new_flow.RestMoves.{joining-flows-are-spared}
 use Rattle.q_laws.proofs.laws.joining_flow_is_spared.Goals as goal
 
 pub returns : goal.returns

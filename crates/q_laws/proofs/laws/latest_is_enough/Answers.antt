@@ -1,6 +1,6 @@
-use Rattle.q_laws.proofs.LatestArrives.{latest-is-told-before, latest-rises-no-faster}
-use Rattle.q_laws.proofs.LatestFills.{latest-stands-as-it-fills}
-use Rattle.q_laws.proofs.LatestKept.{latest-is-enough, latest-is-in-time}
+use Rattle.q_laws.proofs.line.LatestArrives.{latest-is-told-before, latest-rises-no-faster}
+use Rattle.q_laws.proofs.line.LatestFills.{latest-stands-as-it-fills}
+use Rattle.q_laws.proofs.line.LatestKept.{latest-is-enough, latest-is-in-time}
 use Rattle.q_laws.proofs.laws.latest_is_enough.Goals as goal
 
 pub returns : goal.returns

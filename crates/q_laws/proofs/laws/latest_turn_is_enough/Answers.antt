@@ -1,6 +1,6 @@
-use Rattle.q_laws.proofs.LatestArrives.{answered-in-turn}
-use Rattle.q_laws.proofs.LatestTurnFills.{latest-turn-stands-as-it-fills}
-use Rattle.q_laws.proofs.LatestTurnKept.{latest-turn-is-enough, latest-turn-is-in-time}
+use Rattle.q_laws.proofs.line.LatestArrives.{answered-in-turn}
+use Rattle.q_laws.proofs.turn.LatestTurnFills.{latest-turn-stands-as-it-fills}
+use Rattle.q_laws.proofs.turn.LatestTurnKept.{latest-turn-is-enough, latest-turn-is-in-time}
 use Rattle.q_device.specs.Sharing.{device_after}
 use Rattle.q_laws.proofs.laws.latest_turn_is_enough.Goals as goal
 

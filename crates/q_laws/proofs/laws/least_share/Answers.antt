@@ -1,6 +1,6 @@
-use Rattle.q_laws.proofs.CalmShare.{calm-classes-get-their-parts}
-use Rattle.q_laws.proofs.CalmSteps.{classes-are-calm}
-use Rattle.q_laws.proofs.LeastShare.{classes-get-their-parts}
+use Rattle.q_laws.proofs.share.CalmShare.{calm-classes-get-their-parts}
+use Rattle.q_laws.proofs.share.CalmSteps.{classes-are-calm}
+use Rattle.q_laws.proofs.share.LeastShare.{classes-get-their-parts}
 use Rattle.q_laws.proofs.laws.least_share.Goals as goal
 
 pub returns : goal.returns

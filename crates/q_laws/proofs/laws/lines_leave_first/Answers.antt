@@ -1,4 +1,4 @@
-use Rattle.q_laws.proofs.LineStretches.{lines-leave-first}
+use Rattle.q_laws.proofs.line.LineStretches.{lines-leave-first}
 use Rattle.q_laws.proofs.laws.lines_leave_first.Goals as goal
 
 pub returns : goal.returns

@@ -1,4 +1,4 @@
-use Rattle.q_laws.proofs.LineDelay.{lines-leave-in-time, limits-are-delays}
+use Rattle.q_laws.proofs.line.LineDelay.{lines-leave-in-time, limits-are-delays}
 use Rattle.q_laws.proofs.laws.lines_leave_in_time.Goals as goal
 
 pub returns : goal.returns

@@ -1,6 +1,6 @@
-use Rattle.q_laws.proofs.NestKept.{nested-turn-is-enough}
-use Rattle.q_laws.proofs.NestTime.{nested-turn-is-in-time}
-use Rattle.q_laws.proofs.PathTurns.{paths-are-bounded}
+use Rattle.q_laws.proofs.nested.NestKept.{nested-turn-is-enough}
+use Rattle.q_laws.proofs.nested.NestTime.{nested-turn-is-in-time}
+use Rattle.q_laws.proofs.nested.PathTurns.{paths-are-bounded}
 use Rattle.q_laws.proofs.laws.nested_turns_are_bounded.Goals as goal
 
 pub returns : goal.returns

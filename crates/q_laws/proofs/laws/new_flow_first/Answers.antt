@@ -1,4 +1,4 @@
-use Rattle.q_laws.proofs.NewFlowService.{new-flow-first}
+use Rattle.q_laws.proofs.new_flow.NewFlowService.{new-flow-first}
 use Rattle.q_laws.proofs.laws.new_flow_first.Goals as goal
 
 pub returns : goal.returns

@@ -1,4 +1,4 @@
-use Rattle.q_laws.proofs.NewFlowSums.{new-flows-go-before}
+use Rattle.q_laws.proofs.new_flow.NewFlowSums.{new-flows-go-before}
 use Rattle.q_laws.proofs.laws.new_flows_go_before.Goals as goal
 
 pub returns : goal.returns

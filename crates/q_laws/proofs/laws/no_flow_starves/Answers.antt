@@ -1,4 +1,4 @@
-use Rattle.q_laws.proofs.FlowService.{no-flow-starves}
+use Rattle.q_laws.proofs.share.FlowService.{no-flow-starves}
 use Rattle.q_laws.proofs.laws.no_flow_starves.Goals as goal
 
 pub returns : goal.returns

@@ -1,6 +1,6 @@
-use Rattle.q_laws.proofs.LinkStretches.{rate-is-delivered}
-use Rattle.q_laws.proofs.NeverLate.{never-late-is-drained}
-use Rattle.q_laws.proofs.RateStretches.{rate-is-spent}
+use Rattle.q_laws.proofs.rate.LinkStretches.{rate-is-delivered}
+use Rattle.q_laws.proofs.rate.NeverLate.{never-late-is-drained}
+use Rattle.q_laws.proofs.rate.RateStretches.{rate-is-spent}
 use Rattle.q_laws.proofs.laws.rate_is_delivered.Goals as goal
 
 pub returns : goal.returns

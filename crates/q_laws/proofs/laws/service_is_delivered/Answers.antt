@@ -1,4 +1,4 @@
-use Rattle.q_laws.proofs.PromiseKept.{lateness-is-the-greatest, service-is-delivered, slack-is-the-laws}
+use Rattle.q_laws.proofs.share.PromiseKept.{lateness-is-the-greatest, service-is-delivered, slack-is-the-laws}
 use Rattle.q_laws.proofs.laws.service_is_delivered.Goals as goal
 
 pub returns : goal.returns

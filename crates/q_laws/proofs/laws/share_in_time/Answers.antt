@@ -1,7 +1,7 @@
-use Rattle.q_laws.proofs.HandedInTime.{hand-in-time, leave-in-time}
-use Rattle.q_laws.proofs.PollHolds.{polls-leave-holding}
-use Rattle.q_laws.proofs.ShareInTime.{share-in-time}
-use Rattle.q_laws.proofs.WayStretches.{shares-multiply}
+use Rattle.q_laws.proofs.rate.PollHolds.{polls-leave-holding}
+use Rattle.q_laws.proofs.share.HandedInTime.{hand-in-time, leave-in-time}
+use Rattle.q_laws.proofs.share.ShareInTime.{share-in-time}
+use Rattle.q_laws.proofs.share.WayStretches.{shares-multiply}
 use Rattle.q_laws.proofs.laws.share_in_time.Goals as goal
 
 pub returns : goal.returns

@@ -1,4 +1,4 @@
-use Rattle.q_laws.proofs.PromiseKept.{share-is-delivered}
+use Rattle.q_laws.proofs.share.PromiseKept.{share-is-delivered}
 use Rattle.q_laws.proofs.laws.share_is_delivered.Goals as goal
 
 pub returns : goal.returns

@@ -1,6 +1,6 @@
-use Rattle.q_laws.proofs.TurnAnswers.{turn-is-answered}
-use Rattle.q_laws.proofs.TurnKept.{turn-is-enough, turn-is-in-time}
-use Rattle.q_laws.proofs.TurnLimits.{turns-keep-limits}
+use Rattle.q_laws.proofs.turn.TurnAnswers.{turn-is-answered}
+use Rattle.q_laws.proofs.turn.TurnKept.{turn-is-enough, turn-is-in-time}
+use Rattle.q_laws.proofs.turn.TurnLimits.{turns-keep-limits}
 use Rattle.q_laws.proofs.laws.turn_is_enough.Goals as goal
 
 pub returns : goal.returns

@@ -1,5 +1,5 @@
-use Rattle.q_laws.proofs.CalmTurns.{calm-turns-are-bounded, calm-classes-wait-at-most}
-use Rattle.q_laws.proofs.MostTurns.{turns-are-bounded, classes-wait-at-most}
+use Rattle.q_laws.proofs.turn.CalmTurns.{calm-turns-are-bounded, calm-classes-wait-at-most}
+use Rattle.q_laws.proofs.turn.MostTurns.{turns-are-bounded, classes-wait-at-most}
 use Rattle.q_laws.proofs.laws.turns_are_bounded.Goals as goal
 
 pub returns : goal.returns

@@ -1,4 +1,4 @@
-use Rattle.q_laws.proofs.WorkTrees.{work-is-conserved}
+use Rattle.q_laws.proofs.work.WorkTrees.{work-is-conserved}
 use Rattle.q_laws.proofs.laws.work_is_conserved.Goals as goal
 
 pub returns : goal.returns

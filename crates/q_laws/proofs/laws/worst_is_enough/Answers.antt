@@ -1,4 +1,4 @@
-use Rattle.q_laws.proofs.WorstKept.{lines-keep-limits, worst-is-enough, worst-is-in-time}
+use Rattle.q_laws.proofs.line.WorstKept.{lines-keep-limits, worst-is-enough, worst-is-in-time}
 use Rattle.q_laws.proofs.laws.worst_is_enough.Goals as goal
 
 pub returns : goal.returns

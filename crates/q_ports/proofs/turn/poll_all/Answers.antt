@@ -5,9 +5,9 @@ use Rattle.q_model.specs.declared.reply.Reply.{Reply}
 use Rattle.q_model.specs.declared.reply.Reply.TheVariants as reply
 use Rattle.q_device.specs.declared.given.Given.{Given}
 use Rattle.q_device.specs.declared.given.Given.TheVariants as given
-use Rattle.q_device.specs.Giving.{polled_in}
+use Rattle.q_device.specs.device.Giving.{polled_in}
+use Rattle.q_device.specs.device.Polls.{given_at, given_by, polled_by}
 use Rattle.q_device.specs.Laws.{given_in}
-use Rattle.q_device.specs.Polls.{given_at, given_by, polled_by}
 use Rattle.q_device.proofs.PollLemmas.{given-more, given-none, poll-is, polled-more, polled-none}
 use Rattle.q_ports.proofs.SentPlaces.{cut-off, written-there}
 use Rattle.q_ports.proofs.turn.poll_all.Goals as goal

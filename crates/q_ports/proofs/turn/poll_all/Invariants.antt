@@ -1,6 +1,6 @@
 use Rattle.std.proofs.Common.{◌≡◌, ◌-◌, ◌++◌}
 use Rattle.std.specs.Prelude.{vec_len, vec_capacity}
-use Rattle.q_device.specs.Polls.{given_by, polled_by}
+use Rattle.q_device.specs.device.Polls.{given_by, polled_by}
 use Rattle.q_ports.proofs.turn.poll_all.Given as goal
 
 abbrev pub invariant-loop-poll : goal.invariant-loop-poll

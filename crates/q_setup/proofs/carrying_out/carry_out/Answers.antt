@@ -4,7 +4,7 @@ use Rattle.std.proofs.lemmas.List.{take_all}
 use Rattle.q_model.specs.declared.command.Command.{Command}
 use Rattle.q_model.specs.Step.{DeviceState}
 use Rattle.q_model.specs.Tally.{Counts}
-use Rattle.q_device.specs.DeviceSeen.{DeviceSeen}
+use Rattle.q_device.specs.device.DeviceSeen.{DeviceSeen}
 use Rattle.q_setup.specs.Alike.{AreAlike, entries}
 use Rattle.q_setup.specs.Done.{AreAccepted, after_commands}
 use Rattle.q_setup.specs.Trying.{seen}

@@ -1,4 +1,4 @@
-use Rattle.q_tree.proofs.CountedLosses.{put-counts, peek-counts, take-counts}
+use Rattle.q_tree.proofs.laws.CountedLosses.{put-counts, peek-counts, take-counts}
 use Rattle.q_tree.proofs.laws.losses_are_counted.Goals as goal
 
 pub returns-clause-put : goal.returns-clause-put

@@ -2,10 +2,10 @@ use Rattle.std.proofs.Common.{◌≤◌, ◌^◌, ap, subst, arith}
 use Rattle.q_packet.specs.Descriptor.{Descriptor}
 use Rattle.q_model.specs.Step.{DeviceState}
 use Rattle.q_model.specs.TreeState.{peek_packet, put, take_packet}
+use Rattle.q_tree.specs.answers.MostPackets.{most_packets}
 use Rattle.q_tree.specs.Kept.{Kept, kept}
-use Rattle.q_tree.specs.MostPackets.{most_packets}
 use Rattle.q_tree.specs.TreeSeen.{tree_seen}
-use Rattle.q_tree.proofs.MostPacketsTrees.{peek-least, put-least, take-least}
+use Rattle.q_tree.proofs.answers.MostPacketsTrees.{peek-least, put-least, take-least}
 use Rattle.q_tree.proofs.TreeLemmas.{lawful-root, least-mtu}
 use Rattle.q_tree.proofs.laws.no_more_is_held.Goals as goal
 

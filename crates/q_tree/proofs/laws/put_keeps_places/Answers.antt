@@ -1,4 +1,4 @@
-use Rattle.q_tree.proofs.OtherSubtrees.{put-places}
+use Rattle.q_tree.proofs.laws.OtherSubtrees.{put-places}
 use Rattle.q_tree.proofs.laws.put_keeps_places.Goals as goal
 
 pub returns : goal.returns

@@ -2,11 +2,11 @@ use Rattle.std.proofs.Common.{◌≤◌, ◌^◌, ap, subst, ◌∙◌, arith}
 use Rattle.q_model.specs.Node.{shape}
 use Rattle.q_model.specs.Step.{DeviceState}
 use Rattle.q_model.specs.TreeState.{given}
-use Rattle.q_invariants.proofs.Forests.{lawful-with_memory}
 use Rattle.q_invariants.proofs.Kept.{IsLawfulRoot}
+use Rattle.q_invariants.proofs.tree.Forests.{lawful-with_memory}
 use Rattle.q_tree.specs.Kept.{Kept}
 use Rattle.q_tree.specs.TreeSeen.{tree_seen}
-use Rattle.q_tree.proofs.PolledTwice.{IsPolledTwice, polled-twice}
+use Rattle.q_tree.proofs.laws.PolledTwice.{IsPolledTwice, polled-twice}
 use Rattle.q_tree.proofs.TreeLemmas.{lawful-root, least-mtu}
 use Rattle.q_tree.proofs.laws.second_poll_changes_nothing.Goals.{After-ns}
 use Rattle.q_tree.proofs.laws.second_poll_changes_nothing.Goals as goal

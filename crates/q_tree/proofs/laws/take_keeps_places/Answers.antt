@@ -1,10 +1,10 @@
 use Rattle.std.proofs.Common.{◌≡◌, ◌≤◌, ◌^◌, ℕ, List, ap, subst, arith}
 use Rattle.q_model.specs.Step.{DeviceState}
 use Rattle.q_model.specs.TreeState.{peek_packet, take_packet}
+use Rattle.q_tree.specs.arrival.Places.{places_at}
 use Rattle.q_tree.specs.Kept.{Kept, kept}
-use Rattle.q_tree.specs.Places.{places_at}
 use Rattle.q_tree.specs.TreeSeen.{tree_seen}
-use Rattle.q_tree.proofs.TakePlaces.{peek-places, take-places}
+use Rattle.q_tree.proofs.laws.TakePlaces.{peek-places, take-places}
 use Rattle.q_tree.proofs.TreeLemmas.{lawful-root, least-mtu}
 use Rattle.q_tree.proofs.laws.take_keeps_places.Goals as goal
 

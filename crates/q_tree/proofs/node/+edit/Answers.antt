@@ -10,14 +10,14 @@ use Rattle.q_model.specs.Find.{node_at}
 use Rattle.q_model.specs.Node as spec
 use Rattle.q_model.specs.Node.{Node}
 use Rattle.q_model.specs.Work.{settled_class, settled_in}
-use Rattle.q_tree.specs.Editing.{removed_at}
+use Rattle.q_tree.specs.commands.Editing.{removed_at}
+use Rattle.q_tree.specs.commands.Purging.{purged}
 use Rattle.q_tree.specs.Kept.{Kept}
-use Rattle.q_tree.specs.Purging.{purged}
 use Rattle.q_tree.specs.Seen.{children_seen, discipline_seen, places_seen}
 use Rattle.q_tree.specs.declared.node.Discipline.TheVariants as code
-use Rattle.q_tree.proofs.EditLemmas.{IsAnswer, on-ok, edited-into, only-edited, leads, lost-there, room, stays, after, of-child}
-use Rattle.q_tree.proofs.PlacesLemmas.{led}
-use Rattle.q_tree.proofs.Puts.{same-child}
+use Rattle.q_tree.proofs.arrival.PlacesLemmas.{led}
+use Rattle.q_tree.proofs.arrival.Puts.{same-child}
+use Rattle.q_tree.proofs.commands.EditLemmas.{IsAnswer, on-ok, edited-into, only-edited, leads, lost-there, room, stays, after, of-child}
 use Rattle.q_tree.proofs.node.+edit.Goals as goal
 
 pub Discipline::edit_beneath-edit-requires : goal.Discipline::edit_beneath-edit-requires

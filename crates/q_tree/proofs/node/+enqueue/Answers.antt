@@ -18,22 +18,22 @@ use Rattle.q_model.specs.Node.{Node, shape, side_by_side}
 use Rattle.q_model.specs.Put.{put_along}
 use Rattle.q_model.specs.Route.{refused, route, through}
 use Rattle.q_model.specs.Work.{settled_class, settled_in}
-use Rattle.q_tree.specs.Ahead.{ways}
-use Rattle.q_tree.specs.Arrivals.{CanCount}
-use Rattle.q_tree.specs.NodeCode.{forest_size}
-use Rattle.q_tree.specs.ArriveSteps.{HasComeIn, IsPlacedIn, way_in}
+use Rattle.q_tree.specs.arrival.Arrivals.{CanCount}
+use Rattle.q_tree.specs.arrival.ArriveSteps.{HasComeIn, IsPlacedIn, way_in}
 use Rattle.q_tree.specs.Kept.{Kept}
+use Rattle.q_tree.specs.NodeCode.{forest_size}
+use Rattle.q_tree.specs.route.Ahead.{ways}
 use Rattle.q_tree.specs.Seen.{children_seen, places_seen, discipline_seen}
 use Rattle.q_tree.specs.declared.node.Discipline.{Discipline}
 use Rattle.q_tree.specs.declared.node.Discipline.TheVariants as code
-use Rattle.q_tree.specs.declared.outcome.Outcome.{Outcome}
-use Rattle.q_tree.proofs.Arriving.{arrived-as, drr-way, fifo-place, flows-after, flows-place, gone-arrived, gone-in, nobody, on-err, place-below, placed-at, prio-way, refused-in, tbf-way, through-past}
-use Rattle.q_tree.proofs.ChoosingLemmas.{child-missing, child-there, drr-child, drr-refused, tbf-child, tbf-refused}
-use Rattle.q_tree.proofs.ArrivedNodes.{can-come-in, come-after, come-kept, come-lost, come-told, place-within, placed-after, placed-kept, within-room}
-use Rattle.q_tree.proofs.HereLemmas.{flow-packets}
-use Rattle.q_tree.proofs.Peeks.{own-room, room-of}
-use Rattle.q_tree.proofs.Puts.{child-packets, is-empty-put}
-use Rattle.q_tree.proofs.RouteLemmas.{child-size, children-size}
+use Rattle.q_tree.specs.declared.arrival.outcome.Outcome.{Outcome}
+use Rattle.q_tree.proofs.arrival.ArrivedNodes.{can-come-in, come-after, come-kept, come-lost, come-told, place-within, placed-after, placed-kept, within-room}
+use Rattle.q_tree.proofs.arrival.Arriving.{arrived-as, drr-way, fifo-place, flows-after, flows-place, gone-arrived, gone-in, nobody, on-err, place-below, placed-at, prio-way, refused-in, tbf-way, through-past}
+use Rattle.q_tree.proofs.arrival.Puts.{child-packets, is-empty-put}
+use Rattle.q_tree.proofs.departure.Peeks.{own-room, room-of}
+use Rattle.q_tree.proofs.disciplines.HereLemmas.{flow-packets}
+use Rattle.q_tree.proofs.route.ChoosingLemmas.{child-missing, child-there, drr-child, drr-refused, tbf-child, tbf-refused}
+use Rattle.q_tree.proofs.route.RouteLemmas.{child-size, children-size}
 use Rattle.q_tree.proofs.node.+enqueue.Goals as goal
 
 pub Discipline::enqueue-enqueue_in_fifo-requires-clause-sink : goal.Discipline::enqueue-enqueue_in_fifo-requires-clause-sink

@@ -13,20 +13,20 @@ use Rattle.q_model.specs.Node.{Node, shape, side_by_side}
 use Rattle.q_model.specs.Put.{put_along}
 use Rattle.q_model.specs.Route.{refused, route, through}
 use Rattle.q_model.specs.Work.{settled_class, settled_in}
-use Rattle.q_tree.specs.Ahead.{ways}
-use Rattle.q_tree.specs.ArriveSteps.{way_in}
+use Rattle.q_tree.specs.arrival.ArriveSteps.{way_in}
 use Rattle.q_tree.specs.Kept.{Kept}
 use Rattle.q_tree.specs.NodeCode.{forest_size}
+use Rattle.q_tree.specs.route.Ahead.{ways}
 use Rattle.q_tree.specs.Seen.{children_seen, discipline_seen, places_seen}
 use Rattle.q_tree.specs.declared.node.Discipline.{Discipline}
 use Rattle.q_tree.specs.declared.node.Discipline.TheVariants as code
-use Rattle.q_tree.proofs.ArrivedNodes.{can-come-in}
-use Rattle.q_tree.proofs.Arriving.{drr-way, prio-way}
-use Rattle.q_tree.proofs.ChoosingLemmas.{child-there, drr-child, drr-refused}
-use Rattle.q_tree.proofs.Keeping.{kept-below, kept-node, kept-up}
-use Rattle.q_tree.proofs.KeepingComes.{below-can, child-can, nowhere}
-use Rattle.q_tree.proofs.Puts.{is-empty-put}
-use Rattle.q_tree.proofs.RouteLemmas.{child-size, children-size}
+use Rattle.q_tree.proofs.arrival.ArrivedNodes.{can-come-in}
+use Rattle.q_tree.proofs.arrival.Arriving.{drr-way, prio-way}
+use Rattle.q_tree.proofs.arrival.Keeping.{kept-below, kept-node, kept-up}
+use Rattle.q_tree.proofs.arrival.KeepingComes.{below-can, child-can, nowhere}
+use Rattle.q_tree.proofs.arrival.Puts.{is-empty-put}
+use Rattle.q_tree.proofs.route.ChoosingLemmas.{child-there, drr-child, drr-refused}
+use Rattle.q_tree.proofs.route.RouteLemmas.{child-size, children-size}
 use Rattle.q_tree.proofs.node.+keep_one.Goals as goal
 
 pub Discipline::keep_one-keep_one-requires : goal.Discipline::keep_one-keep_one-requires

@@ -1,7 +1,7 @@
 use Rattle.std.proofs.Common.{◌≤◌, ◌∙◌, map, set, sym, ap, subst, arith}
-use Rattle.q_tree.specs.Places.{unplaced, places_under}
+use Rattle.q_tree.specs.arrival.Places.{unplaced, places_under}
 use Rattle.q_tree.specs.Seen.{children_seen}
-use Rattle.q_tree.proofs.PlacesLemmas.{set-places, seen-places, set-unplaced, within-led, leads-on, has-place, kept-places, same-places, way-on, place-on, place-off}
+use Rattle.q_tree.proofs.arrival.PlacesLemmas.{set-places, seen-places, set-unplaced, within-led, leads-on, has-place, kept-places, same-places, way-on, place-on, place-off}
 use Rattle.q_tree.proofs.node.+prepare.Goals as goal
 
 pub Discipline::prepare_beneath-returns-in-Prio-clause-children :

@@ -8,21 +8,21 @@ use Rattle.q_model.specs.declared.fate.Fate.TheVariants.{Kept}
 use Rattle.q_model.specs.Beneath.{beneath}
 use Rattle.q_model.specs.Step.{DeviceState}
 use Rattle.q_codel.specs.Bursts.{IsShort}
+use Rattle.q_tree.specs.arrival.KeepSteps.{CanBeKeptBelow}
 use Rattle.q_tree.specs.Bursts.{room_at}
-use Rattle.q_tree.specs.GiveSteps.{IsNoFifo}
-use Rattle.q_tree.specs.KeepSteps.{CanBeKeptBelow}
+use Rattle.q_tree.specs.departure.GiveSteps.{IsNoFifo}
 use Rattle.q_tree.specs.Kept as code
 use Rattle.q_device.specs.declared.device.Device.TheInside.{Inside}
-use Rattle.q_device.specs.Bursts.{arrived_by, budget_at, fates_by}
-use Rattle.q_device.specs.DeviceSeen.{DeviceSeen, longest}
+use Rattle.q_device.specs.device.Bursts.{arrived_by, budget_at, fates_by}
+use Rattle.q_device.specs.device.DeviceSeen.{DeviceSeen, longest}
+use Rattle.q_device.specs.device.Keeping.{IsKeptDevice, device_seen}
+use Rattle.q_device.specs.device.Room.{KeepsPlaces}
 use Rattle.q_device.specs.Events.{with_memory}
-use Rattle.q_device.specs.Keeping.{IsKeptDevice, device_seen}
-use Rattle.q_device.specs.Room.{KeepsPlaces}
-use Rattle.q_device.proofs.BurstEvents.{ArriveHere, arrive-here, budget-of, burst-fields, next-of}
-use Rattle.q_device.proofs.EventLemmas.{waits-numbers}
-use Rattle.q_device.proofs.KeptLemmas.{spared-kept}
-use Rattle.q_device.proofs.device.Device.arrive_burst.Goals.{After-arrive_burst-kept}
+use Rattle.q_device.proofs.device.BurstEvents.{ArriveHere, arrive-here, budget-of, burst-fields, next-of}
 use Rattle.q_device.proofs.device.Device.arrive_burst.Goals as goal
+use Rattle.q_device.proofs.device.Device.arrive_burst.Goals.{After-arrive_burst-kept}
+use Rattle.q_device.proofs.device.EventLemmas.{waits-numbers}
+use Rattle.q_device.proofs.device.KeptLemmas.{spared-kept}
 
 -- the packets that came, which are the first ones
 abbrev came : After-arrive_burst-kept → List StoredPacket

@@ -1,7 +1,7 @@
 use Rattle.std.proofs.Common.{◌≡◌, ℕ, None, length, subst, arith}
 use Rattle.std.proofs.lemmas.List.{take_more}
-use Rattle.q_device.specs.Bursts.{IsArrivals}
-use Rattle.q_device.proofs.Arriving.{arriving-ends, arriving-more, arriving-stops}
+use Rattle.q_device.specs.device.Bursts.{IsArrivals}
+use Rattle.q_device.proofs.device.Arriving.{arriving-ends, arriving-more, arriving-stops}
 use Rattle.q_device.proofs.device.Device.arrive_each.Goals as goal
 
 pub returns-in-Err : goal.returns-in-Err

@@ -1,8 +1,8 @@
 use Rattle.std.proofs.Common.{◌+◌, ◌-◌, ◌<◌, ℕ, length, subst, arith}
 use Rattle.std.proofs.lemmas.List.{take_more}
 use borrow.Rule.Slice.PartMut.{put_mid}
-use Rattle.q_device.specs.Bursts.{IsArriving}
-use Rattle.q_device.proofs.Arriving.{arriving-ends, arriving-more, arriving-part, arriving-starts, arriving-stops, part-within}
+use Rattle.q_device.specs.device.Bursts.{IsArriving}
+use Rattle.q_device.proofs.device.Arriving.{arriving-ends, arriving-more, arriving-part, arriving-starts, arriving-stops, part-within}
 use Rattle.q_device.proofs.device.Device.arrive_many.Goals as goal
 
 pub loop-done-init : goal.loop-done-init

@@ -1,5 +1,5 @@
 use Rattle.std.proofs.Common.{◌≤◌, ◌-◌, length}
-use Rattle.q_device.specs.Bursts.{IsArriving}
+use Rattle.q_device.specs.device.Bursts.{IsArriving}
 use Rattle.q_device.proofs.device.Device.arrive_many.Given as goal
 
 abbrev pub invariant-loop-done : goal.invariant-loop-done

@@ -1,5 +1,5 @@
 use Rattle.std.proofs.Common.{ap}
-use Rattle.q_device.specs.Bursts.{fate_in}
+use Rattle.q_device.specs.device.Bursts.{fate_in}
 use Rattle.q_device.specs.Events.{after_event, reply_to}
 use Rattle.q_device.proofs.device.Device.arrive_next.Goals as goal
 

@@ -7,17 +7,17 @@ use Rattle.q_model.specs.Node.{shape}
 use Rattle.q_model.specs.Step.{fate_of, step}
 use Rattle.q_model.specs.Tally.{totals, with_packet}
 use Rattle.q_model.specs.TreeState.{own_loss}
-use Rattle.q_tree.specs.Places.{places_at}
+use Rattle.q_tree.specs.arrival.Places.{places_at}
 use Rattle.q_tree.specs.TreeSeen.{numbers}
 use Rattle.q_device.specs.declared.device.Device.TheInside.{Inside}
 use Rattle.q_device.specs.Counters.{HasNotFallen}
-use Rattle.q_device.specs.DeviceSeen.{DeviceSeen, HasRoomFor, with_event}
-use Rattle.q_device.specs.Keeping.{device_seen}
-use Rattle.q_device.proofs.EventLemmas.{Happened, arrived, arrived-device, event-rises, event-seen, reply-step}
-use Rattle.q_device.proofs.KeptLemmas.{event-kept, events-after, kept-arrived, only-places, room-kept, room-still, spared-counts}
-use Rattle.q_device.proofs.RecorderLemmas.{full}
-use Rattle.q_device.proofs.device.Device.arrive_stored.Goals.{In-Ok}
+use Rattle.q_device.specs.device.DeviceSeen.{DeviceSeen, HasRoomFor, with_event}
+use Rattle.q_device.specs.device.Keeping.{device_seen}
 use Rattle.q_device.proofs.device.Device.arrive_stored.Goals as goal
+use Rattle.q_device.proofs.device.Device.arrive_stored.Goals.{In-Ok}
+use Rattle.q_device.proofs.device.EventLemmas.{Happened, arrived, arrived-device, event-rises, event-seen, reply-step}
+use Rattle.q_device.proofs.device.KeptLemmas.{event-kept, events-after, kept-arrived, only-places, room-kept, room-still, spared-counts}
+use Rattle.q_device.proofs.log.RecorderLemmas.{full}
 
 -- a packet may arrive with nothing asked: it can be counted, and there is room for its loss
 pub arrive_stored-requires-clause-counted : goal.arrive_stored-requires-clause-counted

@@ -8,16 +8,16 @@ use Rattle.q_model.specs.Ranges.{HasPacketFields}
 use Rattle.q_model.specs.Step.{fate_of, losses_in, step}
 use Rattle.q_model.specs.Tally.{totals, with_packet}
 use Rattle.q_model.specs.TreeState.{noted_by_put, own_loss}
-use Rattle.q_tree.specs.Places.{places_at}
+use Rattle.q_tree.specs.arrival.Places.{places_at}
 use Rattle.q_tree.specs.TreeSeen.{numbers}
 use Rattle.q_device.specs.declared.device.Device.TheInside.{Inside}
 use Rattle.q_device.specs.Counters.{HasNotFallen}
-use Rattle.q_device.specs.DeviceSeen.{DeviceSeen, HasRoomFor, with_event}
-use Rattle.q_device.specs.Keeping.{device_seen, IsKeptDevice}
-use Rattle.q_device.proofs.EventLemmas.{Happened, arrived, arrived-device, event-rises, event-seen, reply-step, waits-numbers}
-use Rattle.q_device.proofs.KeptLemmas.{event-kept, events-after, kept-arrived, only-places, room-kept, room-still, spared-kept}
-use Rattle.q_device.proofs.device.Device.arrive_with_care.Goals.{After-record_arrival}
+use Rattle.q_device.specs.device.DeviceSeen.{DeviceSeen, HasRoomFor, with_event}
+use Rattle.q_device.specs.device.Keeping.{device_seen, IsKeptDevice}
 use Rattle.q_device.proofs.device.Device.arrive_with_care.Goals as goal
+use Rattle.q_device.proofs.device.Device.arrive_with_care.Goals.{After-record_arrival}
+use Rattle.q_device.proofs.device.EventLemmas.{Happened, arrived, arrived-device, event-rises, event-seen, reply-step, waits-numbers}
+use Rattle.q_device.proofs.device.KeptLemmas.{event-kept, events-after, kept-arrived, only-places, room-kept, room-still, spared-kept}
 
 -- memory was refused for the loss: the lost list alone may have more places
 pub invariant_of-self : goal.invariant_of-self

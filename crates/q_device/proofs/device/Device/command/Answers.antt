@@ -8,17 +8,17 @@ use Rattle.q_model.specs.declared.refusal.Refusal.{Refusal}
 use Rattle.q_model.specs.Node.{shape}
 use Rattle.q_model.specs.Step.{step}
 use Rattle.q_model.specs.Tally.{totals}
-use Rattle.q_tree.specs.Commands.{IsRefused, plan_of}
-use Rattle.q_tree.specs.Commanding.{MayTakeMemory, WantsMemory}
+use Rattle.q_tree.specs.commands.Commanding.{MayTakeMemory, WantsMemory}
+use Rattle.q_tree.specs.commands.Commands.{IsRefused, plan_of}
 use Rattle.q_tree.specs.TreeSeen.{numbers}
 use Rattle.q_device.specs.declared.device.Device.TheInside.{Inside}
 use Rattle.q_device.specs.Counters.{HasNotFallen}
-use Rattle.q_device.specs.DeviceSeen.{DeviceSeen, IsRefusal, IsRefusedAt, with_event}
-use Rattle.q_device.specs.Keeping.{device_seen, IsKeptDevice}
-use Rattle.q_device.proofs.EventLemmas.{Happened, commanded, commanded-device, done-reply, event-rises, may-be-refused, event-seen, refused-reply, told-nothing}
-use Rattle.q_device.proofs.KeptLemmas.{event-kept, events-after, kept-arrived}
-use Rattle.q_device.proofs.device.Device.command.Goals.{After-count_other}
+use Rattle.q_device.specs.device.DeviceSeen.{DeviceSeen, IsRefusal, IsRefusedAt, with_event}
+use Rattle.q_device.specs.device.Keeping.{device_seen, IsKeptDevice}
 use Rattle.q_device.proofs.device.Device.command.Goals as goal
+use Rattle.q_device.proofs.device.Device.command.Goals.{After-count_other}
+use Rattle.q_device.proofs.device.EventLemmas.{Happened, commanded, commanded-device, done-reply, event-rises, may-be-refused, event-seen, refused-reply, told-nothing}
+use Rattle.q_device.proofs.device.KeptLemmas.{event-kept, events-after, kept-arrived}
 
 -- a refused command leaves the tree and the lost list
 pub invariant_of-self : goal.invariant_of-self

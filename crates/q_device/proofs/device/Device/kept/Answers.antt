@@ -1,10 +1,10 @@
 use Rattle.std.proofs.Common.{List, length, refl, ap, subst, arith}
 use Rattle.q_packet.specs.Descriptor.{Descriptor}
 use Rattle.q_model.specs.Settings.{IsInRange}
+use Rattle.q_device.specs.device.DeviceSeen.{DeviceSeen}
 use Rattle.q_device.specs.DeviceLaws.{HasItsMemory, IsReplayed}
-use Rattle.q_device.specs.DeviceSeen.{DeviceSeen}
-use Rattle.q_device.proofs.EventLemmas.{waits-numbers}
 use Rattle.q_device.proofs.device.Device.kept.Goals as goal
+use Rattle.q_device.proofs.device.EventLemmas.{waits-numbers}
 
 pub returns-clause-replayed : goal.returns-clause-replayed
 returns-clause-replayed c = let k = c.self.invariant in subst IsReplayed c.self.view_is (record { happened = k.happened; events = k.events; replayed = k.replayed })

@@ -1,8 +1,8 @@
 use Rattle.std.proofs.Common.{◌∙◌, sym, ap}
-use Rattle.q_tree.specs.Lanes.{lane_to}
-use Rattle.q_device.specs.DeviceSeen.{DeviceSeen}
-use Rattle.q_device.proofs.WorstStands.{lane-stands}
+use Rattle.q_tree.specs.answers.Lanes.{lane_to}
+use Rattle.q_device.specs.device.DeviceSeen.{DeviceSeen}
 use Rattle.q_device.proofs.device.Device.lane_at.Goals as goal
+use Rattle.q_device.proofs.promises.WorstStands.{lane-stands}
 
 pub returns : goal.returns
 returns c =

@@ -1,10 +1,10 @@
 use Rattle.std.proofs.Common.{◌∙◌, ℕ, sym, ap, option_and_then, Option}
 use Rattle.q_model.specs.declared.place.Place.{Place}
-use Rattle.q_tree.specs.Lanes.{level_of}
-use Rattle.q_device.specs.DeviceSeen.{DeviceSeen}
-use Rattle.q_device.specs.Latest.{latest_at_turn, latest_in_turn, latest_on}
-use Rattle.q_device.proofs.TurnNowStands.{before-stands}
+use Rattle.q_tree.specs.answers.Lanes.{level_of}
+use Rattle.q_device.specs.device.DeviceSeen.{DeviceSeen}
+use Rattle.q_device.specs.promises.Latest.{latest_at_turn, latest_in_turn, latest_on}
 use Rattle.q_device.proofs.device.Device.latest_at_turn.Goals as goal
+use Rattle.q_device.proofs.promises.TurnNowStands.{before-stands}
 
 pub returns-in_err-bytes : goal.returns-in_err-bytes
 returns-in_err-bytes c =

@@ -1,12 +1,12 @@
 use Rattle.std.proofs.Common.{◌∙◌, ℕ, ◌+◌, refl, sym, ap, option_and_then, Option}
 use Rattle.q_model.specs.declared.row.Row.{Row}
 use Rattle.q_model.specs.Tally.{totals}
+use Rattle.q_tree.specs.answers.Lanes.{level_of}
 use Rattle.q_tree.specs.Kept.{Kept, kept}
-use Rattle.q_tree.specs.Lanes.{level_of}
-use Rattle.q_device.specs.DeviceSeen.{DeviceSeen}
-use Rattle.q_device.specs.Latest.{latest_below, latest_on}
-use Rattle.q_device.proofs.StatsStands.{stats-stands}
+use Rattle.q_device.specs.device.DeviceSeen.{DeviceSeen}
+use Rattle.q_device.specs.promises.Latest.{latest_below, latest_on}
 use Rattle.q_device.proofs.device.Device.latest_below.Goals as goal
+use Rattle.q_device.proofs.device.StatsStands.{stats-stands}
 
 pub returns-in_default : goal.returns-in_default
 returns-in_default c =

@@ -2,10 +2,10 @@ use Rattle.std.proofs.Common.{◌∙◌, ◌≤◌, ◌^◌, List, length, sym, 
 use Rattle.std.specs.Prelude.{◌-◌, min}
 use Rattle.q_packet.specs.Descriptor.{Descriptor}
 use Rattle.q_model.specs.Beneath.{beneath}
-use Rattle.q_tree.specs.MostPackets.{most_packets}
-use Rattle.q_device.specs.DeviceSeen.{DeviceSeen}
-use Rattle.q_device.proofs.ReadyNumbers.{beneath-numbers, most-numbers}
+use Rattle.q_tree.specs.answers.MostPackets.{most_packets}
+use Rattle.q_device.specs.device.DeviceSeen.{DeviceSeen}
 use Rattle.q_device.proofs.device.Device.most_packets.Goals as goal
+use Rattle.q_device.proofs.waiting.ReadyNumbers.{beneath-numbers, most-numbers}
 
 pub returns-clause-value : goal.returns-clause-value
 returns-clause-value c =

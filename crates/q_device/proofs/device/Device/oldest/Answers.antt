@@ -2,9 +2,9 @@ use Rattle.std.proofs.Common.{refl, ap, ◌∙◌}
 use Rattle.q_model.specs.Oldest.{oldest_at}
 use Rattle.q_model.specs.Tally.{totals}
 use Rattle.q_tree.specs.Kept.{Kept, kept}
-use Rattle.q_device.specs.DeviceSeen.{DeviceSeen}
-use Rattle.q_device.proofs.OldestStands.{oldest-stands}
+use Rattle.q_device.specs.device.DeviceSeen.{DeviceSeen}
 use Rattle.q_device.proofs.device.Device.oldest.Goals as goal
+use Rattle.q_device.proofs.promises.OldestStands.{oldest-stands}
 
 pub returns : goal.returns
 returns c =

@@ -2,8 +2,8 @@ use Rattle.std.proofs.Common.{◌∙◌, refl, ap, subst, arith}
 use Rattle.q_model.specs.Settings.{DeviceSettings, IsInRange}
 use Rattle.q_model.specs.Step.{new_device}
 use Rattle.q_model.specs.Tally.{totals}
-use Rattle.q_device.proofs.KeptLemmas.{new-kept}
 use Rattle.q_device.proofs.device.Device.open.Goals as goal
+use Rattle.q_device.proofs.device.KeptLemmas.{new-kept}
 
 pub invariant_of-result : goal.invariant_of-result
 invariant_of-result c =

@@ -1,16 +1,16 @@
 use Rattle.std.proofs.Common.{◌≡◌, ◌∙◌, ℕ, length, sym, ap, ap₂, subst, arith}
 use Rattle.std.proofs.lemmas.Bool.{ltb-false}
 use Rattle.q_model.specs.Step.{DeviceState}
-use Rattle.q_tree.specs.Kept as code
 use Rattle.q_tree.specs.Bursts.{polled_each}
+use Rattle.q_tree.specs.Kept as code
 use Rattle.q_tree.specs.Kept.{kept}
 use Rattle.q_device.specs.declared.device.Device.TheInside.{Inside}
-use Rattle.q_device.specs.Bursts.{AreGivenAt, after_polls}
-use Rattle.q_device.specs.DeviceSeen.{DeviceSeen}
-use Rattle.q_device.proofs.BurstEvents.{PollHere, poll-here}
+use Rattle.q_device.specs.device.Bursts.{AreGivenAt, after_polls}
+use Rattle.q_device.specs.device.DeviceSeen.{DeviceSeen}
+use Rattle.q_device.proofs.device.BurstEvents.{PollHere, poll-here}
 use Rattle.q_device.proofs.device.Device.poll_burst.Given.{Over}
-use Rattle.q_device.proofs.device.Device.poll_burst.Goals.{After-send_burst}
 use Rattle.q_device.proofs.device.Device.poll_burst.Goals as goal
+use Rattle.q_device.proofs.device.Device.poll_burst.Goals.{After-send_burst}
 
 abbrev after : (g : Over) → After-send_burst g → Inside
 after g c = record c.self.inside { tree = c.send_burst.new.self }

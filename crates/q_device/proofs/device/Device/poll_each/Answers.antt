@@ -1,9 +1,9 @@
 use Rattle.std.proofs.Common.{◌≡◌, ◌∙◌, ℕ, ap, arith, length, refl, set, subst, sym}
 use Rattle.std.proofs.lemmas.List.{set-get_or}
-use Rattle.q_device.specs.Bursts.{IsPolls}
+use Rattle.q_device.specs.device.Bursts.{IsPolls}
 use Rattle.q_device.specs.declared.given.Given.TheVariants as given
-use Rattle.q_device.proofs.Polling.{idle-gives_none, later-gives_none, polling-ends, polling-more, polling-stops}
 use Rattle.q_device.proofs.device.Device.poll_each.Goals as goal
+use Rattle.q_device.proofs.device.Polling.{idle-gives_none, later-gives_none, polling-ends, polling-more, polling-stops}
 
 pub loop-i-preserved : goal.loop-i-preserved
 loop-i-preserved g c before d same so_far =

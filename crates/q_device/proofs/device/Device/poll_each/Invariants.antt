@@ -1,6 +1,6 @@
 use Rattle.std.proofs.Common.{◌≡◌, List, length}
-use Rattle.q_device.specs.Bursts.{IsPolling}
-use Rattle.q_device.specs.DeviceSeen.{DeviceSeen}
+use Rattle.q_device.specs.device.Bursts.{IsPolling}
+use Rattle.q_device.specs.device.DeviceSeen.{DeviceSeen}
 use Rattle.q_device.proofs.device.Device.poll_each.Given as goal
 
 abbrev pub invariant-loop-i : goal.invariant-loop-i

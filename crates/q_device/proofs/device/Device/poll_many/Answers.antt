@@ -1,11 +1,11 @@
 use Rattle.std.proofs.Common.{◌+◌, ◌-◌, ◌<◌, ◌≤◌, ◌∙◌, ℕ, ap, arith, length, length-set, refl, set, subst, sym}
 use Rattle.std.proofs.lemmas.List.{set-get_or}
 use borrow.Rule.Slice.PartMut.{put_mid}
-use Rattle.q_device.specs.Bursts.{IsPolling, IsPolls}
+use Rattle.q_device.specs.device.Bursts.{IsPolling, IsPolls}
 use Rattle.q_device.specs.declared.given.Given.TheVariants as given
-use Rattle.q_device.proofs.Arriving.{part-within}
-use Rattle.q_device.proofs.Polling.{idle-gives_none, later-gives_none, polling-ends, polling-long, polling-more, polling-part, polling-starts, polling-stops}
+use Rattle.q_device.proofs.device.Arriving.{part-within}
 use Rattle.q_device.proofs.device.Device.poll_many.Goals as goal
+use Rattle.q_device.proofs.device.Polling.{idle-gives_none, later-gives_none, polling-ends, polling-long, polling-more, polling-part, polling-starts, polling-stops}
 
 pub loop-done-init : goal.loop-done-init
 loop-done-init g c = (polling-starts g.T.Told.told (length c.args.places.now) c.args.now c.args.places.now c.args.self.now, omega arith, refl)

@@ -1,5 +1,5 @@
 use Rattle.std.proofs.Common.{◌≡◌, ◌≤◌, ◌-◌, length}
-use Rattle.q_device.specs.Bursts.{IsPolling}
+use Rattle.q_device.specs.device.Bursts.{IsPolling}
 use Rattle.q_device.proofs.device.Device.poll_many.Given as goal
 
 abbrev pub invariant-loop-done : goal.invariant-loop-done

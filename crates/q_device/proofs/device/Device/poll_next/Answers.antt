@@ -1,11 +1,11 @@
 use Rattle.std.proofs.Common.{◌∙◌, Option, Some, ap, refl, sym}
 use Rattle.std.specs.Prelude.{option_map}
 use Rattle.q_packet.specs.Descriptor.{Descriptor}
-use Rattle.q_device.specs.Bursts.{given_as}
+use Rattle.q_device.specs.device.Bursts.{given_as}
 use Rattle.q_device.specs.Events.{after_event, reply_to}
 use Rattle.q_device.specs.Laws.{given_in}
-use Rattle.q_device.proofs.PollLemmas.{poll-is}
 use Rattle.q_device.proofs.device.Device.poll_next.Goals as goal
+use Rattle.q_device.proofs.device.PollLemmas.{poll-is}
 
 pub returns-in-Packet-clause-polled : goal.returns-in-Packet-clause-polled
 unfolding after_event

@@ -15,16 +15,16 @@ use Rattle.q_tree.specs.Kept.{Kept, kept}
 use Rattle.q_tree.specs.TreeSeen.{numbers}
 use Rattle.q_device.specs.declared.device.Device.TheInside.{Inside}
 use Rattle.q_device.specs.Counters.{HasNotFallen}
-use Rattle.q_device.specs.DeviceSeen.{DeviceSeen, polled_memory, with_event}
-use Rattle.q_device.specs.Giving.{given_of, polled_in}
-use Rattle.q_device.specs.Keeping.{device_seen}
+use Rattle.q_device.specs.device.DeviceSeen.{DeviceSeen, polled_memory, with_event}
+use Rattle.q_device.specs.device.Giving.{given_of, polled_in}
+use Rattle.q_device.specs.device.Keeping.{device_seen}
 use Rattle.q_device.specs.Laws.{given_in}
-use Rattle.q_device.proofs.EventLemmas.{Happened, event-rises, event-seen, polled, polled-device, polled-others, reply-step}
-use Rattle.q_device.proofs.KeptLemmas.{event-kept, events-after, kept-arrived}
-use Rattle.q_device.proofs.PollAnswers.{polled-gives, told-poll}
-use Rattle.q_device.proofs.ReadyNumbers.{given-numbers}
-use Rattle.q_device.proofs.device.Device.poll_stored.Goals.{After-count_poll}
 use Rattle.q_device.proofs.device.Device.poll_stored.Goals as goal
+use Rattle.q_device.proofs.device.Device.poll_stored.Goals.{After-count_poll}
+use Rattle.q_device.proofs.device.EventLemmas.{Happened, event-rises, event-seen, polled, polled-device, polled-others, reply-step}
+use Rattle.q_device.proofs.device.KeptLemmas.{event-kept, events-after, kept-arrived}
+use Rattle.q_device.proofs.device.PollAnswers.{polled-gives, told-poll}
+use Rattle.q_device.proofs.waiting.ReadyNumbers.{given-numbers}
 
 -- the poll has happened
 abbrev after : After-count_poll → Inside

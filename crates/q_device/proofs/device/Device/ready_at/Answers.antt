@@ -2,11 +2,11 @@ use Rattle.std.proofs.Common.{◌∙◌, ◌≡◌, ◌<◌, ◌≤◌, ◌^◌,
 use Rattle.std.specs.Prelude.{Bool, true, IfNone, IfSome, IsSome}
 use Rattle.q_packet.specs.Descriptor.{Descriptor}
 use Rattle.q_model.specs.TreeState.{given}
-use Rattle.q_tree.specs.ReadyAt.{is_sure, ready_at}
+use Rattle.q_tree.specs.answers.ReadyAt.{is_sure, ready_at}
 use Rattle.q_tree.specs.TreeSeen.{tree_numbers}
-use Rattle.q_device.specs.DeviceSeen.{DeviceSeen}
-use Rattle.q_device.proofs.ReadyNumbers.{given-numbers, ready-numbers, sure-numbers}
+use Rattle.q_device.specs.device.DeviceSeen.{DeviceSeen}
 use Rattle.q_device.proofs.device.Device.ready_at.Goals as goal
+use Rattle.q_device.proofs.waiting.ReadyNumbers.{given-numbers, ready-numbers, sure-numbers}
 
 pub returns-clause-value : goal.returns-clause-value
 returns-clause-value c =

@@ -1,7 +1,7 @@
 use Rattle.std.proofs.Common.{◌+◌, ◌∙◌, ap, arith}
-use Rattle.q_device.specs.DeviceSeen.{reaped}
-use Rattle.q_device.proofs.KeptLemmas.{handed-fits, handed-none, handed-one, reaped-kept, reaped-seen}
+use Rattle.q_device.specs.device.DeviceSeen.{reaped}
 use Rattle.q_device.proofs.device.Device.reap.Goals as goal
+use Rattle.q_device.proofs.device.KeptLemmas.{handed-fits, handed-none, handed-one, reaped-kept, reaped-seen}
 
 pub overflow_add-self : goal.overflow_add-self
 overflow_add-self c = omega (arith, handed-fits c.self.inside c.self.invariant c.in_ok-lost.lost c.in_ok-lost.ensures.oldest)

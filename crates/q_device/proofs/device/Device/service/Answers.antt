@@ -3,12 +3,12 @@ use Rattle.q_model.specs.declared.place.Place.{Place}
 use Rattle.q_model.specs.declared.place.Place.TheVariants as place
 use Rattle.q_model.specs.Node.{Node}
 use Rattle.q_tree.specs.Kept.{Kept}
-use Rattle.q_tree.specs.declared.ways.Way as code
-use Rattle.q_tree.specs.Ways.{way_to}
-use Rattle.q_device.specs.DeviceSeen.{DeviceSeen}
-use Rattle.q_device.specs.Promise.{promise_of, promise_seen}
-use Rattle.q_device.proofs.PromiseStands.{counted, no-way, promise-stands, some-way}
+use Rattle.q_tree.specs.declared.answers.ways.Way as code
+use Rattle.q_tree.specs.answers.Ways.{way_to}
+use Rattle.q_device.specs.device.DeviceSeen.{DeviceSeen}
+use Rattle.q_device.specs.promises.Promise.{promise_of, promise_seen}
 use Rattle.q_device.proofs.device.Device.service.Goals as goal
+use Rattle.q_device.proofs.promises.PromiseStands.{counted, no-way, promise-stands, some-way}
 
 pub returns-in_err-way_to-clause-value : goal.returns-in_err-way_to-clause-value
 returns-in_err-way_to-clause-value c =

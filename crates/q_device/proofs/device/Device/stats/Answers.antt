@@ -2,9 +2,9 @@ use Rattle.std.proofs.Common.{refl, ap, ◌∙◌}
 use Rattle.q_model.specs.Tally.{totals}
 use Rattle.q_model.specs.TreeState.{stats}
 use Rattle.q_tree.specs.Kept.{Kept, kept}
-use Rattle.q_device.specs.DeviceSeen.{DeviceSeen}
-use Rattle.q_device.proofs.StatsStands.{stats-stands}
+use Rattle.q_device.specs.device.DeviceSeen.{DeviceSeen}
 use Rattle.q_device.proofs.device.Device.stats.Goals as goal
+use Rattle.q_device.proofs.device.StatsStands.{stats-stands}
 
 pub returns : goal.returns
 returns c =

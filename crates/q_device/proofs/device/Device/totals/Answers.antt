@@ -1,8 +1,8 @@
 use Rattle.std.proofs.Common.{sym, ap, ◌∙◌}
 use Rattle.q_model.specs.Beneath.{beneath, row_of}
-use Rattle.q_device.specs.DeviceSeen.{DeviceSeen}
-use Rattle.q_device.proofs.EventLemmas.{waits-numbers}
+use Rattle.q_device.specs.device.DeviceSeen.{DeviceSeen}
 use Rattle.q_device.proofs.device.Device.totals.Goals as goal
+use Rattle.q_device.proofs.device.EventLemmas.{waits-numbers}
 
 pub returns : goal.returns
 returns c =

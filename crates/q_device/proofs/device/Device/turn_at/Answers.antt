@@ -1,8 +1,8 @@
 use Rattle.std.proofs.Common.{◌∙◌, sym, ap}
-use Rattle.q_tree.specs.Turns.{turn_to}
-use Rattle.q_device.specs.DeviceSeen.{DeviceSeen}
-use Rattle.q_device.proofs.WorstStands.{turn-stands}
+use Rattle.q_tree.specs.answers.Turns.{turn_to}
+use Rattle.q_device.specs.device.DeviceSeen.{DeviceSeen}
 use Rattle.q_device.proofs.device.Device.turn_at.Goals as goal
+use Rattle.q_device.proofs.promises.WorstStands.{turn-stands}
 
 pub returns-clause-value : goal.returns-clause-value
 returns-clause-value c =

@@ -2,7 +2,7 @@ use Rattle.std.proofs.Common.{◌∙◌, ap}
 use Rattle.q_model.specs.declared.event.Event.TheVariants as event
 use Rattle.q_model.specs.Step.{step}
 use Rattle.q_model.specs.Tally.{totals}
-use Rattle.q_device.specs.DeviceSeen.{DeviceSeen, with_event}
+use Rattle.q_device.specs.device.DeviceSeen.{DeviceSeen, with_event}
 use Rattle.q_device.specs.Events.{after_event, reply_to, with_memory}
 use Rattle.q_ports.proofs.booked.Booked.arrive_kept.Goals as goal
 

@@ -3,8 +3,8 @@ use Rattle.q_model.specs.declared.event.Event.TheVariants as event
 use Rattle.q_model.specs.declared.reply.Reply.TheVariants as reply
 use Rattle.q_model.specs.Step.{step}
 use Rattle.q_model.specs.Tally.{totals}
-use Rattle.q_tree.specs.Commanding.{MayTakeMemory}
-use Rattle.q_device.specs.DeviceSeen.{DeviceSeen, with_event, IsRefusal}
+use Rattle.q_tree.specs.commands.Commanding.{MayTakeMemory}
+use Rattle.q_device.specs.device.DeviceSeen.{DeviceSeen, with_event, IsRefusal}
 use Rattle.q_device.specs.Events.{after_event, reply_to, with_memory}
 use Rattle.q_ports.proofs.booked.Booked.command.Goals as goal
 

@@ -1,7 +1,7 @@
 use Rattle.std.proofs.Common.{◌≡◌, ◌<◌, ◌≤◌, ◌^◌, ℕ, subst, None}
 use Rattle.std.specs.Prelude.{IfNone, IfSome}
 use Rattle.q_model.specs.TreeState.{given}
-use Rattle.q_device.specs.DeviceSeen.{DeviceSeen}
+use Rattle.q_device.specs.device.DeviceSeen.{DeviceSeen}
 use Rattle.q_ports.proofs.booked.Booked.ready_at.Goals as goal
 
 pub returns-clause-early : goal.returns-clause-early

@@ -1,6 +1,6 @@
 use Rattle.std.proofs.Common.{◌∙◌, ap}
 use Rattle.q_model.specs.Beneath.{beneath, row_of}
-use Rattle.q_device.specs.DeviceSeen.{DeviceSeen}
+use Rattle.q_device.specs.device.DeviceSeen.{DeviceSeen}
 use Rattle.q_device.specs.Events.{device_row}
 use Rattle.q_ports.proofs.booked.Booked.totals.Goals as goal
 

@@ -1,6 +1,6 @@
 use Rattle.std.proofs.Common.{◌≡◌, ◌∙◌, sym, ap, List}
 use Rattle.q_model.specs.declared.totals.Totals.{Totals}
-use Rattle.q_device.specs.DeviceSeen.{DeviceSeen}
+use Rattle.q_device.specs.device.DeviceSeen.{DeviceSeen}
 use Rattle.q_device.specs.Events.{device_row}
 use Rattle.q_ports.specs.Held.{Held, whole}
 use Rattle.q_ports.specs.Rings.{RingSeen, seat_for}

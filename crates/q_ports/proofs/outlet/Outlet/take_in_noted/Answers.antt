@@ -1,5 +1,5 @@
 use Rattle.std.proofs.Common.{◌∙◌, ℕ, arith, refl, sym, subst, ap}
-use Rattle.q_device.specs.LastNoted.{all_noted, with_noted}
+use Rattle.q_device.specs.log.LastNoted.{all_noted, with_noted}
 use Rattle.q_model.specs.declared.event.Event.TheVariants.{Arrive}
 use Rattle.q_ports.specs.NotedIn.{arrivals_between}
 use Rattle.q_ports.specs.Rings.{RingSeen}

@@ -1,5 +1,5 @@
 use Rattle.std.proofs.Common.{◌≡◌}
-use Rattle.q_device.specs.LastNoted.{all_noted}
+use Rattle.q_device.specs.log.LastNoted.{all_noted}
 use Rattle.q_model.specs.Step.{counts_at}
 use Rattle.q_ports.specs.NotedIn.{arrivals_between}
 use Rattle.q_ports.specs.TakenIn.{TakesIn}

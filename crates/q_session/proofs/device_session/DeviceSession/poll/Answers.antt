@@ -1,5 +1,5 @@
 use Rattle.std.proofs.Common.{rules, ◌≡◌, ◌∙◌, ℕ, ◌-◌, ◌+◌, sym, ap, ap₂, arith}
-use Rattle.q_device.specs.DeviceSeen.{DeviceSeen}
+use Rattle.q_device.specs.device.DeviceSeen.{DeviceSeen}
 use Rattle.q_model.specs.Tally.{totals}
 use Rattle.q_script_semantics.specs.Report.{polls}
 use Rattle.q_script_semantics.specs.Text.{poll_line}

@@ -2,7 +2,7 @@ use Rattle.std.proofs.Common.{rules, ◌∙◌, ◌++◌, List, sym, ap}
 use Rattle.std.specs.Prelude.{drop}
 use Rattle.std.specs.List.{flat_map}
 use Rattle.q_codel.specs.declared.loss.Loss.{Loss}
-use Rattle.q_device.specs.DeviceSeen.{DeviceSeen}
+use Rattle.q_device.specs.device.DeviceSeen.{DeviceSeen}
 use Rattle.q_script_semantics.specs.Text.{lost_line}
 use Rattle.q_session.specs.Seen.{session_seen}
 use Rattle.q_session.specs.Session.{SessionSeen}

@@ -1,5 +1,5 @@
 use Rattle.std.proofs.Common.{◌++◌, ◌∙◌, add-one, suc, sym, ap}
-use Rattle.q_device.specs.DeviceSeen.{DeviceSeen}
+use Rattle.q_device.specs.device.DeviceSeen.{DeviceSeen}
 use Rattle.q_model.specs.Tally.{Counts, totals}
 use Rattle.q_script_semantics.specs.Report.{Effect, commanded}
 use Rattle.q_session.specs.Session.{SessionSeen, seen}

@@ -1,11 +1,11 @@
 use Rattle.std.proofs.Common.{◌∙◌, [], ◌∷◌, ◌++◌, length, map, refl, sym, ap, arith}
 use Rattle.std.specs.List.{fold}
 use Rattle.std.proofs.lemmas.List.{length-append}
-use Rattle.q_tree.specs.Index.{added, listed, under}
-use Rattle.q_tree.proofs.AtHandLemmas.{there-at}
-use Rattle.q_tree.proofs.FindLemmas.{stepped-back}
-use Rattle.q_tree.proofs.IndexLemmas.{added-next, length-next, none-left}
-use Rattle.q_tree.proofs.ShowLemmas.{beneath-depth, beneath-size}
+use Rattle.q_tree.specs.commands.Index.{added, listed, under}
+use Rattle.q_tree.proofs.answers.FindLemmas.{stepped-back}
+use Rattle.q_tree.proofs.answers.ShowLemmas.{beneath-depth, beneath-size}
+use Rattle.q_tree.proofs.commands.IndexLemmas.{added-next, length-next, none-left}
+use Rattle.q_tree.proofs.disciplines.AtHandLemmas.{there-at}
 use Rattle.q_tree.proofs.commands.handles.+add_beneath.Goals as goal
 
 pub add_beneath-requires : goal.add_beneath-requires

@@ -1,8 +1,8 @@
 use Rattle.std.proofs.Common.{◌≡◌, ◌≤◌, ◌+◌, drop, length, map}
 use Rattle.std.specs.List.{fold}
 use Rattle.indexmap.specs.IndexMap.{spare}
-use Rattle.q_tree.specs.Index.{added, addresses_beneath, listed, under}
-use Rattle.q_tree.proofs.IndexLemmas.{addresses_from}
+use Rattle.q_tree.specs.commands.Index.{added, addresses_beneath, listed, under}
+use Rattle.q_tree.proofs.commands.IndexLemmas.{addresses_from}
 use Rattle.q_tree.proofs.commands.handles.+add_beneath.Given as goal
 
 abbrev pub decreases-add_beneath : goal.decreases-add_beneath

@@ -1,9 +1,9 @@
 use Rattle.std.proofs.Common.{◌≡◌, ◌∙◌, sym, ap, Some}
 use Rattle.std.specs.List.{fold}
 use Rattle.q_model.specs.Node.{Node}
-use Rattle.q_tree.specs.Index.{added, listed, own_address}
+use Rattle.q_tree.specs.commands.Index.{added, listed, own_address}
 use Rattle.q_tree.specs.Kept.{Kept}
-use Rattle.q_tree.proofs.IndexLemmas.{listed-insert}
+use Rattle.q_tree.proofs.commands.IndexLemmas.{listed-insert}
 use Rattle.q_tree.proofs.commands.handles.add_own.Goals as goal
 
 pub returns-clause-added : goal.returns-clause-added

@@ -1,7 +1,7 @@
 use Rattle.std.proofs.Common.{◌∙◌, sym, ap}
 use Rattle.std.specs.Prelude.{unwrap_or}
-use Rattle.q_tree.proofs.HeldLemmas.{some-there, none-there}
-use Rattle.q_tree.proofs.ServeLemmas.{class-there}
+use Rattle.q_tree.proofs.departure.HeldLemmas.{some-there, none-there}
+use Rattle.q_tree.proofs.disciplines.ServeLemmas.{class-there}
 use Rattle.q_tree.proofs.disciplines.drr.dequeue_class.Goals as goal
 
 pub dequeue_class_at_hand-requires : goal.dequeue_class_at_hand-requires

@@ -4,7 +4,7 @@ use Rattle.std.proofs.lemmas.Option.{get_or_from_slice_get}
 use Rattle.q_model.specs.Node as spec
 use Rattle.q_model.specs.Pop.{pop}
 use Rattle.q_tree.specs.Kept.{Kept}
-use Rattle.q_tree.proofs.ServeLemmas.{class-given}
+use Rattle.q_tree.proofs.disciplines.ServeLemmas.{class-given}
 use Rattle.q_tree.proofs.disciplines.drr.dequeue_class_at_hand.Goals as goal
 
 pub returns-clause-packet : goal.returns-clause-packet

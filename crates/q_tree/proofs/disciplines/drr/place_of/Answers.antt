@@ -1,5 +1,5 @@
 use Rattle.std.proofs.Common.{Some, ◌∙◌, sym, ap}
-use Rattle.q_tree.proofs.ClassPlaces.{placed-by-name}
+use Rattle.q_tree.proofs.commands.ClassPlaces.{placed-by-name}
 use Rattle.q_tree.proofs.disciplines.drr.place_of.Goals as goal
 
 pub returns-then-name-class : goal.returns-then-name-class

@@ -1,6 +1,6 @@
 use Rattle.std.proofs.Common.{arith}
 use Rattle.std.specs.Prelude.{slice_get}
-use Rattle.q_tree.proofs.GivenInto.{head-len}
+use Rattle.q_tree.proofs.departure.GivenInto.{head-len}
 use Rattle.q_tree.proofs.disciplines.fifo.dequeue_head.Goals as goal
 
 pub quiet-requires-clause-len : goal.quiet-requires-clause-len

@@ -6,8 +6,8 @@ use Rattle.q_packet.specs.declared.cause.Cause.TheVariants.{OverLimit}
 use Rattle.q_codel.specs.FifoState.{FifoState, takes}
 use Rattle.q_model.specs.Route.{ends, refused}
 use Rattle.q_tree.specs.declared.node.Discipline.TheVariants as code
-use Rattle.q_tree.proofs.Arriving.{arrived-as, fifo-form, queued-in-fifo, refused-in}
-use Rattle.q_tree.proofs.ChoosingLemmas.{fifo-here, fifo-refused}
+use Rattle.q_tree.proofs.arrival.Arriving.{arrived-as, fifo-form, queued-in-fifo, refused-in}
+use Rattle.q_tree.proofs.route.ChoosingLemmas.{fifo-here, fifo-refused}
 use Rattle.q_tree.proofs.disciplines.fifo.enqueue_in_fifo.Goals as goal
 
 pub returns-in-Refused-clause-arrives : goal.returns-in-Refused-clause-arrives

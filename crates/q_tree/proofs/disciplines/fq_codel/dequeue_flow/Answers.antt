@@ -5,7 +5,7 @@ use Rattle.q_fqcodel.specs.FqState.{FqState}
 use Rattle.q_fqcodel.specs.Take.{selected, sent_from, dropped_from}
 use Rattle.q_model.specs.Beneath as beneath
 use Rattle.q_model.specs.Beneath.{totals_in}
-use Rattle.q_tree.proofs.TakeCounts.{packet_of, marked_of, marked_is, flow-shown}
+use Rattle.q_tree.proofs.disciplines.TakeCounts.{packet_of, marked_of, marked_is, flow-shown}
 use Rattle.q_tree.proofs.disciplines.fq_codel.dequeue_flow.Goals as goal
 
 -- the flow that sends is in front already

@@ -8,12 +8,12 @@ use Rattle.q_fqcodel.specs.Take.{sent_from, dropped_from}
 use Rattle.q_model.specs.declared.totals.Totals.{Totals}
 use Rattle.q_model.specs.Beneath as beneath
 use Rattle.q_model.specs.Beneath.{totals_in}
-use Rattle.q_tree.specs.Arrivals.{minus}
-use Rattle.q_tree.specs.AskSteps.{signals_of}
-use Rattle.q_tree.specs.Shown.{Shown}
-use Rattle.q_tree.proofs.Rows.{same-totals}
-use Rattle.q_tree.proofs.GivenInto.{none-dropped, sent-some}
-use Rattle.q_tree.proofs.TakeCounts.{late-packets, late-bytes, packet_of, marked_of, marked_is}
+use Rattle.q_tree.specs.arrival.Arrivals.{minus}
+use Rattle.q_tree.specs.departure.AskSteps.{signals_of}
+use Rattle.q_tree.specs.departure.Shown.{Shown}
+use Rattle.q_tree.proofs.counters.Rows.{same-totals}
+use Rattle.q_tree.proofs.departure.GivenInto.{none-dropped, sent-some}
+use Rattle.q_tree.proofs.disciplines.TakeCounts.{late-packets, late-bytes, packet_of, marked_of, marked_is}
 use Rattle.q_tree.proofs.disciplines.fq_codel.dequeue_late.Goals as goal
 use Rattle.q_tree.proofs.disciplines.fq_codel.dequeue_late.Goals.{After-take_late_into-sent}
 

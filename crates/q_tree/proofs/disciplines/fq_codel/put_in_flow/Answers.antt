@@ -3,7 +3,7 @@ use Rattle.q_packet.specs.declared.stamped.Stamped.{Stamped}
 use Rattle.q_fqcodel.specs.Put.{lost_by_put}
 use Rattle.q_model.specs.Beneath as beneath
 use Rattle.q_model.specs.Beneath.{totals_in}
-use Rattle.q_tree.proofs.FlowCounts.{count-sum, packets-bare, bytes-bare}
+use Rattle.q_tree.proofs.disciplines.FlowCounts.{count-sum, packets-bare, bytes-bare}
 use Rattle.q_tree.proofs.disciplines.fq_codel.put_in_flow.Goals as goal
 
 pub returns-clause-put : goal.returns-clause-put

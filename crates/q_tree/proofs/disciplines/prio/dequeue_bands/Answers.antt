@@ -2,13 +2,13 @@ use Rattle.std.proofs.Common.{◌∙◌, set, refl, sym, ap, ap₂}
 use Rattle.std.specs.Prelude.{slice_index_or, unwrap_or}
 use Rattle.std.proofs.lemmas.Option.{slice_get-get_or}
 use Rattle.q_model.specs.Ask.{ask_prio}
-use Rattle.q_tree.specs.AskSteps.{answers, signals_of}
-use Rattle.q_tree.specs.Shown.{Shown}
-use Rattle.q_tree.proofs.AskBands.{band-at, band-once, bands-end, bands-go-on, bands-start}
+use Rattle.q_tree.specs.departure.AskSteps.{answers, signals_of}
+use Rattle.q_tree.specs.departure.Shown.{Shown}
+use Rattle.q_tree.proofs.disciplines.AskBands.{band-at, band-once, bands-end, bands-go-on, bands-start}
 use Rattle.q_codel.proofs.SinkLemmas.{told_nothing}
-use Rattle.q_tree.proofs.HeldLemmas.{some-there}
-use Rattle.q_tree.proofs.IdleBands.{band-idle}
-use Rattle.q_tree.proofs.SendBands.{asked-sent, band-gives, band-hands, band-inside}
+use Rattle.q_tree.proofs.departure.HeldLemmas.{some-there}
+use Rattle.q_tree.proofs.disciplines.IdleBands.{band-idle}
+use Rattle.q_tree.proofs.disciplines.SendBands.{asked-sent, band-gives, band-hands, band-inside}
 use Rattle.q_tree.proofs.disciplines.prio.dequeue_bands.Goals as goal
 
 pub loop-place-init : goal.loop-place-init

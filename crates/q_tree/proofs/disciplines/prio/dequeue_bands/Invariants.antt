@@ -1,6 +1,6 @@
 use Rattle.std.proofs.Common.{◌≡◌}
-use Rattle.q_tree.specs.AskSteps.{IsToldOf, answers, signals_of}
-use Rattle.q_tree.proofs.AskBands.{AreBandsAsked, told_to}
+use Rattle.q_tree.specs.departure.AskSteps.{IsToldOf, answers, signals_of}
+use Rattle.q_tree.proofs.disciplines.AskBands.{AreBandsAsked, told_to}
 use Rattle.q_tree.proofs.disciplines.prio.dequeue_bands.Given as goal
 
 abbrev pub invariant-loop-place : goal.invariant-loop-place

@@ -1,7 +1,7 @@
 use Rattle.std.proofs.Common.{◌∙◌, length, sym, ap, subst, arith}
 use Rattle.std.specs.Prelude.{◌<◌}
-use Rattle.q_tree.specs.Arrivals.{plus}
-use Rattle.q_tree.proofs.BandsLemmas.{IsGoing, one-goes}
+use Rattle.q_tree.specs.arrival.Arrivals.{plus}
+use Rattle.q_tree.proofs.disciplines.BandsLemmas.{IsGoing, one-goes}
 use Rattle.q_tree.proofs.disciplines.prio.keep_first.Goals as goal
 
 pub loop-nodes-preserved : goal.loop-nodes-preserved

@@ -1,4 +1,4 @@
-use Rattle.q_tree.proofs.BandsLemmas.{IsGoing}
+use Rattle.q_tree.proofs.disciplines.BandsLemmas.{IsGoing}
 use Rattle.q_tree.proofs.disciplines.prio.keep_first.Given as goal
 
 abbrev pub invariant-loop-nodes : goal.invariant-loop-nodes

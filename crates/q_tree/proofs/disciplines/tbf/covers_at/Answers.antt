@@ -1,5 +1,5 @@
 use Rattle.std.proofs.Common.{◌∙◌, arith}
-use Rattle.q_tree.proofs.Foreseeing.{covers-found, covers-none}
+use Rattle.q_tree.proofs.answers.Foreseeing.{covers-found, covers-none}
 use Rattle.q_tree.proofs.disciplines.tbf.covers_at.Goals as goal
 
 pub returns : goal.returns

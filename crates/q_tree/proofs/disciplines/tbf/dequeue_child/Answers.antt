@@ -1,6 +1,6 @@
 use Rattle.std.proofs.Common.{◌∙◌, sym, ap}
 use Rattle.std.specs.Prelude.{unwrap_or}
-use Rattle.q_tree.proofs.HeldLemmas.{some-there, none-there}
+use Rattle.q_tree.proofs.departure.HeldLemmas.{some-there, none-there}
 use Rattle.q_tree.proofs.disciplines.tbf.dequeue_child.Goals as goal
 
 pub returns-then-has_packet-clause-after : goal.returns-then-has_packet-clause-after

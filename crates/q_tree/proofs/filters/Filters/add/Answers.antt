@@ -3,7 +3,7 @@ use Rattle.std.specs.Prelude.{nat_le}
 use Rattle.std.specs.List.{insert, take_while}
 use Rattle.q_model.specs.Filters.{with_filter}
 use Rattle.q_model.specs.declared.filter.Filter.{Filter}
-use Rattle.q_tree.proofs.EditLemmas.{filter-placed}
+use Rattle.q_tree.proofs.commands.EditLemmas.{filter-placed}
 use Rattle.q_tree.proofs.filters.Filters.add.Goals as goal
 
 pub returns-in-Ok-clause-ok : goal.returns-in-Ok-clause-ok

@@ -7,14 +7,14 @@ use Rattle.q_codel.specs.FifoState.{FifoState}
 use Rattle.q_fqcodel.specs.FqState.{FqView}
 use Rattle.q_model.specs.Lawful.{CanHold}
 use Rattle.q_model.specs.Node as spec
-use Rattle.q_tree.specs.AskSteps.{answers, own_of}
+use Rattle.q_tree.specs.departure.AskSteps.{answers, own_of}
 use Rattle.q_tree.specs.Seen.{children_seen, discipline_seen, places_seen}
 use Rattle.q_tree.specs.declared.node.Discipline.TheVariants as code
-use Rattle.q_tree.proofs.HereLemmas.{flow-packets}
-use Rattle.q_tree.proofs.Peeks.{asked-in, each-of, room-of, own-room, items-are, serve-of}
-use Rattle.q_tree.proofs.Quiet.{signals-nothing}
-use Rattle.q_tree.proofs.SendForms.{asked-sent-in, sent-in, prio-left, fifo-sent}
-use Rattle.q_tree.proofs.TakeCounts.{flow-told}
+use Rattle.q_tree.proofs.counters.Quiet.{signals-nothing}
+use Rattle.q_tree.proofs.departure.Peeks.{asked-in, each-of, room-of, own-room, items-are, serve-of}
+use Rattle.q_tree.proofs.departure.SendForms.{asked-sent-in, sent-in, prio-left, fifo-sent}
+use Rattle.q_tree.proofs.disciplines.HereLemmas.{flow-packets}
+use Rattle.q_tree.proofs.disciplines.TakeCounts.{flow-told}
 use Rattle.q_tree.proofs.node.Discipline.dequeue.Goals as goal
 
 pub returns-in-Fifo-clause-after : goal.returns-in-Fifo-clause-after

@@ -3,12 +3,12 @@ use Rattle.std.specs.Box.{with_value}
 use Rattle.std.specs.Vec.{with_items}
 use Rattle.q_model.specs.Lawful.{CanHold}
 use Rattle.q_model.specs.Node as spec
-use Rattle.q_tree.specs.AskSteps.{answers, own_of}
-use Rattle.q_tree.specs.GiveSteps.{alone}
+use Rattle.q_tree.specs.departure.AskSteps.{answers, own_of}
+use Rattle.q_tree.specs.departure.GiveSteps.{alone}
 use Rattle.q_tree.specs.Seen.{children_seen, discipline_seen, places_seen}
 use Rattle.q_tree.specs.declared.node.Discipline.TheVariants as code
-use Rattle.q_tree.proofs.Peeks.{asked-in, items-are}
-use Rattle.q_tree.proofs.SendForms.{asked-sent-in, sent-in, prio-left}
+use Rattle.q_tree.proofs.departure.Peeks.{asked-in, items-are}
+use Rattle.q_tree.proofs.departure.SendForms.{asked-sent-in, sent-in, prio-left}
 use Rattle.q_tree.proofs.node.Discipline.give_one.Goals as goal
 
 pub returns-in-Prio-clause-given : goal.returns-in-Prio-clause-given

@@ -10,11 +10,11 @@ use Rattle.q_model.specs.Node.{Node}
 use Rattle.q_packet.specs.Descriptor.{Descriptor}
 use Rattle.q_codel.specs.Losses.{IsTold}
 use Rattle.q_codel.proofs.SinkLemmas.{told_nothing}
+use Rattle.q_tree.specs.commands.DisciplineChanges.{rescheduled}
+use Rattle.q_tree.specs.commands.Purging.{purged}
 use Rattle.q_tree.specs.Kept.{Kept}
-use Rattle.q_tree.specs.Purging.{purged}
-use Rattle.q_tree.specs.DisciplineChanges.{rescheduled}
 use Rattle.q_tree.specs.Seen.{children_seen, discipline_seen, places_seen}
-use Rattle.q_tree.proofs.ClassLemmas.{class-is-there, found-class, past-class}
+use Rattle.q_tree.proofs.commands.ClassLemmas.{class-is-there, found-class, past-class}
 use Rattle.q_tree.proofs.node.Discipline.remove_class.Goals as goal
 
 -- what is lost with the child that was found

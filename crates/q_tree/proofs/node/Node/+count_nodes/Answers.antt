@@ -1,7 +1,7 @@
 use Rattle.std.proofs.Common.{arith}
-use Rattle.q_tree.proofs.AtHandLemmas.{there-at}
-use Rattle.q_tree.proofs.CountingLemmas.{count-all, count-end, count-next}
-use Rattle.q_tree.proofs.ShowLemmas.{beneath-size}
+use Rattle.q_tree.proofs.answers.ShowLemmas.{beneath-size}
+use Rattle.q_tree.proofs.commands.CountingLemmas.{count-all, count-end, count-next}
+use Rattle.q_tree.proofs.disciplines.AtHandLemmas.{there-at}
 use Rattle.q_tree.proofs.node.Node.+count_nodes.Goals as goal
 
 pub loop-child-init : goal.loop-child-init

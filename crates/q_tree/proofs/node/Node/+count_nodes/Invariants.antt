@@ -1,6 +1,6 @@
 use Rattle.std.proofs.Common.{◌≡◌, ◌+◌}
 use Rattle.q_model.specs.Find.{count_nodes}
-use Rattle.q_tree.proofs.CountingLemmas.{ahead}
+use Rattle.q_tree.proofs.commands.CountingLemmas.{ahead}
 use Rattle.q_tree.proofs.node.Node.+count_nodes.Given as goal
 
 abbrev pub decreases-count_nodes : goal.decreases-count_nodes

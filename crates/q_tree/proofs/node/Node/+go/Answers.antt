@@ -4,11 +4,11 @@ use Rattle.std.proofs.lemmas.List.{length_push}
 use Rattle.std.proofs.lemmas.Option.{slice_get_read}
 use Rattle.q_model.specs.Node.{Node}
 use Rattle.q_model.specs.Route.{Route, route}
-use Rattle.q_tree.specs.Ahead.{ahead}
 use Rattle.q_tree.specs.Kept.{Kept}
+use Rattle.q_tree.specs.route.Ahead.{ahead}
 use Rattle.q_tree.specs.Seen.{children_seen}
-use Rattle.q_tree.proofs.FindLemmas.{children-read}
-use Rattle.q_tree.proofs.RouteLemmas.{child-depth, child-size, children-depth, children-size, ends-refused, through-some, way-from}
+use Rattle.q_tree.proofs.answers.FindLemmas.{children-read}
+use Rattle.q_tree.proofs.route.RouteLemmas.{child-depth, child-size, children-depth, children-size, ends-refused, through-some, way-from}
 use Rattle.q_tree.proofs.node.Node.+go.Goals as goal
 
 pub returns-in-Refused : goal.returns-in-Refused

@@ -1,7 +1,7 @@
 use Rattle.std.proofs.Common.{◌∙◌, sym, arith}
-use Rattle.q_tree.proofs.AtHandLemmas.{there-at}
-use Rattle.q_tree.proofs.ShowLemmas.{beneath-size}
-use Rattle.q_tree.proofs.WayLemmas.{tbf-all}
+use Rattle.q_tree.proofs.answers.ShowLemmas.{beneath-size}
+use Rattle.q_tree.proofs.answers.WayLemmas.{tbf-all}
+use Rattle.q_tree.proofs.disciplines.AtHandLemmas.{there-at}
 use Rattle.q_tree.proofs.node.Node.+has_tbf.Goals as goal
 
 pub loop-child-init : goal.loop-child-init

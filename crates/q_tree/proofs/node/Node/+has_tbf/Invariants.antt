@@ -1,6 +1,6 @@
 use Rattle.std.proofs.Common.{◌≡◌}
-use Rattle.q_tree.specs.Ways.{has_tbf}
-use Rattle.q_tree.proofs.WayLemmas.{tbf_ahead}
+use Rattle.q_tree.specs.answers.Ways.{has_tbf}
+use Rattle.q_tree.proofs.answers.WayLemmas.{tbf_ahead}
 use Rattle.q_tree.proofs.node.Node.+has_tbf.Given as goal
 
 abbrev pub decreases-has_tbf : goal.decreases-has_tbf

@@ -1,10 +1,10 @@
 use Rattle.std.proofs.Common.{◌+◌, ap, arith}
 use Rattle.q_model.specs.Node as spec
+use Rattle.q_tree.specs.answers.MostPackets.{most_held, most_queued}
 use Rattle.q_tree.specs.Kept.{Kept}
-use Rattle.q_tree.specs.MostPackets.{most_held, most_queued}
-use Rattle.q_tree.proofs.AtHandLemmas.{there-at}
-use Rattle.q_tree.proofs.MostPacketsLemmas.{most-all, most-end, most-next}
-use Rattle.q_tree.proofs.ShowLemmas.{beneath-size}
+use Rattle.q_tree.proofs.answers.MostPacketsLemmas.{most-all, most-end, most-next}
+use Rattle.q_tree.proofs.answers.ShowLemmas.{beneath-size}
+use Rattle.q_tree.proofs.disciplines.AtHandLemmas.{there-at}
 use Rattle.q_tree.proofs.node.Node.+most_packets.Goals as goal
 
 pub loop-child-init : goal.loop-child-init

@@ -1,7 +1,7 @@
 use Rattle.std.proofs.Common.{◌≡◌, ◌+◌, ◌<◌, ◌^◌}
 use Rattle.std.specs.Prelude.{◌-◌, min}
-use Rattle.q_tree.specs.MostPackets.{most_packets}
-use Rattle.q_tree.proofs.MostPacketsLemmas.{most_from}
+use Rattle.q_tree.specs.answers.MostPackets.{most_packets}
+use Rattle.q_tree.proofs.answers.MostPacketsLemmas.{most_from}
 use Rattle.q_tree.proofs.node.Node.+most_packets.Given as goal
 
 abbrev pub decreases-most_packets : goal.decreases-most_packets

@@ -2,9 +2,9 @@ use Rattle.std.proofs.Common.{◌∙◌, ◌∷◌, [], length, sym, ap, arith, 
 use Rattle.std.specs.Prelude.{slice_get}
 use Rattle.std.proofs.lemmas.List.{length-append}
 use Rattle.std.proofs.lemmas.Option.{slice_get_within}
-use Rattle.q_tree.specs.Nodes.{behind}
-use Rattle.q_tree.proofs.NodesLemmas.{behind-none}
-use Rattle.q_tree.proofs.ShowLemmas.{beneath-depth, child-numbered}
+use Rattle.q_tree.specs.answers.Nodes.{behind}
+use Rattle.q_tree.proofs.answers.NodesLemmas.{behind-none}
+use Rattle.q_tree.proofs.answers.ShowLemmas.{beneath-depth, child-numbered}
 use Rattle.q_tree.proofs.node.Node.+next_behind.Goals as goal
 
 pub returns-in_err-child-clause-end : goal.returns-in_err-child-clause-end

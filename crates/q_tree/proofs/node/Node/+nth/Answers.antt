@@ -1,9 +1,9 @@
 use Rattle.std.proofs.Common.{◌≡◌, ◌+◌, ◌∙◌, sym, ap, arith, length, option_map}
 use Rattle.std.specs.Prelude.{slice_get}
 use Rattle.q_model.specs.Views.{places_below}
-use Rattle.q_tree.specs.Showing.{standing}
-use Rattle.q_tree.proofs.AtHandLemmas.{there-at}
-use Rattle.q_tree.proofs.ShowLemmas.{from, here, beneath-first, beneath-size, child-numbered, count-here, found-here, found-later, get-next, nobody-left}
+use Rattle.q_tree.specs.answers.Showing.{standing}
+use Rattle.q_tree.proofs.answers.ShowLemmas.{from, here, beneath-first, beneath-size, child-numbered, count-here, found-here, found-later, get-next, nobody-left}
+use Rattle.q_tree.proofs.disciplines.AtHandLemmas.{there-at}
 use Rattle.q_tree.proofs.node.Node.+nth.Goals as goal
 
 pub nth-requires : goal.nth-requires

@@ -1,8 +1,8 @@
 use Rattle.std.proofs.Common.{◌≡◌, ◌+◌, length}
 use Rattle.std.specs.Prelude.{slice_get}
 use Rattle.q_model.specs.Views.{places_below}
-use Rattle.q_tree.specs.Showing.{standing}
-use Rattle.q_tree.proofs.ShowLemmas.{from}
+use Rattle.q_tree.specs.answers.Showing.{standing}
+use Rattle.q_tree.proofs.answers.ShowLemmas.{from}
 use Rattle.q_tree.proofs.node.Node.+nth.Given as goal
 
 abbrev pub decreases-nth : goal.decreases-nth

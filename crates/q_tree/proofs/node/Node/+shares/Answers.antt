@@ -1,7 +1,7 @@
 use Rattle.std.proofs.Common.{[], ◌∷◌, sym, subst, arith}
 use Rattle.std.specs.Prelude.{All}
 use Rattle.std.proofs.lemmas.List.Elements.{All-nil, All-cons, All-append}
-use Rattle.q_tree.specs.Ways.{IsShare}
+use Rattle.q_tree.specs.answers.Ways.{IsShare}
 use Rattle.q_tree.proofs.node.Node.+shares.Goals as goal
 
 pub shares-requires : goal.shares-requires

@@ -1,11 +1,11 @@
 use Rattle.std.proofs.Common.{◌∙◌, Ok, sym, ap, subst, arith}
 use Rattle.q_codel.specs.Losses.{IsTold}
 use Rattle.q_model.specs.Beneath.{totals_in}
-use Rattle.q_tree.specs.Editing.{CanDrop, with_dropped}
-use Rattle.q_tree.specs.Purging.{purged}
-use Rattle.q_tree.specs.DisciplineChanges.{lost_with}
+use Rattle.q_tree.specs.commands.DisciplineChanges.{lost_with}
+use Rattle.q_tree.specs.commands.Editing.{CanDrop, with_dropped}
+use Rattle.q_tree.specs.commands.Purging.{purged}
 use Rattle.q_tree.specs.Seen.{children_seen, discipline_seen}
-use Rattle.q_tree.proofs.EditLemmas.{can-lose, goes-is, goes-room, changed_by-effect, changed_by-kept, same-total}
+use Rattle.q_tree.proofs.commands.EditLemmas.{can-lose, goes-is, goes-room, changed_by-effect, changed_by-kept, same-total}
 use Rattle.q_tree.proofs.node.Node.apply.Goals as goal
 
 pub change-requires-clause-few : goal.change-requires-clause-few

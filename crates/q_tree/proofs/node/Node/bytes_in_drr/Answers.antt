@@ -6,12 +6,12 @@ use Rattle.q_drr.proofs.DifferLemmas.{differ_from_pairs}
 use Rattle.q_model.specs.Beneath.{beneath, totals_in}
 use Rattle.q_model.specs.Node.{Node}
 use Rattle.q_model.specs.Stretches.{length_held}
+use Rattle.q_tree.specs.answers.TurnNow.{bytes_in_drr}
+use Rattle.q_tree.specs.answers.Ways.{share_among}
 use Rattle.q_tree.specs.Kept.{Kept}
 use Rattle.q_tree.specs.Seen.{discipline_seen}
-use Rattle.q_tree.specs.TurnNow.{bytes_in_drr}
-use Rattle.q_tree.specs.Ways.{share_among}
-use Rattle.q_tree.proofs.TurnNowLemmas.{turn-is}
-use Rattle.q_tree.proofs.WayLemmas.{IsAt, IsNamed, is-at, is-named, named-has}
+use Rattle.q_tree.proofs.answers.TurnNowLemmas.{turn-is}
+use Rattle.q_tree.proofs.answers.WayLemmas.{IsAt, IsNamed, is-at, is-named, named-has}
 use Rattle.q_tree.proofs.node.Node.bytes_in_drr.Goals as goal
 
 pub deficits_ahead-ahead-requires : goal.deficits_ahead-ahead-requires

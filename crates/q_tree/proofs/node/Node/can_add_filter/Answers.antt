@@ -6,8 +6,8 @@ use Rattle.q_model.specs.Find.{class_place}
 use Rattle.q_model.specs.Node.{Node, shape}
 use Rattle.q_model.specs.Refusals.{has_filters}
 use Rattle.q_tree.specs.Kept.{Kept}
-use Rattle.q_tree.proofs.Plans.{add_answer, none-is, some-is}
-use Rattle.q_tree.proofs.TargetLemmas.{class-shape}
+use Rattle.q_tree.proofs.commands.Plans.{add_answer, none-is, some-is}
+use Rattle.q_tree.proofs.commands.TargetLemmas.{class-shape}
 use Rattle.q_tree.proofs.node.Node.can_add_filter.Goals as goal
 
 pub returns-then-is_none : goal.returns-then-is_none

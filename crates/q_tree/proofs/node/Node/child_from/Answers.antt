@@ -1,8 +1,8 @@
 use Rattle.std.proofs.Common.{◌∙◌, ◌∷◌, [], sym, ap, option_copied}
 use Rattle.std.specs.Prelude.{slice_get}
-use Rattle.q_tree.specs.Nodes.{behind}
-use Rattle.q_tree.proofs.NodesLemmas.{children_from-none, children_from-some}
-use Rattle.q_tree.proofs.ShowLemmas.{child-numbered}
+use Rattle.q_tree.specs.answers.Nodes.{behind}
+use Rattle.q_tree.proofs.answers.NodesLemmas.{children_from-none, children_from-some}
+use Rattle.q_tree.proofs.answers.ShowLemmas.{child-numbered}
 use Rattle.q_tree.proofs.node.Node.child_from.Goals as goal
 
 pub returns-in_err-child-clause-end : goal.returns-in_err-child-clause-end

@@ -1,6 +1,6 @@
 use Rattle.std.proofs.Common.{◌∙◌, sym, ap}
 use Rattle.q_tree.specs.Seen.{children_seen}
-use Rattle.q_tree.proofs.FindLemmas.{children-read}
+use Rattle.q_tree.proofs.answers.FindLemmas.{children-read}
 use Rattle.q_tree.proofs.node.Node.children.Goals as goal
 
 pub returns-in-Prio : goal.returns-in-Prio

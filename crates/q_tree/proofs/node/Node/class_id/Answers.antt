@@ -4,7 +4,7 @@ use Rattle.q_model.specs.declared.class_id.ClassId.{ClassId}
 use Rattle.q_model.specs.Node.{Node, children}
 use Rattle.q_model.specs.Views.{minors}
 use Rattle.q_tree.specs.Kept.{Kept}
-use Rattle.q_tree.proofs.ShowLemmas.{by-handle}
+use Rattle.q_tree.proofs.answers.ShowLemmas.{by-handle}
 use Rattle.q_tree.proofs.node.Node.class_id.Goals as goal
 
 abbrev with_major : ℕ → ℕ → ClassId

@@ -5,7 +5,7 @@ use Rattle.q_model.specs.Node.{Node}
 use Rattle.q_model.specs.Views.{class_kind}
 use Rattle.q_tree.specs.Kept.{Kept}
 use Rattle.q_tree.specs.Seen.{discipline_seen}
-use Rattle.q_tree.proofs.ShowLemmas.{class-asleep, class-awake}
+use Rattle.q_tree.proofs.answers.ShowLemmas.{class-asleep, class-awake}
 use Rattle.q_tree.proofs.node.Node.class_kind.Goals as goal
 
 pub returns-then-not-is_active : goal.returns-then-not-is_active

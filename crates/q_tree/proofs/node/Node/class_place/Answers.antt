@@ -1,6 +1,6 @@
 use Rattle.std.proofs.Common.{◌≤◌, ◌∙◌, sym, ap, subst, arith}
 use Rattle.q_drr.specs.Schedule.{place_of}
-use Rattle.q_tree.proofs.FindLemmas.{place-inside, place-past, drr-place}
+use Rattle.q_tree.proofs.answers.FindLemmas.{place-inside, place-past, drr-place}
 use Rattle.q_tree.proofs.node.Node.class_place.Goals as goal
 
 pub returns-then-place-len : goal.returns-then-place-len

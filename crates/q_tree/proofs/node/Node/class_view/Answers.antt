@@ -2,7 +2,7 @@ use Rattle.std.proofs.Common.{◌∙◌, sym, ap, Some, option_map}
 use Rattle.std.proofs.lemmas.Option.{slice_get-map}
 use Rattle.q_model.specs.declared.class_id.ClassId.{ClassId}
 use Rattle.q_model.specs.Views.{class_ids, class_kind}
-use Rattle.q_tree.proofs.ShowLemmas.{there}
+use Rattle.q_tree.proofs.answers.ShowLemmas.{there}
 use Rattle.q_tree.proofs.node.Node.class_view.Goals as goal
 
 pub class_kind-requires : goal.class_kind-requires

@@ -5,16 +5,16 @@ use Rattle.q_model.specs.declared.row.Row.{Row}
 use Rattle.q_model.specs.declared.totals.Totals.{Totals}
 use Rattle.q_model.specs.Pop.{pop}
 use Rattle.q_model.specs.Work.{booked}
-use Rattle.q_tree.specs.Holding.{packet_held}
+use Rattle.q_tree.specs.departure.Holding.{packet_held}
+use Rattle.q_tree.specs.departure.Shown.{Shown}
 use Rattle.q_tree.specs.Kept.{kept}
 use Rattle.q_tree.specs.Seen.{seen}
-use Rattle.q_tree.specs.Shown.{Shown}
-use Rattle.q_tree.proofs.AtHandLemmas.{none-held}
-use Rattle.q_tree.proofs.HeldLemmas.{none-kept}
-use Rattle.q_tree.proofs.Peeks.{holding-after, can-book, can-in, enough, shown-here, told-here}
-use Rattle.q_tree.proofs.PopLemmas.{held-after}
-use Rattle.q_tree.proofs.SendForms.{held-answer, held-shows, none-sent, sent-row, sent-queued, one-sent}
-use Rattle.q_tree.proofs.SendLemmas.{given-some, gave-asked}
+use Rattle.q_tree.proofs.departure.HeldLemmas.{none-kept}
+use Rattle.q_tree.proofs.departure.Peeks.{holding-after, can-book, can-in, enough, shown-here, told-here}
+use Rattle.q_tree.proofs.departure.PopLemmas.{held-after}
+use Rattle.q_tree.proofs.departure.SendForms.{held-answer, held-shows, none-sent, sent-row, sent-queued, one-sent}
+use Rattle.q_tree.proofs.departure.SendLemmas.{given-some, gave-asked}
+use Rattle.q_tree.proofs.disciplines.AtHandLemmas.{none-held}
 use Rattle.q_tree.proofs.node.Node.dequeue.Goals as goal
 
 pub returns-then-is_some-clause-dequeued : goal.returns-then-is_some-clause-dequeued

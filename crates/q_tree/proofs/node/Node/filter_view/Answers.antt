@@ -4,7 +4,7 @@ use Rattle.q_model.specs.declared.filter.Filter.{Filter}
 use Rattle.q_model.specs.declared.filter_view.FilterView.{FilterView}
 use Rattle.q_model.specs.Node.{Node}
 use Rattle.q_tree.specs.Kept.{Kept}
-use Rattle.q_tree.proofs.ShowLemmas.{by-handle}
+use Rattle.q_tree.proofs.answers.ShowLemmas.{by-handle}
 use Rattle.q_tree.proofs.node.Node.filter_view.Goals as goal
 
 abbrev with_parent : Filter → ℕ → FilterView

@@ -1,13 +1,13 @@
 use Rattle.std.proofs.Common.{◌≡◌, refl, sym, subst, arith, None, rules}
 use Rattle.q_model.specs.Node.{Node, children}
-use Rattle.q_invariants.proofs.Forests.{nodes-side}
-use Rattle.q_tree.specs.GiveSteps.{CanGiveFrom, alone}
-use Rattle.q_tree.specs.Holding.{packet_held}
-use Rattle.q_tree.proofs.HeldLemmas.{none-kept}
-use Rattle.q_tree.proofs.Peeks.{can-book, can-in, shown-here, told-here}
-use Rattle.q_tree.proofs.Quiet.{shown-nothing}
-use Rattle.q_tree.proofs.SendForms.{sent-queued, one-sent}
-use Rattle.q_tree.specs.KeepSteps.{no_sink}
+use Rattle.q_invariants.proofs.tree.Forests.{nodes-side}
+use Rattle.q_tree.specs.departure.GiveSteps.{CanGiveFrom, alone}
+use Rattle.q_tree.specs.departure.Holding.{packet_held}
+use Rattle.q_tree.proofs.counters.Quiet.{shown-nothing}
+use Rattle.q_tree.proofs.departure.HeldLemmas.{none-kept}
+use Rattle.q_tree.proofs.departure.Peeks.{can-book, can-in, shown-here, told-here}
+use Rattle.q_tree.proofs.departure.SendForms.{sent-queued, one-sent}
+use Rattle.q_tree.specs.arrival.KeepSteps.{no_sink}
 use Rattle.q_tree.specs.Kept.{Kept}
 use Rattle.q_tree.specs.Seen.{children_seen, discipline_seen}
 use Rattle.q_tree.proofs.node.Node.give_one.Goals as goal

@@ -1,5 +1,5 @@
 use Rattle.std.proofs.Common.{◌∙◌, sym}
-use Rattle.q_tree.proofs.EmptyFifo.{empty-fifo}
+use Rattle.q_tree.proofs.disciplines.EmptyFifo.{empty-fifo}
 use Rattle.q_tree.proofs.node.Node.is_an_empty_fifo.Goals as goal
 
 pub returns-clause-means : goal.returns-clause-means

@@ -3,7 +3,7 @@ use Rattle.std.specs.Prelude.{take}
 use Rattle.std.proofs.lemmas.List.{length-take}
 use Rattle.q_model.specs.Node.{Node}
 use Rattle.q_tree.specs.Kept.{Kept}
-use Rattle.q_tree.proofs.BurstArrivals.{bytes-bound}
+use Rattle.q_tree.proofs.arrival.BurstArrivals.{bytes-bound}
 use Rattle.q_tree.proofs.node.Node.keep_burst.Goals as goal
 
 pub book_arrivals-requires-clause-bytes : goal.book_arrivals-requires-clause-bytes

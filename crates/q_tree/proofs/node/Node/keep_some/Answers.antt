@@ -6,12 +6,12 @@ use Rattle.q_packet.specs.declared.stored_packet.StoredPacket.{StoredPacket}
 use Rattle.q_codel.specs.Bursts.{IsShort}
 use Rattle.q_model.specs.declared.totals.Totals.{Totals}
 use Rattle.q_model.specs.Node.{Node}
-use Rattle.q_tree.specs.KeepSteps.{CanBeKeptBelow, CanBeKeptIn}
+use Rattle.q_tree.specs.arrival.KeepSteps.{CanBeKeptBelow, CanBeKeptIn}
 use Rattle.q_tree.specs.Kept.{Kept}
 use Rattle.q_tree.specs.Seen.{seen}
 use Rattle.q_tree.specs.declared.node.Node.TheInside.{Inside}
-use Rattle.q_tree.proofs.BurstArrivals.{bytes-bound}
-use Rattle.q_tree.proofs.KeepingComes.{below-can, next-weaker}
+use Rattle.q_tree.proofs.arrival.BurstArrivals.{bytes-bound}
+use Rattle.q_tree.proofs.arrival.KeepingComes.{below-can, next-weaker}
 use Rattle.q_tree.proofs.node.Node.keep_some.Goals as goal
 
 pub book_arrivals-requires-clause-bytes : goal.book_arrivals-requires-clause-bytes

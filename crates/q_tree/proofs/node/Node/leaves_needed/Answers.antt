@@ -5,10 +5,10 @@ use Rattle.std.proofs.lemmas.Bool.{lt-ltb, le-ltb}
 use Rattle.q_model.specs.declared.filter.Filter.{Filter}
 use Rattle.q_model.specs.Node.{Node, children}
 use Rattle.q_model.specs.Refusals.{most_nodes}
-use Rattle.q_tree.specs.Changing.{nodes_from}
+use Rattle.q_tree.specs.commands.Changing.{nodes_from}
 use Rattle.q_tree.specs.Kept.{Kept}
 use Rattle.q_tree.specs.Seen.{discipline_seen}
-use Rattle.q_tree.proofs.ChangeLemmas.{leaves-by}
+use Rattle.q_tree.proofs.commands.ChangeLemmas.{leaves-by}
 use Rattle.q_tree.proofs.node.Node.leaves_needed.Goals as goal
 
 pub returns-then-names_beyond : goal.returns-then-names_beyond

@@ -3,7 +3,7 @@ use Rattle.std.specs.Prelude.{slice_get}
 use Rattle.std.proofs.lemmas.Option.{slice_get-map}
 use Rattle.q_drr.specs.Schedule.{Class}
 use Rattle.q_model.specs.Numbers.{IsMinor}
-use Rattle.q_tree.proofs.ShowLemmas.{few-bands, minors-prio, band-number, no-band, minor-made, drr-minors, named-minor}
+use Rattle.q_tree.proofs.answers.ShowLemmas.{few-bands, minors-prio, band-number, no-band, minor-made, drr-minors, named-minor}
 use Rattle.q_tree.proofs.node.Node.minor.Goals as goal
 
 pub overflow_cast-i : goal.overflow_cast-i

@@ -1,5 +1,5 @@
 use Rattle.std.proofs.Common.{◌-◌, drop, length, take, arith}
-use Rattle.q_tree.proofs.CountingLemmas.{count-next, few-from}
+use Rattle.q_tree.proofs.commands.CountingLemmas.{count-next, few-from}
 use Rattle.q_tree.proofs.node.Node.nodes_from.Goals as goal
 
 pub count_nodes-nodes-requires : goal.count_nodes-nodes-requires

@@ -1,6 +1,6 @@
 use Rattle.std.proofs.Common.{◌≡◌, ◌+◌}
-use Rattle.q_tree.specs.Changing.{nodes_from}
-use Rattle.q_tree.proofs.CountingLemmas.{ahead}
+use Rattle.q_tree.specs.commands.Changing.{nodes_from}
+use Rattle.q_tree.proofs.commands.CountingLemmas.{ahead}
 use Rattle.q_tree.proofs.node.Node.nodes_from.Given as goal
 
 -- those that were counted, and those ahead

@@ -1,6 +1,6 @@
 use Rattle.std.proofs.Common.{◌∙◌, ap, arith}
 use Rattle.q_model.specs.declared.qdisc_view.QdiscView.TheVariants as qdisc
-use Rattle.q_tree.proofs.ShowLemmas.{few-bands, view-prio}
+use Rattle.q_tree.proofs.answers.ShowLemmas.{few-bands, view-prio}
 use Rattle.q_tree.proofs.node.Node.qdisc_view.Goals as goal
 
 pub overflow_cast-result : goal.overflow_cast-result

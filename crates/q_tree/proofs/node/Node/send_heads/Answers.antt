@@ -1,8 +1,8 @@
 use Rattle.std.proofs.Common.{◌≤◌, length, arith}
-use Rattle.q_tree.proofs.BurstSends.{heads-after, heads-kept, heads-told, heads-totals}
+use Rattle.q_tree.proofs.departure.BurstSends.{heads-after, heads-kept, heads-told, heads-totals}
 use Rattle.q_tree.proofs.node.Node.send_heads.Given.{Over}
-use Rattle.q_tree.proofs.node.Node.send_heads.Goals.{After-book_sends}
 use Rattle.q_tree.proofs.node.Node.send_heads.Goals as goal
+use Rattle.q_tree.proofs.node.Node.send_heads.Goals.{After-book_sends}
 
 few : (g : Over) (c : After-book_sends g) → c.take_burst-count.result.0 ≤ length c.in-Fifo.fifo.packets
 few g c = omega (arith, c.take_burst-count.ensures.count)

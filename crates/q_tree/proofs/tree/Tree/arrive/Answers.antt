@@ -2,7 +2,7 @@ use Rattle.std.proofs.Common.{ap, subst, arith}
 use Rattle.q_packet.specs.Descriptor.{Descriptor}
 use Rattle.q_model.specs.declared.totals.Totals.{Totals}
 use Rattle.q_model.specs.Step.{DeviceState}
-use Rattle.q_tree.specs.Arrivals.{CanCount}
+use Rattle.q_tree.specs.arrival.Arrivals.{CanCount}
 use Rattle.q_tree.specs.Kept.{Kept}
 use Rattle.q_tree.proofs.tree.Tree.arrive.Goals as goal
 

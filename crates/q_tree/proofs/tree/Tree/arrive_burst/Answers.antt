@@ -9,10 +9,10 @@ use Rattle.q_model.specs.Step.{DeviceState}
 use Rattle.q_tree.specs.Bursts.{AreKept, arrived_each, with_arrivals}
 use Rattle.q_tree.specs.Kept.{Kept, kept}
 use Rattle.q_tree.specs.declared.tree.Tree.TheInside.{Inside}
-use Rattle.q_tree.proofs.BurstArrivals.{IsBurst, burst-came, bytes-bound, came-all, long-each}
-use Rattle.q_tree.proofs.TreeLemmas.{top-row}
-use Rattle.q_tree.proofs.tree.Tree.arrive_burst.Goals.{After-book_arrivals}
+use Rattle.q_tree.proofs.arrival.BurstArrivals.{IsBurst, burst-came, bytes-bound, came-all, long-each}
 use Rattle.q_tree.proofs.tree.Tree.arrive_burst.Goals as goal
+use Rattle.q_tree.proofs.tree.Tree.arrive_burst.Goals.{After-book_arrivals}
+use Rattle.q_tree.proofs.TreeLemmas.{top-row}
 
 pub book_arrivals-requires-clause-balanced : goal.book_arrivals-requires-clause-balanced
 book_arrivals-requires-clause-balanced c = (top-row c.self.inside c.self.invariant.device).balanced

@@ -7,17 +7,17 @@ use Rattle.q_model.specs.Route.{device_route}
 use Rattle.q_model.specs.Step.{DeviceState, fate_of}
 use Rattle.q_model.specs.Tally.{totals}
 use Rattle.q_model.specs.TreeState.{noted_by_put, own_loss, put}
-use Rattle.q_tree.specs.Arrivals.{CanCount}
-use Rattle.q_tree.specs.AskSteps.{IsToldOf}
+use Rattle.q_tree.specs.arrival.Arrivals.{CanCount}
+use Rattle.q_tree.specs.arrival.Places.{places_at}
+use Rattle.q_tree.specs.departure.AskSteps.{IsToldOf}
 use Rattle.q_tree.specs.Kept.{Kept, kept}
-use Rattle.q_tree.specs.Places.{places_at}
-use Rattle.q_tree.specs.RouteSeen.{route_seen}
+use Rattle.q_tree.specs.route.RouteSeen.{route_seen}
 use Rattle.q_tree.specs.TreeSeen.{CanArrive, numbers, tree_numbers, tree_seen}
-use Rattle.q_tree.proofs.Arriving.{on-err}
-use Rattle.q_tree.proofs.TreeArrivals.{can-come, place-there, placed-indexed, placed-keeps, placed-numbers, told-tree, tree-after, tree-exact, tree-indexed, tree-loss, tree-lost, tree-places}
-use Rattle.q_tree.proofs.TreeLemmas.{top-row}
-use Rattle.q_tree.proofs.TreePuts.{same-routes}
+use Rattle.q_tree.proofs.arrival.Arriving.{on-err}
+use Rattle.q_tree.proofs.arrival.TreeArrivals.{can-come, place-there, placed-indexed, placed-keeps, placed-numbers, told-tree, tree-after, tree-exact, tree-indexed, tree-loss, tree-lost, tree-places}
+use Rattle.q_tree.proofs.arrival.TreePuts.{same-routes}
 use Rattle.q_tree.proofs.tree.Tree.arrive_down.Goals as goal
+use Rattle.q_tree.proofs.TreeLemmas.{top-row}
 
 pub enqueue_below-requires-clause-ready : goal.enqueue_below-requires-clause-ready
 enqueue_below-requires-clause-ready g c =

@@ -9,11 +9,11 @@ use Rattle.q_model.specs.Step.{DeviceState}
 use Rattle.q_tree.specs.Bursts.{AreKept, arrived_each, with_arrivals}
 use Rattle.q_tree.specs.Kept.{Kept, kept}
 use Rattle.q_tree.specs.declared.tree.Tree.TheInside.{Inside}
-use Rattle.q_tree.proofs.BurstArrivals.{IsBurst, bytes-bound, long-each}
-use Rattle.q_tree.proofs.KeepingMany.{burst-along, ended-some}
-use Rattle.q_tree.proofs.TreeLemmas.{lawful-root, top-row}
-use Rattle.q_tree.proofs.tree.Tree.arrive_some.Goals.{After-book_arrivals}
+use Rattle.q_tree.proofs.arrival.BurstArrivals.{IsBurst, bytes-bound, long-each}
+use Rattle.q_tree.proofs.arrival.KeepingMany.{burst-along, ended-some}
 use Rattle.q_tree.proofs.tree.Tree.arrive_some.Goals as goal
+use Rattle.q_tree.proofs.tree.Tree.arrive_some.Goals.{After-book_arrivals}
+use Rattle.q_tree.proofs.TreeLemmas.{lawful-root, top-row}
 
 pub book_arrivals-requires-clause-balanced : goal.book_arrivals-requires-clause-balanced
 book_arrivals-requires-clause-balanced c = (top-row c.self.inside c.self.invariant.device).balanced

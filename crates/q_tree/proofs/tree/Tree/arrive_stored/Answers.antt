@@ -3,15 +3,15 @@ use Rattle.q_packet.specs.Stored.{descriptor}
 use Rattle.q_model.specs.Step.{DeviceState}
 use Rattle.q_model.specs.Tally.{totals}
 use Rattle.q_model.specs.TreeState.{put}
-use Rattle.q_tree.specs.Arrivals.{CanCount}
-use Rattle.q_tree.specs.ArriveSteps.{nothing_lost}
+use Rattle.q_tree.specs.arrival.Arrivals.{CanCount}
+use Rattle.q_tree.specs.arrival.ArriveSteps.{nothing_lost}
+use Rattle.q_tree.specs.arrival.Places.{places_at}
 use Rattle.q_tree.specs.Kept.{Kept, kept}
-use Rattle.q_tree.specs.Places.{places_at}
-use Rattle.q_tree.specs.RouteSeen.{route_seen}
+use Rattle.q_tree.specs.route.RouteSeen.{route_seen}
 use Rattle.q_tree.specs.TreeSeen.{CanArrive, tree_numbers}
-use Rattle.q_tree.proofs.TreeArrivals.{at-root, can-come, tree-after, tree-exact, tree-indexed, tree-places}
-use Rattle.q_tree.proofs.TreeLemmas.{top-row}
+use Rattle.q_tree.proofs.arrival.TreeArrivals.{at-root, can-come, tree-after, tree-exact, tree-indexed, tree-places}
 use Rattle.q_tree.proofs.tree.Tree.arrive_stored.Goals as goal
+use Rattle.q_tree.proofs.TreeLemmas.{top-row}
 
 pub keep_stored-requires-clause-ready : goal.keep_stored-requires-clause-ready
 keep_stored-requires-clause-ready g c =

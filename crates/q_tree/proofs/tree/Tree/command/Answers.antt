@@ -1,7 +1,7 @@
 use Rattle.std.proofs.Common.{arith}
-use Rattle.q_tree.specs.Commands.{plan_of}
-use Rattle.q_tree.specs.Commanding.{WantsMemory}
-use Rattle.q_tree.proofs.Plans.{tree-answered, tree-planned, tree-room-for, tree-told}
+use Rattle.q_tree.specs.commands.Commanding.{WantsMemory}
+use Rattle.q_tree.specs.commands.Commands.{plan_of}
+use Rattle.q_tree.proofs.commands.Plans.{tree-answered, tree-planned, tree-room-for, tree-told}
 use Rattle.q_tree.proofs.tree.Tree.command.Goals as goal
 
 pub edit-requires-clause-planned : goal.edit-requires-clause-planned

@@ -1,13 +1,13 @@
 use Rattle.std.proofs.Common.{◌≤◌, ◌^◌, ◌∙◌, sym, ap, ap₂, subst, arith}
 use Rattle.q_model.specs.Step.{DeviceState}
-use Rattle.q_tree.specs.Commands.{IsPlanned, device_edited}
+use Rattle.q_tree.specs.commands.Commands.{IsPlanned, device_edited}
 use Rattle.q_tree.specs.Kept.{Kept}
 use Rattle.q_tree.specs.TreeSeen.{tree_seen}
-use Rattle.q_tree.proofs.Plans.{bounded}
-use Rattle.q_tree.proofs.TreeEdits.{room, after, stays}
-use Rattle.q_tree.proofs.TreeIndex.{apart, beside-index, fits, has-room, renewed-device}
-use Rattle.q_tree.proofs.TreeLemmas.{top-row}
+use Rattle.q_tree.proofs.commands.Plans.{bounded}
+use Rattle.q_tree.proofs.commands.TreeEdits.{room, after, stays}
+use Rattle.q_tree.proofs.commands.TreeIndex.{apart, beside-index, fits, has-room, renewed-device}
 use Rattle.q_tree.proofs.tree.Tree.edit.Goals as goal
+use Rattle.q_tree.proofs.TreeLemmas.{top-row}
 
 pub book_dropped-requires-clause-balanced : goal.book_dropped-requires-clause-balanced
 book_dropped-requires-clause-balanced g c = (top-row c.self.inside c.self.invariant.device).balanced

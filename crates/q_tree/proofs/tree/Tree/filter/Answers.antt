@@ -3,7 +3,7 @@ use Rattle.std.specs.Prelude.{slice_get}
 use Rattle.q_model.specs.Node.{Node}
 use Rattle.q_model.specs.Views.{filter_views}
 use Rattle.q_tree.specs.Kept.{Kept}
-use Rattle.q_tree.proofs.ShowLemmas.{of-node}
+use Rattle.q_tree.proofs.answers.ShowLemmas.{of-node}
 use Rattle.q_tree.proofs.tree.Tree.filter.Goals as goal
 
 pub returns-in_default : goal.returns-in_default

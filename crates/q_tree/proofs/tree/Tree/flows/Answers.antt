@@ -1,8 +1,8 @@
 use Rattle.std.proofs.Common.{◌∙◌, sym, ap, None, Some, option_map}
 use Rattle.q_model.specs.Node.{Node}
-use Rattle.q_tree.specs.Flows.{listed_flows}
+use Rattle.q_tree.specs.answers.Flows.{listed_flows}
 use Rattle.q_tree.specs.Kept.{Kept}
-use Rattle.q_tree.proofs.ShowLemmas.{of-node}
+use Rattle.q_tree.proofs.answers.ShowLemmas.{of-node}
 use Rattle.q_tree.proofs.tree.Tree.flows.Goals as goal
 
 pub returns-in_default : goal.returns-in_default

@@ -1,7 +1,7 @@
 use Rattle.std.proofs.Common.{ap, length, subst, arith}
-use Rattle.q_tree.specs.Commands.{IsAnswered, plan_of}
-use Rattle.q_tree.specs.Commanding.{WantsMemory}
-use Rattle.q_tree.proofs.Plans.{quiet-removed, tree-answered, tree-planned}
+use Rattle.q_tree.specs.commands.Commanding.{WantsMemory}
+use Rattle.q_tree.specs.commands.Commands.{IsAnswered, plan_of}
+use Rattle.q_tree.proofs.commands.Plans.{quiet-removed, tree-answered, tree-planned}
 use Rattle.q_tree.proofs.tree.Tree.lossless.Goals as goal
 
 pub edit-requires-clause-planned : goal.edit-requires-clause-planned

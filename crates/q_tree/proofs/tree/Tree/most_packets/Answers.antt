@@ -3,9 +3,9 @@ use Rattle.q_model.specs.Beneath.{beneath}
 use Rattle.q_model.specs.Step.{DeviceState}
 use Rattle.q_model.specs.declared.totals.Totals.{Totals}
 use Rattle.q_tree.specs.Kept.{Kept}
-use Rattle.q_tree.proofs.MostPacketsLemmas.{queued-within-most}
-use Rattle.q_tree.proofs.TreeLemmas.{lawful-root}
+use Rattle.q_tree.proofs.answers.MostPacketsLemmas.{queued-within-most}
 use Rattle.q_tree.proofs.tree.Tree.most_packets.Goals as goal
+use Rattle.q_tree.proofs.TreeLemmas.{lawful-root}
 
 pub returns-clause-bound : goal.returns-clause-bound
 returns-clause-bound c =

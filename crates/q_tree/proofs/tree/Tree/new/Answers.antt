@@ -9,12 +9,12 @@ use Rattle.q_model.specs.Node as spec
 use Rattle.q_model.specs.Node.{Own, Forest, each, each_memory}
 use Rattle.q_model.specs.declared.row.Row.{Row}
 use Rattle.q_model.specs.Tally.{Counts}
-use Rattle.q_invariants.proofs.EditSizes.{nodes_own}
+use Rattle.q_invariants.proofs.sizes.EditSizes.{nodes_own}
 use Rattle.q_tree.specs.Kept.{Kept}
 use Rattle.q_tree.specs.Seen.{IsCountedWithin}
-use Rattle.q_tree.proofs.Rows.{counts_in_row}
-use Rattle.q_tree.proofs.TreeLemmas.{new-device}
+use Rattle.q_tree.proofs.counters.Rows.{counts_in_row}
 use Rattle.q_tree.proofs.tree.Tree.new.Goals as goal
+use Rattle.q_tree.proofs.TreeLemmas.{new-device}
 
 pub invariant_of-result : goal.invariant_of-result
 invariant_of-result c =

@@ -3,7 +3,7 @@ use Rattle.q_model.specs.declared.place.Place.{Place}
 use Rattle.q_model.specs.Node.{Node}
 use Rattle.q_model.specs.Views.{node_view}
 use Rattle.q_tree.specs.Kept.{Kept, kept}
-use Rattle.q_tree.proofs.ShowLemmas.{node-shown}
+use Rattle.q_tree.proofs.answers.ShowLemmas.{node-shown}
 use Rattle.q_tree.proofs.tree.Tree.node.Goals as goal
 
 pub returns-in_default : goal.returns-in_default

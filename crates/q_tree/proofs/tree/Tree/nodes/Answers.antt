@@ -4,10 +4,10 @@ use Rattle.q_model.specs.Step.{DeviceState}
 use Rattle.q_model.specs.Views.{views}
 use Rattle.q_tree.specs.Kept.{Kept, kept}
 use Rattle.q_tree.specs.TreeSeen.{tree_seen}
-use Rattle.q_tree.proofs.ShowLemmas.{every-standing, views-standing}
-use Rattle.q_tree.proofs.TreeLemmas.{lawful-root}
-use Rattle.q_tree.proofs.TreePuts.{levels}
+use Rattle.q_tree.proofs.answers.ShowLemmas.{every-standing, views-standing}
+use Rattle.q_tree.proofs.arrival.TreePuts.{levels}
 use Rattle.q_tree.proofs.tree.Tree.nodes.Goals as goal
+use Rattle.q_tree.proofs.TreeLemmas.{lawful-root}
 
 pub invariant_of-result : goal.invariant_of-result
 invariant_of-result c = record {

@@ -1,6 +1,6 @@
 use Rattle.std.proofs.Common.{arith}
-use Rattle.q_tree.proofs.TreeLemmas.{lawful-root}
 use Rattle.q_tree.proofs.tree.Tree.nth.Goals as goal
+use Rattle.q_tree.proofs.TreeLemmas.{lawful-root}
 
 pub nth-requires : goal.nth-requires
 nth-requires c = record {

@@ -1,10 +1,10 @@
 use Rattle.std.proofs.Common.{◌∙◌, sym, ap, subst, Some, None}
 use Rattle.std.specs.Prelude.{option_copied}
 use Rattle.q_model.specs.Step.{DeviceState}
-use Rattle.q_tree.specs.Finding.{qdisc_with}
+use Rattle.q_tree.specs.answers.Finding.{qdisc_with}
+use Rattle.q_tree.specs.answers.Oldest.{IsInOrder}
 use Rattle.q_tree.specs.Kept.{Kept}
-use Rattle.q_tree.specs.Oldest.{IsInOrder}
-use Rattle.q_tree.proofs.OldestLemmas.{root-order, class-order, class-oldest}
+use Rattle.q_tree.proofs.answers.OldestLemmas.{root-order, class-order, class-oldest}
 use Rattle.q_tree.proofs.tree.Tree.oldest.Goals as goal
 
 pub oldest-requires : goal.oldest-requires

@@ -2,9 +2,9 @@ use Rattle.std.proofs.Common.{◌∙◌, ◌≤◌, ◌^◌, refl, ap, arith, ru
 use Rattle.q_model.specs.Step.{DeviceState}
 use Rattle.q_model.specs.TreeState.{given, peek_packet}
 use Rattle.q_tree.specs.Kept.{Kept, kept}
-use Rattle.q_tree.proofs.TreeIndex.{peeked-form, still-indexed}
-use Rattle.q_tree.proofs.TreeLemmas.{top-row, can-ask-root, can-book-top, gives-shown, peeked-tree, peeked-device}
+use Rattle.q_tree.proofs.commands.TreeIndex.{peeked-form, still-indexed}
 use Rattle.q_tree.proofs.tree.Tree.peek.Goals as goal
+use Rattle.q_tree.proofs.TreeLemmas.{top-row, can-ask-root, can-book-top, gives-shown, peeked-tree, peeked-device}
 
 pub peek-shown-requires : goal.peek-shown-requires
 peek-shown-requires g c =

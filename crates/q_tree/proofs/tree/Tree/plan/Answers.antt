@@ -6,12 +6,12 @@ use Rattle.q_model.specs.Make.{Device}
 use Rattle.q_model.specs.Node.{Node, shape}
 use Rattle.q_model.specs.Step.{DeviceState}
 use Rattle.q_model.specs.TreeState.{plan}
-use Rattle.q_tree.specs.Commanding.{WantsMemory}
-use Rattle.q_tree.specs.Commands.{IsPlanOf, plan_of}
+use Rattle.q_tree.specs.commands.Commanding.{WantsMemory}
+use Rattle.q_tree.specs.commands.Commands.{IsPlanOf, plan_of}
 use Rattle.q_tree.specs.Kept.{Kept}
 use Rattle.q_tree.specs.declared.commands.planned.Planned.{Planned}
-use Rattle.q_tree.proofs.TreeLemmas.{lawful-root}
 use Rattle.q_tree.proofs.tree.Tree.plan.Goals as goal
+use Rattle.q_tree.proofs.TreeLemmas.{lawful-root}
 
 -- what is planned in the tree as it is stored is planned in it as it is seen
 planned-in : (command : Command) (now : ℕ) (d : DeviceState Kept) (device : Device) (root : Node Kept) (answer : Result Planned Refusal) → device ≡ d.tree.device → root ≡ d.tree.root

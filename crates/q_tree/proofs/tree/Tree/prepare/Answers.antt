@@ -4,10 +4,10 @@ use Rattle.q_model.specs.Find.{node_at}
 use Rattle.q_model.specs.Route.{device_route}
 use Rattle.q_model.specs.Step.{DeviceState}
 use Rattle.q_tree.specs.Kept.{Kept}
-use Rattle.q_tree.specs.RouteSeen.{RouteSeen}
+use Rattle.q_tree.specs.route.RouteSeen.{RouteSeen}
 use Rattle.q_tree.specs.TreeSeen.{CanArrive, IsRouteIn, tree_seen}
-use Rattle.q_tree.proofs.TreeIndex.{placed-form, still-indexed}
-use Rattle.q_tree.proofs.TreePuts.{arrives-still, route-leads, prepared-kept, same-routes}
+use Rattle.q_tree.proofs.arrival.TreePuts.{arrives-still, route-leads, prepared-kept, same-routes}
+use Rattle.q_tree.proofs.commands.TreeIndex.{placed-form, still-indexed}
 use Rattle.q_tree.proofs.tree.Tree.prepare.Goals as goal
 
 pub prepare-requires : goal.prepare-requires

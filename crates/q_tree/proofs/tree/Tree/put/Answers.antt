@@ -3,7 +3,7 @@ use Rattle.std.proofs.lemmas.Bool.{false≢true}
 use Rattle.q_packet.specs.Descriptor.{Descriptor}
 use Rattle.q_model.specs.TreeState.{put}
 use Rattle.q_tree.specs.Kept.{kept}
-use Rattle.q_tree.specs.RouteSeen.{RouteSeen, route_seen}
+use Rattle.q_tree.specs.route.RouteSeen.{RouteSeen, route_seen}
 use Rattle.q_tree.specs.TreeSeen.{CanArrive}
 use Rattle.q_tree.proofs.tree.Tree.put.Goals as goal
 

@@ -1,4 +1,4 @@
-use Rattle.q_tree.proofs.Plans.{bounded}
+use Rattle.q_tree.proofs.commands.Plans.{bounded}
 use Rattle.q_tree.proofs.tree.Tree.qdiscs.Goals as goal
 
 pub invariant_of-result-clause-indexed : goal.invariant_of-result-clause-indexed

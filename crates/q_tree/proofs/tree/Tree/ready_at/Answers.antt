@@ -2,12 +2,12 @@ use Rattle.std.proofs.Common.{◌∙◌, ◌≡◌, ◌<◌, ◌≤◌, ◌^◌,
 use Rattle.std.specs.Prelude.{true, IfNone, IsSome}
 use Rattle.q_model.specs.Step.{DeviceState}
 use Rattle.q_model.specs.TreeState.{given}
+use Rattle.q_tree.specs.answers.ReadyAt.{is_sure}
 use Rattle.q_tree.specs.Kept.{Kept}
-use Rattle.q_tree.specs.ReadyAt.{is_sure}
-use Rattle.q_tree.specs.declared.ready_at.Outlook.{Outlook}
-use Rattle.q_tree.proofs.ReadyLemmas.{lawful-later, ready-from, ready-early, ready-some, ready-never}
-use Rattle.q_tree.proofs.TreeLemmas.{least-mtu}
+use Rattle.q_tree.specs.declared.answers.ready_at.Outlook.{Outlook}
+use Rattle.q_tree.proofs.answers.ReadyLemmas.{lawful-later, ready-from, ready-early, ready-some, ready-never}
 use Rattle.q_tree.proofs.tree.Tree.ready_at.Goals as goal
+use Rattle.q_tree.proofs.TreeLemmas.{least-mtu}
 
 pub returns-in_err-at-clause-never : goal.returns-in_err-at-clause-never
 returns-in_err-at-clause-never c =

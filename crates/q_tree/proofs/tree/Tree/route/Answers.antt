@@ -1,6 +1,6 @@
 use Rattle.std.proofs.Common.{length, ap, arith}
 use Rattle.q_model.specs.Route.{Route}
-use Rattle.q_tree.proofs.TreePuts.{levels}
+use Rattle.q_tree.proofs.arrival.TreePuts.{levels}
 use Rattle.q_tree.proofs.tree.Tree.route.Goals as goal
 
 pub go-requires-clause-room : goal.go-requires-clause-room

@@ -7,13 +7,13 @@ use Rattle.q_model.specs.Node.{shape}
 use Rattle.q_model.specs.Step.{DeviceState}
 use Rattle.q_model.specs.TreeState.{given, noted_by_take, take_packet}
 use Rattle.q_model.specs.Work.{booked}
-use Rattle.q_tree.specs.AskSteps.{IsToldOf}
+use Rattle.q_tree.specs.departure.AskSteps.{IsToldOf}
 use Rattle.q_tree.specs.Kept.{Kept, kept}
-use Rattle.q_tree.proofs.AtHandLemmas.{none-held}
-use Rattle.q_tree.proofs.SendLemmas.{given-some, root-still, asked-row, sent-among, sent-form, sent-tree, sent-kept}
-use Rattle.q_tree.proofs.TreeIndex.{peeked-form, still-indexed}
-use Rattle.q_tree.proofs.TreeLemmas.{top-row, can-ask-root, can-book-top, none-taken, none-kept}
+use Rattle.q_tree.proofs.commands.TreeIndex.{peeked-form, still-indexed}
+use Rattle.q_tree.proofs.departure.SendLemmas.{given-some, root-still, asked-row, sent-among, sent-form, sent-tree, sent-kept}
+use Rattle.q_tree.proofs.disciplines.AtHandLemmas.{none-held}
 use Rattle.q_tree.proofs.tree.Tree.send_asked.Goals as goal
+use Rattle.q_tree.proofs.TreeLemmas.{top-row, can-ask-root, can-book-top, none-taken, none-kept}
 
 pub dequeue-shown-requires : goal.dequeue-shown-requires
 dequeue-shown-requires g c =

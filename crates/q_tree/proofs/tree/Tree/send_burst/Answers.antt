@@ -6,14 +6,14 @@ use Rattle.q_model.specs.declared.totals.Totals.{Totals}
 use Rattle.q_model.specs.Beneath.{packets_in, totals_in}
 use Rattle.q_model.specs.Step.{DeviceState}
 use Rattle.q_tree.specs.Bursts.{AreGiven, polled_each, with_sends}
-use Rattle.q_tree.specs.GiveSteps.{CanGive}
+use Rattle.q_tree.specs.departure.GiveSteps.{CanGive}
 use Rattle.q_tree.specs.Kept.{Kept, kept}
 use Rattle.q_tree.specs.declared.tree.Tree.TheInside.{Inside}
-use Rattle.q_tree.proofs.BurstSends.{IsSentBurst, heads-sent, heads-within, went-all}
-use Rattle.q_tree.proofs.TreeLemmas.{top-row}
+use Rattle.q_tree.proofs.departure.BurstSends.{IsSentBurst, heads-sent, heads-within, went-all}
 use Rattle.q_tree.proofs.tree.Tree.send_burst.Given.{Over}
-use Rattle.q_tree.proofs.tree.Tree.send_burst.Goals.{After-book_sends, After-send_heads-sent}
 use Rattle.q_tree.proofs.tree.Tree.send_burst.Goals as goal
+use Rattle.q_tree.proofs.tree.Tree.send_burst.Goals.{After-book_sends, After-send_heads-sent}
+use Rattle.q_tree.proofs.TreeLemmas.{top-row}
 
 pub book_sends-requires-clause-balanced : goal.book_sends-requires-clause-balanced
 book_sends-requires-clause-balanced g c = (top-row c.self.inside c.self.invariant.device).balanced

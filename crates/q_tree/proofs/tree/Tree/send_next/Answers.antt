@@ -2,9 +2,9 @@ use Rattle.std.proofs.Common.{◌∙◌, refl, ap, subst, arith}
 use Rattle.q_model.specs.Step.{DeviceState, poll}
 use Rattle.q_tree.specs.Bursts.{IsGivenAlone}
 use Rattle.q_tree.specs.Kept.{Kept, kept}
-use Rattle.q_tree.proofs.GivenTree.{given-alone, given-among, given-indexed, given-room, given-tree}
-use Rattle.q_tree.proofs.TreeLemmas.{can-ask-root, top-row}
+use Rattle.q_tree.proofs.departure.GivenTree.{given-alone, given-among, given-indexed, given-room, given-tree}
 use Rattle.q_tree.proofs.tree.Tree.send_next.Goals as goal
+use Rattle.q_tree.proofs.TreeLemmas.{can-ask-root, top-row}
 
 pub give_one-requires : goal.give_one-requires
 give_one-requires c = record {

@@ -1,7 +1,7 @@
 use Rattle.std.proofs.Common.{refl, ap, arith}
 use Rattle.q_model.specs.Step.{DeviceState}
 use Rattle.q_tree.specs.Kept.{Kept}
-use Rattle.q_tree.proofs.GivenMany.{out-more}
+use Rattle.q_tree.proofs.departure.GivenMany.{out-more}
 use Rattle.q_tree.proofs.tree.Tree.send_some.Goals as goal
 
 pub loop-i-preserved : goal.loop-i-preserved

@@ -1,6 +1,6 @@
 use Rattle.std.proofs.Common.{◌≤◌}
 use Rattle.q_tree.specs.Bursts.{IsGivenOut}
-use Rattle.q_tree.specs.GiveSteps.{IsNoFifo}
+use Rattle.q_tree.specs.departure.GiveSteps.{IsNoFifo}
 use Rattle.q_tree.proofs.tree.Tree.send_some.Given as goal
 
 abbrev pub invariant-loop-i : goal.invariant-loop-i

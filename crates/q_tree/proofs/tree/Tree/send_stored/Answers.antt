@@ -2,12 +2,12 @@ use Rattle.std.proofs.Common.{◌∙◌, ◌≤◌, ◌^◌, refl, sym, ap, arit
 use Rattle.q_model.specs.Step.{DeviceState}
 use Rattle.q_model.specs.TreeState.{take_packet}
 use Rattle.q_tree.specs.Kept.{Kept, kept}
-use Rattle.q_tree.proofs.SendLemmas.{asked-row, sent-among, sent-form, sent-tree, sent-kept}
-use Rattle.q_tree.proofs.FifoHead.{alone, head-sent}
-use Rattle.q_tree.proofs.Quiet.{shown-nothing}
-use Rattle.q_tree.proofs.TreeIndex.{still-indexed}
-use Rattle.q_tree.proofs.TreeLemmas.{top-row, can-book-top}
+use Rattle.q_tree.proofs.commands.TreeIndex.{still-indexed}
+use Rattle.q_tree.proofs.counters.Quiet.{shown-nothing}
+use Rattle.q_tree.proofs.departure.SendLemmas.{asked-row, sent-among, sent-form, sent-tree, sent-kept}
+use Rattle.q_tree.proofs.disciplines.FifoHead.{alone, head-sent}
 use Rattle.q_tree.proofs.tree.Tree.send_stored.Goals as goal
+use Rattle.q_tree.proofs.TreeLemmas.{top-row, can-book-top}
 
 -- where a fifo at the root gives its head
 

@@ -1,7 +1,7 @@
 use Rattle.std.proofs.Common.{◌∙◌, sym, ap, Some, None}
 use Rattle.std.specs.Prelude.{option_copied}
-use Rattle.q_tree.specs.Finding.{qdisc_with}
-use Rattle.q_tree.proofs.StatsLemmas.{class-stats}
+use Rattle.q_tree.specs.answers.Finding.{qdisc_with}
+use Rattle.q_tree.proofs.answers.StatsLemmas.{class-stats}
 use Rattle.q_tree.proofs.tree.Tree.stats.Goals as goal
 
 pub returns-in_err-class-in-Class : goal.returns-in_err-class-in-Class

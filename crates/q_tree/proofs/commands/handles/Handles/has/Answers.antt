@@ -1,7 +1,7 @@
 use Rattle.std.proofs.Common.{◌∙◌, ap}
-use Rattle.q_tree.specs.Index.{Index, has_among, listed}
-use Rattle.q_tree.proofs.FindLemmas.{apart}
-use Rattle.q_tree.proofs.IndexLemmas.{has-listed, has-other}
+use Rattle.q_tree.specs.commands.Index.{Index, has_among, listed}
+use Rattle.q_tree.proofs.answers.FindLemmas.{apart}
+use Rattle.q_tree.proofs.commands.IndexLemmas.{has-listed, has-other}
 use Rattle.q_tree.proofs.commands.handles.Handles.has.Goals as goal
 
 pub returns : goal.returns

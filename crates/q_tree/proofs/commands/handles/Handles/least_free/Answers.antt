@@ -1,7 +1,7 @@
 use Rattle.std.proofs.Common.{◌≡◌, ◌<◌, ◌+◌, ◌∙◌, length, sym, ap, arith}
 use Rattle.std.specs.Prelude.{true, false, not}
-use Rattle.q_tree.specs.Index.{has_among}
-use Rattle.q_tree.proofs.IndexLemmas.{first-free, free-is, is_free, none-free, taken}
+use Rattle.q_tree.specs.commands.Index.{has_among}
+use Rattle.q_tree.proofs.commands.IndexLemmas.{first-free, free-is, is_free, none-free, taken}
 use Rattle.q_tree.proofs.commands.handles.Handles.least_free.Goals as goal
 
 pub returns-then-not-has : goal.returns-then-not-has

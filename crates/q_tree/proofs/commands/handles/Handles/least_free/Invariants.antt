@@ -1,5 +1,5 @@
 use Rattle.std.proofs.Common.{◌≡◌}
-use Rattle.q_tree.proofs.IndexLemmas.{least_from}
+use Rattle.q_tree.proofs.commands.IndexLemmas.{least_from}
 use Rattle.q_tree.proofs.commands.handles.Handles.least_free.Given as goal
 
 -- all before this number are taken

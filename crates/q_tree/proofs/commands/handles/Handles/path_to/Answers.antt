@@ -2,9 +2,9 @@ use Rattle.std.proofs.Common.{◌≡◌, ℕ, ◌∙◌, sym, ap, Some, None, op
 use Rattle.std.specs.Prelude.{nat_eq, option_copied}
 use Rattle.std.specs.Map.{lookup}
 use Rattle.arrayvec.specs.ArrayVec.{ArrayVec}
-use Rattle.q_tree.specs.Index.{Index, listed, path_among}
-use Rattle.q_tree.proofs.FindLemmas.{apart}
-use Rattle.q_tree.proofs.IndexLemmas.{path-listed, path-other}
+use Rattle.q_tree.specs.commands.Index.{Index, listed, path_among}
+use Rattle.q_tree.proofs.answers.FindLemmas.{apart}
+use Rattle.q_tree.proofs.commands.IndexLemmas.{path-listed, path-other}
 use Rattle.q_tree.proofs.commands.handles.Handles.path_to.Goals as goal
 
 pub returns-in_err-path : goal.returns-in_err-path

@@ -3,9 +3,9 @@ use Rattle.std.specs.List.{fold}
 use Rattle.std.proofs.lemmas.List.{length-map}
 use Rattle.q_model.specs.Find.{Address}
 use Rattle.q_model.specs.Node.{Node}
-use Rattle.q_tree.specs.Index.{Index, added, address_of, addresses_beneath, listed, own_address, under}
+use Rattle.q_tree.specs.commands.Index.{Index, added, address_of, addresses_beneath, listed, own_address, under}
 use Rattle.q_tree.specs.Kept.{Kept}
-use Rattle.q_tree.proofs.IndexLemmas.{all-beneath, few-beneath, renewed}
+use Rattle.q_tree.proofs.commands.IndexLemmas.{all-beneath, few-beneath, renewed}
 use Rattle.q_tree.proofs.commands.handles.Handles.renew.Goals as goal
 
 pub add_beneath-requires-clause-room : goal.add_beneath-requires-clause-room

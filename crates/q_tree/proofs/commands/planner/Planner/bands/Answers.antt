@@ -4,14 +4,14 @@ use Rattle.q_model.specs.declared.refusal.Refusal.TheVariants.{Memory}
 use Rattle.q_model.specs.Make.{Device, implicit_pfifo}
 use Rattle.q_model.specs.Node.{children, shape}
 use Rattle.q_model.specs.Options.{PrioSettings}
-use Rattle.q_tree.specs.Changing.{IsChange, IsRemade, MakesChildren}
-use Rattle.q_tree.specs.Commands.{IsRefused}
-use Rattle.q_tree.specs.Making.{AreNew}
+use Rattle.q_tree.specs.commands.Changing.{IsChange, IsRemade, MakesChildren}
+use Rattle.q_tree.specs.commands.Commands.{IsRefused}
+use Rattle.q_tree.specs.commands.Making.{AreNew}
 use Rattle.q_tree.specs.declared.commands.discipline_change.DisciplineChange.TheVariants.{SetBands}
-use Rattle.q_tree.proofs.ChangeLemmas.{HasRoom, bands-made, bands-passed, bands-refused, more-made, plans_of, rebanded-is}
-use Rattle.q_tree.proofs.Plans.{err-passed, refused-plan}
-use Rattle.q_tree.specs.Planning.{device_of, root_of}
-use Rattle.q_invariants.proofs.MadeSizes.{count-shape}
+use Rattle.q_tree.proofs.commands.ChangeLemmas.{HasRoom, bands-made, bands-passed, bands-refused, more-made, plans_of, rebanded-is}
+use Rattle.q_tree.proofs.commands.Plans.{err-passed, refused-plan}
+use Rattle.q_tree.specs.commands.Planning.{device_of, root_of}
+use Rattle.q_invariants.proofs.sizes.MadeSizes.{count-shape}
 use Rattle.q_tree.proofs.commands.planner.Planner.bands.Goals as goal
 
 pub returns-in_err-more : goal.returns-in_err-more

@@ -2,10 +2,10 @@ use Rattle.std.proofs.Common.{sym, subst}
 use Rattle.q_model.specs.declared.kind.Kind.TheVariants as kind
 use Rattle.q_model.specs.Make.{Device}
 use Rattle.q_model.specs.Node.{shape}
-use Rattle.q_tree.specs.Changing.{IsChange, NeedsMore}
-use Rattle.q_tree.specs.Commands.{takes_none}
-use Rattle.q_tree.proofs.ChangeLemmas.{bfifo-is, drr-is, fq_codel-is, pfifo-is, plans_of, tbf-is}
-use Rattle.q_tree.specs.Planning.{device_of, root_of}
+use Rattle.q_tree.specs.commands.Changing.{IsChange, NeedsMore}
+use Rattle.q_tree.specs.commands.Commands.{takes_none}
+use Rattle.q_tree.proofs.commands.ChangeLemmas.{bfifo-is, drr-is, fq_codel-is, pfifo-is, plans_of, tbf-is}
+use Rattle.q_tree.specs.commands.Planning.{device_of, root_of}
 use Rattle.q_tree.proofs.commands.planner.Planner.change_to.Goals as goal
 
 pub returns-in-Pfifo : goal.returns-in-Pfifo

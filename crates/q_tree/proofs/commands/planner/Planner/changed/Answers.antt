@@ -4,12 +4,12 @@ use Rattle.q_model.specs.declared.refusal.Refusal.TheVariants.{NoQdisc}
 use Rattle.q_model.specs.Make.{Device}
 use Rattle.q_model.specs.Node.{shape}
 use Rattle.q_model.specs.TreeState.{plan}
-use Rattle.q_tree.specs.Changing.{IsChange, NeedsMore}
+use Rattle.q_tree.specs.commands.Changing.{IsChange, NeedsMore}
 use Rattle.q_tree.specs.declared.commands.edit.Edit.TheVariants.{DisciplineChange}
-use Rattle.q_tree.proofs.ChangeLemmas.{change-lawful, change-nowhere, change-planned, change-refused, change-within, plans_of}
-use Rattle.q_tree.proofs.Plans.{refused-plan}
-use Rattle.q_tree.specs.Planning.{IsPlanBy, device_of, planned_by, root_of}
-use Rattle.q_tree.proofs.Plans.{bounded-by, err-passed}
+use Rattle.q_tree.proofs.commands.ChangeLemmas.{change-lawful, change-nowhere, change-planned, change-refused, change-within, plans_of}
+use Rattle.q_tree.proofs.commands.Plans.{refused-plan}
+use Rattle.q_tree.specs.commands.Planning.{IsPlanBy, device_of, planned_by, root_of}
+use Rattle.q_tree.proofs.commands.Plans.{bounded-by, err-passed}
 use Rattle.q_tree.proofs.commands.planner.Planner.changed.Goals as goal
 
 pub returns-in_default : goal.returns-in_default

@@ -5,13 +5,13 @@ use Rattle.q_model.specs.Find.{path_of}
 use Rattle.q_model.specs.Make.{Device}
 use Rattle.q_model.specs.Node.{shape}
 use Rattle.q_model.specs.TreeState.{plan}
-use Rattle.q_tree.specs.Commands.{takes_memory}
+use Rattle.q_tree.specs.commands.Commands.{takes_memory}
 use Rattle.q_tree.specs.declared.commands.edit.Edit.TheVariants.{DisciplineChange}
 use Rattle.q_tree.specs.declared.commands.discipline_change.DisciplineChange.TheVariants.{AddClass}
-use Rattle.q_tree.proofs.ClassAdding.{add-nowhere, add-refused, class-add-planned}
-use Rattle.q_tree.proofs.Plans.{bounded-by, err-passed, refused-plan}
-use Rattle.q_tree.proofs.TargetLemmas.{path-short, reached-at}
-use Rattle.q_tree.specs.Planning.{IsPlanBy, device_of, root_of}
+use Rattle.q_tree.proofs.commands.ClassAdding.{add-nowhere, add-refused, class-add-planned}
+use Rattle.q_tree.proofs.commands.Plans.{bounded-by, err-passed, refused-plan}
+use Rattle.q_tree.proofs.commands.TargetLemmas.{path-short, reached-at}
+use Rattle.q_tree.specs.commands.Planning.{IsPlanBy, device_of, root_of}
 use Rattle.q_tree.proofs.commands.planner.Planner.class_added.Goals as goal
 
 pub returns-in_default-clause-plan : goal.returns-in_default-clause-plan

@@ -4,17 +4,17 @@ use Rattle.q_model.specs.declared.refusal.Refusal.TheVariants.{NoQdisc}
 use Rattle.q_model.specs.Find.{path_of}
 use Rattle.q_model.specs.Node.{Drr, shape}
 use Rattle.q_model.specs.TreeState.{plan}
-use Rattle.q_tree.specs.Commands.{takes_none}
-use Rattle.q_tree.proofs.TargetLemmas.{reached-at, target-none, target-some}
+use Rattle.q_tree.specs.commands.Commands.{takes_none}
+use Rattle.q_tree.proofs.commands.TargetLemmas.{reached-at, target-none, target-some}
 use Rattle.q_model.specs.ClassCommands.{class_change_checks, class_changed, of_schedule, with_new_quantum}
 use Rattle.q_model.specs.QdiscCommands.{retuned}
-use Rattle.q_invariants.proofs.SizedPlans.{plan-class_change}
-use Rattle.q_tree.specs.DisciplineChanges.{requantum, rescheduled}
+use Rattle.q_invariants.proofs.sizes.SizedPlans.{plan-class_change}
+use Rattle.q_tree.specs.commands.DisciplineChanges.{requantum, rescheduled}
 use Rattle.q_tree.specs.declared.commands.edit.Edit.TheVariants.{DisciplineChange}
 use Rattle.q_tree.specs.declared.commands.discipline_change.DisciplineChange.TheVariants.{SetQuantum}
-use Rattle.q_tree.proofs.ClassPlans.{at-class, change-done, drr-refused}
-use Rattle.q_tree.proofs.Plans.{bounded-by, err-passed, few, own-kept, own-planned, refused-plan, shallow}
-use Rattle.q_tree.specs.Planning.{IsPlanBy, device_of, root_of}
+use Rattle.q_tree.proofs.commands.ClassPlans.{at-class, change-done, drr-refused}
+use Rattle.q_tree.proofs.commands.Plans.{bounded-by, err-passed, few, own-kept, own-planned, refused-plan, shallow}
+use Rattle.q_tree.specs.commands.Planning.{IsPlanBy, device_of, root_of}
 use Rattle.q_tree.proofs.commands.planner.Planner.class_changed.Goals as goal
 
 pub returns-in_default-clause-plan : goal.returns-in_default-clause-plan

@@ -3,12 +3,12 @@ use Rattle.q_model.specs.declared.command.Command.TheVariants.{ClassDel}
 use Rattle.q_model.specs.declared.refusal.Refusal.TheVariants.{NoQdisc}
 use Rattle.q_model.specs.Node.{shape}
 use Rattle.q_model.specs.TreeState.{plan}
-use Rattle.q_tree.specs.Commands.{takes_none}
+use Rattle.q_tree.specs.commands.Commands.{takes_none}
 use Rattle.q_tree.specs.declared.commands.edit.Edit.TheVariants.{DisciplineChange}
 use Rattle.q_tree.specs.declared.commands.discipline_change.DisciplineChange.TheVariants.{RemoveClass}
-use Rattle.q_tree.proofs.ClassAdding.{class-del-planned, del-nowhere, del-refused}
-use Rattle.q_tree.proofs.Plans.{bounded-by, err-passed, numbered-by, refused-plan}
-use Rattle.q_tree.specs.Planning.{IsPlanBy, device_of, root_of}
+use Rattle.q_tree.proofs.commands.ClassAdding.{class-del-planned, del-nowhere, del-refused}
+use Rattle.q_tree.proofs.commands.Plans.{bounded-by, err-passed, numbered-by, refused-plan}
+use Rattle.q_tree.specs.commands.Planning.{IsPlanBy, device_of, root_of}
 use Rattle.q_tree.proofs.commands.planner.Planner.class_removed.Goals as goal
 
 pub returns-in_default : goal.returns-in_default

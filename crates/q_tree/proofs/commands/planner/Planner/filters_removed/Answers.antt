@@ -4,16 +4,16 @@ use Rattle.q_model.specs.declared.refusal.Refusal.TheVariants.{NoQdisc}
 use Rattle.q_model.specs.Find.{path_of}
 use Rattle.q_model.specs.Node.{shape}
 use Rattle.q_model.specs.TreeState.{plan}
-use Rattle.q_tree.specs.Commands.{takes_none}
-use Rattle.q_tree.proofs.TargetLemmas.{reached-at, target-none, target-some}
+use Rattle.q_tree.specs.commands.Commands.{takes_none}
+use Rattle.q_tree.proofs.commands.TargetLemmas.{reached-at, target-none, target-some}
 use Rattle.std.specs.Prelude.{◌==◌, not}
 use Rattle.std.specs.List.{filter}
 use Rattle.q_model.specs.declared.filter.Filter.{Filter}
 use Rattle.q_model.specs.FilterCommands.{filter_del_checks, filters_removed, with_filters}
-use Rattle.q_invariants.proofs.SizedPlans.{plan-filter_del}
+use Rattle.q_invariants.proofs.sizes.SizedPlans.{plan-filter_del}
 use Rattle.q_tree.specs.declared.commands.edit.Edit.TheVariants.{RemoveFilters}
-use Rattle.q_tree.proofs.Plans.{all-passed, bounded-by, err-passed, few, own-planned, refused-plan, same-refusal, shallow}
-use Rattle.q_tree.specs.Planning.{IsPlanBy, device_of, root_of}
+use Rattle.q_tree.proofs.commands.Plans.{all-passed, bounded-by, err-passed, few, own-planned, refused-plan, same-refusal, shallow}
+use Rattle.q_tree.specs.commands.Planning.{IsPlanBy, device_of, root_of}
 use Rattle.q_tree.proofs.commands.planner.Planner.filters_removed.Goals as goal
 
 pub returns-in_default-clause-plan : goal.returns-in_default-clause-plan

@@ -10,16 +10,16 @@ use Rattle.q_model.specs.QdiscCommands.{new_qdisc, place_checks}
 use Rattle.q_model.specs.Refusals.{done_unless}
 use Rattle.q_model.specs.TreeState.{plan}
 use Rattle.q_model.specs.Edit as model
-use Rattle.q_invariants.proofs.EditMade.{new_made}
-use Rattle.q_invariants.proofs.EditSuits.{done_is}
-use Rattle.q_tree.specs.Commands.{IsRefused}
-use Rattle.q_tree.specs.Grafting.{graft_checks}
-use Rattle.q_tree.specs.Making.{IsNewNode, NeedsMemory}
+use Rattle.q_invariants.proofs.edit.EditMade.{new_made}
+use Rattle.q_invariants.proofs.edit.EditSuits.{done_is}
+use Rattle.q_tree.specs.commands.Commands.{IsRefused}
+use Rattle.q_tree.specs.commands.Grafting.{graft_checks}
+use Rattle.q_tree.specs.commands.Making.{IsNewNode, NeedsMemory}
 use Rattle.q_tree.specs.declared.commands.edit.Edit.TheVariants.{Graft}
-use Rattle.q_tree.proofs.GraftLemmas.{free-shape, graft-planned, graft-planned-for, graft-refused, made-takes, place-refused, there}
-use Rattle.q_tree.proofs.Plans.{refused-plan}
-use Rattle.q_tree.specs.Planning.{IsPlanBy, device_of, root_of}
-use Rattle.q_tree.proofs.Plans.{bounded-by, err-passed, numbered-by}
+use Rattle.q_tree.proofs.commands.GraftLemmas.{free-shape, graft-planned, graft-planned-for, graft-refused, made-takes, place-refused, there}
+use Rattle.q_tree.proofs.commands.Plans.{refused-plan}
+use Rattle.q_tree.specs.commands.Planning.{IsPlanBy, device_of, root_of}
+use Rattle.q_tree.proofs.commands.Plans.{bounded-by, err-passed, numbered-by}
 use Rattle.q_tree.proofs.commands.planner.Planner.grafted.Goals as goal
 
 pub returns-in_err-path : goal.returns-in_err-path

@@ -1,6 +1,6 @@
 use Rattle.std.proofs.Common.{length, ap, arith}
-use Rattle.q_tree.proofs.IndexLemmas.{few-all}
-use Rattle.q_tree.specs.Planning.{root_of}
+use Rattle.q_tree.proofs.commands.IndexLemmas.{few-all}
+use Rattle.q_tree.specs.commands.Planning.{root_of}
 use Rattle.q_tree.proofs.commands.planner.Planner.handle_or_free.Goals as goal
 
 pub least_free-requires : goal.least_free-requires

@@ -3,10 +3,10 @@ use Rattle.std.specs.Option.{option_map_or}
 use Rattle.q_model.specs.Find.{node_at}
 use Rattle.q_model.specs.Make.{Device, implicit_beneath, implicit_pfifo}
 use Rattle.q_model.specs.Node.{Node}
+use Rattle.q_tree.specs.commands.Making.{IsNewNode}
 use Rattle.q_tree.specs.Kept.{Kept}
-use Rattle.q_tree.specs.Making.{IsNewNode}
-use Rattle.q_tree.proofs.GraftLemmas.{leaf-is}
-use Rattle.q_tree.specs.Planning.{device_of, root_of}
+use Rattle.q_tree.proofs.commands.GraftLemmas.{leaf-is}
+use Rattle.q_tree.specs.commands.Planning.{device_of, root_of}
 use Rattle.q_tree.proofs.commands.planner.Planner.leaf_at.Goals as goal
 
 pub returns-in_default-at : goal.returns-in_default-at

@@ -1,8 +1,8 @@
 use Rattle.std.proofs.Common.{◌≡◌, ◌+◌, sym, subst, replicate, arith}
 use Rattle.q_model.specs.Make.{implicit_pfifo}
-use Rattle.q_tree.specs.Making.{AreNew}
-use Rattle.q_tree.proofs.MakingLemmas.{more-new}
-use Rattle.q_tree.specs.Planning.{device_of}
+use Rattle.q_tree.specs.commands.Making.{AreNew}
+use Rattle.q_tree.proofs.commands.MakingLemmas.{more-new}
+use Rattle.q_tree.specs.commands.Planning.{device_of}
 use Rattle.q_tree.proofs.commands.planner.Planner.leaves.Goals as goal
 
 pub loop-init : goal.loop-init

@@ -1,7 +1,7 @@
 use Rattle.std.proofs.Common.{replicate}
 use Rattle.q_model.specs.Make.{implicit_pfifo}
-use Rattle.q_tree.specs.Making.{AreNew}
-use Rattle.q_tree.specs.Planning.{device_of}
+use Rattle.q_tree.specs.commands.Making.{AreNew}
+use Rattle.q_tree.specs.commands.Planning.{device_of}
 use Rattle.q_tree.proofs.commands.planner.Planner.leaves.Given as goal
 
 abbrev pub invariant-loop : goal.invariant-loop

@@ -1,7 +1,7 @@
 use Rattle.std.proofs.Common.{Some, refl}
 use Rattle.q_model.specs.Make.{Device}
-use Rattle.q_tree.proofs.MakingLemmas.{made-is, made-kept}
-use Rattle.q_tree.specs.Planning.{device_of}
+use Rattle.q_tree.proofs.commands.MakingLemmas.{made-is, made-kept}
+use Rattle.q_tree.specs.commands.Planning.{device_of}
 use Rattle.q_tree.proofs.commands.planner.Planner.made.Goals as goal
 
 pub invariant_of-result : goal.invariant_of-result

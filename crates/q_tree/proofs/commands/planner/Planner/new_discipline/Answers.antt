@@ -3,10 +3,10 @@ use Rattle.q_fqcodel.specs.FqState.{first_state}
 use Rattle.q_model.specs.Make.{Device, implicit_pfifo, made, with_options}
 use Rattle.q_model.specs.Node as spec
 use Rattle.q_model.specs.Options.{PrioSettings}
-use Rattle.q_invariants.proofs.Forests.{nodes-side}
+use Rattle.q_invariants.proofs.tree.Forests.{nodes-side}
 use Rattle.q_tree.specs.declared.node.Discipline.TheVariants.{Prio, FqCodel}
-use Rattle.q_tree.specs.Making.{AreNew, IsNewDiscipline}
-use Rattle.q_tree.specs.Planning.{device_of}
+use Rattle.q_tree.specs.commands.Making.{AreNew, IsNewDiscipline}
+use Rattle.q_tree.specs.commands.Planning.{device_of}
 use Rattle.q_tree.proofs.commands.planner.Planner.new_discipline.Goals as goal
 
 pub returns-in-Prio-clause-new : goal.returns-in-Prio-clause-new

@@ -1,8 +1,8 @@
 use Rattle.std.proofs.Common.{◌≡◌, ◌∙◌, sym, ap, Some, option_copied, arith}
 use Rattle.q_model.specs.Find.{node_at}
-use Rattle.q_tree.proofs.GraftLemmas.{at-few}
-use Rattle.q_tree.specs.Planning.{root_of}
-use Rattle.q_tree.proofs.Plans.{bounded-by}
+use Rattle.q_tree.proofs.commands.GraftLemmas.{at-few}
+use Rattle.q_tree.specs.commands.Planning.{root_of}
+use Rattle.q_tree.proofs.commands.Plans.{bounded-by}
 use Rattle.q_tree.proofs.commands.planner.Planner.nodes_at.Goals as goal
 
 pub count_nodes-requires : goal.count_nodes-requires

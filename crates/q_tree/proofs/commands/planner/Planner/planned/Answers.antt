@@ -1,7 +1,7 @@
 use Rattle.std.proofs.Common.{sym, subst}
 use Rattle.q_model.specs.Ranges.{IsCommand}
-use Rattle.q_tree.specs.Commanding.{WantsMemory}
-use Rattle.q_tree.specs.Planning.{IsLossless, IsPlanBy, planned_by}
+use Rattle.q_tree.specs.commands.Commanding.{WantsMemory}
+use Rattle.q_tree.specs.commands.Planning.{IsLossless, IsPlanBy, planned_by}
 use Rattle.q_tree.proofs.commands.planner.Planner.planned.Goals as goal
 
 pub grafted-requires-clause-ranges : goal.grafted-requires-clause-ranges

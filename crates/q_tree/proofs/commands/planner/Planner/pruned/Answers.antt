@@ -7,15 +7,15 @@ use Rattle.q_model.specs.Make.{Device}
 use Rattle.q_model.specs.Node.{shape}
 use Rattle.q_model.specs.QdiscCommands.{leaf_at, target}
 use Rattle.q_model.specs.TreeState.{plan}
-use Rattle.q_invariants.proofs.SizedPlans.{plan-qdisc_del}
-use Rattle.q_tree.specs.Commands.{takes_none}
-use Rattle.q_tree.specs.Making.{IsNewNode}
+use Rattle.q_invariants.proofs.sizes.SizedPlans.{plan-qdisc_del}
+use Rattle.q_tree.specs.commands.Commands.{takes_none}
+use Rattle.q_tree.specs.commands.Making.{IsNewNode}
 use Rattle.q_tree.specs.declared.commands.edit.Edit.TheVariants.{Graft}
-use Rattle.q_tree.proofs.GraftLemmas.{graft-planned-for, leaf-alone, leaf-new}
-use Rattle.q_tree.proofs.Plans.{few, refused-plan, shallow}
-use Rattle.q_tree.proofs.TargetLemmas.{reached-at, target-none, target-some}
-use Rattle.q_tree.specs.Planning.{device_of, root_of}
-use Rattle.q_tree.proofs.Plans.{bounded-by}
+use Rattle.q_tree.proofs.commands.GraftLemmas.{graft-planned-for, leaf-alone, leaf-new}
+use Rattle.q_tree.proofs.commands.Plans.{few, refused-plan, shallow}
+use Rattle.q_tree.proofs.commands.TargetLemmas.{reached-at, target-none, target-some}
+use Rattle.q_tree.specs.commands.Planning.{device_of, root_of}
+use Rattle.q_tree.proofs.commands.Plans.{bounded-by}
 use Rattle.q_tree.proofs.commands.planner.Planner.pruned.Goals as goal
 
 pub returns-in_default : goal.returns-in_default

@@ -5,9 +5,9 @@ use Rattle.q_model.specs.Find.{path_of, place_path}
 use Rattle.q_model.specs.Node.{shape}
 use Rattle.q_model.specs.QdiscCommands.{place_checks}
 use Rattle.q_model.specs.Refusals.{done_unless}
-use Rattle.q_tree.proofs.GraftLemmas.{way-none, way-classless, way-classful, way-there}
-use Rattle.q_tree.proofs.TargetLemmas.{path-short, reached-at}
-use Rattle.q_tree.specs.Planning.{root_of}
+use Rattle.q_tree.proofs.commands.GraftLemmas.{way-none, way-classless, way-classful, way-there}
+use Rattle.q_tree.proofs.commands.TargetLemmas.{path-short, reached-at}
+use Rattle.q_tree.specs.commands.Planning.{root_of}
 use Rattle.q_tree.proofs.commands.planner.Planner.way_in.Goals as goal
 
 pub returns-in_default : goal.returns-in_default

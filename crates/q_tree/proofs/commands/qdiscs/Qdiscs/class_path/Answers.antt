@@ -1,6 +1,6 @@
 use Rattle.std.proofs.Common.{◌≡◌, ◌∙◌, sym, ap, Some, option_copied, arith}
 use Rattle.q_model.specs.Find.{node_at}
-use Rattle.q_tree.proofs.TargetLemmas.{path-short}
+use Rattle.q_tree.proofs.commands.TargetLemmas.{path-short}
 use Rattle.q_tree.proofs.commands.qdiscs.Qdiscs.class_path.Goals as goal
 
 pub push-requires : goal.push-requires

@@ -1,7 +1,7 @@
 use Rattle.std.proofs.Common.{◌∙◌, sym, ap, Some, None, option_map}
 use Rattle.std.specs.Prelude.{if◌then◌else◌}
 use Rattle.q_model.specs.Find.{is_explicit}
-use Rattle.q_tree.proofs.TargetLemmas.{explicit-at}
+use Rattle.q_tree.proofs.commands.TargetLemmas.{explicit-at}
 use Rattle.q_tree.proofs.commands.qdiscs.Qdiscs.explicit_at.Goals as goal
 
 pub returns-in_err-path : goal.returns-in_err-path

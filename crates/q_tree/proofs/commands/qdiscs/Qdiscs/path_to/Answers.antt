@@ -1,5 +1,5 @@
 use Rattle.std.proofs.Common.{◌∙◌, ap}
-use Rattle.q_tree.specs.Index.{path_among}
+use Rattle.q_tree.specs.commands.Index.{path_among}
 use Rattle.q_tree.proofs.commands.qdiscs.Qdiscs.path_to.Goals as goal
 
 pub returns : goal.returns

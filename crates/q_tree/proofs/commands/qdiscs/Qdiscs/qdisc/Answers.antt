@@ -1,6 +1,6 @@
 use Rattle.std.proofs.Common.{◌∙◌, sym, ap}
-use Rattle.q_tree.specs.Finding.{reached}
-use Rattle.q_tree.proofs.TargetLemmas.{path-shape}
+use Rattle.q_tree.specs.answers.Finding.{reached}
+use Rattle.q_tree.proofs.commands.TargetLemmas.{path-shape}
 use Rattle.q_tree.proofs.commands.qdiscs.Qdiscs.qdisc.Goals as goal
 
 pub returns : goal.returns

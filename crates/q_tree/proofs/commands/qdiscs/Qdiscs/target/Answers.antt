@@ -3,9 +3,9 @@ use Rattle.std.specs.Option.{option_eq}
 use Rattle.std.specs.Prelude.{◌==◌}
 use Rattle.q_model.specs.Node.{Node, shape}
 use Rattle.q_model.specs.QdiscCommands.{explicit_at, target}
-use Rattle.q_tree.specs.Finding.{reached}
+use Rattle.q_tree.specs.answers.Finding.{reached}
 use Rattle.q_tree.specs.Kept.{Kept}
-use Rattle.q_tree.proofs.TargetLemmas.{both-name}
+use Rattle.q_tree.proofs.commands.TargetLemmas.{both-name}
 use Rattle.q_tree.proofs.commands.qdiscs.Qdiscs.target.Goals as goal
 
 pub returns-then-eq : goal.returns-then-eq

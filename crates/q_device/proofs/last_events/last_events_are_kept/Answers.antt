@@ -1,7 +1,0 @@
-use Rattle.std.proofs.Common.{◌∙◌, [], ap}
-use Rattle.q_device.specs.LastNoted.{all_noted}
-use Rattle.q_device.proofs.LastLemmas.{all-more, ring-new}
-use Rattle.q_device.proofs.last_events.last_events_are_kept.Goals as goal
-
-pub returns : goal.returns
-returns c = λ places es. ap (all_noted es) (ring-new places) ∙ all-more places [] es

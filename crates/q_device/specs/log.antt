@@ -1,0 +1,3 @@
+-- The recorder, the ring of the last events, and the play of a list of events.
+pub mod LastKept
+pub mod LastNoted

@@ -1,0 +1,3 @@
+-- What events make of the bucket of a tbf.
+pub mod BucketMoves
+pub mod BucketSteps

@@ -1,0 +1,21 @@
+-- A command keeps a tree.
+pub mod EditAbove
+pub mod EditBucket
+pub mod EditChildren
+pub mod EditClassPlans
+pub mod EditClasses
+pub mod EditComes
+pub mod EditFilters
+pub mod EditFormPlans
+pub mod EditForms
+pub mod EditFront
+pub mod EditHandles
+pub mod EditLater
+pub mod EditMade
+pub mod EditNew
+pub mod EditNodes
+pub mod EditQdiscPlans
+pub mod EditRemade
+pub mod EditRetuned
+pub mod EditSuits
+pub mod Edits

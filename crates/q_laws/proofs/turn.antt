@@ -1,0 +1,20 @@
+-- A packet in a class of a drr: what leaves before it, and when it has left at the latest.
+pub mod CalmTurns
+pub mod FifoTurns
+pub mod LatestTurnFills
+pub mod LatestTurnKept
+pub mod LatestTurnRows
+pub mod LatestTurnTold
+pub mod MostTurnRows
+pub mod MostTurns
+pub mod TurnAnswers
+pub mod TurnAsks
+pub mod TurnBounds
+pub mod TurnKept
+pub mod TurnLimits
+pub mod TurnPaid
+pub mod TurnPolls
+pub mod TurnStretches
+pub mod TurnSums
+pub mod TurnWaits
+pub mod WorstTurnRows

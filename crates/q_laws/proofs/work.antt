@@ -1,0 +1,3 @@
+-- No link is left idle, and a prio serves its bands in order.
+pub mod WorkAsks
+pub mod WorkTrees

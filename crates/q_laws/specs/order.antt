@@ -1,0 +1,2 @@
+-- The order of one flow's packets.
+pub mod Order

@@ -1,6 +1,0 @@
-use Rattle.std.proofs.Common.{subst}
-use Rattle.q_packet.specs.Key.{IsKey}
-use Rattle.q_tree.proofs.matching.word_of.Goals as goal
-
-pub returns-clause-ranged : goal.returns-clause-ranged
-returns-clause-ranged c = subst IsKey c.key.view_is c.key.invariant

@@ -1,0 +1,2 @@
+-- What nodes count.
+pub mod CountersSeen

@@ -1,0 +1,3 @@
+-- What each discipline does in a tree.
+pub mod EmptyFifo
+pub mod Meeting

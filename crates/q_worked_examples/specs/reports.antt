@@ -1,0 +1,2 @@
+-- The bytes of a script's report.
+pub mod Reports

@@ -1,0 +1,3 @@
+-- What a device answers of itself.
+pub mod Readying
+pub mod Telling

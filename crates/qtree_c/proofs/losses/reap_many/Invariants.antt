@@ -1,5 +1,0 @@
-use Rattle.qtree_c.proofs.Reaping.{IsReaping}
-use Rattle.qtree_c.proofs.losses.reap_many.Given as goal
-
-abbrev pub invariant-loop-i : goal.invariant-loop-i
-invariant-loop-i l = IsReaping l.i l.initial.losses l.losses l.initial.device l.device

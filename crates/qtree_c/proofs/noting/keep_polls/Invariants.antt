@@ -1,7 +1,0 @@
-use Rattle.std.specs.Prelude.{◌≡◌, replicate}
-use Rattle.q_model.specs.declared.event.Event.TheVariants.{Poll}
-use Rattle.q_device.specs.LastNoted.{all_noted}
-use Rattle.qtree_c.proofs.noting.keep_polls.Given as goal
-
-abbrev pub invariant-loop-i : goal.invariant-loop-i
-invariant-loop-i l = l.last ≡ all_noted (replicate l.i (Poll l.device.device.clock)) l.initial.last

@@ -1,0 +1,2 @@
+-- Texts and names for people.
+pub mod Naming

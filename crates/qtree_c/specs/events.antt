@@ -1,0 +1,3 @@
+-- The recorder and the ring of the last events, as lines of a script.
+pub mod Noting
+pub mod Scripts

@@ -1,0 +1,2 @@
+-- The bytes of packets: frames, heads, marks and hashes.
+pub mod Frames

@@ -1,0 +1,2 @@
+-- Rings, and the calls on their two ends.
+pub mod Ends

@@ -1,0 +1,5 @@
+//! Texts and names for people.
+
+pub(crate) mod explaining;
+pub(crate) mod names;
+pub(crate) mod showing;
