@@ -1,5 +1,4 @@
 pub mod Along
-pub mod Kept
 pub mod Replays
 pub mod Sound
 pub mod again

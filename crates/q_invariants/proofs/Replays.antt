@@ -13,9 +13,9 @@ use Rattle.q_model.specs.Settings.{DeviceSettings, IsInRange}
 use Rattle.q_model.specs.Step.{DeviceState, answered, step}
 use Rattle.q_model.specs.Tally.{Note, history}
 use Rattle.q_model.specs.TreeState.{plan}
+use Rattle.q_invariants.specs.Kept.{IsKeptTree}
 use Rattle.q_invariants.proofs.ask.Asks.{take-kept}
 use Rattle.q_invariants.proofs.edit.Edits.{edit-keeps, new-kept}
-use Rattle.q_invariants.proofs.Kept.{IsKeptTree}
 use Rattle.q_invariants.proofs.put.Puts.{put-kept}
 
 abbrev pub IsKept : DeviceState (List Note) → Type 0

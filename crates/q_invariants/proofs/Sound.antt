@@ -14,7 +14,7 @@ use Rattle.q_model.specs.TreeState.{TreeState}
 use Rattle.q_model.specs.Shrink.{shrunk}
 use Rattle.q_model.specs.Sound.{IsSound}
 use Rattle.q_model.proofs.ShrinkLemmas.{each-each_memory}
-use Rattle.q_invariants.proofs.Kept.{AllCounted, AllLawful, IsKeptTree}
+use Rattle.q_invariants.specs.Kept.{AllCounted, AllLawful, IsKeptTree}
 use Rattle.q_invariants.proofs.sums.Counted.{is-balanced, are-bounded}
 use Rattle.q_invariants.proofs.sums.Shuffled.{is-conserved}
 

@@ -19,11 +19,11 @@ use Rattle.q_model.specs.TreeState.{TreeState, new_tree, peek_packet, take_packe
 use Rattle.q_model.specs.Work.{booked}
 use Rattle.q_model.proofs.ShrinkLemmas.{totals_for_history, shape-with_memory, each-each_memory}
 use Rattle.q_model.proofs.ShrinkSteps.{peek-stands, take-stands, new_tree-stands}
+use Rattle.q_invariants.specs.Kept.{AllLawful, IsKeptTree, IsLawfulRoot}
 use Rattle.q_invariants.proofs.ask.Answer.{silent-nil}
 use Rattle.q_invariants.proofs.ask.Asks.{peek-kept, take-kept}
 use Rattle.q_invariants.proofs.edit.EditLater.{root-later}
 use Rattle.q_invariants.proofs.edit.Edits.{new-kept}
-use Rattle.q_invariants.proofs.Kept.{AllLawful, IsLawfulRoot, IsKeptTree}
 use Rattle.q_invariants.proofs.Sound.{kept-totals}
 use Rattle.q_invariants.proofs.tree.Forests.{lawful-with_memory}
 use Rattle.q_tree.specs.departure.AskSteps.{CanAsk, CanShow, IsShown, with_shown}

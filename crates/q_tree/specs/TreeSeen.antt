@@ -12,7 +12,7 @@ use Rattle.q_model.specs.Shrink.{remembering, shrunk}
 use Rattle.q_model.specs.Step.{DeviceState}
 use Rattle.q_model.specs.Tally.{Note, Counts, with_packet}
 use Rattle.q_model.specs.TreeState.{TreeState}
-use Rattle.q_invariants.proofs.Kept.{IsKeptTree}
+use Rattle.q_invariants.specs.Kept.{IsKeptTree}
 use Rattle.q_tree.specs.arrival.Arrivals.{HasPlace}
 use Rattle.q_tree.specs.Kept.{Kept}
 use Rattle.q_tree.specs.route.RouteSeen.{RouteSeen, route_seen}

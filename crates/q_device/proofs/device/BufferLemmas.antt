@@ -14,9 +14,9 @@ use Rattle.q_model.specs.Settings.{DeviceSettings, IsInRange}
 use Rattle.q_model.specs.Step.{DeviceState, answered, step}
 use Rattle.q_model.specs.Tally.{Note, history}
 use Rattle.q_model.specs.TreeState.{plan}
+use Rattle.q_invariants.specs.Kept.{IsLawfulRoot}
 use Rattle.q_invariants.proofs.Along.{replay-twice}
 use Rattle.q_invariants.proofs.edit.EditLater.{root-later}
-use Rattle.q_invariants.proofs.Kept.{IsLawfulRoot}
 use Rattle.q_invariants.proofs.Replays.{IsKept, not-before, not-after, step-kept, replay-kept}
 use Rattle.q_tree.specs.answers.MostPackets.{most_packets}
 use Rattle.q_tree.proofs.MostPacketsLemmas.{queued-within-most}

@@ -19,11 +19,12 @@ use Rattle.q_model.specs.Route.{device_route}
 use Rattle.q_model.specs.Step.{DeviceState, answered, loss_in, losses_in, step}
 use Rattle.q_model.specs.Tally.{Note, Arrived, Sent, Lost, Marked, Granted, Spent, FlowGranted, FlowGave, Counts, counted, noted, totals}
 use Rattle.q_model.specs.TreeState.{plan, put_work, asked}
+use Rattle.q_invariants.specs.Weights.{arrived, lost, sent, weigh}
 use Rattle.q_invariants.proofs.ask.Answer.{one}
 use Rattle.q_invariants.proofs.Replays.{not-before, not-after}
 use Rattle.q_invariants.proofs.sums.Counted.{bytes, all-more, lost-parts}
 use Rattle.q_invariants.proofs.sums.Shuffled.{weigh-arrivals, weigh-sent}
-use Rattle.q_invariants.proofs.sums.Weights.{weigh, weigh-nil, arrived, lost, lost-nil, lost-cons, sent, sent-nil, sent-cons, sent-append}
+use Rattle.q_invariants.proofs.sums.Weights.{weigh-nil, lost-nil, lost-cons, sent-nil, sent-cons, sent-append}
 use Rattle.q_device.specs.Counters.{IsNotBelow, HasNotFallen, arrived_after, sent_by}
 use Rattle.q_device.proofs.device.ToldLemmas.{AreLosses, losses-are, on-are}
 

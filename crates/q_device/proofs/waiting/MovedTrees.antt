@@ -6,8 +6,8 @@ use Rattle.q_model.specs.Node.{Own, Forest, none, more, Shape, each, shape}
 use Rattle.q_model.specs.Tally.{Tally}
 use Rattle.q_model.specs.TreeState.{TreeState, given, take_packet}
 use Rattle.q_model.specs.Lawful.{IsLawfulOwn}
+use Rattle.q_invariants.specs.Kept.{AllLawful, IsLawfulRoot}
 use Rattle.q_invariants.proofs.ask.Asks.{beneath-befores}
-use Rattle.q_invariants.proofs.Kept.{AllLawful, IsLawfulRoot}
 use Rattle.q_tree.specs.answers.ReadyAt.{outlook_own, outlook}
 use Rattle.q_device.proofs.waiting.Moved.{Moves, AreMoved}
 use Rattle.q_device.proofs.waiting.MovedAsks.{asked-moves}

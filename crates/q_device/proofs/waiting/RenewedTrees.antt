@@ -9,11 +9,11 @@ use Rattle.q_model.specs.TreeState.{TreeState, given, take_packet}
 use Rattle.q_model.specs.Work.{Worked, booked}
 use Rattle.q_model.specs.Lawful.{IsLawfulOwn}
 use Rattle.q_model.proofs.ShrinkLemmas.{each-each_memory}
+use Rattle.q_invariants.specs.Kept.{AllLawful, IsLawfulRoot}
 use Rattle.q_invariants.proofs.again.SecondPeeks.{asked-shape, told}
 use Rattle.q_invariants.proofs.ask.Answer.{IsAnswer}
 use Rattle.q_invariants.proofs.ask.AskClasses.{empty-peeked}
 use Rattle.q_invariants.proofs.ask.Asks.{before-is, before-root, beneath-befores, ask-answers}
-use Rattle.q_invariants.proofs.Kept.{AllLawful, IsLawfulRoot}
 use Rattle.q_invariants.proofs.sums.Told.{root-booked}
 use Rattle.q_tree.specs.answers.ReadyAt.{outlook_own, outlook}
 use Rattle.q_tree.proofs.Foreseeing.{Foresees}

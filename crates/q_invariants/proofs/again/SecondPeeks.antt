@@ -18,6 +18,7 @@ use Rattle.q_model.specs.Lawful.{IsLawfulOwn, IsLawfulNode, IsLawfulTree}
 use Rattle.q_model.specs.Work.{Worked, quiet, each_booked}
 use Rattle.q_model.specs.Ask.{Asked, befores, head_of, ask_own, ask}
 use Rattle.q_model.specs.TreeState.{TreeState, with_work, given, noted_by_take, peek_packet}
+use Rattle.q_invariants.specs.Kept.{AllLawful, IsKeptTree, IsLawfulRoot}
 use Rattle.q_invariants.proofs.again.SecondDrr.{second-drr}
 use Rattle.q_invariants.proofs.again.SecondFlow.{second-fq_codel}
 use Rattle.q_invariants.proofs.again.SecondPeek.{IsSecond, Repeats, again, IsStable, AreStable, again-quiet, node, second-holding, second-fifo, second-tbf}
@@ -27,7 +28,6 @@ use Rattle.q_invariants.proofs.ask.Asks.{before-is, before-root, beneath-befores
 use Rattle.q_invariants.proofs.ask.DrrService.{heads-fit}
 use Rattle.q_invariants.proofs.class.Exact.{exact-length}
 use Rattle.q_invariants.proofs.edit.EditLater.{root-later}
-use Rattle.q_invariants.proofs.Kept.{AllLawful, IsLawfulRoot, IsKeptTree}
 use Rattle.q_invariants.proofs.sums.Told.{IsRootTold, root-memory, root-booked}
 use Rattle.q_invariants.proofs.tree.Forests.{lawful-with_memory}
 use Rattle.q_invariants.proofs.tree.Members.{All-front, All-back}

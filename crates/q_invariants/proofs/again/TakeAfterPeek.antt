@@ -12,11 +12,11 @@ use Rattle.q_model.specs.Beneath.{packets_of}
 use Rattle.q_model.specs.Work.{Worked, each_booked}
 use Rattle.q_model.specs.Ask.{Asked, holding, ask_fifo, ask_own, ask}
 use Rattle.q_model.specs.TreeState.{TreeState, with_work, peek_packet, take_packet}
+use Rattle.q_invariants.specs.Kept.{AllLawful, IsLawfulRoot}
 use Rattle.q_invariants.proofs.again.SecondPeek.{IsSecond, again, AreStable, again-quiet, node}
 use Rattle.q_invariants.proofs.again.SecondPeeks.{forest-stable, ask-stable, told, asked-again, second-peek}
 use Rattle.q_invariants.proofs.again.TakeBands.{prio-so}
 use Rattle.q_invariants.proofs.again.TakeJoined.{AllJoined, IsJoined, TakesSo, TakeSo, shown-so, tbf-so, drr-so, fq_codel-so}
-use Rattle.q_invariants.proofs.Kept.{AllLawful, IsLawfulRoot}
 use Rattle.q_invariants.proofs.sums.Told.{AllTold}
 
 -- ---- every node

@@ -11,10 +11,11 @@ use Rattle.q_model.specs.Conserved.{held_own, held_beneath}
 use Rattle.q_model.specs.Lawful.{IsLawfulOwn}
 use Rattle.q_model.specs.Work.{Worked, worked}
 use Rattle.q_model.specs.Ask.{Asked, befores, Showing, showing, Dequeue, dequeued}
-use Rattle.q_invariants.proofs.Kept.{IsLawfulRoot}
+use Rattle.q_invariants.specs.Kept.{AreLawful, IsLawfulRoot}
+use Rattle.q_invariants.specs.Weights.{arrived, dropped, lost, marked, sent, weigh}
 use Rattle.q_invariants.proofs.sums.Told.{IsRootTold}
-use Rattle.q_invariants.proofs.sums.Weights.{weigh, arrived, sent, lost, dropped, marked, IsQuiet, arrived-nil, sent-nil, lost-nil, dropped-nil, marked-nil, arrived-append, sent-append, lost-append, dropped-append, marked-append, arrived-given, sent-given, lost-given, dropped-given, marked-given}
-use Rattle.q_invariants.proofs.tree.Forests.{each-side, AreLawful, AreTold, lawful-side, told-side}
+use Rattle.q_invariants.proofs.sums.Weights.{IsQuiet, arrived-nil, sent-nil, lost-nil, dropped-nil, marked-nil, arrived-append, sent-append, lost-append, dropped-append, marked-append, arrived-given, sent-given, lost-given, dropped-given, marked-given}
+use Rattle.q_invariants.proofs.tree.Forests.{each-side, AreTold, lawful-side, told-side}
 use Rattle.q_model.specs.Since.{since_of}
 
 -- a peek leaves a packet where there was one

@@ -10,13 +10,15 @@ use Rattle.q_model.specs.Beneath.{beneath}
 use Rattle.q_model.specs.Conserved.{held_beneath}
 use Rattle.q_model.specs.Work.{Worked}
 use Rattle.q_model.specs.Ask.{Asked, befores}
+use Rattle.q_invariants.specs.Kept.{AreLawful}
+use Rattle.q_invariants.specs.Weights.{lost, marked, weigh}
 use Rattle.q_invariants.proofs.ask.Answer.{one, IsAnswer, AreAnswers}
 use Rattle.q_invariants.proofs.class.ClassSums.{picked}
 use Rattle.q_invariants.proofs.class.Exact.{AreExact}
 use Rattle.q_invariants.proofs.sums.Sums.{in_children, held_in_children}
 use Rattle.q_invariants.proofs.sums.Told.{IsRootTold}
-use Rattle.q_invariants.proofs.sums.Weights.{weigh, weigh-count, lost, marked}
-use Rattle.q_invariants.proofs.tree.Forests.{AreLawful, AreTold}
+use Rattle.q_invariants.proofs.sums.Weights.{weigh-count}
+use Rattle.q_invariants.proofs.tree.Forests.{AreTold}
 
 abbrev pub peeked_by : (Class → Bool) → List Class → List Asked → List Worked
 peeked_by test classes below = map (λ pair. if test pair.0 then pair.1.peeked else pair.1.before) (zip classes below)

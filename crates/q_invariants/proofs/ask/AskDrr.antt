@@ -20,6 +20,7 @@ use Rattle.q_model.specs.Work.{Worked, settled_class}
 use Rattle.q_model.specs.Numbers.{IsMinor}
 use Rattle.q_model.specs.Grants.{asked_entries}
 use Rattle.q_model.specs.Ask.{Asked, befores, dequeued, is_among, head_of, Service, service_of, place_met, gives_nothing, class_gives, class_serves, ask_drr, since_shown}
+use Rattle.q_invariants.specs.Weights.{lost, marked, weigh}
 use Rattle.q_invariants.proofs.ask.Answer.{one, IsAnswer, AreAnswers, waiting, is-dequeued}
 use Rattle.q_invariants.proofs.ask.AskClasses.{are-looked, exact-looked, taken-at}
 use Rattle.q_invariants.proofs.ask.DrrService.{notes-silent, lost-all, marked-all, answer-at, quiet-all, heads-fit, IsMetAt, met-asked, differ-asked}
@@ -28,7 +29,7 @@ use Rattle.q_invariants.proofs.class.Exact.{AreExact, exact-length, active-serve
 use Rattle.q_invariants.proofs.put.DrrSettled.{IsNext, next-settled}
 use Rattle.q_invariants.proofs.sums.Lengths.{lengths-among}
 use Rattle.q_invariants.proofs.sums.Sums.{in_children, weigh-waiting, weigh-holds, befores-lawful, befores-told}
-use Rattle.q_invariants.proofs.sums.Weights.{weigh, weigh-nil, weigh-one, lost, marked}
+use Rattle.q_invariants.proofs.sums.Weights.{weigh-nil, weigh-one}
 
 module _ (mtu now : ℕ) (least_mtu : 1 ≤ mtu) (handle : Option ℕ) (filters : List Filter) (since : ℕ) where
   abbrev drr_node : Schedule → Option Descriptor → ℕ → Own

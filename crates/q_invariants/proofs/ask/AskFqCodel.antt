@@ -22,11 +22,12 @@ use Rattle.q_model.specs.Lawful.{AgreesWith, IsLawfulFlow, IsLawfulFqCodel, IsLa
 use Rattle.q_model.specs.Work.{losses_of}
 use Rattle.q_model.specs.Ask.{Asked, befores, marks_of, ask_fq_codel}
 use Rattle.q_model.specs.Quanta.{flow_notes}
+use Rattle.q_invariants.specs.Weights.{lost, weigh}
 use Rattle.q_invariants.proofs.ask.Answer.{one, IsAnswer, AreAnswers, waiting, is-dequeued}
 use Rattle.q_invariants.proofs.flow.FlowNotes.{take-weighs, nothing-dropped, marks-weigh, lost-marks, quiet-marks, flow-silent}
 use Rattle.q_invariants.proofs.sums.Lengths.{lengths-among}
 use Rattle.q_invariants.proofs.sums.Sums.{in_children, weigh-waiting, weigh-holds, befores-lawful, befores-told}
-use Rattle.q_invariants.proofs.sums.Weights.{weigh, weigh-nil, weigh-one, quiet-append, quiet-losses, lost, lost-append, lost-losses, marked-append, marked-losses}
+use Rattle.q_invariants.proofs.sums.Weights.{weigh-nil, weigh-one, quiet-append, quiet-losses, lost-append, lost-losses, marked-append, marked-losses}
 use Rattle.std.specs.Option.{option_map_or}
 use Rattle.q_model.specs.Since.{since_of}
 use Rattle.q_invariants.proofs.tree.Stamps.{stamped-drop}

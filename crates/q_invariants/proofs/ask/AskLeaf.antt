@@ -13,10 +13,11 @@ use Rattle.q_model.specs.Node.{Fifo, Own}
 use Rattle.q_model.specs.Beneath.{packets_of, packets_in, beneath}
 use Rattle.q_model.specs.Lawful.{IsLawfulOwn}
 use Rattle.q_model.specs.Ask.{Asked, befores, holding, ask_fifo}
+use Rattle.q_invariants.specs.Weights.{weigh}
 use Rattle.q_invariants.proofs.ask.Answer.{IsAnswer, AreAnswers, IsAsked, waiting, holds, is-shown}
 use Rattle.q_invariants.proofs.sums.Lengths.{HasLength, lengths-among}
 use Rattle.q_invariants.proofs.sums.Sums.{weigh-waiting, weigh-holds, befores-lawful, befores-told}
-use Rattle.q_invariants.proofs.sums.Weights.{weigh, weigh-nil, weigh-cons, weigh-one, quiet-nil, lost-nil, marked-nil}
+use Rattle.q_invariants.proofs.sums.Weights.{weigh-nil, weigh-cons, weigh-one, quiet-nil, lost-nil, marked-nil}
 use Rattle.q_invariants.proofs.tree.Stamps.{stamped-drop}
 
 -- a node that shows what it has at hand, and asks no child

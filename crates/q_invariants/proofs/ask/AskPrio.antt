@@ -12,11 +12,13 @@ use Rattle.q_model.specs.Beneath.{beneath}
 use Rattle.q_model.specs.Lawful.{IsLawfulDiscipline, IsLawfulOwn, IsLawfulPrio}
 use Rattle.q_model.specs.Work.{Worked}
 use Rattle.q_model.specs.Ask.{Asked, befores, ask_prio}
+use Rattle.q_invariants.specs.Kept.{AreLawful}
+use Rattle.q_invariants.specs.Weights.{lost, marked, weigh}
 use Rattle.q_invariants.proofs.ask.Answer.{one, IsAnswer, AreAnswers, waiting, is-shown}
 use Rattle.q_invariants.proofs.sums.Lengths.{lengths-among}
 use Rattle.q_invariants.proofs.sums.Sums.{in_children, held_in_children, weigh-waiting, weigh-holds, befores-lawful, befores-told}
-use Rattle.q_invariants.proofs.sums.Weights.{weigh, weigh-nil, IsQuiet, quiet-nil, quiet-append, lost, marked, lost-nil, marked-nil, lost-append, marked-append}
-use Rattle.q_invariants.proofs.tree.Forests.{AreLawful, AreTold}
+use Rattle.q_invariants.proofs.sums.Weights.{weigh-nil, IsQuiet, quiet-nil, quiet-append, lost-nil, marked-nil, lost-append, marked-append}
+use Rattle.q_invariants.proofs.tree.Forests.{AreTold}
 
 -- children that were peeked, and from one of which a packet was taken
 pub record ArePassed (mtu now : ℕ) (below : List Asked) (peeked taken : List Worked) (notes : List Note) (packet : Option Descriptor) : Type 0 where

@@ -14,8 +14,8 @@ use Rattle.q_model.specs.Grants.{asked_entries}
 use Rattle.q_model.specs.Lawful.{IsLawfulDiscipline}
 use Rattle.q_model.specs.Work.{Worked}
 use Rattle.q_model.specs.Ask.{Asked, befores, Showing, showing, holding, Dequeue, dequeued, waits, spends, ask_tbf, is_among, head_of, service_of, place_met, gives_nothing, class_gives, class_serves, ask_drr, ask_discipline, ask_own, ask}
+use Rattle.q_invariants.specs.Kept.{AllLawful, IsLawfulRoot}
 use Rattle.q_invariants.proofs.class.Exact.{exact-length}
-use Rattle.q_invariants.proofs.Kept.{AllLawful, IsLawfulRoot}
 use Rattle.q_invariants.proofs.tree.Related.{AllRelated, IsRelated}
 
 abbrev pub IsStageOf : Asked → Worked → Type 0

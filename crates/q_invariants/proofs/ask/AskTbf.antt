@@ -12,10 +12,11 @@ use Rattle.q_model.specs.Beneath.{beneath}
 use Rattle.q_model.specs.Lawful.{IsLawfulOwn}
 use Rattle.q_model.specs.Work.{Worked}
 use Rattle.q_model.specs.Ask.{Asked, befores, spends, waits, ask_tbf, since_shown}
+use Rattle.q_invariants.specs.Weights.{weigh}
 use Rattle.q_invariants.proofs.ask.Answer.{one, IsAnswer, AreAnswers, IsSilent, silent-nil, waiting, is-dequeued}
 use Rattle.q_invariants.proofs.sums.Lengths.{IsShort, lengths-among, short-among}
 use Rattle.q_invariants.proofs.sums.Sums.{weigh-waiting, weigh-holds, befores-lawful, befores-told}
-use Rattle.q_invariants.proofs.sums.Weights.{weigh, weigh-nil, weigh-one, arrived-nil, sent-nil, lost-nil, dropped-nil, marked-nil, arrived-cons, sent-cons, lost-cons, dropped-cons, marked-cons}
+use Rattle.q_invariants.proofs.sums.Weights.{weigh-nil, weigh-one, arrived-nil, sent-nil, lost-nil, dropped-nil, marked-nil, arrived-cons, sent-cons, lost-cons, dropped-cons, marked-cons}
 
 -- what a spend leaves, whether it may go or not
 abbrev spent : Bool → TokenBucket → ℕ → ℕ → TokenBucket

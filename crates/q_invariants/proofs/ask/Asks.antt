@@ -18,6 +18,8 @@ use Rattle.q_model.specs.Work.{Worked, worked, quiet, booked}
 use Rattle.q_model.specs.Ask.{Asked, befores, holding, dequeued, waits, spends, ask_child, ask_tbf, service_of, place_met, gives_nothing, class_gives, class_serves, ask_drr, ask_discipline, ask_own, ask}
 use Rattle.q_model.specs.TreeState.{TreeState, peek_packet, with_work, take_packet}
 use Rattle.q_model.proofs.ShrinkLemmas.{each-each_memory}
+use Rattle.q_invariants.specs.Kept.{AllLawful, AreCounted, IsCountedRoot, IsKeptTree, IsLawfulRoot}
+use Rattle.q_invariants.specs.Weights.{weigh}
 use Rattle.q_invariants.proofs.ask.Answer.{IsAnswer, AreAnswers, beneath-worked}
 use Rattle.q_invariants.proofs.ask.AskDrr.{drr-answers}
 use Rattle.q_invariants.proofs.ask.AskFqCodel.{fq_codel-answers}
@@ -25,9 +27,8 @@ use Rattle.q_invariants.proofs.ask.AskLeaf.{holding-answers, fifo-answers}
 use Rattle.q_invariants.proofs.ask.AskPrio.{prio-answers}
 use Rattle.q_invariants.proofs.ask.AskTbf.{tbf-answers}
 use Rattle.q_invariants.proofs.edit.EditLater.{root-later}
-use Rattle.q_invariants.proofs.Kept.{AreCounted, AllLawful, IsLawfulRoot, IsCountedRoot, IsKeptTree}
 use Rattle.q_invariants.proofs.sums.Told.{IsTold, IsRootTold, each-booked, counted-noted, booked-counted, booked-lawful, root-memory, LooksAtHandle, root-told, root-booked}
-use Rattle.q_invariants.proofs.sums.Weights.{IsQuiet, weigh, arrived-append, sent-append, lost-append, dropped-append, marked-append, arrived-given, sent-given, lost-given, dropped-given, marked-given}
+use Rattle.q_invariants.proofs.sums.Weights.{IsQuiet, arrived-append, sent-append, lost-append, dropped-append, marked-append, arrived-given, sent-given, lost-given, dropped-given, marked-given}
 use Rattle.q_invariants.proofs.tree.Forests.{lawful-with_memory}
 
 -- every node is before as it was

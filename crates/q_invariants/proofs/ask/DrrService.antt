@@ -18,11 +18,12 @@ use Rattle.q_model.specs.Beneath.{beneath}
 use Rattle.q_model.specs.Route.{class_at}
 use Rattle.q_model.specs.Grants.{asked_entries, grant_notes, granted_notes}
 use Rattle.q_model.specs.Ask.{Asked, is_among, head_of, length_of}
+use Rattle.q_invariants.specs.Weights.{lost, marked, weigh}
 use Rattle.q_invariants.proofs.ask.Answer.{IsAnswer, AreAnswers, IsSilent, silent-nil, silent-append}
 use Rattle.q_invariants.proofs.class.ClassSums.{answer_in}
 use Rattle.q_invariants.proofs.sums.Lengths.{HasLength, lengths-among}
 use Rattle.q_invariants.proofs.sums.Sums.{total}
-use Rattle.q_invariants.proofs.sums.Weights.{weigh, IsQuiet, quiet-nil, quiet-append, lost-nil, marked-nil, arrived-cons, sent-cons, lost-cons, dropped-cons, marked-cons, lost, marked, lost-append, marked-append}
+use Rattle.q_invariants.proofs.sums.Weights.{IsQuiet, quiet-nil, quiet-append, lost-nil, marked-nil, arrived-cons, sent-cons, lost-cons, dropped-cons, marked-cons, lost-append, marked-append}
 
 -- ---- what is noted
 

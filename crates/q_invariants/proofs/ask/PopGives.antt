@@ -11,12 +11,13 @@ use Rattle.q_model.specs.Beneath.{beneath, packets_of}
 use Rattle.q_model.specs.Conserved.{held_beneath}
 use Rattle.q_model.specs.Pop.{Popping, as_they_are, first_ready, popped_at, giving, pop_discipline, pop_own, pop}
 use Rattle.q_model.specs.Work.{Worked, worked}
+use Rattle.q_invariants.specs.Weights.{weigh}
 use Rattle.q_invariants.proofs.ask.Answer.{waiting, holds, beneath-worked, held-worked}
 use Rattle.q_invariants.proofs.ask.AskLeaf.{weigh-head}
 use Rattle.q_invariants.proofs.ask.Pops.{pop-before}
 use Rattle.q_invariants.proofs.sums.Sums.{in_children, held_in_children, weigh-waiting, weigh-holds}
 use Rattle.q_invariants.proofs.sums.Told.{IsRootTold, root-memory}
-use Rattle.q_invariants.proofs.sums.Weights.{weigh, weigh-nil, arrived-nil, sent-nil, lost-nil, dropped-nil, marked-nil, arrived-given, sent-given, lost-given, dropped-given, marked-given}
+use Rattle.q_invariants.proofs.sums.Weights.{weigh-nil, arrived-nil, sent-nil, lost-nil, dropped-nil, marked-nil, arrived-given, sent-given, lost-given, dropped-given, marked-given}
 use Rattle.q_invariants.proofs.tree.Forests.{AreTold, told-side}
 
 pub record IsGiven (b : Popping) : Type 0 where

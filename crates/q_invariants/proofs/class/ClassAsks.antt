@@ -20,6 +20,7 @@ use Rattle.q_model.specs.Grants.{granted_notes}
 use Rattle.q_model.specs.Work.{Worked, booked, settled_class}
 use Rattle.q_model.specs.Ask.{Asked, befores, holding, Dequeue, dequeued, length_of, service_of, place_met, gives_nothing, class_gives, class_serves, ask_drr, ask_discipline, ask_own, ask, since_shown}
 use Rattle.q_model.specs.Stretches.{sent_by, bytes_sent, granted_by, grants_to}
+use Rattle.q_invariants.specs.Kept.{IsLawfulRoot}
 use Rattle.q_invariants.proofs.ask.Asks.{forest-answers}
 use Rattle.q_invariants.proofs.ask.AskStages.{IsStageOf, IsAskOf, asked-related}
 use Rattle.q_invariants.proofs.ask.DrrService.{heads-fit}
@@ -32,7 +33,6 @@ use Rattle.q_invariants.proofs.class.ClassTakes.{heads, none-sends, looked-gives
 use Rattle.q_invariants.proofs.class.Exact.{active-served, classes-served}
 use Rattle.q_invariants.proofs.class.SameTurns.{SameTurns, same-all, same-settled}
 use Rattle.q_invariants.proofs.class.TakeTurns.{one_if, Stands, stands, take-books, take-even, grants-noted, absent-noted, deficit-at}
-use Rattle.q_invariants.proofs.Kept.{IsLawfulRoot}
 use Rattle.q_invariants.proofs.put.DrrSettled.{class-settled}
 use Rattle.q_invariants.proofs.sums.NoteSums.{AreRisen, sum-risen, past-granted}
 use Rattle.q_invariants.proofs.sums.Risen.{rise-service, all-rise}

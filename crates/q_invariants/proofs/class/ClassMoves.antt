@@ -23,6 +23,7 @@ use Rattle.q_model.specs.Ask.{length_of, ask}
 use Rattle.q_model.specs.Lawful.{IsLawfulDiscipline, IsLawfulDrr}
 use Rattle.q_model.specs.Step.{DeviceState, step}
 use Rattle.q_model.specs.Stretches.{sent_by, bytes_sent, granted_by, grants_to, qdisc, ClassAt, class_of, class_in}
+use Rattle.q_invariants.specs.Kept.{IsLawfulRoot}
 use Rattle.q_invariants.proofs.class.AgainstTurns.{left_before}
 use Rattle.q_invariants.proofs.class.ClassAsks.{asked-step}
 use Rattle.q_invariants.proofs.class.ClassChildren.{child_for, child-at}
@@ -30,7 +31,6 @@ use Rattle.q_invariants.proofs.class.ClassLooks.{active-of}
 use Rattle.q_invariants.proofs.class.ClassSteps.{DrrStep, Stays, put-step, same-schedule, same-step, edited-step}
 use Rattle.q_invariants.proofs.class.TakeTurns.{one_if}
 use Rattle.q_invariants.proofs.edit.EditLater.{root-later}
-use Rattle.q_invariants.proofs.Kept.{IsLawfulRoot}
 use Rattle.q_invariants.proofs.Replays.{IsKept, step-kept}
 use Rattle.q_invariants.proofs.tree.Forests.{lawful-with_memory, each-nodes}
 use Rattle.q_invariants.proofs.tree.StepNodes.{Becomes, becomes, clock-rises}

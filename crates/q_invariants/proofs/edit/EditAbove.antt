@@ -17,12 +17,13 @@ use Rattle.q_model.specs.Find.{class_in, node_at}
 use Rattle.q_model.specs.Work.{losses_of, settled_in, settled}
 use Rattle.q_model.specs.Edit.{above, edited_at}
 use Rattle.q_model.specs.Lawful.{IsLawfulDiscipline, IsLawfulOwn, CanHold}
+use Rattle.q_invariants.specs.Kept.{IsCountedRoot, IsLawfulRoot}
+use Rattle.q_invariants.specs.Weights.{weigh}
 use Rattle.q_invariants.proofs.edit.EditHandles.{one, times, times-set}
-use Rattle.q_invariants.proofs.Kept.{IsLawfulRoot, IsCountedRoot}
 use Rattle.q_invariants.proofs.put.DrrSettled.{class-settled, drr-settled, settled-packets}
 use Rattle.q_invariants.proofs.sums.Joined.{joined, weigh-joined-set, weigh-beneath, weigh-held, counted_purged}
 use Rattle.q_invariants.proofs.sums.Lengths.{short-among, lengths-among}
-use Rattle.q_invariants.proofs.sums.Weights.{weigh, weigh-nil}
+use Rattle.q_invariants.proofs.sums.Weights.{weigh-nil}
 use Rattle.q_invariants.proofs.tree.Forests.{each-set, each-at, are-lawful, lawful-side, lawful-nodes, counted-side, counted-nodes}
 use Rattle.q_invariants.proofs.tree.Members.{All-at}
 

@@ -19,14 +19,15 @@ use Rattle.q_model.specs.Find.{class_in}
 use Rattle.q_model.specs.Edit.{Child, Kept, Retuned, with_own, child_of, keeps}
 use Rattle.q_model.specs.QdiscCommands.{relimited, leaf_of_tbf}
 use Rattle.q_model.specs.Lawful.{IsLawfulDiscipline, IsLawfulOwn, CanHold}
+use Rattle.q_invariants.specs.Kept.{AreCounted, IsCountedRoot, IsLawfulRoot}
+use Rattle.q_invariants.specs.Weights.{weigh}
 use Rattle.q_invariants.proofs.edit.EditChildren.{kids, gone}
 use Rattle.q_invariants.proofs.edit.EditRemade.{Remakes, own_changed, times_in}
 use Rattle.q_invariants.proofs.edit.EditRetuned.{own_lawful, children_lawful, children_counted}
 use Rattle.q_invariants.proofs.edit.EditSuits.{children-shape, gone_from}
-use Rattle.q_invariants.proofs.Kept.{AreCounted, IsLawfulRoot, IsCountedRoot}
 use Rattle.q_invariants.proofs.sums.Joined.{joined, weigh-joined-set, weigh-beneath}
 use Rattle.q_invariants.proofs.sums.Lengths.{lengths-among}
-use Rattle.q_invariants.proofs.sums.Weights.{weigh, weigh-nil}
+use Rattle.q_invariants.proofs.sums.Weights.{weigh-nil}
 
 -- ---- the leaf
 

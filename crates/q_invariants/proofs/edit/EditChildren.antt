@@ -13,8 +13,9 @@ use Rattle.q_model.specs.Tally.{Tally}
 use Rattle.q_model.specs.Node.{Node, Shape, blank}
 use Rattle.q_model.specs.Beneath.{beneath}
 use Rattle.q_model.specs.Edit.{Child, Kept, New, child_of, keeps}
+use Rattle.q_invariants.specs.Weights.{weigh}
 use Rattle.q_invariants.proofs.sums.Joined.{joined}
-use Rattle.q_invariants.proofs.sums.Weights.{weigh, weigh-nil, weigh-append}
+use Rattle.q_invariants.proofs.sums.Weights.{weigh-nil, weigh-append}
 
 abbrev pub kept_from : ℕ → ℕ → List Child
 kept_from a k = map Kept (range_with_len a k)

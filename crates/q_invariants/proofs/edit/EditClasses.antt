@@ -26,6 +26,8 @@ use Rattle.q_model.specs.Edit.{keeps}
 use Rattle.q_model.specs.QdiscCommands.{all_kept}
 use Rattle.q_model.specs.ClassCommands.{with_new_quantum}
 use Rattle.q_model.specs.Lawful.{IsLawfulDiscipline, IsLawfulDrr, IsLawfulOwn}
+use Rattle.q_invariants.specs.Kept.{IsCountedRoot, IsLawfulRoot}
+use Rattle.q_invariants.specs.Weights.{weigh}
 use Rattle.q_invariants.proofs.class.ClassChildren.{all-stay}
 use Rattle.q_invariants.proofs.class.Exact.{AreExact, exact-length, exact-others}
 use Rattle.q_invariants.proofs.edit.EditChildren.{kids, kids_removed, removed_keeps, removed_goes, gone_one}
@@ -34,9 +36,7 @@ use Rattle.q_invariants.proofs.edit.EditNew.{IsNew, new_beneath, held-le-beneath
 use Rattle.q_invariants.proofs.edit.EditRemade.{waits, holds, times_in, own_changed, Remakes}
 use Rattle.q_invariants.proofs.edit.EditRetuned.{own_lawful, children_lawful, children_counted, remakes_retuned}
 use Rattle.q_invariants.proofs.edit.EditSuits.{gone_from, length-shape}
-use Rattle.q_invariants.proofs.Kept.{IsLawfulRoot, IsCountedRoot}
 use Rattle.q_invariants.proofs.sums.Joined.{weigh-joined-cons}
-use Rattle.q_invariants.proofs.sums.Weights.{weigh}
 use Rattle.q_invariants.proofs.tree.Members.{fails-at}
 
 -- ---- a class that is there

@@ -15,14 +15,15 @@ use Rattle.q_model.specs.Find.{class_in}
 use Rattle.q_model.specs.Edit.{Child, New, keeps}
 use Rattle.q_model.specs.Options.{PrioSettings, IsPrio}
 use Rattle.q_model.specs.Lawful.{IsLawfulOwn, CanHold}
+use Rattle.q_invariants.specs.Kept.{IsCountedRoot, IsLawfulRoot}
+use Rattle.q_invariants.specs.Weights.{weigh}
 use Rattle.q_invariants.proofs.edit.EditChildren.{kept_from, kids, kids-append, kids_kept, kids_new, kept_there, kept_above, new_keeps, any-append, gone_past}
 use Rattle.q_invariants.proofs.edit.EditNew.{IsNew, new_beneath, new_lawful, new_counted, new_times}
 use Rattle.q_invariants.proofs.edit.EditRemade.{waits, holds, times_in, waits-append, holds-append, times-append, holds-le-waits, own_changed, Remakes}
 use Rattle.q_invariants.proofs.edit.EditRetuned.{own_lawful, children_lawful, children_counted}
 use Rattle.q_invariants.proofs.edit.EditSuits.{gone_from, length-shape}
-use Rattle.q_invariants.proofs.Kept.{IsLawfulRoot, IsCountedRoot}
 use Rattle.q_invariants.proofs.sums.Joined.{joined, weigh-joined-cons}
-use Rattle.q_invariants.proofs.sums.Weights.{weigh, weigh-nil}
+use Rattle.q_invariants.proofs.sums.Weights.{weigh-nil}
 use Rattle.q_invariants.proofs.tree.Members.{fails-at}
 
 abbrev pub front_and_new : ℕ → ℕ → Shape → List Child

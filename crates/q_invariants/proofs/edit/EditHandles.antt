@@ -12,6 +12,7 @@ use Rattle.q_drr.proofs.NameLemmas.{eqb_sym}
 use Rattle.q_drr.proofs.KeyLemmas.{has, others, has_others}
 use Rattle.q_model.specs.Node.{Forest, none, more, Node, nodes_in, side_by_side, each}
 use Rattle.q_model.specs.Find.{Address, from_parent, addresses_own, addresses, has_handle, free_handle}
+use Rattle.q_invariants.specs.Kept.{AreApart}
 
 -- one where it is this handle
 abbrev pub one : ℕ → Option ℕ → ℕ
@@ -115,9 +116,6 @@ differ_from_once [] h = tt
 differ_from_once (a ∷ found) h =
     let first : one a.handle (Some a.handle) ≡ 1 = ap (λ (t : Bool). if t then 1 else 0) (eq-eqb a.handle a.handle refl) in
     (none_there a.handle found (omega (arith, h a.handle, first)), differ_from_once found (λ k. omega (arith, h k)))
-
-abbrev pub AreApart : {M : Type 0} → Node M → Type 0
-AreApart n = AllPairs (λ (a b : Address). (a.handle ≡ b.handle) → ⊥) (addresses n)
 
 pub once-apart : {M : Type 0} (n : Node M) (h : ℕ) → AreApart n → times h n ≤ 1
 once-apart n h apart = omega (arith, among-times h n, once_from_differ h (addresses n) (differ_from_pairs key (addresses n) apart))

@@ -7,7 +7,7 @@ use Rattle.q_fqcodel.specs.FqState.{FqSettings, Flow}
 use Rattle.q_model.specs.Node.{Discipline, Fifo, Prio, Tbf, Drr, FqCodel, Own, Forest, none, more, Node, each}
 use Rattle.q_model.specs.Beneath.{beneath_own}
 use Rattle.q_model.specs.Lawful.{IsStampedBy, IsLawfulFlow, IsLawfulDiscipline, IsLawfulOwn}
-use Rattle.q_invariants.proofs.Kept.{AllLawful, IsLawfulRoot}
+use Rattle.q_invariants.specs.Kept.{AllLawful, IsLawfulRoot}
 
 module _ (clock now : ℕ) (le : clock ≤ now) where
   pub stamped-later : (queue : List Stamped) → IsStampedBy clock queue → IsStampedBy now queue

@@ -25,9 +25,9 @@ use Rattle.q_model.specs.Beneath.{packets_in, packets_of, beneath_own}
 use Rattle.q_model.specs.Find.{class_in}
 use Rattle.q_model.specs.Make.{Device, node_of, implicit_pfifo, implicit_bfifo, implicit_beneath, limit_bytes, default_settings, with_options, made}
 use Rattle.q_model.specs.Lawful.{IsLawfulDiscipline, IsLawfulOwn, IsLawfulFlow}
+use Rattle.q_invariants.specs.Kept.{AllLawful}
 use Rattle.q_invariants.proofs.edit.EditHandles.{times_below}
 use Rattle.q_invariants.proofs.edit.EditNew.{IsNew, AllIdle, idle_beneath}
-use Rattle.q_invariants.proofs.Kept.{AllLawful}
 use Rattle.q_invariants.proofs.tree.Stamps.{stamped-nil}
 
 module _ (mtu clock : ℕ) where

@@ -7,11 +7,12 @@ use Rattle.q_model.specs.Tally.{Note, history}
 use Rattle.q_model.specs.Node.{Own, Forest, none, more, Node, Shape, each, each_memory, blank}
 use Rattle.q_model.specs.Beneath.{packets_in, beneath_own, beneath}
 use Rattle.q_model.specs.Conserved.{held_own, held_beneath}
+use Rattle.q_invariants.specs.Kept.{AllCounted, AreCounted, IsCountedRoot, IsLawfulRoot}
+use Rattle.q_invariants.specs.Weights.{weigh}
 use Rattle.q_invariants.proofs.edit.EditAbove.{Becomes}
 use Rattle.q_invariants.proofs.edit.EditHandles.{one, times_below, times}
-use Rattle.q_invariants.proofs.Kept.{AllCounted, AreCounted, IsLawfulRoot, IsCountedRoot}
 use Rattle.q_invariants.proofs.sums.Joined.{joined, weigh-joined-cons, weigh-beneath, weigh-held, counted_nothing}
-use Rattle.q_invariants.proofs.sums.Weights.{weigh, weigh-nil}
+use Rattle.q_invariants.proofs.sums.Weights.{weigh-nil}
 use Rattle.q_invariants.proofs.tree.Forests.{lawful-with_memory}
 
 -- nothing is held there, and nothing is in its own lists

@@ -15,13 +15,13 @@ use Rattle.q_model.specs.Conserved.{held_own, held_beneath}
 use Rattle.q_model.specs.Find.{class_in}
 use Rattle.q_model.specs.Work.{losses_of}
 use Rattle.q_model.specs.Lawful.{IsLawfulDiscipline, IsLawfulOwn, CanHold}
+use Rattle.q_invariants.specs.Kept.{IsCountedRoot, IsLawfulRoot}
+use Rattle.q_invariants.specs.Weights.{weigh}
 use Rattle.q_invariants.proofs.edit.EditAbove.{Becomes}
 use Rattle.q_invariants.proofs.edit.EditHandles.{one, times_below}
 use Rattle.q_invariants.proofs.edit.EditNew.{held-le-beneath}
-use Rattle.q_invariants.proofs.Kept.{IsLawfulRoot, IsCountedRoot}
 use Rattle.q_invariants.proofs.sums.Joined.{joined, weigh-joined-cons, weigh-joined-append, weigh-beneath, weigh-held, counted_purged}
 use Rattle.q_invariants.proofs.sums.Lengths.{lengths-among}
-use Rattle.q_invariants.proofs.sums.Weights.{weigh}
 use Rattle.q_invariants.proofs.tree.Forests.{each-side, each-nodes, side-nodes, are-lawful, lawful-side, counted-side}
 
 -- ---- nodes side by side

@@ -18,12 +18,13 @@ use Rattle.q_model.specs.Find.{class_in, node_at}
 use Rattle.q_model.specs.Edit.{Child, Edit, Remake, keeps}
 use Rattle.q_model.specs.QdiscCommands.{all_kept}
 use Rattle.q_model.specs.Lawful.{IsLawfulDiscipline, IsLawfulFlow, IsLawfulOwn, CanHold}
+use Rattle.q_invariants.specs.Kept.{IsCountedRoot, IsLawfulRoot}
+use Rattle.q_invariants.specs.Weights.{weigh}
 use Rattle.q_invariants.proofs.edit.EditChildren.{kids, kids_all, kept_there, gone_none}
 use Rattle.q_invariants.proofs.edit.EditHandles.{one, times}
 use Rattle.q_invariants.proofs.edit.EditRemade.{Remakes, own_changed}
 use Rattle.q_invariants.proofs.edit.EditSuits.{length-shape, gone_from, Suits}
-use Rattle.q_invariants.proofs.Kept.{IsLawfulRoot, IsCountedRoot}
-use Rattle.q_invariants.proofs.sums.Weights.{weigh, weigh-nil}
+use Rattle.q_invariants.proofs.sums.Weights.{weigh-nil}
 use Rattle.q_invariants.proofs.tree.Forests.{each-nodes, lawful-nodes, counted-nodes}
 
 -- what a planned edit has to be: it suits the tree, and its new handle is none that the tree has

@@ -15,11 +15,11 @@ use Rattle.q_model.specs.Find.{node_at}
 use Rattle.q_model.specs.Edit.{Child, Edit, Graft, Remake, keeps, beneath_removed, packets_removed, lost_by, edited, remade}
 use Rattle.q_model.specs.Refusals.{Check, first_refusal, done_unless}
 use Rattle.q_model.specs.QdiscCommands.{at_target}
+use Rattle.q_invariants.specs.Kept.{IsCountedRoot, IsLawfulRoot}
 use Rattle.q_invariants.proofs.edit.EditAbove.{Becomes, becomes-edited}
 use Rattle.q_invariants.proofs.edit.EditChildren.{kids, gone, gone_is}
 use Rattle.q_invariants.proofs.edit.EditNew.{IsNew, becomes-new}
 use Rattle.q_invariants.proofs.edit.EditRemade.{Remakes, becomes-remade}
-use Rattle.q_invariants.proofs.Kept.{IsLawfulRoot, IsCountedRoot}
 use Rattle.q_invariants.proofs.tree.Forests.{each-nodes}
 
 -- ---- a tree and its shape

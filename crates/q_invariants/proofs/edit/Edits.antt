@@ -23,6 +23,7 @@ use Rattle.q_model.specs.Make.{Device, implicit_pfifo}
 use Rattle.q_model.specs.Edit.{Edit, Graft, Remake, remade, above, edited_at, edited, packets_removed, lost_by}
 use Rattle.q_model.specs.Refusals.{Check, refuse, most_levels, most_nodes, size_checks}
 use Rattle.q_model.specs.TreeState.{TreeState, new_tree, edit_of, nothing, checked, plan, with_edit}
+use Rattle.q_invariants.specs.Kept.{IsCountedRoot, IsKeptTree, IsLawfulRoot}
 use Rattle.q_invariants.proofs.edit.EditAbove.{Becomes}
 use Rattle.q_invariants.proofs.edit.EditClassPlans.{planned_class_add, planned_class_change, planned_class_del}
 use Rattle.q_invariants.proofs.edit.EditFilters.{planned_filter_add, planned_filter_del}
@@ -33,7 +34,6 @@ use Rattle.q_invariants.proofs.edit.EditNew.{IsNew, new_lawful, new_counted, new
 use Rattle.q_invariants.proofs.edit.EditQdiscPlans.{planned_qdisc_add, planned_qdisc_change, planned_qdisc_del}
 use Rattle.q_invariants.proofs.edit.EditRetuned.{Planned}
 use Rattle.q_invariants.proofs.edit.EditSuits.{refused_not_done, done_is, check_passed, becomes-suited}
-use Rattle.q_invariants.proofs.Kept.{IsLawfulRoot, IsCountedRoot, IsKeptTree}
 use Rattle.q_invariants.proofs.sums.Joined.{counted_purged}
 
 -- ---- the sizes that are checked are those of the tree

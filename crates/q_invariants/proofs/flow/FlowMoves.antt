@@ -28,12 +28,13 @@ use Rattle.q_model.specs.Beneath.{packets_in, packets_of, beneath_own}
 use Rattle.q_model.specs.Lawful.{IsLawfulDiscipline, IsLawfulFqCodel}
 use Rattle.q_model.specs.Step.{DeviceState, step}
 use Rattle.q_model.specs.Stretches.{flow_granted_by, given_by, flow_grants_to, bytes_given, qdisc, FqAt, fq_of, fq_in}
+use Rattle.q_invariants.specs.Weights.{weigh}
 use Rattle.q_invariants.proofs.flow.FlowLists.{listed-credits, credits-put, credits-sent, quanta-noted}
 use Rattle.q_invariants.proofs.flow.FlowNotes.{take-weighs}
 use Rattle.q_invariants.proofs.flow.FlowSteps.{lists_of, SameLists, same-whole, Takes, Changes, FqStep, event-step}
 use Rattle.q_invariants.proofs.Replays.{IsKept}
 use Rattle.q_invariants.proofs.sums.Lengths.{HasLength, lengths-among}
-use Rattle.q_invariants.proofs.sums.Weights.{weigh, weigh-append}
+use Rattle.q_invariants.proofs.sums.Weights.{weigh-append}
 use Rattle.q_invariants.proofs.tree.StepNodes.{becomes}
 use Rattle.q_invariants.proofs.tree.Within.{found, lawful-of}
 

@@ -18,8 +18,9 @@ use Rattle.q_model.specs.Tally.{Note, Marked, FlowGranted, FlowGave}
 use Rattle.q_model.specs.Beneath.{packets_of}
 use Rattle.q_model.specs.Ask.{marks_of}
 use Rattle.q_model.specs.Quanta.{flows_granted, flow_gave, flow_notes}
+use Rattle.q_invariants.specs.Weights.{lost, marked, plain, weigh}
 use Rattle.q_invariants.proofs.ask.Answer.{IsSilent, silent-nil, silent-append}
-use Rattle.q_invariants.proofs.sums.Weights.{plain, weigh, weigh-nil, weigh-one, weigh-cons, IsQuiet, quiet-nil, arrived-nil, sent-nil, lost-nil, dropped-nil, marked-nil, arrived-cons, sent-cons, lost-cons, dropped-cons, marked-cons, lost, marked}
+use Rattle.q_invariants.proofs.sums.Weights.{weigh-nil, weigh-one, weigh-cons, IsQuiet, quiet-nil, arrived-nil, sent-nil, lost-nil, dropped-nil, marked-nil, arrived-cons, sent-cons, lost-cons, dropped-cons, marked-cons}
 
 abbrev pub stamped_weight : (Descriptor → ℕ) → Stamped → ℕ
 stamped_weight w s = w (plain s.packet)

@@ -16,14 +16,15 @@ use Rattle.q_model.specs.Beneath.{beneath, is_empty, packets_in}
 use Rattle.q_model.specs.Lawful.{IsLawfulOwn, IsLawfulDrr}
 use Rattle.q_model.specs.Put.{put_beneath}
 use Rattle.q_model.specs.Work.{Worked, Work, quiet, settled_class, settled}
+use Rattle.q_invariants.specs.Kept.{IsLawfulRoot}
+use Rattle.q_invariants.specs.Weights.{plain, weigh}
 use Rattle.q_invariants.proofs.ask.Answer.{waiting}
-use Rattle.q_invariants.proofs.Kept.{IsLawfulRoot}
 use Rattle.q_invariants.proofs.put.DrrSettled.{class-settled, drr-settled, settled-packets}
 use Rattle.q_invariants.proofs.put.PutHere.{IsPut, put-parts}
 use Rattle.q_invariants.proofs.put.PutQueue.{longer-lengths}
 use Rattle.q_invariants.proofs.sums.Lengths.{HasLength, IsShort, short-among}
 use Rattle.q_invariants.proofs.sums.Sums.{in_children, weigh-waiting, weigh-holds}
-use Rattle.q_invariants.proofs.sums.Weights.{plain, weigh, weigh-cons}
+use Rattle.q_invariants.proofs.sums.Weights.{weigh-cons}
 use Rattle.q_invariants.proofs.tree.Members.{All-at}
 use Rattle.q_invariants.proofs.tree.Quiet.{quiets, beneath-quiet, beneath-quiets, quiets-lawful, set-at}
 use Rattle.q_invariants.proofs.tree.Ways.{CanPass}

@@ -10,11 +10,12 @@ use Rattle.q_model.specs.Lawful.{IsLawfulOwn}
 use Rattle.q_model.specs.Work.{Worked, Work, worked, quiet}
 use Rattle.q_model.specs.Put.{put_here}
 use Rattle.q_model.proofs.ShrinkLemmas.{each-each_memory}
+use Rattle.q_invariants.specs.Kept.{AreLawful, IsLawfulRoot}
+use Rattle.q_invariants.specs.Weights.{arrived, lost, marked, plain, sent, weigh}
 use Rattle.q_invariants.proofs.ask.Answer.{waiting, holds, beneath-worked, held-worked, lawful-worked}
-use Rattle.q_invariants.proofs.Kept.{IsLawfulRoot}
 use Rattle.q_invariants.proofs.sums.Told.{AllTold, IsRootTold}
-use Rattle.q_invariants.proofs.sums.Weights.{plain, weigh, arrived, sent, lost, marked, arrived-cons, sent-cons, lost-cons, marked-cons, arrived-nil, sent-nil, lost-nil, marked-nil}
-use Rattle.q_invariants.proofs.tree.Forests.{AreLawful, AreTold, told-side}
+use Rattle.q_invariants.proofs.sums.Weights.{arrived-cons, sent-cons, lost-cons, marked-cons, arrived-nil, sent-nil, lost-nil, marked-nil}
+use Rattle.q_invariants.proofs.tree.Forests.{AreTold, told-side}
 use Rattle.q_invariants.proofs.tree.Quiet.{quiets, side-quiet, waiting-quiet, holds-quiet, beneath-quiets, quiets-told, quiets-lawful}
 
 pub record IsPut (mtu now : ℕ) (p : Descriptor) (s : Shape) (w : Work) : Type 0 where

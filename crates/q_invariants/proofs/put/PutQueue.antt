@@ -22,14 +22,15 @@ use Rattle.q_model.specs.Beneath.{packets_of, beneath}
 use Rattle.q_model.specs.Lawful.{IsLawfulFlow, IsLawfulFqCodel}
 use Rattle.q_model.specs.Work.{losses_of}
 use Rattle.q_model.specs.Put.{put_here}
+use Rattle.q_invariants.specs.Kept.{IsLawfulRoot}
+use Rattle.q_invariants.specs.Weights.{plain, weigh}
 use Rattle.q_invariants.proofs.ask.Answer.{waiting}
 use Rattle.q_invariants.proofs.ask.AskFqCodel.{All-adjust}
 use Rattle.q_invariants.proofs.flow.FlowNotes.{stamped_weight, weigh-packets}
-use Rattle.q_invariants.proofs.Kept.{IsLawfulRoot}
 use Rattle.q_invariants.proofs.put.PutHere.{IsPut, put-parts}
 use Rattle.q_invariants.proofs.sums.Lengths.{HasLength, lengths-among}
 use Rattle.q_invariants.proofs.sums.Sums.{weigh-waiting, weigh-holds}
-use Rattle.q_invariants.proofs.sums.Weights.{plain, weigh, weigh-cons, arrived-nil, sent-nil, marked-nil, lost-nil, arrived-losses, sent-losses, lost-losses, marked-losses}
+use Rattle.q_invariants.proofs.sums.Weights.{weigh-cons, arrived-nil, sent-nil, marked-nil, lost-nil, arrived-losses, sent-losses, lost-losses, marked-losses}
 use Rattle.q_invariants.proofs.tree.Quiet.{quiets, waiting-quiet, beneath-quiets, quiets-told, quiets-lawful}
 use Rattle.q_invariants.proofs.tree.Stamps.{stamped-push, stamped-drop}
 

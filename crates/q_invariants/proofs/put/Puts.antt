@@ -17,14 +17,15 @@ use Rattle.q_model.specs.Work.{Work, quiet}
 use Rattle.q_model.specs.Put.{put_here, put_beneath, put_along}
 use Rattle.q_model.specs.TreeState.{TreeState, with_work, put, put_on}
 use Rattle.q_model.proofs.ShrinkLemmas.{each-each_memory}
+use Rattle.q_invariants.specs.Kept.{IsKeptTree, IsLawfulRoot}
+use Rattle.q_invariants.specs.Weights.{weigh}
 use Rattle.q_invariants.proofs.ask.Asks.{worked-kept}
 use Rattle.q_invariants.proofs.edit.EditLater.{root-later}
-use Rattle.q_invariants.proofs.Kept.{IsLawfulRoot, IsKeptTree}
 use Rattle.q_invariants.proofs.put.PutBeneath.{beneath-put}
 use Rattle.q_invariants.proofs.put.PutHere.{IsPut, refused-put}
 use Rattle.q_invariants.proofs.put.PutQueue.{fifo-put, fq-put}
 use Rattle.q_invariants.proofs.sums.Told.{IsRootTold, root-memory}
-use Rattle.q_invariants.proofs.sums.Weights.{weigh, arrived-cons, sent-cons, lost-cons, marked-cons, arrived-nil, sent-nil, lost-nil, marked-nil}
+use Rattle.q_invariants.proofs.sums.Weights.{arrived-cons, sent-cons, lost-cons, marked-cons, arrived-nil, sent-nil, lost-nil, marked-nil}
 use Rattle.q_invariants.proofs.tree.Forests.{lawful-with_memory}
 use Rattle.q_invariants.proofs.tree.Quiet.{child-lawful, one-quiet}
 use Rattle.q_invariants.proofs.tree.Ways.{CanQueue, way-ends, route-goes}

@@ -10,6 +10,7 @@ use Rattle.q_model.specs.Node.{Own, Shape, children, each, blank}
 use Rattle.q_model.specs.Find.{greatest, depth, count_nodes, node_at}
 use Rattle.q_model.specs.Edit.{above, edited_at}
 use Rattle.q_model.specs.TreeState.{nothing}
+use Rattle.q_invariants.specs.Sizes.{counts}
 use Rattle.q_invariants.proofs.tree.Forests.{each-nodes, each-set, each-at}
 
 -- ---- one of several numbers changed
@@ -52,9 +53,6 @@ nodes_own own below = suc (sum below)
 
 abbrev pub depths : List Shape → List ℕ
 depths ns = map depth ns
-
-abbrev pub counts : List Shape → List ℕ
-counts ns = map count_nodes ns
 
 pub depth-node : (n : Shape) → depth n ≡ suc (greatest (depths (children n)))
 depth-node n = ap (λ ks. suc (greatest ks)) (each-nodes levels_own n.below)

@@ -24,35 +24,18 @@ use Rattle.q_model.specs.Ranges.{IsKind}
 use Rattle.q_model.specs.Refusals.{done_unless, most_levels, most_nodes}
 use Rattle.q_model.specs.QdiscCommands.{qdisc_add_checks, new_qdisc}
 use Rattle.q_model.specs.TreeState.{plan}
+use Rattle.q_invariants.specs.Kept.{IsLawfulRoot}
+use Rattle.q_invariants.specs.Sizes.{levels_made, nodes_made, sizes}
 use Rattle.q_invariants.proofs.class.Exact.{exact-length}
 use Rattle.q_invariants.proofs.edit.EditClasses.{member_at}
 use Rattle.q_invariants.proofs.edit.Edits.{found_in_shape}
-use Rattle.q_invariants.proofs.Kept.{IsLawfulRoot}
 use Rattle.q_invariants.proofs.sizes.EditSizes.{levels_own, nodes_own, Down, down}
 use Rattle.q_invariants.proofs.sizes.RemadeSizes.{leaves-depth, leaves-count, some-depth}
-use Rattle.q_invariants.proofs.sizes.SizeChecks.{sizes}
 use Rattle.q_invariants.proofs.sizes.SizedChanges.{node-lawful, length-below}
 use Rattle.q_invariants.proofs.sizes.SizedPlans.{plan-qdisc_add}
 use Rattle.q_invariants.proofs.tree.Forests.{each-side}
 
 -- ---- a new qdisc
-
--- prio and tbf have leaves beneath them
-abbrev pub levels_made : Kind → ℕ
-levels_made (kind.Prio s) = 2
-levels_made (kind.Tbf rate burst limit) = 2
-levels_made (kind.Pfifo limit) = 1
-levels_made (kind.Bfifo limit) = 1
-levels_made kind.Drr = 1
-levels_made (kind.FqCodel options) = 1
-
-abbrev pub nodes_made : Kind → ℕ
-nodes_made (kind.Prio s) = suc s.bands
-nodes_made (kind.Tbf rate burst limit) = 2
-nodes_made (kind.Pfifo limit) = 1
-nodes_made (kind.Bfifo limit) = 1
-nodes_made kind.Drr = 1
-nodes_made (kind.FqCodel options) = 1
 
 leaves-levels : (d : Device) (k : ℕ) → 1 ≤ k
     → greatest (each levels_own (side_by_side (replicate k (implicit_pfifo d)))) ≡ 1

@@ -11,9 +11,10 @@ use Rattle.q_model.specs.Find.{greatest, depth, count_nodes}
 use Rattle.q_model.specs.Edit.{Child, Kept, Retuned, New, remade}
 use Rattle.q_model.specs.QdiscCommands.{all_kept, relimited, leaf_of_tbf}
 use Rattle.q_model.specs.TreeState.{nothing}
+use Rattle.q_invariants.specs.Sizes.{counts}
 use Rattle.q_invariants.proofs.edit.EditChildren.{kept_from, kids, kids-append, kids_kept, kids_new, kids_all, kids_removed}
 use Rattle.q_invariants.proofs.edit.EditFront.{front_and_new}
-use Rattle.q_invariants.proofs.sizes.EditSizes.{levels_own, nodes_own, depths, counts, sum-cons, depth-node, count-node}
+use Rattle.q_invariants.proofs.sizes.EditSizes.{levels_own, nodes_own, depths, sum-cons, depth-node, count-node}
 use Rattle.q_invariants.proofs.tree.Forests.{each-side}
 
 -- ---- numbers of several nodes

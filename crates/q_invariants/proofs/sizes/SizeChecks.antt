@@ -16,16 +16,10 @@ use Rattle.q_model.specs.QdiscCommands.{all_kept, retuned, rebanded, leaf_of_tbf
 use Rattle.q_model.specs.ClassCommands.{with_class, without_class}
 use Rattle.q_model.specs.FilterCommands.{with_filters}
 use Rattle.q_model.specs.TreeState.{nothing, checked}
+use Rattle.q_invariants.specs.Sizes.{counts, numbers, sizes}
 use Rattle.q_invariants.proofs.edit.EditFront.{front_and_new}
-use Rattle.q_invariants.proofs.sizes.EditSizes.{counts, depth-blank, count-blank, IsSized, sized-edit, sized-within}
+use Rattle.q_invariants.proofs.sizes.EditSizes.{depth-blank, count-blank, IsSized, sized-edit, sized-within}
 use Rattle.q_invariants.proofs.sizes.RemadeSizes.{IsNoLarger, with_children, kept-sizes, bands-depth, bands-count, added-depth, added-count, removed-sizes, bucket-sizes}
-
--- a tree of so many levels and nodes, and one of which the number alone can be too large
-abbrev pub sizes : ℕ → ℕ → List Check
-sizes levels nodes = refuse TooDeep (nat_lt most_levels levels) ∷ refuse TooMany (nat_lt most_nodes nodes) ∷ []
-
-abbrev pub numbers : ℕ → List Check
-numbers nodes = refuse TooMany (nat_lt most_nodes nodes) ∷ []
 
 -- the same side of a bound
 same-ltb : (m a b : ℕ) → (m < a → m < b) → (m < b → m < a) → ltb m a ≡ ltb m b

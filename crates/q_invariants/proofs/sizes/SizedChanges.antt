@@ -21,10 +21,11 @@ use Rattle.q_model.specs.Lawful.{IsLawfulDiscipline}
 use Rattle.q_model.specs.Refusals.{done_unless, most_levels, most_nodes}
 use Rattle.q_model.specs.QdiscCommands.{at_target, target, rebanded, bands_check, burst_check, flows_check, reshaped, retuned, change_of}
 use Rattle.q_model.specs.TreeState.{plan}
-use Rattle.q_invariants.proofs.Kept.{IsLawfulRoot}
-use Rattle.q_invariants.proofs.sizes.EditSizes.{counts, count-node, Down, down, sized-within}
+use Rattle.q_invariants.specs.Kept.{IsLawfulRoot}
+use Rattle.q_invariants.specs.Sizes.{change_sized, counts, nodes_rebanded, numbers}
+use Rattle.q_invariants.proofs.sizes.EditSizes.{count-node, Down, down, sized-within}
 use Rattle.q_invariants.proofs.sizes.RemadeSizes.{take-counts}
-use Rattle.q_invariants.proofs.sizes.SizeChecks.{numbers, checked-retuned, checked-reshaped, checked-rebanded}
+use Rattle.q_invariants.proofs.sizes.SizeChecks.{checked-retuned, checked-reshaped, checked-rebanded}
 use Rattle.q_invariants.proofs.sizes.SizedPlans.{then_checked, then-done, then-never, then-target}
 use Rattle.q_invariants.proofs.tree.Forests.{each-nodes}
 use Rattle.q_invariants.proofs.tree.Quiet.{child-lawful}
@@ -42,14 +43,6 @@ pub length-below : (n : Shape) → length (each beneath_own n.below) ≡ length 
 length-below n = ap length (each-nodes beneath_own n.below) ∙ length-map (children n) beneath
 
 -- ---- the change
-
--- the nodes of a tree once a prio in it has so many bands: each new one is a leaf, and one that goes takes along what is beneath it
-abbrev pub nodes_rebanded : Shape → Shape → ℕ → ℕ
-nodes_rebanded root n bands = count_nodes root + (bands - length (children n)) - sum (counts (drop bands (children n)))
-
-abbrev pub change_sized : Device → ℕ → Shape → Shape → List ℕ → Discipline → Kind → Result Edit Refusal
-change_sized d now root n path (Prio old) (kind.Prio s) = done_unless (bands_check s.bands n ++ numbers (nodes_rebanded root n s.bands)) (rebanded d n path s.bands s.priomap)
-change_sized d now root n path was other = change_of d now n path was other
 
 module _ (root : Shape) (levels : depth root ≤ most_levels) (few : count_nodes root ≤ most_nodes) (d : Device) (now : ℕ) where
   module _ (path : List ℕ) (n : Shape) (there : node_at path root ≡ Some n) (mtu clock : ℕ) where

@@ -21,7 +21,8 @@ use Rattle.q_model.specs.ClassCommands.{of_schedule, at_drr, with_class, class_a
 use Rattle.q_model.specs.Filters.{with_filter}
 use Rattle.q_model.specs.FilterCommands.{with_filters, has_prio, filter_add, filter_added, filter_add_checks, filter_del, filters_removed, filter_del_checks}
 use Rattle.q_model.specs.TreeState.{checked, plan}
-use Rattle.q_invariants.proofs.sizes.SizeChecks.{sizes, checked-graft, checked-one, checked-retuned, checked-filters, checked-without_class, checked-with_class}
+use Rattle.q_invariants.specs.Sizes.{sizes}
+use Rattle.q_invariants.proofs.sizes.SizeChecks.{checked-graft, checked-one, checked-retuned, checked-filters, checked-without_class, checked-with_class}
 
 -- ---- a plan, check by check
 

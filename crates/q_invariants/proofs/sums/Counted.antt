@@ -10,9 +10,10 @@ use Rattle.q_model.specs.declared.totals.Totals.{Totals}
 use Rattle.q_model.specs.Tally.{Note, Arrived, Sent, Lost, Marked, Granted, Spent, FlowGranted, FlowGave, Counts, no_counts, counted, counts_in, with_packet}
 use Rattle.q_model.specs.Beneath.{totals_in, row_of}
 use Rattle.q_model.specs.Conserved.{IsBalanced, AreMarksBounded}
+use Rattle.q_invariants.specs.Kept.{AreCounted}
+use Rattle.q_invariants.specs.Weights.{arrival, arrived, dropped, dropping, loss, lost, mark, marked, plain, sending, sent, weigh}
 use Rattle.q_invariants.proofs.ask.Answer.{one}
-use Rattle.q_invariants.proofs.Kept.{AreCounted}
-use Rattle.q_invariants.proofs.sums.Weights.{plain, weigh, weigh-count, arrival, sending, loss, dropping, mark, arrived, sent, lost, dropped, marked, lost-nil, dropped-nil, lost-cons, dropped-cons}
+use Rattle.q_invariants.proofs.sums.Weights.{weigh-count, lost-nil, dropped-nil, lost-cons, dropped-cons}
 
 abbrev pub bytes : Descriptor → ℕ
 bytes p = p.len

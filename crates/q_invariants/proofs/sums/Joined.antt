@@ -11,9 +11,10 @@ use Rattle.q_model.specs.Node.{Own}
 use Rattle.q_model.specs.Beneath.{packets_in, beneath_own}
 use Rattle.q_model.specs.Conserved.{held_own}
 use Rattle.q_model.specs.Work.{losses_of}
-use Rattle.q_invariants.proofs.Kept.{AreCounted}
+use Rattle.q_invariants.specs.Kept.{AreCounted}
+use Rattle.q_invariants.specs.Weights.{weigh}
 use Rattle.q_invariants.proofs.sums.Told.{counted-noted}
-use Rattle.q_invariants.proofs.sums.Weights.{weigh, weigh-nil, weigh-append, arrived-losses, sent-losses, lost-losses, dropped-losses, marked-losses, arrived-nil, sent-nil, lost-nil, marked-nil}
+use Rattle.q_invariants.proofs.sums.Weights.{weigh-nil, weigh-append, arrived-losses, sent-losses, lost-losses, dropped-losses, marked-losses, arrived-nil, sent-nil, lost-nil, marked-nil}
 
 abbrev pub joined : List (List Descriptor) → List Descriptor
 joined below = flat_map (λ packets. packets) below

@@ -5,7 +5,8 @@ use Rattle.std.proofs.lemmas.Bool.{le-leb, leb-true, and_from, and_parts, not_fr
 use Rattle.std.proofs.lemmas.List.Elements.{All-weaker}
 use Rattle.q_packet.specs.Descriptor.{Descriptor}
 use Rattle.q_model.specs.Numbers.{IsWithin}
-use Rattle.q_invariants.proofs.sums.Weights.{weigh, IsNone, none-among}
+use Rattle.q_invariants.specs.Weights.{weigh}
+use Rattle.q_invariants.proofs.sums.Weights.{IsNone, none-among}
 
 abbrev pub HasLength : ℕ → Descriptor → Type 0
 HasLength mtu p = IsWithin 1 mtu p.len

@@ -12,8 +12,9 @@ use Rattle.q_packet.specs.declared.ecn.Ecn.TheVariants.{NotEct}
 use Rattle.q_model.specs.Tally.{Note, Arrived, Sent, Lost, Marked, Granted, Spent, FlowGranted, FlowGave}
 use Rattle.q_model.specs.Conserved.{arrival_in, sent_in, lost_in}
 use Rattle.q_model.specs.Conserved as node
-use Rattle.q_invariants.proofs.Kept.{AreCounted}
-use Rattle.q_invariants.proofs.sums.Weights.{plain, weigh, weigh-nil, weigh-cons, weigh-append, one_if, counting, arrived, sent, lost, arrived-nil, sent-nil, lost-nil, arrived-cons, sent-cons, lost-cons}
+use Rattle.q_invariants.specs.Kept.{AreCounted}
+use Rattle.q_invariants.specs.Weights.{arrived, lost, plain, sent, weigh}
+use Rattle.q_invariants.proofs.sums.Weights.{weigh-nil, weigh-cons, weigh-append, one_if, counting, arrived-nil, sent-nil, lost-nil, arrived-cons, sent-cons, lost-cons}
 
 -- the same packet, but for its codepoint
 abbrev same_key : Key → Key → Bool

@@ -8,9 +8,11 @@ use Rattle.q_model.specs.Beneath.{packets_in, beneath}
 use Rattle.q_model.specs.Conserved.{held_beneath}
 use Rattle.q_model.specs.Work.{Worked}
 use Rattle.q_model.specs.Ask.{Asked, befores}
+use Rattle.q_invariants.specs.Kept.{AreLawful}
+use Rattle.q_invariants.specs.Weights.{weigh}
 use Rattle.q_invariants.proofs.ask.Answer.{AreAnswers, waiting, holds}
-use Rattle.q_invariants.proofs.sums.Weights.{weigh, weigh-nil, weigh-append}
-use Rattle.q_invariants.proofs.tree.Forests.{AreLawful, AreTold}
+use Rattle.q_invariants.proofs.sums.Weights.{weigh-nil, weigh-append}
+use Rattle.q_invariants.proofs.tree.Forests.{AreTold}
 
 -- a sum over nodes
 abbrev pub total : {A : Type 0} → (A → ℕ) → List A → ℕ

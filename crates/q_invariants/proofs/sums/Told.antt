@@ -9,8 +9,9 @@ use Rattle.q_model.specs.Conserved.{held_own, held_beneath}
 use Rattle.q_model.specs.Lawful.{IsLawfulOwn}
 use Rattle.q_model.specs.Work.{Worked, each_booked, booked}
 use Rattle.q_model.proofs.ShrinkLemmas.{each-each_memory}
-use Rattle.q_invariants.proofs.Kept.{AreCounted, AllCounted, AllLawful}
-use Rattle.q_invariants.proofs.sums.Weights.{weigh, arrived, sent, lost, dropped, marked, arrived-append, sent-append, lost-append, dropped-append, marked-append}
+use Rattle.q_invariants.specs.Kept.{AllCounted, AllLawful, AreCounted}
+use Rattle.q_invariants.specs.Weights.{arrived, dropped, lost, marked, sent, weigh}
+use Rattle.q_invariants.proofs.sums.Weights.{arrived-append, sent-append, lost-append, dropped-append, marked-append}
 
 -- notes that say how packets that wait, and packets that are held, became others
 pub record IsTold (notes : List Note) (waiting waiting_after held held_after : List Descriptor) : Type 0 where

@@ -11,7 +11,7 @@ use Rattle.q_model.specs.Beneath.{beneath_own}
 use Rattle.q_model.specs.Lawful.{IsLawfulOwn}
 use Rattle.q_model.specs.Work.{Worked}
 use Rattle.q_model.proofs.ShrinkLemmas.{each-each_memory}
-use Rattle.q_invariants.proofs.Kept.{AllCounted, AllLawful, IsLawfulRoot, IsCountedRoot}
+use Rattle.q_invariants.specs.Kept.{AllCounted, AllLawful, AreLawful, IsCountedRoot, IsLawfulRoot}
 use Rattle.q_invariants.proofs.sums.Told.{AllTold, IsRootTold}
 
 module _ {M : Type 0} where
@@ -37,11 +37,6 @@ module _ {M : Type 0} where
 
   pub each-at : {A : Type 0} (f : Own → List A → A) (x : Forest M) (i : ℕ) (c : Node M) → slice_get (nodes_in x) i ≡ Some c → slice_get (each f x) i ≡ Some (from_below f c)
   each-at f x i c e = ap (λ xs. slice_get xs i) (each-nodes f x) ∙ slice_get-map (from_below f) (nodes_in x) i ∙ ap (option_map (from_below f)) e
-
-  -- what holds of each
-  abbrev pub AreLawful : ℕ → ℕ → List (Node M) → Type 0
-  AreLawful mtu clock [] = Unit {0}
-  AreLawful mtu clock (n ∷ ns) = IsLawfulRoot mtu clock n × AreLawful mtu clock ns
 
   pub are-lawful : (mtu clock : ℕ) (ns : List (Node M)) → All (IsLawfulRoot mtu clock) ns → AreLawful mtu clock ns
   are-lawful mtu clock [] h = tt

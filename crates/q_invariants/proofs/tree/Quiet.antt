@@ -9,12 +9,13 @@ use Rattle.q_model.specs.Beneath.{beneath_own, beneath}
 use Rattle.q_model.specs.Conserved.{held_own, held_beneath}
 use Rattle.q_model.specs.Work.{Worked, quiet}
 use Rattle.q_model.proofs.ShrinkLemmas.{each-each_memory}
+use Rattle.q_invariants.specs.Kept.{AllLawful, AreLawful, IsLawfulRoot}
+use Rattle.q_invariants.specs.Weights.{weigh}
 use Rattle.q_invariants.proofs.ask.Answer.{waiting, holds}
-use Rattle.q_invariants.proofs.Kept.{AllLawful, IsLawfulRoot}
 use Rattle.q_invariants.proofs.sums.Sums.{in_children, held_in_children}
 use Rattle.q_invariants.proofs.sums.Told.{IsTold, AllTold, IsRootTold}
-use Rattle.q_invariants.proofs.sums.Weights.{weigh, arrived-nil, sent-nil, lost-nil, dropped-nil, marked-nil}
-use Rattle.q_invariants.proofs.tree.Forests.{AreLawful, AreTold, lawful-with_memory}
+use Rattle.q_invariants.proofs.sums.Weights.{arrived-nil, sent-nil, lost-nil, dropped-nil, marked-nil}
+use Rattle.q_invariants.proofs.tree.Forests.{AreTold, lawful-with_memory}
 
 -- the children of a node as they were, remembering nothing yet
 abbrev pub quiets : Shape → List Worked

@@ -20,6 +20,7 @@ use Rattle.q_model.specs.Ask.{Asked, ask, take_from}
 use Rattle.q_model.specs.Step.{DeviceState, answered, step}
 use Rattle.q_model.specs.Stretches.{qdisc}
 use Rattle.q_model.specs.TreeState.{put_on, plan}
+use Rattle.q_invariants.specs.Kept.{IsLawfulRoot}
 use Rattle.q_invariants.proofs.ask.AskStages.{IsStageOf, HasSoMany, so-many, IsAskOf, asked-related}
 use Rattle.q_invariants.proofs.edit.EditChildren.{kids}
 use Rattle.q_invariants.proofs.edit.EditComes.{IsEditOf, ComesBy, Ends, comes-edited}
@@ -30,7 +31,6 @@ use Rattle.q_invariants.proofs.edit.EditLater.{root-later}
 use Rattle.q_invariants.proofs.edit.EditNew.{new_times, new_beneath}
 use Rattle.q_invariants.proofs.edit.EditRetuned.{Planned}
 use Rattle.q_invariants.proofs.edit.Edits.{plan_checked, planned}
-use Rattle.q_invariants.proofs.Kept.{IsLawfulRoot}
 use Rattle.q_invariants.proofs.put.PutStages.{IsPutOf, quiet-related, along-related}
 use Rattle.q_invariants.proofs.Replays.{IsKept, not-before}
 use Rattle.q_invariants.proofs.tree.Forests.{lawful-with_memory, each-nodes}

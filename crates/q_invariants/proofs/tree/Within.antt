@@ -9,8 +9,8 @@ use Rattle.q_model.specs.Node.{Forest, none, more, Node, nodes_in, side_by_side}
 use Rattle.q_model.specs.Conserved.{nodes_of, every_node}
 use Rattle.q_model.specs.Step.{DeviceState}
 use Rattle.q_model.specs.Stretches.{has_major, qdisc}
+use Rattle.q_invariants.specs.Kept.{AllLawful, IsLawfulRoot}
 use Rattle.q_invariants.proofs.edit.EditHandles.{one, times_below, times}
-use Rattle.q_invariants.proofs.Kept.{AllLawful, IsLawfulRoot}
 use Rattle.q_invariants.proofs.tree.Forests.{side-nodes}
 
 -- a node of a forest, at any depth

@@ -10,7 +10,7 @@ use Rattle.q_model.specs.declared.filter.Filter.{Filter}
 use Rattle.q_model.specs.Beneath.{beneath, packets_of}
 use Rattle.q_model.specs.Find.{node_at}
 use Rattle.q_model.specs.Node.{Discipline, Fifo, Prio, Tbf, Drr, FqCodel, Forest, Node, nodes_in, children, each, from_below}
-use Rattle.q_invariants.proofs.Kept.{IsLawfulRoot}
+use Rattle.q_invariants.specs.Kept.{IsLawfulRoot}
 use Rattle.q_invariants.proofs.tree.Forests.{each-nodes}
 use Rattle.q_invariants.proofs.tree.Quiet.{child-lawful}
 use Rattle.q_tree.specs.answers.Lanes.{is_prio, limit_of, limit_along}

@@ -23,7 +23,7 @@ use Rattle.q_model.specs.Numbers.{IsWithin}
 use Rattle.q_model.specs.Put.{put_here, put_beneath, put_along}
 use Rattle.q_model.specs.Route.{Route, ends, refused, way, route}
 use Rattle.q_model.specs.Work.{Worked, quiet, settled_in}
-use Rattle.q_invariants.proofs.Kept.{IsLawfulRoot}
+use Rattle.q_invariants.specs.Kept.{IsLawfulRoot}
 use Rattle.q_invariants.proofs.tree.Members.{All-front}
 use Rattle.q_invariants.proofs.tree.Quiet.{child-lawful}
 use Rattle.q_invariants.proofs.tree.Ways.{IsOn, route-goes}

@@ -20,13 +20,13 @@ use Rattle.q_model.specs.Stretches.{spent_by, bytes_spent, length_held, TbfAt, T
 use Rattle.q_model.specs.Tally.{Note, history}
 use Rattle.q_model.specs.Work.{Worked, booked}
 use Rattle.q_model.proofs.ShrinkLemmas.{each-each_memory}
+use Rattle.q_invariants.specs.Kept.{IsLawfulRoot}
 use Rattle.q_invariants.proofs.Along.{counted}
 use Rattle.q_invariants.proofs.ask.Answer.{IsAnswer}
 use Rattle.q_invariants.proofs.ask.Asks.{before-root, ask-answers}
 use Rattle.q_invariants.proofs.ask.AskStages.{IsStageOf}
 use Rattle.q_invariants.proofs.bucket.BucketMoves.{tbf-node}
 use Rattle.q_invariants.proofs.edit.EditLater.{root-later}
-use Rattle.q_invariants.proofs.Kept.{IsLawfulRoot}
 use Rattle.q_invariants.proofs.put.PutKinds.{put-stage}
 use Rattle.q_invariants.proofs.Replays.{IsKept, not-before, not-after}
 use Rattle.q_invariants.proofs.sums.NoteSums.{AreRisen}

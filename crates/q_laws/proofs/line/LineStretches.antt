@@ -22,11 +22,11 @@ use Rattle.q_model.specs.Tally.{Note, history}
 use Rattle.q_model.specs.TreeState.{put_on, plan}
 use Rattle.q_model.specs.Work.{Worked, quiet, booked}
 use Rattle.q_model.proofs.ShrinkLemmas.{each-each_memory}
+use Rattle.q_invariants.specs.Kept.{IsLawfulRoot}
 use Rattle.q_invariants.proofs.Along.{counted}
 use Rattle.q_invariants.proofs.ask.Answer.{IsAnswer}
 use Rattle.q_invariants.proofs.ask.Asks.{before-root, ask-answers}
 use Rattle.q_invariants.proofs.edit.EditLater.{root-later}
-use Rattle.q_invariants.proofs.Kept.{IsLawfulRoot}
 use Rattle.q_invariants.proofs.put.Puts.{along-put}
 use Rattle.q_invariants.proofs.Replays.{IsKept, not-before, not-after}
 use Rattle.q_invariants.proofs.sums.Told.{IsRootTold, root-memory, root-booked}

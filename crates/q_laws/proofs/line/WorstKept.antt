@@ -34,9 +34,9 @@ use Rattle.q_model.specs.Tally.{Note, history}
 use Rattle.q_model.specs.TreeState.{loss_at_end, loss_on, put_on}
 use Rattle.q_model.specs.Work.{Worked, quiet, booked}
 use Rattle.q_model.proofs.ShrinkLemmas.{child-with_memory}
+use Rattle.q_invariants.specs.Kept.{IsLawfulRoot}
 use Rattle.q_invariants.proofs.edit.EditLater.{root-later}
 use Rattle.q_invariants.proofs.edit.Edits.{found_in_shape}
-use Rattle.q_invariants.proofs.Kept.{IsLawfulRoot}
 use Rattle.q_invariants.proofs.put.Puts.{along-put}
 use Rattle.q_invariants.proofs.Replays.{IsKept, not-before, replay-kept}
 use Rattle.q_invariants.proofs.sums.Told.{IsRootTold, root-booked, root-memory}

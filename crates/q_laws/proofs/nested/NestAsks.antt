@@ -21,6 +21,7 @@ use Rattle.q_model.specs.Step.{DeviceState, step}
 use Rattle.q_model.specs.Stretches.{sent_by, granted_by, bytes_sent, grants_to, length_held, ClassAt, class_in, qdisc}
 use Rattle.q_model.specs.Tally.{Granted, Note, history}
 use Rattle.q_model.specs.Work.{Worked, booked}
+use Rattle.q_invariants.specs.Kept.{IsLawfulRoot}
 use Rattle.q_invariants.proofs.ask.AskStages.{IsAskOf, IsStageOf, asked-related}
 use Rattle.q_invariants.proofs.ask.SentStages.{ask-gives}
 use Rattle.q_invariants.proofs.class.ClassAsks.{AsWas, DrrStage, Gave, Nothing, Served, own-stage}
@@ -29,7 +30,6 @@ use Rattle.q_invariants.proofs.class.ClassLooks.{BookedChild, answer-for, booked
 use Rattle.q_invariants.proofs.class.ClassMoves.{class-node, drr-lawful}
 use Rattle.q_invariants.proofs.class.TakeTurns.{absent-noted}
 use Rattle.q_invariants.proofs.edit.EditLater.{root-later}
-use Rattle.q_invariants.proofs.Kept.{IsLawfulRoot}
 use Rattle.q_invariants.proofs.Replays.{IsKept, step-kept}
 use Rattle.q_invariants.proofs.sums.Told.{noted-history}
 use Rattle.q_invariants.proofs.tree.Forests.{lawful-with_memory, nodes-side}

@@ -24,6 +24,7 @@ use Rattle.q_model.specs.Stretches.{FqAt, fq_in}
 use Rattle.q_model.specs.Tally.{Note, history}
 use Rattle.q_model.specs.TreeState.{put_on, plan}
 use Rattle.q_model.specs.Work.{booked, quiet}
+use Rattle.q_invariants.specs.Kept.{IsLawfulRoot}
 use Rattle.q_invariants.proofs.ask.AskStages.{HasSoMany, so-many, IsAskOf, asked-related}
 use Rattle.q_invariants.proofs.edit.EditFormPlans.{command-form}
 use Rattle.q_invariants.proofs.edit.EditForms.{FormOf}
@@ -31,7 +32,6 @@ use Rattle.q_invariants.proofs.edit.EditLater.{root-later}
 use Rattle.q_invariants.proofs.edit.Edits.{plan_checked}
 use Rattle.q_invariants.proofs.flow.FlowMoves.{fq-node}
 use Rattle.q_invariants.proofs.flow.FlowSteps.{lists_of}
-use Rattle.q_invariants.proofs.Kept.{IsLawfulRoot}
 use Rattle.q_invariants.proofs.put.PutStages.{IsPutOf, quiet-related, along-related}
 use Rattle.q_invariants.proofs.Replays.{IsKept, not-before, step-kept, new-kept-device}
 use Rattle.q_invariants.proofs.tree.Forests.{lawful-with_memory, each-nodes}

@@ -26,13 +26,13 @@ use Rattle.q_model.specs.Lawful.{IsLawfulOwn}
 use Rattle.q_model.specs.Quanta.{flow_notes}
 use Rattle.q_model.specs.Work.{Worked, worked, settled_class}
 use Rattle.q_model.specs.Ask.{Asked, befores, holding, Dequeue, dequeued, waits, spends, ask_tbf, is_among, head_of, service_of, place_met, gives_nothing, class_gives, class_serves, ask_drr, ask_discipline, ask_own, ask, since_shown}
+use Rattle.q_invariants.specs.Kept.{AllLawful, IsLawfulRoot}
 use Rattle.q_invariants.proofs.ask.Answer.{beneath-worked}
 use Rattle.q_invariants.proofs.ask.AskFqCodel.{take-settings}
 use Rattle.q_invariants.proofs.ask.AskPrio.{peeked_to, taken_at, packet_at}
 use Rattle.q_invariants.proofs.ask.Asks.{beneath-befores}
 use Rattle.q_invariants.proofs.ask.AskStages.{IsStageOf, AreStagesOf, unasked, looked-staged, set-staged, HasSoMany, so-many, each-length}
 use Rattle.q_invariants.proofs.class.Exact.{classes-served}
-use Rattle.q_invariants.proofs.Kept.{AllLawful, IsLawfulRoot}
 use Rattle.q_invariants.proofs.put.DrrSettled.{class-settled}
 use Rattle.q_laws.specs.order.Order.{flow_among}
 use Rattle.q_laws.proofs.order.OrderFlows.{less-before, fifo-gives, flow_queues, all-flat, take-gives}

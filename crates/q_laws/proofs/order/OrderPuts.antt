@@ -23,8 +23,8 @@ use Rattle.q_model.specs.Node.{Discipline, Fifo, Prio, Tbf, Drr, FqCodel, Own, F
 use Rattle.q_model.specs.Beneath.{packets_of, packets_in, beneath_own, beneath, is_empty}
 use Rattle.q_model.specs.Work.{Worked, Work, worked, quiet, settled_class, settled_in, settled}
 use Rattle.q_model.specs.Put.{lost_in, put_here, put_beneath, put_along}
+use Rattle.q_invariants.specs.Kept.{IsLawfulRoot}
 use Rattle.q_invariants.proofs.ask.Answer.{beneath-worked}
-use Rattle.q_invariants.proofs.Kept.{IsLawfulRoot}
 use Rattle.q_invariants.proofs.put.DrrSettled.{class-settled, settled-packets}
 use Rattle.q_invariants.proofs.sums.Shuffled.{key-is}
 use Rattle.q_invariants.proofs.tree.Forests.{each-at}

@@ -30,12 +30,12 @@ use Rattle.q_model.specs.TreeState.{put_on, plan}
 use Rattle.q_model.specs.Quanta.{flow_notes}
 use Rattle.q_model.specs.Work.{Worked, losses_of}
 use Rattle.q_model.specs.Beneath.{packets_of}
+use Rattle.q_invariants.specs.Kept.{IsCountedRoot, IsLawfulRoot}
 use Rattle.q_invariants.proofs.Along.{moves}
 use Rattle.q_invariants.proofs.edit.EditHandles.{once-apart}
 use Rattle.q_invariants.proofs.edit.EditLater.{root-later}
 use Rattle.q_invariants.proofs.edit.EditRetuned.{Planned}
 use Rattle.q_invariants.proofs.edit.Edits.{plan_checked, planned}
-use Rattle.q_invariants.proofs.Kept.{IsCountedRoot, IsLawfulRoot}
 use Rattle.q_invariants.proofs.Replays.{IsKept, not-before}
 use Rattle.q_device.specs.Sharing.{device_after}
 

@@ -22,6 +22,7 @@ use Rattle.q_model.specs.Stretches.{bytes_spent, length_held, has_major, qdisc, 
 use Rattle.q_model.specs.Tally.{Note, history}
 use Rattle.q_model.specs.TreeState.{given}
 use Rattle.q_model.proofs.ShrinkLemmas.{each-each_memory, is_empty-with_memory}
+use Rattle.q_invariants.specs.Kept.{IsLawfulRoot}
 use Rattle.q_invariants.proofs.again.SecondPeeks.{asked-shape, kept-shape}
 use Rattle.q_invariants.proofs.Along.{counted}
 use Rattle.q_invariants.proofs.ask.Answer.{AreAnswers, waiting}
@@ -29,7 +30,6 @@ use Rattle.q_invariants.proofs.ask.Asks.{beneath-befores, forest-answers}
 use Rattle.q_invariants.proofs.ask.DrrService.{shown-short}
 use Rattle.q_invariants.proofs.bucket.BucketMoves.{tbf-node, tbf-lawful, tbf-step}
 use Rattle.q_invariants.proofs.bucket.BucketSteps.{IsUncutAt, IsPaid}
-use Rattle.q_invariants.proofs.Kept.{IsLawfulRoot}
 use Rattle.q_invariants.proofs.Replays.{IsKept, step-kept, replay-kept}
 use Rattle.q_invariants.proofs.tree.Forests.{each-nodes}
 use Rattle.q_invariants.proofs.tree.StepNodes.{clock-rises}

@@ -20,6 +20,7 @@ use Rattle.q_model.specs.Step.{DeviceState, step}
 use Rattle.q_model.specs.Stretches.{sent_by, spent_by, granted_by, bytes_sent, bytes_spent, grants_to, length_held, qdisc, ClassAt, class_in, TbfAt, tbf_in}
 use Rattle.q_model.specs.Tally.{Note, history}
 use Rattle.q_model.specs.Work.{Worked, booked, each_booked, losses_of}
+use Rattle.q_invariants.specs.Kept.{IsLawfulRoot}
 use Rattle.q_invariants.proofs.ask.AskStages.{IsStageOf, IsAskOf, asked-related}
 use Rattle.q_invariants.proofs.ask.SentStages.{Gives, ask-gives}
 use Rattle.q_invariants.proofs.bucket.BucketMoves.{tbf-node}
@@ -28,7 +29,6 @@ use Rattle.q_invariants.proofs.class.ClassLooks.{gives-for, booked-child}
 use Rattle.q_invariants.proofs.class.ClassMoves.{class-node}
 use Rattle.q_invariants.proofs.edit.EditComes.{IsAbove}
 use Rattle.q_invariants.proofs.edit.EditLater.{root-later}
-use Rattle.q_invariants.proofs.Kept.{IsLawfulRoot}
 use Rattle.q_invariants.proofs.put.PutKinds.{put-stage}
 use Rattle.q_invariants.proofs.Replays.{IsKept, step-kept}
 use Rattle.q_invariants.proofs.sums.NoteSums.{AreRisen, sum-risen, risen-losses, past-sent, past-spent, past-granted}

@@ -18,6 +18,7 @@ use Rattle.q_model.specs.Step.{DeviceState, step}
 use Rattle.q_model.specs.Stretches.{sent_by, bytes_sent, granted_by, grants_to, length_held, ClassAt, class_in, IsBackloggedClass, Throughout}
 use Rattle.q_model.specs.Tally.{Note, history}
 use Rattle.q_model.specs.Work.{Worked}
+use Rattle.q_invariants.specs.Kept.{IsLawfulRoot}
 use Rattle.q_invariants.proofs.Along.{counted}
 use Rattle.q_invariants.proofs.ask.Asks.{forest-answers}
 use Rattle.q_invariants.proofs.ask.AskStages.{IsStageOf}
@@ -26,7 +27,6 @@ use Rattle.q_invariants.proofs.class.ClassChildren.{child-at}
 use Rattle.q_invariants.proofs.class.ClassLooks.{answer-for}
 use Rattle.q_invariants.proofs.class.ClassMoves.{ClassNode, class-node, class-moves, class-short}
 use Rattle.q_invariants.proofs.edit.EditLater.{root-later}
-use Rattle.q_invariants.proofs.Kept.{IsLawfulRoot}
 use Rattle.q_invariants.proofs.Replays.{IsKept, step-kept}
 use Rattle.q_invariants.proofs.sums.Told.{noted-history}
 use Rattle.q_invariants.proofs.tree.Forests.{lawful-with_memory}

@@ -27,8 +27,8 @@ use Rattle.q_model.specs.Tally.{Note, history}
 use Rattle.q_model.specs.TreeState.{loss_on, put_on}
 use Rattle.q_model.specs.Work.{Worked, booked, settled_class, settled_in}
 use Rattle.q_model.proofs.ShrinkLemmas.{child-with_memory}
+use Rattle.q_invariants.specs.Kept.{IsLawfulRoot}
 use Rattle.q_invariants.proofs.edit.EditLater.{root-later}
-use Rattle.q_invariants.proofs.Kept.{IsLawfulRoot}
 use Rattle.q_invariants.proofs.Replays.{IsKept, not-before, replay-kept, step-kept}
 use Rattle.q_invariants.proofs.tree.Forests.{lawful-with_memory}
 use Rattle.q_invariants.proofs.tree.Related.{forget}

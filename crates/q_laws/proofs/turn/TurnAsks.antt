@@ -20,13 +20,13 @@ use Rattle.q_model.specs.Step.{DeviceState}
 use Rattle.q_model.specs.Stretches.{sent_by, bytes_sent, length_held, ClassAt, class_in, qdisc}
 use Rattle.q_model.specs.Tally.{Note, history}
 use Rattle.q_model.specs.Work.{Worked, booked, settled_class}
+use Rattle.q_invariants.specs.Kept.{IsLawfulRoot}
 use Rattle.q_invariants.proofs.ask.AskStages.{IsAskOf, IsStageOf, asked-related}
 use Rattle.q_invariants.proofs.class.ClassChildren.{child_for, child-at, child-set, place_in}
 use Rattle.q_invariants.proofs.class.ClassLooks.{answer-for, booked-child, gives-for, looked-at}
 use Rattle.q_invariants.proofs.class.ClassMoves.{class-node}
 use Rattle.q_invariants.proofs.class.Exact.{classes-served}
 use Rattle.q_invariants.proofs.edit.EditLater.{root-later}
-use Rattle.q_invariants.proofs.Kept.{IsLawfulRoot}
 use Rattle.q_invariants.proofs.put.DrrSettled.{class-settled}
 use Rattle.q_invariants.proofs.Replays.{IsKept}
 use Rattle.q_invariants.proofs.sums.Told.{noted-history}

@@ -10,11 +10,11 @@ use Rattle.q_model.specs.Step.{DeviceState, step}
 use Rattle.q_model.specs.Stretches.{ClassAt, class_in, qdisc}
 use Rattle.q_model.specs.Tally.{Note, history}
 use Rattle.q_model.specs.Work.{Worked, booked, each_booked}
+use Rattle.q_invariants.specs.Kept.{IsLawfulRoot}
 use Rattle.q_invariants.proofs.ask.AskStages.{IsAskOf, asked-related}
 use Rattle.q_invariants.proofs.class.ClassChildren.{child-at, child-has, place_in}
 use Rattle.q_invariants.proofs.class.ClassLooks.{booked-child}
 use Rattle.q_invariants.proofs.edit.EditLater.{root-later}
-use Rattle.q_invariants.proofs.Kept.{IsLawfulRoot}
 use Rattle.q_invariants.proofs.Replays.{IsKept, not-before, step-kept}
 use Rattle.q_invariants.proofs.tree.Forests.{lawful-with_memory}
 use Rattle.q_invariants.proofs.tree.Related.{forget}

@@ -25,17 +25,18 @@ use Rattle.q_model.specs.Tally.{Note, Arrived, Sent, Lost, Marked, Granted, Spen
 use Rattle.q_model.specs.TreeState.{given, take_packet}
 use Rattle.q_model.specs.Work.{Worked}
 use Rattle.q_model.proofs.ShrinkLemmas.{each-each_memory, is_empty-with_memory, nodes_in-each_memory}
+use Rattle.q_invariants.specs.Kept.{AllLawful, IsLawfulRoot}
+use Rattle.q_invariants.specs.Weights.{weigh}
 use Rattle.q_invariants.proofs.again.SecondPeeks.{asked-shape, kept-shape}
 use Rattle.q_invariants.proofs.ask.Answer.{one, IsAnswer, beneath-worked}
 use Rattle.q_invariants.proofs.ask.Asks.{before-is, before-root, beneath-befores, forest-answers, ask-answers}
 use Rattle.q_invariants.proofs.ask.AskStages.{IsStageOf}
 use Rattle.q_invariants.proofs.edit.EditLater.{root-later}
-use Rattle.q_invariants.proofs.Kept.{AllLawful, IsLawfulRoot}
 use Rattle.q_invariants.proofs.Replays.{IsKept, not-before, not-after, replay-kept}
 use Rattle.q_invariants.proofs.sums.NoteSums.{AreRisen}
 use Rattle.q_invariants.proofs.sums.Risen.{all-rise}
 use Rattle.q_invariants.proofs.sums.Told.{noted-history}
-use Rattle.q_invariants.proofs.sums.Weights.{weigh, weigh-count, weigh-one}
+use Rattle.q_invariants.proofs.sums.Weights.{weigh-count, weigh-one}
 use Rattle.q_invariants.proofs.tree.Forests.{each-nodes, lawful-with_memory}
 use Rattle.q_invariants.proofs.tree.Members.{All-front, All-back}
 use Rattle.q_invariants.proofs.tree.Quiet.{beneath-quiet, child-lawful}

@@ -21,10 +21,11 @@ use Rattle.q_model.specs.Lawful.{IsLawfulOwn}
 use Rattle.q_model.specs.Node.{Discipline, Fifo, Prio, Tbf, Drr, FqCodel, Own, Forest, none, more, Node, Shape, each, shape}
 use Rattle.q_model.specs.Route.{class_at}
 use Rattle.q_model.proofs.ShrinkLemmas.{each-each_memory}
+use Rattle.q_invariants.specs.Kept.{AllLawful, IsLawfulRoot}
+use Rattle.q_invariants.specs.Weights.{weigh}
 use Rattle.q_invariants.proofs.ask.Answer.{one}
 use Rattle.q_invariants.proofs.ask.Asks.{ask-answers, before-root}
-use Rattle.q_invariants.proofs.Kept.{AllLawful, IsLawfulRoot}
-use Rattle.q_invariants.proofs.sums.Weights.{weigh, weigh-cons, weigh-nil}
+use Rattle.q_invariants.proofs.sums.Weights.{weigh-cons, weigh-nil}
 use Rattle.q_invariants.proofs.tree.Forests.{lawful-with_memory}
 use Rattle.q_tree.specs.answers.ReadyAt.{is_before, sooner, no_packet, at_best, shaped, joined, with_next, after_first, with_band, with_bands, if_paid, paid, of_fifo, of_flows, of_class, outlook_own, outlook}
 use Rattle.q_tree.specs.declared.answers.ready_at.Outlook.{Outlook}

@@ -10,7 +10,7 @@ use Rattle.q_fqcodel.specs.FqState.{all_packets}
 use Rattle.q_model.specs.Beneath.{packets_in, beneath_own, beneath}
 use Rattle.q_model.specs.Lawful.{CanHold, IsLawfulOwn}
 use Rattle.q_model.specs.Node.{Discipline, Fifo, Prio, Tbf, Drr, FqCodel, Own, Forest, none, more, Node, children, each}
-use Rattle.q_invariants.proofs.Kept.{AllLawful, IsLawfulRoot}
+use Rattle.q_invariants.specs.Kept.{AllLawful, IsLawfulRoot}
 use Rattle.q_invariants.proofs.tree.Forests.{each-nodes}
 use Rattle.q_tree.specs.answers.MostPackets.{most_queued, most_held, most_own, most_packets}
 use Rattle.q_tree.specs.Kept.{Kept}

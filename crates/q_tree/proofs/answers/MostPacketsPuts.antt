@@ -17,7 +17,7 @@ use Rattle.q_fqcodel.specs.FqState as fq_codel
 use Rattle.q_fqcodel.specs.Laws.{HasBytes}
 use Rattle.q_fqcodel.specs.Put.{flow_of, after_put}
 use Rattle.q_fqcodel.proofs.LawLemmas.{all_packets-cons}
-use Rattle.q_invariants.proofs.Kept.{IsLawfulRoot}
+use Rattle.q_invariants.specs.Kept.{IsLawfulRoot}
 use Rattle.q_invariants.proofs.sums.Lengths.{HasLength}
 use Rattle.q_invariants.proofs.tree.Members.{All-front, All-back}
 use Rattle.q_invariants.proofs.tree.Quiet.{child-lawful}

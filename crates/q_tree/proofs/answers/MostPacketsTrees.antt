@@ -10,9 +10,9 @@ use Rattle.q_model.specs.Tally.{Tally}
 use Rattle.q_model.specs.TreeState.{TreeState, put_on, put, peek_packet, take_packet}
 use Rattle.q_model.specs.Work.{Worked, quiet, booked}
 use Rattle.q_model.proofs.ShrinkLemmas.{each-each_memory}
+use Rattle.q_invariants.specs.Kept.{IsLawfulRoot}
 use Rattle.q_invariants.proofs.ask.Answer.{IsAnswer}
 use Rattle.q_invariants.proofs.ask.Asks.{before-root, ask-answers}
-use Rattle.q_invariants.proofs.Kept.{IsLawfulRoot}
 use Rattle.q_invariants.proofs.put.Puts.{along-put}
 use Rattle.q_invariants.proofs.sums.Told.{IsRootTold, root-memory, root-booked}
 use Rattle.q_invariants.proofs.tree.Forests.{lawful-with_memory}

@@ -22,8 +22,8 @@ use Rattle.q_model.specs.Find.{node_at, class_path}
 use Rattle.q_model.specs.TreeState.{TreeState}
 use Rattle.q_model.specs.Node.{Node, children, side_by_side}
 use Rattle.q_model.specs.Oldest.{arrivals_in, arrival_held, oldest_own, oldest, oldest_at}
-use Rattle.q_invariants.proofs.Kept.{AllLawful, IsLawfulRoot}
-use Rattle.q_invariants.proofs.tree.Forests.{each-side, AreLawful, are-lawful, lawful-nodes}
+use Rattle.q_invariants.specs.Kept.{AllLawful, AreLawful, IsLawfulRoot}
+use Rattle.q_invariants.proofs.tree.Forests.{each-side, are-lawful, lawful-nodes}
 use Rattle.q_invariants.proofs.tree.Oldest.{first-oldest, flows-oldest, own-oldest}
 use Rattle.q_tree.specs.answers.Oldest.{IsInOrder, IsInOrderIn, AreAllInOrder, oldest_of, oldest_within}
 use Rattle.q_tree.specs.answers.ReadyAt.{sooner}

@@ -4,7 +4,7 @@ use Rattle.std.specs.Prelude.{true, IsSome}
 use Rattle.q_packet.specs.Descriptor.{Descriptor}
 use Rattle.q_model.specs.Ask.{ask}
 use Rattle.q_model.specs.Node.{Node, shape}
-use Rattle.q_invariants.proofs.Kept.{IsLawfulRoot}
+use Rattle.q_invariants.specs.Kept.{IsLawfulRoot}
 use Rattle.q_tree.specs.answers.ReadyAt.{is_before, is_sure, outlook, ready_at}
 use Rattle.q_tree.specs.TreeSeen.{IsKeptDevice}
 use Rattle.q_tree.specs.declared.tree.Tree.TheInside.{Inside}

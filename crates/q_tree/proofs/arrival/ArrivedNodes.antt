@@ -16,7 +16,7 @@ use Rattle.q_model.specs.Node.{Node, Shape, shape, side_by_side}
 use Rattle.q_model.specs.Put.{put_along}
 use Rattle.q_model.specs.Route.{Route, route}
 use Rattle.q_model.specs.Tally.{Note}
-use Rattle.q_invariants.proofs.Kept.{IsLawfulRoot}
+use Rattle.q_invariants.specs.Kept.{IsLawfulRoot}
 use Rattle.q_invariants.proofs.tree.Forests.{nodes-side, each-side, lawful-with_memory}
 use Rattle.q_invariants.proofs.tree.Members.{All-at}
 use Rattle.q_invariants.proofs.tree.Quiet.{child-lawful}

@@ -14,7 +14,7 @@ use Rattle.q_model.specs.Route.{Route, route, device_route}
 use Rattle.q_model.specs.Step.{DeviceState, arrive, fate_of}
 use Rattle.q_model.specs.TreeState.{put_on}
 use Rattle.q_model.specs.Work.{booked}
-use Rattle.q_invariants.proofs.Kept.{IsLawfulRoot}
+use Rattle.q_invariants.specs.Kept.{IsLawfulRoot}
 use Rattle.q_invariants.proofs.tree.Forests.{lawful-with_memory}
 use Rattle.q_model.specs.Lawful.{IsLawfulOwn}
 use Rattle.q_invariants.proofs.put.Puts.{along-put}

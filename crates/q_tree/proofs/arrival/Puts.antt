@@ -27,12 +27,13 @@ use Rattle.q_model.specs.Tally.{Note, Arrived, noted, totals, with_packet}
 use Rattle.q_model.specs.TreeState.{loss_at_end}
 use Rattle.q_model.specs.Work.{Work, Worked, worked, quiet, booked, each_booked, settled_in}
 use Rattle.q_model.proofs.ShrinkLemmas.{each-each_memory}
+use Rattle.q_invariants.specs.Weights.{weigh}
 use Rattle.q_invariants.proofs.ask.Answer.{one}
 use Rattle.q_invariants.proofs.put.PutHere.{IsPut}
 use Rattle.q_invariants.proofs.put.Puts.{along-put}
 use Rattle.q_invariants.proofs.sums.Counted.{bytes}
 use Rattle.q_invariants.proofs.sums.Told.{IsRootTold, root-memory, root-booked}
-use Rattle.q_invariants.proofs.sums.Weights.{weigh, weigh-count}
+use Rattle.q_invariants.proofs.sums.Weights.{weigh-count}
 use Rattle.q_invariants.proofs.tree.Forests.{nodes-side, lawful-with_memory}
 use Rattle.q_invariants.proofs.tree.Members.{All-at}
 use Rattle.q_invariants.proofs.tree.Quiet.{child-lawful}

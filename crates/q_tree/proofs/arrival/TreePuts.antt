@@ -18,8 +18,8 @@ use Rattle.q_model.specs.TreeState.{TreeState, put, put_on, loss_on, own_loss, w
 use Rattle.q_model.specs.Work.{Work, quiet, booked}
 use Rattle.q_model.proofs.ShrinkLemmas.{totals_for_history, each-each_memory}
 use Rattle.q_model.proofs.ShrinkSteps.{put-stands}
+use Rattle.q_invariants.specs.Kept.{IsKeptTree}
 use Rattle.q_invariants.proofs.ask.Answer.{one}
-use Rattle.q_invariants.proofs.Kept.{IsKeptTree}
 use Rattle.q_invariants.proofs.put.Puts.{put-kept}
 use Rattle.q_invariants.proofs.sums.Counted.{bytes}
 use Rattle.q_invariants.proofs.sums.Weights.{arrived-nil, arrived-cons, sent-nil, sent-cons, lost-nil, lost-cons, marked-nil, marked-cons}

@@ -29,14 +29,14 @@ use Rattle.q_model.specs.QdiscCommands.{at_target, bands_check, leaf_of_tbf, reb
 use Rattle.q_model.specs.Ranges.{IsCommand}
 use Rattle.q_model.specs.Refusals.{Check, done_unless, most_nodes, refuse}
 use Rattle.q_model.specs.TreeState.{plan}
+use Rattle.q_invariants.specs.Kept.{IsLawfulRoot}
+use Rattle.q_invariants.specs.Sizes.{change_sized, counts, nodes_rebanded, numbers}
 use Rattle.q_invariants.proofs.edit.EditChildren.{any-append, gone_is, gone_past, kept_above, kept_from, kept_there, kids, kids-append, kids_all, kids_kept, kids_new, new_keeps}
 use Rattle.q_invariants.proofs.edit.EditMade.{new_leaf}
 use Rattle.q_invariants.proofs.edit.EditSuits.{beneath-children, children-shape, done_is, length-shape, node_at-shape}
-use Rattle.q_invariants.proofs.Kept.{IsLawfulRoot}
-use Rattle.q_invariants.proofs.sizes.EditSizes.{counts, sized-within}
+use Rattle.q_invariants.proofs.sizes.EditSizes.{sized-within}
 use Rattle.q_invariants.proofs.sizes.MadeSizes.{count-shape}
-use Rattle.q_invariants.proofs.sizes.SizeChecks.{numbers}
-use Rattle.q_invariants.proofs.sizes.SizedChanges.{change_sized, length-below, node-lawful, nodes_rebanded, plan-qdisc_change}
+use Rattle.q_invariants.proofs.sizes.SizedChanges.{length-below, node-lawful, plan-qdisc_change}
 use Rattle.q_invariants.proofs.sums.Joined.{joined}
 use Rattle.q_invariants.proofs.tree.Forests.{lawful-with_memory}
 use Rattle.q_tree.specs.answers.Finding.{reached}

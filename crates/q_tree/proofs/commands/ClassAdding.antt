@@ -22,13 +22,13 @@ use Rattle.q_model.specs.QdiscCommands.{at_target}
 use Rattle.q_model.specs.Ranges.{IsCommand}
 use Rattle.q_model.specs.Refusals.{Check, done_unless, is_so, refuse}
 use Rattle.q_model.specs.TreeState.{plan}
+use Rattle.q_invariants.specs.Kept.{IsLawfulRoot}
+use Rattle.q_invariants.specs.Sizes.{sizes}
 use Rattle.q_invariants.proofs.class.Exact.{exact-length}
 use Rattle.q_invariants.proofs.edit.EditClasses.{member_at}
 use Rattle.q_invariants.proofs.edit.EditClassPlans.{position_of}
 use Rattle.q_invariants.proofs.edit.EditMade.{new_leaf}
 use Rattle.q_invariants.proofs.edit.EditSuits.{length-shape, node_at-shape}
-use Rattle.q_invariants.proofs.Kept.{IsLawfulRoot}
-use Rattle.q_invariants.proofs.sizes.SizeChecks.{sizes}
 use Rattle.q_invariants.proofs.sizes.SizedChanges.{length-below, node-lawful}
 use Rattle.q_invariants.proofs.sizes.SizedPlans.{plan-class_add, plan-class_del}
 use Rattle.q_invariants.proofs.tree.Forests.{lawful-with_memory}

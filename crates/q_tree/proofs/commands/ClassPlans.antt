@@ -21,11 +21,11 @@ use Rattle.q_model.specs.Make.{Device, implicit_pfifo}
 use Rattle.q_model.specs.Node.{Discipline, Fifo, Prio, Tbf, Drr, FqCodel, Own, Node, Shape, blank, children, shape}
 use Rattle.q_model.specs.QdiscCommands.{all_kept, at_target, retuned}
 use Rattle.q_model.specs.Refusals.{Check, done_unless, is_so, refuse}
+use Rattle.q_invariants.specs.Sizes.{sizes}
 use Rattle.q_invariants.proofs.edit.EditChildren.{any-append, gone, gone_is, gone_none, kept_there, kids, kids-append, kids_all, kids_removed, removed_goes, removed_keeps}
 use Rattle.q_invariants.proofs.edit.EditClasses.{class_known}
 use Rattle.q_invariants.proofs.edit.EditSuits.{beneath-children, check_passed, done_is, length-shape}
 use Rattle.q_invariants.proofs.sizes.MadeSizes.{count-shape}
-use Rattle.q_invariants.proofs.sizes.SizeChecks.{sizes}
 use Rattle.q_tree.specs.commands.Commands.{class_add_sized, drr_answer}
 use Rattle.q_tree.specs.commands.DisciplineChanges.{can_join, children_after, class_child, discipline_after, lost_with, place_in, requantum, rescheduled}
 use Rattle.q_tree.specs.commands.Making.{IsNewNode}

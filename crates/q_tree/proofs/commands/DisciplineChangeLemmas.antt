@@ -19,9 +19,10 @@ use Rattle.q_model.specs.Node.{Node}
 use Rattle.q_model.specs.Options.{FqOptions}
 use Rattle.q_model.specs.QdiscCommands.{relimited}
 use Rattle.q_model.specs.Tally.{Counts}
+use Rattle.q_invariants.specs.Weights.{weigh}
 use Rattle.q_invariants.proofs.edit.EditNew.{held-le-beneath}
 use Rattle.q_invariants.proofs.sums.Joined.{joined, weigh-joined-append, weigh-joined-cons}
-use Rattle.q_invariants.proofs.sums.Weights.{weigh, weigh-nil}
+use Rattle.q_invariants.proofs.sums.Weights.{weigh-nil}
 use Rattle.q_tree.specs.arrival.PutSteps.{packets_beneath}
 use Rattle.q_tree.specs.commands.DisciplineChanges.{AreReady, IsFresh, bands_going, bands_staying, can_join, children_after, class_child, discipline_after, leaf_limited, leaves_limited, limited, lost_with, place_in, rebucketed, remapped, reoptioned, requantum, rescheduled, resettled}
 use Rattle.q_tree.specs.Kept.{Kept}

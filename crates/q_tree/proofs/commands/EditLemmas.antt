@@ -21,12 +21,13 @@ use Rattle.q_model.specs.Node.{Node, children, each, side_by_side}
 use Rattle.q_model.specs.Step.{losses_in}
 use Rattle.q_model.specs.Tally.{Counts, no_totals, noted, with_packet}
 use Rattle.q_model.specs.Work.{losses_of, settled_in}
+use Rattle.q_invariants.specs.Weights.{weigh}
 use Rattle.q_invariants.proofs.ask.Answer.{one}
 use Rattle.q_invariants.proofs.edit.EditNew.{held-le-beneath}
 use Rattle.q_invariants.proofs.put.DrrSettled.{settled-packets}
 use Rattle.q_invariants.proofs.sums.Counted.{bytes}
 use Rattle.q_invariants.proofs.sums.Joined.{joined, weigh-joined-set, weigh-beneath, weigh-held}
-use Rattle.q_invariants.proofs.sums.Weights.{weigh, weigh-count, weigh-nil}
+use Rattle.q_invariants.proofs.sums.Weights.{weigh-count, weigh-nil}
 use Rattle.q_invariants.proofs.tree.Forests.{each-at, each-nodes, each-set, each-side, nodes-side}
 use Rattle.q_invariants.proofs.tree.Members.{All-at}
 use Rattle.q_tree.specs.arrival.Arrivals.{plus}

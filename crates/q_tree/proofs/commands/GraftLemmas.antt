@@ -27,14 +27,14 @@ use Rattle.q_model.specs.Refusals.{Check, done_unless, first_refusal, is_classle
 use Rattle.q_model.specs.TreeState.{plan}
 use Rattle.q_model.specs.Work.{losses_of}
 use Rattle.q_codel.specs.declared.limit.Limit.TheVariants.{Packets}
+use Rattle.q_invariants.specs.Kept.{IsLawfulRoot}
+use Rattle.q_invariants.specs.Sizes.{levels_made, nodes_made, sizes}
 use Rattle.q_invariants.proofs.edit.EditMade.{new_implicit, new_leaf}
 use Rattle.q_invariants.proofs.edit.EditNew.{IsNew}
 use Rattle.q_invariants.proofs.edit.Edits.{found_in_shape}
 use Rattle.q_invariants.proofs.edit.EditSuits.{beneath-shape, node_at-shape}
-use Rattle.q_invariants.proofs.Kept.{IsLawfulRoot}
 use Rattle.q_invariants.proofs.sizes.EditSizes.{sized-within}
-use Rattle.q_invariants.proofs.sizes.MadeSizes.{Stands, count-shape, levels_made, nodes_made, place-there, plan-qdisc_made}
-use Rattle.q_invariants.proofs.sizes.SizeChecks.{sizes}
+use Rattle.q_invariants.proofs.sizes.MadeSizes.{Stands, count-shape, place-there, plan-qdisc_made}
 use Rattle.q_invariants.proofs.tree.Forests.{lawful-with_memory}
 use Rattle.q_tree.specs.answers.Finding.{reached}
 use Rattle.q_tree.specs.answers.Showing.{IsNumbered}

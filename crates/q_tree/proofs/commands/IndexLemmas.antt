@@ -14,7 +14,7 @@ use Rattle.q_drr.proofs.KeyLemmas.{has}
 use Rattle.q_drr.proofs.NameLemmas.{eqb_swap, eqb_sym}
 use Rattle.q_model.specs.Find.{Address, addresses, addresses_own, count_nodes, from_parent}
 use Rattle.q_model.specs.Node.{Forest, none, more, Node, each}
-use Rattle.q_invariants.proofs.edit.EditHandles.{AreApart}
+use Rattle.q_invariants.specs.Kept.{AreApart}
 use Rattle.q_invariants.proofs.tree.Forests.{each-nodes}
 use Rattle.q_tree.specs.commands.Index.{added, address_of, addresses_beneath, free_among, has_among, listed, own_address, path_among, under}
 use Rattle.q_tree.specs.Kept.{Kept}

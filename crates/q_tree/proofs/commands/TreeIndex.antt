@@ -16,8 +16,8 @@ use Rattle.q_model.specs.Tally.{Counts, counts_in}
 use Rattle.q_model.specs.TreeState.{TreeState, put_on}
 use Rattle.q_model.specs.Work.{Worked, booked}
 use Rattle.q_model.proofs.ShrinkLemmas.{each-each_memory}
+use Rattle.q_invariants.specs.Kept.{AreApart}
 use Rattle.q_invariants.proofs.ask.Asks.{addresses-look, before-root}
-use Rattle.q_invariants.proofs.edit.EditHandles.{AreApart}
 use Rattle.q_invariants.proofs.sizes.EditSizes.{nodes_own}
 use Rattle.q_invariants.proofs.sums.Told.{IsRootTold, root-booked, root-memory, root-told}
 use Rattle.q_invariants.proofs.tree.Forests.{each-nodes, nodes-side}

@@ -4,9 +4,10 @@ use Rattle.std.specs.List.{fold}
 use Rattle.q_model.specs.declared.row.Row.{Row}
 use Rattle.q_model.specs.declared.totals.Totals.{Totals}
 use Rattle.q_model.specs.Tally.{Note, Counts, counted, no_counts, counts_in, noted, totals}
+use Rattle.q_invariants.specs.Weights.{dropped, marked}
 use Rattle.q_invariants.proofs.ask.Answer.{one, IsSilent}
 use Rattle.q_invariants.proofs.sums.Counted.{bytes, lost-parts, all-more}
-use Rattle.q_invariants.proofs.sums.Weights.{dropped, marked, dropped-append, marked-append, lost-append, arrived-append, sent-append, IsQuiet}
+use Rattle.q_invariants.proofs.sums.Weights.{dropped-append, marked-append, lost-append, arrived-append, sent-append, IsQuiet}
 use Rattle.q_tree.specs.arrival.Arrivals.{plus}
 use Rattle.q_tree.specs.departure.AskSteps.{with_shown}
 use Rattle.q_tree.specs.departure.Shown.{Shown}

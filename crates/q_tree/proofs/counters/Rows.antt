@@ -10,10 +10,11 @@ use Rattle.q_model.specs.declared.totals.Totals.{Totals}
 use Rattle.q_model.specs.Beneath.{totals_in}
 use Rattle.q_model.specs.Conserved.{IsBalanced}
 use Rattle.q_model.specs.Tally.{Note, Arrived, Counts, counted, no_counts, noted, totals, with_packet}
+use Rattle.q_invariants.specs.Weights.{arrived, lost, marked, plain, sent, weigh}
 use Rattle.q_invariants.proofs.ask.Answer.{one}
 use Rattle.q_invariants.proofs.sums.Counted.{bytes, lost-parts, all-more}
-use Rattle.q_invariants.proofs.sums.Weights as weights
-use Rattle.q_invariants.proofs.sums.Weights.{weigh, weigh-count, arrived, sent, lost, marked, plain}
+use Rattle.q_invariants.specs.Weights as weights
+use Rattle.q_invariants.proofs.sums.Weights.{weigh-count}
 use Rattle.q_tree.specs.arrival.Arrivals.{IsOutcome, IsLostOf, plus, with_arrival}
 use Rattle.q_tree.specs.declared.arrival.outcome.Outcome.{Outcome}
 

@@ -11,13 +11,14 @@ use Rattle.q_model.specs.Pop.{pop}
 use Rattle.q_model.specs.Tally.{Note, counts_in}
 use Rattle.q_model.specs.Work.{Worked, booked}
 use Rattle.q_model.proofs.ShrinkLemmas.{each-each_memory}
+use Rattle.q_invariants.specs.Weights.{weigh}
 use Rattle.q_invariants.proofs.ask.Answer.{one}
 use Rattle.q_invariants.proofs.ask.PopGives.{pop-gives, pop-told}
 use Rattle.q_invariants.proofs.ask.Pops.{pop-before}
 use Rattle.q_invariants.proofs.edit.EditNew.{held-le-beneath}
 use Rattle.q_invariants.proofs.sums.Counted.{bytes}
 use Rattle.q_invariants.proofs.sums.Told.{root-booked}
-use Rattle.q_invariants.proofs.sums.Weights.{weigh, weigh-count, weigh-nil, weigh-one}
+use Rattle.q_invariants.proofs.sums.Weights.{weigh-count, weigh-nil, weigh-one}
 use Rattle.q_tree.specs.departure.AskSteps.{CanShow, with_shown}
 use Rattle.q_tree.specs.departure.PopSteps.{IsAmong, with_sent}
 use Rattle.q_tree.specs.Kept.{Kept, kept}

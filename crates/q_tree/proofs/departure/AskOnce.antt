@@ -10,10 +10,11 @@ use Rattle.q_model.specs.Node.{Node, shape}
 use Rattle.q_model.specs.Step.{loss_in, losses_in}
 use Rattle.q_model.specs.Tally.{Note, Arrived, Sent, Lost, Marked, Granted, Spent, FlowGranted, FlowGave, counts_in}
 use Rattle.q_model.specs.Work.{Worked, booked}
+use Rattle.q_invariants.specs.Weights.{lost}
 use Rattle.q_invariants.proofs.ask.Answer.{one}
 use Rattle.q_invariants.proofs.edit.EditNew.{held-le-beneath}
 use Rattle.q_invariants.proofs.sums.Counted.{bytes}
-use Rattle.q_invariants.proofs.sums.Weights.{weigh-count, lost, lost-nil, lost-cons}
+use Rattle.q_invariants.proofs.sums.Weights.{weigh-count, lost-nil, lost-cons}
 use Rattle.q_tree.specs.arrival.Arrivals.{plus}
 use Rattle.q_tree.specs.arrival.PutSteps.{packets_beneath}
 use Rattle.q_tree.specs.departure.AskSteps.{CanAsk, CanAskEach, CanAskOnce, IsShown, IsToldOf}

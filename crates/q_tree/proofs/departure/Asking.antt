@@ -14,13 +14,14 @@ use Rattle.q_model.specs.Node.{Node, shape, side_by_side, more}
 use Rattle.q_model.specs.Tally.{Note, noted}
 use Rattle.q_model.specs.Work.{Worked, booked, each_booked}
 use Rattle.q_model.proofs.ShrinkLemmas.{each-each_memory}
+use Rattle.q_invariants.specs.Kept.{AreLawful, IsLawfulRoot}
+use Rattle.q_invariants.specs.Weights.{arrived, lost, marked, weigh}
 use Rattle.q_invariants.proofs.ask.Answer.{IsAnswer}
 use Rattle.q_invariants.proofs.ask.Asks.{ask-answers, before-root}
 use Rattle.q_invariants.proofs.edit.EditNew.{held-le-beneath}
-use Rattle.q_invariants.proofs.Kept.{IsLawfulRoot}
 use Rattle.q_invariants.proofs.sums.Told.{IsRootTold, root-memory, root-booked}
-use Rattle.q_invariants.proofs.sums.Weights.{weigh, weigh-append, arrived, lost, marked, lost-nil, marked-nil, lost-append, marked-append, IsQuiet, quiet-nil, quiet-append}
-use Rattle.q_invariants.proofs.tree.Forests.{AreLawful, lawful-with_memory}
+use Rattle.q_invariants.proofs.sums.Weights.{weigh-append, lost-nil, marked-nil, lost-append, marked-append, IsQuiet, quiet-nil, quiet-append}
+use Rattle.q_invariants.proofs.tree.Forests.{lawful-with_memory}
 use Rattle.q_invariants.proofs.tree.Members.{All-at}
 use Rattle.q_tree.specs.arrival.PutSteps.{packets_beneath}
 use Rattle.q_tree.specs.departure.AskSteps.{CanAsk, answers}

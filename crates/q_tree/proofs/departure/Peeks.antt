@@ -22,11 +22,11 @@ use Rattle.q_model.specs.Node.{Node, Own, shape, side_by_side, each}
 use Rattle.q_model.specs.Pop.{Popping, pop, pop_own}
 use Rattle.q_model.specs.Tally.{counts_in, no_totals}
 use Rattle.q_model.specs.Work.{booked, each_booked}
+use Rattle.q_invariants.specs.Kept.{AllLawful, AreLawful}
 use Rattle.q_invariants.proofs.ask.Pops.{ask-popped, booked-then}
 use Rattle.q_invariants.proofs.class.Exact.{exact-length}
-use Rattle.q_invariants.proofs.Kept.{AllLawful}
 use Rattle.q_invariants.proofs.sums.Told.{root-booked}
-use Rattle.q_invariants.proofs.tree.Forests.{each-side, AreLawful}
+use Rattle.q_invariants.proofs.tree.Forests.{each-side}
 use Rattle.q_tree.specs.arrival.PutSteps.{packets_beneath}
 use Rattle.q_tree.specs.departure.AskSteps.{CanAsk, CanAskEach, CanServe, CanAskIn, CanShow, IsShown, IsPeeked, AreAsked, IsToldOf, IsAskedIn, answers, answer_of, own_of, held_in, packets_within, with_shown}
 use Rattle.q_tree.specs.disciplines.Meeting.{IsAllowed, IsWaiting}

@@ -20,9 +20,9 @@ use Rattle.q_drr.proofs.ServingRounds.{serving_rounds}
 use Rattle.q_model.specs.Ask.{peeked_classes}
 use Rattle.q_model.specs.Node.{Node}
 use Rattle.q_model.proofs.ClassesAsked.{rises_of}
+use Rattle.q_invariants.specs.Kept.{AreLawful}
 use Rattle.q_invariants.proofs.ask.Answer.{AreAnswers}
 use Rattle.q_invariants.proofs.ask.DrrService.{heads-fit}
-use Rattle.q_invariants.proofs.tree.Forests.{AreLawful}
 use Rattle.q_tree.specs.departure.AskSteps.{IsToldOf, answers}
 use Rattle.q_tree.specs.departure.Shown.{Shown}
 use Rattle.q_tree.specs.Kept.{Kept}

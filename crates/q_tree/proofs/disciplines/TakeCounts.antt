@@ -19,10 +19,11 @@ use Rattle.q_model.specs.Node.{Own}
 use Rattle.q_model.specs.Step.{loss_in, losses_in}
 use Rattle.q_model.specs.Tally.{Note, Marked, no_counts, no_totals, counts_in, with_packet}
 use Rattle.q_model.specs.Work.{losses_of}
+use Rattle.q_invariants.specs.Weights.{marked}
 use Rattle.q_invariants.proofs.ask.Answer.{one}
 use Rattle.q_invariants.proofs.flow.FlowNotes.{take-weighs, lost-marks, quiet-marks}
 use Rattle.q_invariants.proofs.sums.Counted.{bytes, all-more}
-use Rattle.q_invariants.proofs.sums.Weights.{weigh-count, marked, marked-nil, marked-cons, dropped-append, marked-append, dropped-losses, marked-losses}
+use Rattle.q_invariants.proofs.sums.Weights.{weigh-count, marked-nil, marked-cons, dropped-append, marked-append, dropped-losses, marked-losses}
 use Rattle.q_tree.specs.departure.AskSteps.{IsShown, IsToldOf}
 use Rattle.q_tree.specs.departure.Shown.{Shown}
 use Rattle.q_tree.proofs.counters.Rows.{same-totals, weigh-bytes}

@@ -6,8 +6,8 @@ use Rattle.q_packet.specs.Descriptor.{Descriptor}
 use Rattle.q_model.specs.Node.{shape}
 use Rattle.q_model.specs.Tally.{Note, Sent}
 use Rattle.q_model.specs.TreeState.{TreeState, asked, given, noted_by_take, peek_packet, take_packet, with_work}
+use Rattle.q_invariants.specs.Kept.{IsLawfulRoot}
 use Rattle.q_invariants.proofs.again.SecondPeeks.{given-again, noted-again, second-peek}
-use Rattle.q_invariants.proofs.Kept.{IsLawfulRoot}
 use Rattle.q_tree.specs.Kept.{Kept, kept}
 
 pub none-is-peek : (now : ℕ) (s : TreeState Kept) → given now s ≡ None → take_packet kept now s ≡ peek_packet kept now s

@@ -6,9 +6,9 @@ use Rattle.q_model.specs.Node.{Forest, none, more, Node, nodes_in, shape}
 use Rattle.q_model.specs.Tally.{Note}
 use Rattle.q_model.specs.TreeState.{TreeState, peek_packet, take_packet}
 use Rattle.q_model.specs.Work.{Worked, each_booked, booked}
+use Rattle.q_invariants.specs.Kept.{IsLawfulRoot}
 use Rattle.q_invariants.proofs.ask.Answer.{IsAnswer}
 use Rattle.q_invariants.proofs.ask.Asks.{ask-answers, before-root}
-use Rattle.q_invariants.proofs.Kept.{IsLawfulRoot}
 use Rattle.q_invariants.proofs.sums.Told.{AllTold, IsRootTold, root-memory}
 use Rattle.q_invariants.proofs.tree.Forests.{lawful-with_memory}
 use Rattle.q_tree.specs.arrival.Places.{places_at, places_under}

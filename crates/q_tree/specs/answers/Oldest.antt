@@ -8,8 +8,7 @@ use Rattle.q_model.specs.Beneath.{beneath}
 use Rattle.q_model.specs.Lawful.{IsLawfulDiscipline}
 use Rattle.q_model.specs.Node as spec
 use Rattle.q_model.specs.Oldest.{arrivals_in, oldest}
-use Rattle.q_invariants.proofs.Kept.{IsLawfulRoot}
-use Rattle.q_invariants.proofs.tree.Forests.{AreLawful}
+use Rattle.q_invariants.specs.Kept.{AreLawful, IsLawfulRoot}
 use Rattle.q_tree.specs.Kept.{Kept}
 use Rattle.q_tree.specs.Seen.{discipline_seen, children_seen}
 use Rattle.q_tree.specs.declared.node.Discipline.{Discipline}

@@ -6,7 +6,7 @@ use Rattle.q_model.specs.declared.place.Place.TheVariants as place
 use Rattle.q_drr.specs.Schedule.{has_class}
 use Rattle.q_model.specs.Node.{Discipline, Fifo, Prio, Tbf, Drr, FqCodel, Forest, none, more, Node}
 use Rattle.q_model.specs.Views.{places_below}
-use Rattle.q_invariants.proofs.Kept.{IsLawfulRoot}
+use Rattle.q_invariants.specs.Kept.{IsLawfulRoot}
 use Rattle.q_tree.specs.Kept.{Kept}
 
 -- nodes side by side, which are in these places, and all below them

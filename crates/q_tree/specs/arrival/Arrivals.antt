@@ -12,7 +12,7 @@ use Rattle.q_model.specs.Node as spec
 use Rattle.q_model.specs.Numbers.{IsWithin}
 use Rattle.q_model.specs.Route.{route}
 use Rattle.q_model.specs.Tally.{Note, with_packet, counts_in}
-use Rattle.q_invariants.proofs.Kept.{IsLawfulRoot}
+use Rattle.q_invariants.specs.Kept.{IsLawfulRoot}
 use Rattle.q_tree.specs.Kept.{Kept}
 use Rattle.q_tree.specs.declared.arrival.outcome.Outcome.{Outcome}
 

@@ -19,7 +19,7 @@ use Rattle.q_model.specs.Route.{Route, route, way}
 use Rattle.q_model.specs.Tally.{Note, with_packet, no_totals}
 use Rattle.q_model.specs.TreeState.{loss_at_end, loss_on, put_on}
 use Rattle.q_model.specs.Work.{booked}
-use Rattle.q_invariants.proofs.Kept.{IsLawfulRoot}
+use Rattle.q_invariants.specs.Kept.{IsLawfulRoot}
 use Rattle.q_tree.specs.arrival.Arrivals.{CanCount, CanPut, HasPlace, HasPlaceIn, IsOutcome}
 use Rattle.q_tree.specs.arrival.Places.{unplaced, places_at, places_under, HasPlaceAt}
 use Rattle.q_tree.specs.arrival.PutSteps.{CanFlow, IsQueued, IsPutInto, rises_here}

@@ -14,7 +14,7 @@ use Rattle.q_tree.specs.departure.AskSteps.{IsToldOf}
 use Rattle.q_tree.specs.Kept.{Kept}
 use Rattle.q_tree.specs.Seen.{IsKept, children_seen, seen}
 use Rattle.q_tree.specs.declared.node.Node.TheInside.{Inside}
-use Rattle.q_invariants.proofs.Kept.{IsLawfulRoot}
+use Rattle.q_invariants.specs.Kept.{IsLawfulRoot}
 use Rattle.q_model.specs.Beneath.{totals_in}
 use Rattle.q_tree.specs.declared.node.Discipline.{Discipline}
 

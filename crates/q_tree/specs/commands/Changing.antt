@@ -17,7 +17,7 @@ use Rattle.q_model.specs.Node.{Discipline, Fifo, Prio, Tbf, Drr, FqCodel, Own, N
 use Rattle.q_model.specs.Options.{FqOptions}
 use Rattle.q_model.specs.QdiscCommands.{bands_check, burst_check, flows_check}
 use Rattle.q_model.specs.Refusals.{done_unless}
-use Rattle.q_invariants.proofs.sizes.SizeChecks.{numbers}
+use Rattle.q_invariants.specs.Sizes.{numbers}
 use Rattle.q_tree.specs.commands.Commands.{IsRefused}
 use Rattle.q_tree.specs.commands.DisciplineChanges.{AreReady, TakesMore, children_after, discipline_after, lost_with}
 use Rattle.q_tree.specs.Kept.{Kept, kept}

@@ -15,7 +15,7 @@ use Rattle.q_model.specs.Refusals.{Check, done_unless, most_levels, most_nodes}
 use Rattle.q_model.specs.Step.{DeviceState, losses_in}
 use Rattle.q_model.specs.Tally.{noted}
 use Rattle.q_model.specs.TreeState.{plan, with_edit}
-use Rattle.q_invariants.proofs.sizes.SizeChecks.{sizes}
+use Rattle.q_invariants.specs.Sizes.{sizes}
 use Rattle.q_tree.specs.commands.Editing.{removed_at, notes_of, edited_by, IsReady, TakesMemory}
 use Rattle.q_tree.specs.Kept.{Kept, kept}
 use Rattle.q_tree.specs.declared.commands.edit.Edit.{Edit}

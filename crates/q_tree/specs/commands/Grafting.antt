@@ -6,7 +6,7 @@ use Rattle.q_model.specs.declared.refusal.Refusal.TheVariants.{Exists, HandleTak
 use Rattle.q_model.specs.Find.{count_nodes, has_handle, is_explicit, node_at}
 use Rattle.q_model.specs.Node.{Node}
 use Rattle.q_model.specs.Refusals.{Check, is_so, most_levels, most_nodes, refuse}
-use Rattle.q_invariants.proofs.sizes.MadeSizes.{levels_made, nodes_made}
+use Rattle.q_invariants.specs.Sizes.{levels_made, nodes_made}
 use Rattle.q_tree.specs.Kept.{Kept}
 
 -- the nodes that the new one takes the place of

@@ -1,6 +1,6 @@
 -- Over what a command is planned (tc(8)): a tree, the device that lends to its qdiscs (ip-link(8)), and a time.
 use Rattle.std.specs.Prelude.{Result}
-use Rattle.q_invariants.proofs.Kept.{IsLawfulRoot}
+use Rattle.q_invariants.specs.Kept.{IsLawfulRoot}
 use Rattle.q_model.specs.declared.command.Command.{Command}
 use Rattle.q_model.specs.declared.command.Command.TheVariants.{QdiscAdd, QdiscChange, QdiscDel, ClassAdd, ClassChange, ClassDel, FilterAdd, FilterDel}
 use Rattle.q_model.specs.declared.refusal.Refusal.{Refusal}

@@ -18,8 +18,7 @@ use Rattle.q_model.specs.Tally.{Note, counts_in, no_totals}
 use Rattle.q_model.specs.Work.{booked, each_booked, settled_class}
 use Rattle.q_drr.specs.Schedule as drr
 use Rattle.q_drr.specs.Schedule.{Schedule}
-use Rattle.q_invariants.proofs.Kept.{IsLawfulRoot}
-use Rattle.q_invariants.proofs.tree.Forests.{AreLawful}
+use Rattle.q_invariants.specs.Kept.{AreLawful, IsLawfulRoot}
 use Rattle.q_tree.specs.arrival.Arrivals.{plus, minus}
 use Rattle.q_tree.specs.arrival.PutSteps.{packets_beneath}
 use Rattle.q_tree.specs.Kept.{Kept, kept}

@@ -1,7 +1,7 @@
 ghost use Rattle.std.specs.Prelude.{◌≡◌, ◌≤◌, length};
 ghost use Rattle.q_codel.specs.Losses.{IsTold};
-ghost use Rattle.q_invariants.proofs.Kept.{IsLawfulRoot};
-ghost use Rattle.q_invariants.proofs.sizes.SizedChanges.{change_sized};
+ghost use Rattle.q_invariants.specs.Kept.{IsLawfulRoot};
+ghost use Rattle.q_invariants.specs.Sizes.{change_sized};
 ghost use Rattle.q_model.specs.Beneath.{beneath};
 ghost use Rattle.q_model.specs.Find.{count_nodes};
 ghost use Rattle.q_model.specs.Node.{shape};

@@ -1,5 +1,5 @@
 ghost use Rattle.std.specs.Prelude.{◌≡◌, ◌≤◌};
-ghost use Rattle.q_invariants.proofs.sizes.MadeSizes.{levels_made, nodes_made};
+ghost use Rattle.q_invariants.specs.Sizes.{levels_made, nodes_made};
 ghost use Rattle.q_model.specs.Find.{count_nodes};
 ghost use Rattle.q_model.specs.Refusals.{most_nodes};
 

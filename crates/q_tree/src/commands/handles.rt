@@ -1,7 +1,7 @@
 ghost use Rattle.std.specs.Prelude.{◌≡◌, ◌≤◌, ◌+◌, [], OnErr, OnOk, length, map, option_map, true};
 ghost use Rattle.std.specs.List.{fold};
 ghost use Rattle.indexmap.specs.IndexMap.{spare};
-ghost use Rattle.q_invariants.proofs.edit.EditHandles.{AreApart};
+ghost use Rattle.q_invariants.specs.Kept.{AreApart};
 ghost use Rattle.q_model.specs.Find.{addresses, count_nodes, depth};
 ghost use Rattle.q_model.specs.Numbers.{IsHandle};
 ghost use Rattle.q_model.specs.Refusals.{most_nodes};

@@ -3,7 +3,7 @@ ghost use Rattle.std.specs.Prelude.{◌≡◌, ◌<◌, ◌≤◌, ◌-◌, IfOk
 ghost use Rattle.std.specs.List.{list_any};
 ghost use Rattle.std.specs.Option.{option_map_or};
 ghost use Rattle.q_codel.specs.Losses.{IsTold};
-ghost use Rattle.q_invariants.proofs.sizes.SizedChanges.{change_sized};
+ghost use Rattle.q_invariants.specs.Sizes.{change_sized};
 ghost use Rattle.q_model.specs.Ask.{ask_prio};
 ghost use Rattle.q_model.specs.Beneath.{totals_in};
 ghost use Rattle.q_model.specs.Filters.{named_class};

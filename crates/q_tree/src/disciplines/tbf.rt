@@ -1,6 +1,6 @@
 //! tbf: how one is made, refuses, dequeues, shows its packet, is ready, and changes (tc-tbf(8)).
 ghost use Rattle.std.specs.Prelude.{◌≡◌, ◌≤◌, [], ◌∷◌, IfOk, None, Some, length, nat_lt, unwrap_or, ℕ, if◌then◌else◌};
-ghost use Rattle.q_invariants.proofs.Kept.{IsLawfulRoot};
+ghost use Rattle.q_invariants.specs.Kept.{IsLawfulRoot};
 ghost use Rattle.q_model.specs.Ask.{ask_tbf};
 ghost use Rattle.q_model.specs.Beneath.{beneath};
 ghost use Rattle.q_model.specs.Make.{limit_bytes};

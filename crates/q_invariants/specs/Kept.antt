@@ -1,16 +1,16 @@
 -- What every step keeps of each node of a tree that remembers its whole history.
-use Rattle.std.proofs.Common.{◌≡◌, ℕ, ◌+◌, ◌≤◌, ◌<◌, ◌^◌, List}
+use Rattle.std.specs.Prelude.{◌≡◌, ℕ, ◌+◌, ◌≤◌, ◌<◌, ◌^◌, List, [], ◌∷◌}
 use Rattle.std.specs.List.{AllPairs}
 use Rattle.q_packet.specs.Descriptor.{Descriptor}
-use Rattle.q_model.specs.Tally.{Note}
-use Rattle.q_model.specs.Node.{Forest, none, more, Node, each}
-use Rattle.q_model.specs.Beneath.{beneath_own, beneath}
-use Rattle.q_model.specs.Conserved.{held_own, held_beneath}
-use Rattle.q_model.specs.Find.{Address, addresses, depth, count_nodes}
+use Rattle.q_model.specs.Beneath.{beneath, beneath_own}
+use Rattle.q_model.specs.Conserved.{held_beneath, held_own}
+use Rattle.q_model.specs.Find.{Address, addresses, count_nodes, depth}
 use Rattle.q_model.specs.Lawful.{IsLawfulOwn}
+use Rattle.q_model.specs.Node.{Forest, Node, each, more, none}
 use Rattle.q_model.specs.Refusals.{most_levels, most_nodes}
+use Rattle.q_model.specs.Tally.{Note}
 use Rattle.q_model.specs.TreeState.{TreeState}
-use Rattle.q_invariants.proofs.sums.Weights.{weigh, arrived, sent, lost, dropped, marked}
+use Rattle.q_invariants.specs.Weights.{arrived, dropped, lost, marked, sent, weigh}
 
 -- a node that has noted this, and with these packets waiting and these held
 pub record AreCounted (notes : List Note) (waiting held : List Descriptor) : Type 0 where
@@ -46,3 +46,12 @@ pub record IsKeptTree (clock : ℕ) (s : TreeState (List Note)) : Type 0 where
   pub handles : AllPairs (λ (a b : Address). (a.handle ≡ b.handle) → ⊥) (addresses s.root)
   pub levels : depth s.root ≤ most_levels
   pub few : count_nodes s.root ≤ most_nodes
+
+-- and each of several nodes
+abbrev pub AreLawful : {M : Type 0} → ℕ → ℕ → List (Node M) → Type 0
+AreLawful mtu clock [] = Unit {0}
+AreLawful mtu clock (n ∷ ns) = IsLawfulRoot mtu clock n × AreLawful mtu clock ns
+
+-- no two nodes have one handle
+abbrev pub AreApart : {M : Type 0} → Node M → Type 0
+AreApart n = AllPairs (λ (a b : Address). (a.handle ≡ b.handle) → ⊥) (addresses n)
