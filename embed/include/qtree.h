@@ -644,7 +644,8 @@ typedef struct qtree_turned {
  * lost    lost_room places for the packets that were lost, the oldest first, as qtree_reap_many hands them out
  * turned  what was done; on an error 0 packets and 0 losses, and never
  *
- * Either number of places may be 0: such a turn polls nothing, or leaves the losses where they are.
+ * Either number of places may be 0: such a turn polls nothing, or leaves the losses where they are, and its count says
+ * nothing of what is due or waits.
  *
  * If turned->sent is room, more packets may be due, and if turned->lost is lost_room, more losses may wait: the
  * program takes another turn at once. Otherwise it sleeps until the time turned->again, or until a packet comes in:
