@@ -19,7 +19,7 @@ use Rattle.q_model.proofs.handle.Handle.TheSendSync as handle
 use Rattle.q_model.proofs.row.Row.TheSendSync as row
 use Rattle.q_model.proofs.settings.Settings.TheSendSync as settings
 use Rattle.q_tree.proofs.commands.handles.Handles.TheSendSync as handles
-use Rattle.q_tree.proofs.filters.field_sets.FieldSets.TheSendSync as field_sets
+use Rattle.q_tree.proofs.filters.index_of_filters.IndexOfFilters.TheSendSync as index_of_filters
 use Rattle.q_tree.proofs.filters.masked_filter.MaskedFilter.TheSendSync as masked_filter
 use Rattle.q_tree.proofs.node.Node.TheLaws.TheKnot as knot
 use Rattle.q_device.specs.contracts.device.Device as Device
@@ -40,7 +40,7 @@ device_send =
       packet.the_send,
       filter.the_send,
       masked_filter.the_send,
-      field_sets.the_send,
+      index_of_filters.the_send,
       fifo.the_send,
       bucket.the_send,
       active.the_send,
