@@ -61,7 +61,8 @@ struct Filter {
 impl Filter {
     fn by(chance: &mut Chance) -> Filter {
         let of = Flow::by(chance);
-        let mut len = || (!chance.hits(3)).then(|| chance.byte(if of.family == 4 { 33 } else { 129 }));
+        let mut len =
+            || (!chance.hits(3)).then(|| chance.byte(if of.family == 4 { 33 } else { 129 }));
         let lens = [len(), len()];
         Filter {
             of,
@@ -108,8 +109,12 @@ impl Filter {
         };
         (!self.versioned || same_family)
             && (!self.proto || flow.proto == self.of.proto)
-            && [0, 1].iter().all(|side| self.lens[*side].is_none_or(|len| begins(*side, len)))
-            && [0, 1].iter().all(|side| !self.ports[*side] || flow.ports[*side] == self.of.ports[*side])
+            && [0, 1]
+                .iter()
+                .all(|side| self.lens[*side].is_none_or(|len| begins(*side, len)))
+            && [0, 1]
+                .iter()
+                .all(|side| !self.ports[*side] || flow.ports[*side] == self.of.ports[*side])
     }
 }
 
@@ -123,12 +128,19 @@ impl Filters {
     fn none() -> Result<Filters, Error> {
         let mut device = bench::device(10_000)?;
         device.command(&lines::graft(Place::Root, 1, New::Prio(BANDS)), 0)?;
-        Ok(Filters { device, list: Vec::new() })
+        Ok(Filters {
+            device,
+            list: Vec::new(),
+        })
     }
 
     fn add(&mut self, filter: Filter) -> Result<(), Error> {
         self.device.command(&filter.line(), 0)?;
-        let place = self.list.iter().take_while(|it| it.prio <= filter.prio).count();
+        let place = self
+            .list
+            .iter()
+            .take_while(|it| it.prio <= filter.prio)
+            .count();
         self.list.insert(place, filter);
         Ok(())
     }
@@ -144,18 +156,27 @@ impl Filters {
     // The packets that arrived at each band.
     fn arrived(&self) -> Vec<u64> {
         let rows = (1..=u16::from(BANDS)).map(|minor| self.device.stats(Place::Class(1, minor)));
-        rows.map(|row| row.map_or(0, |row| bench::packets(row)[0])).collect()
+        rows.map(|row| row.map_or(0, |row| bench::packets(row)[0]))
+            .collect()
     }
 
     fn compare(&mut self, flow: Flow) -> Result<bool, Error> {
         let before = self.arrived();
-        assert_eq!(self.device.arrive(&flow.packet()?, 0)?, Fate::Kept, "{flow:?}");
+        assert_eq!(
+            self.device.arrive(&flow.packet()?, 0)?,
+            Fate::Kept,
+            "{flow:?}"
+        );
         let after = self.arrived();
         let first = self.list.iter().find(|it| it.takes(&flow));
         let minor = first.map_or(1, |it| it.minor);
         for (place, counted) in after.iter().enumerate() {
             let more = u64::from(place + 1 == usize::from(minor));
-            assert_eq!(*counted, before[place] + more, "{flow:?} to {minor}, by {first:?}");
+            assert_eq!(
+                *counted,
+                before[place] + more,
+                "{flow:?} to {minor}, by {first:?}"
+            );
         }
         Ok(first.is_some())
     }
